@@ -36,7 +36,7 @@ def largest_growth():
 
 
 def widest():
-    """Texts of at most 1 MiB with many entries, or with certificates for large tags, each with the answer that it has."""
+    """Yields (what it is, text, its answer): cases of at most 1 MiB with many entries, or with certificates for large tags."""
     one = len(entry(key("k00000")))
     link = len(by_keys(2)) - len(by_keys(1))
     half = MOST_OCTETS // 2
@@ -53,7 +53,7 @@ def widest():
 
 
 def behind_a_large_tag(more, tag):
-    """An entry and a certificate whose tags have an intersection of 998,001 strings of one octet, and after them `more` certificates
+    """A case of an entry and a certificate whose tags have an intersection of 998,001 strings of one octet, and behind it `more` certificates
     with `tag`."""
     large = a_set(string("a"))
     keys = keys_of(more + 1)
@@ -63,7 +63,8 @@ def behind_a_large_tag(more, tag):
 
 
 def large_tags():
-    """Texts of at most 1 MiB in which the intersection of an entry's and a certificate's tag has the most nodes, or the longest strings."""
+    """Yields (what it is, text): cases of at most 1 MiB in which the intersection of an entry's and a certificate's tag has the most nodes, or the
+    longest strings."""
     def made(one, other):
         """A case in which these tags of an entry and a certificate are intersected."""
         first, second = keys_of(1)

@@ -33,21 +33,24 @@ def case(entries, request):
 
 
 def entry(name, tag):
+    """An entry for a tag, for the key of a name."""
     return group(string("entry"), key(name), group(string("tag"), tag))
 
 
 STAR = group(string("*"))
 
 
+# Each of the next functions returns a text of at most `size` octets, and how the answer to it begins.
+
 def many_entries(size):
-    """Entries of other keys, and the asking key's entry at the end."""
+    """(text, begin of its answer): a case with entries of other keys, and the asking key's entry at the end."""
     empty = len(case([entry("a", STAR)], string("ftp")))
     one = len(entry("b", STAR))
     return case([entry("b", STAR)] * ((size - empty) // one) + [entry("a", STAR)], string("ftp")), b"yes entry"
 
 
 def many_structures(size):
-    """Entries of names, of hashes and of windows, and the asking key's entry at the end."""
+    """(text, begin of its answer): a case with entries for names, for hashes and with windows, and the asking key's entry at the end."""
     date = string("2024-01-01_00:00:00")
     tag = group(string("tag"), STAR)
     three = [
@@ -60,7 +63,7 @@ def many_structures(size):
 
 
 def many_certificates(size):
-    """A sequence of one certificate many times, whose signature has another digest."""
+    """(text, begin of its answer): a case with one certificate many times, whose signature has another digest."""
     cert = group(string("cert"), group(string("issuer"), key("a")), group(string("subject"), key("b")), group(string("tag"), STAR))
     pair = cert + group(string("signature"), group(string("hash"), string("sha256"), string("d" * 32)), key("a"), string("sig"))
 
@@ -74,26 +77,26 @@ def many_certificates(size):
 
 
 def many_members(size):
-    """One request with many members."""
+    """(text, begin of its answer): a case with a request of many members."""
     empty = len(case([entry("a", STAR)], group(string("ftp"))))
     return case([entry("a", STAR)], group(string("ftp"), *[string("x")] * ((size - empty) // 3))), b"yes entry 1\n"
 
 
 def lists_in_lists(size):
-    """A request of lists that are as deep as the limit allows."""
+    """(text, begin of its answer): a case with a request of lists that are as deep as the limit allows."""
     deep = b"".join([b"(1:f"] * 60) + b")" * 60
     empty = len(case([entry("a", STAR)], group(string("ftp"))))
     return case([entry("a", STAR)], group(string("ftp"), *[deep] * ((size - empty) // len(deep)))), b"yes entry 1\n"
 
 
 def one_string(size):
-    """A request of one long string."""
+    """(text, begin of its answer): a case with a request of one long string."""
     empty = len(case([entry("a", STAR)], string("ftp"))) + 16
     return case([entry("a", STAR)], string(b"x" * (size - empty))), b"yes entry 1\n"
 
 
 def no_value(size):
-    """Empty lists without end: the most nodes for the octets, and no whole value."""
+    """(text, begin of its answer): empty lists without an end, which have the most nodes for the octets, and are no whole value."""
     return b"(" + b"()" * ((size - 1) // 2), b"refused form Short\n"
 
 

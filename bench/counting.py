@@ -9,14 +9,14 @@ import tempfile
 
 
 def counted_by_perf(command, text):
-    """A counter of instructions by perf. None if perf cannot count them here."""
+    """The instructions that a command takes on an open text, counted by perf. None if perf cannot count them here."""
     done = subprocess.run(["perf", "stat", "-x", ",", "-e", "instructions:u"] + command, stdin=text, capture_output=True)
     found = re.match(rb"(\d+),", done.stderr.splitlines()[-1]) if done.stderr else None
     return int(found.group(1)) if found else None
 
 
 def counted_by_valgrind(command, text, *flags, settings=None):
-    """A counter of instructions by valgrind, with flags of valgrind and settings added to the environment."""
+    """The instructions that a command takes on an open text, counted by valgrind, with flags of valgrind and settings added to the environment."""
     with tempfile.NamedTemporaryFile() as out:
         words = ["valgrind", "--tool=callgrind", f"--callgrind-out-file={out.name}", *flags]
         done = subprocess.run(words + command, stdin=text, capture_output=True, env={**os.environ, **(settings or {})})
@@ -35,13 +35,13 @@ def counted_with_cache(blocks):
 
 
 def counted_allocations(command, text):
-    """A counter of the blocks of memory that a command allocates, by valgrind."""
+    """The blocks of memory that a command allocates on an open text, counted by valgrind."""
     done = subprocess.run(["valgrind", *command], stdin=text, capture_output=True)
     return int(re.search(rb"total heap usage: ([\d,]+) allocs", done.stderr).group(1).replace(b",", b""))
 
 
 def counted(count, words, text):
-    """What a counter counts of a command (`words`) on a text, given as octets."""
+    """What the counter `count` counts of a command (`words`) on a text, given as octets."""
     with tempfile.NamedTemporaryFile() as file:
         file.write(text)
         file.flush()
@@ -65,8 +65,8 @@ def can_count():
 
 
 def of_one_call(count, words, calls=100):
-    """What a counter counts of one call, by a program whose last word is the number of calls: what further calls add, divided by their number.
-    What the program does besides is the same for each number of calls."""
+    """What the counter `count` counts of one call, by a program whose last word is the number of calls: what further calls add, divided by their
+    number. What the program does besides is the same for each number of calls."""
     subprocess.run([*words, "1"], stdout=subprocess.DEVNULL, check=True)
     few, many = (counted(count, [*words, str(number)], b"") for number in (1, 1 + calls))
     return (many - few) / calls

@@ -37,29 +37,29 @@ def intersection(a, b):
 
 
 def strings(n):
-    """The same n different strings, in two orders."""
+    """Two sets of the same n different strings, in two orders."""
     names = [string(f"n{i}") for i in range(n)]
     return set_of(names), set_of(names[::-1])
 
 
 def long_strings(n):
-    """Different strings that are equal for 200 octets."""
+    """Two sets of the same n different strings, which are equal for 200 octets, in two orders."""
     names = [string("x" * 200 + f"{i}") for i in range(n)]
     return set_of(names), set_of(names[::-1])
 
 
 def other_strings(n):
-    """Strings of which none is in both sets."""
+    """Two sets of n strings, of which none is in both."""
     return set_of([string(f"a{i}") for i in range(n)]), set_of([string(f"b{i}") for i in range(n)])
 
 
 def prefixes(n):
-    """Prefixes: each may have something in common with each, so all pairs are tried."""
+    """Two sets of the same n prefixes: each may have something in common with each, so all pairs are tried."""
     return set_of([prefix(f"n{i:04}") for i in range(n)]), set_of([prefix(f"n{i:04}") for i in range(n)][::-1])
 
 
 def equal_members(member):
-    """Returns what makes two sets of n equal members: the intersection of each with each is kept."""
+    """Returns a function that makes two sets, each of this member n times: the intersection of each with each is kept."""
     return lambda n: (set_of([member] * n), set_of([member] * n))
 
 
@@ -72,7 +72,7 @@ WIDEST = {
 
 
 def instructions(count, a, b):
-    """The instructions, by a counter, of the intersection of two tags."""
+    """The instructions, counted by `count`, of the intersection of two tags."""
     return counted(count, [PROGRAM, "intersect"], intersection(a, b))
 
 

@@ -38,7 +38,7 @@ SET_OF_TWO = group(*map(string, ("*", "set", "a", "b")))
 
 
 def with_signature(octets, signer, value=string("sig")):
-    """A certificate's octets with its signature behind them."""
+    """A certificate, given as octets, with its signature behind it. `value` is that of the signature."""
     return octets + group(string("signature"), digest(octets), signer, value)
 
 
@@ -63,113 +63,114 @@ def repeated(entries, cert, certificates, before=()):
 # Each shape makes a case of so many entries and certificates. The third number is the most members of a set or list.
 
 def chain(entries, certificates, members):
-    """A chain by keys."""
+    """A case of one entry and a chain of so many certificates by keys."""
     return by_keys(certificates, asks=OTHER)
 
 
 def chain_of_hashes(entries, certificates, members):
-    """A chain in which hashes name the keys."""
+    """A case of one entry and a chain of so many certificates, in which hashes name the keys."""
     return by_hashes(certificates, OTHER)
 
 
 def chain_of_names(entries, certificates, members):
-    """A chain of definitions of names."""
+    """A case of one entry and a chain of so many definitions of names."""
     return through_names(certificates, asks=OTHER)
 
 
 def many_rows(entries, certificates, members):
-    """Certificates of one key, each with a row."""
+    """A case of one entry and so many certificates of one key, each with a row."""
     certs = [certificate(OWNER, OWNER, group(string("*"), string("set"), string("ftp"), string(f"x{place:05}"))) for place in range(certificates)]
     return case_of([entry(OWNER)], [row(cert, OWNER) for cert in certs], [with_signature(cert, OWNER) for cert in certs])
 
 
 def rows_of_one_digest(entries, certificates, members):
-    """One certificate many times, each time with another signature, and a row for each of these signatures."""
+    """A case of one entry and one certificate so many times, each time with another signature, and a row for each of these signatures."""
     cert = certificate(OWNER, OWNER)
     values = [string(f"v{place:05}") for place in range(certificates)]
     return case_of([entry(OWNER)], [row(cert, OWNER, value) for value in values], [with_signature(cert, OWNER, value) for value in values])
 
 
 def wide_lists(entries, certificates, members):
-    """A chain by keys, all for a list of `members` strings."""
+    """A case of one entry and a chain of so many certificates by keys, all for a list of `members` strings."""
     return by_keys(certificates, group(string("ftp"), *[string("x")] * (members - 1)), asks=OTHER)
 
 
 def wide_sets(entries, certificates, members):
-    """A chain by keys, all for a set of `members` strings."""
+    """A case of one entry and a chain of so many certificates by keys, all for a set of `members` strings."""
     return by_keys(certificates, group(string("*"), string("set"), *[string(f"{place:03}") for place in range(members)]), asks=OTHER)
 
 
 def list_of_members(entries, certificates, members):
-    """An entry for a list, and a certificate for its head."""
+    """A case of an entry for a list, and so many times a certificate for its head."""
     return repeated([entry(OWNER, group(string("ftp"), *[string("x")] * (members * 9 // 10 - 1)))], certificate(OWNER, OWNER, FTP), certificates)
 
 
 def entries_and_chain(entries, certificates, members):
-    """Equal entries for the first key of a chain."""
+    """A case of equal entries for the first key of a chain by keys."""
     return by_keys(certificates, entries=entries, asks=OTHER)
 
 
 def entries_and_tags(entries, certificates, members):
-    """The product of all nodes is over the limit, so that it alone says nothing."""
+    """A case of equal entries for (ftp), and a chain by keys for (ftp). The product of all nodes is over the limit, so that it alone says nothing."""
     return by_keys(certificates, FTP, entries=entries, asks=OTHER)
 
 
 def entries_in_turns(entries, certificates, members):
-    """Each entry has another tag than the one before it."""
+    """A case of entries for (ftp) and for (*) in turn, and a chain by keys for (ftp). So each entry has another tag than the one before it."""
     return by_keys(certificates, FTP, entries=entries, asks=OTHER, turn=STAR)
 
 
 def entries_with_own_tags(entries, certificates, members):
-    """Each entry has a tag that no other has, and that the certificates leave as it is."""
+    """A case of entries for the first key of a chain by keys. Each entry has a tag that no other has, and that the certificates leave as it is."""
     text = by_keys(certificates, FTP, entries=0, asks=OTHER)
     listed = [entry(key("k00000"), group(string("ftp"), string(f"x{place:05}"))) for place in range(entries)]
     return text.replace(group(string("acl")), group(string("acl"), *listed), 1)
 
 
 def entries_and_names(entries, certificates, members):
-    """Equal entries for the first name of a chain of definitions."""
+    """A case of equal entries for the first name of a chain of definitions."""
     return through_names(certificates, entries=entries, asks=OTHER)
 
 
 def entries_and_two_words(entries, certificates, members):
-    """Entries for a friend of a friend, of whom the definitions resolve the first."""
+    """A case of entries for a friend of a friend, of whom the definitions resolve the first."""
     text = through_names(certificates, entries=0, asks=OTHER)
     listed = [entry(name(key("k00000"), "friends", "friend"))] * entries
     return text.replace(group(string("acl")), group(string("acl"), *listed), 1)
 
 
 def long_key(entries, octets, members):
-    """Entries for a hash, each of which is compared with a long key."""
+    """A case of entries for a hash, each of which is compared with the key that asks, which has so many octets. It has no certificates."""
     return case_of([entry(digest(OWNER))] * entries, [], [], key("k" * octets))
 
 
 def long_issuer(entries, certificates, members):
-    """Entries for the hash of a long key, and one certificate many times, from this hash to itself."""
+    """A case of entries for the hash of a long key, and one certificate many times, from this hash to itself."""
     long = key("k" * (148 * certificates))
     cert = certificate(digest(long), digest(long))
     return case_of([entry(digest(long))] * entries, [row(cert, long)], [long] + [with_signature(cert, digest(long))] * certificates)
 
 
 def long_name(names, certificates, members):
-    """An entry for a long name, and one definition many times, of its first word by itself."""
+    """A case of an entry for a name of so many words, and one definition many times, of its first word by itself."""
     first = name(OWNER, "n")
     return repeated([entry(name(OWNER, *["n"] * names))], definition(first, first), certificates)
 
 
 def large_tag(entries, certificates, members, other=string("a")):
-    """Two sets whose intersection has the most strings, and one certificate many times, each of which goes over them."""
+    """A case of two sets whose intersection has the most strings, and so many times a certificate for the tag `other`, which goes over them."""
     large = a_set(string("a"), members)
     return repeated([entry(OWNER, large)], certificate(OWNER, OWNER, other), certificates, [certificate(OWNER, OWNER, large)])
 
 
 def large_tag_and_range(entries, certificates, members):
-    """The same with a certificate for a range, which contains the strings."""
+    """A case of two sets whose intersection has the most strings, and many times a certificate for a range, which contains them."""
     return large_tag(entries, certificates, members, RANGE)
 
 
 def large_tag_and_set(entries, certificates, members):
-    """The same with a certificate for a set of two strings, which has 3 nodes: so there are fewer members."""
+    """A case of two sets whose intersection has many strings, and many times a certificate for a set of two strings. That has 3 nodes, so there are
+    fewer members."""
     return large_tag(entries, certificates, int(members / 3 ** 0.5), SET_OF_TWO)
 
 
@@ -179,27 +180,27 @@ def between(place):
 
 
 def after_large(large, tags):
-    """An entry and a certificate for a large tag, and certificates for these tags."""
+    """A case of an entry and a certificate for a large tag, and certificates for these tags, all by the owner."""
     certs = [certificate(OWNER, OWNER, tag) for tag in (large, *tags)]
     return case_of([entry(OWNER, large)], [row(cert, OWNER) for cert in certs], [with_signature(cert, OWNER) for cert in certs])
 
 
 def narrowed_ranges(entries, certificates, members):
-    """Two sets whose intersection has the most ranges, and certificates for ranges, each of which lies within the one before it: so each
+    """A case of two sets whose intersection has the most ranges, and certificates for ranges, each of which lies within the one before it: so each
     changes both limits of all ranges."""
     return after_large(a_set(RANGE, members), map(between, range(certificates)))
 
 
 def ranges_and_sets_of_two(entries, certificates, members):
-    """The same with certificates for sets of two ranges, of which one has nothing in common with the others. Such a set has 3 nodes: so there
-    are fewer members."""
+    """A case of two sets whose intersection has many ranges, and certificates for sets of two: a range within that of the certificate before, and one
+    that has nothing in common with the others. Such a set has 3 nodes, so there are fewer members."""
     low, high = (group(*map(string, ("*", "range", "alpha", word, "b"))) for word in ("l", "g"))
     sets = (group(string("*"), string("set"), between(place), high) for place in range(certificates))
     return after_large(a_set(low, int(members / 3 ** 0.5)), sets)
 
 
 def strangers(entries, certificates, members):
-    """Entries for other keys, each with a set of its own, and certificates that a stranger issues to itself."""
+    """A case of entries for other keys, each with a set of its own, and certificates that a stranger issues to itself."""
     tags = (group(string("*"), string("set"), *[string(f"{place:05}{at}") for at in range(3)]) for place in range(entries))
     listed = [entry(key(f"other{place:05}"), tag) for place, tag in enumerate(tags)]
     return repeated(listed, certificate(OWNER, OWNER, a_set(string("a"), 30)), certificates)

@@ -24,7 +24,7 @@ static char text[65536], macaroon[4096];
 static size_t length;
 static struct held held;
 
-/* The ways to grant, each of which returns whether it says yes. This one decides from the text of the case. */
+/* Decides from the text of the case, and returns whether the answer is yes. */
 static int decides(void)
 {
     unsigned char line[64];
@@ -32,13 +32,13 @@ static int decides(void)
     return spki_answer(SPKI_CHECK, text, length, line, sizeof line, &needed).status == SPKI_YES;
 }
 
-/* Decides the question that is open already. */
+/* Decides the question that is open already, and returns whether the answer is yes. */
 static int grants(void)
 {
     return decided(&held) == SPKI_YES;
 }
 
-/* Opens the question, and decides it. */
+/* Opens the question and decides it, and returns whether the answer is yes. */
 static int opens_and_grants(void)
 {
     return list_signed(&held) == SPKI_DONE && grants();
@@ -58,7 +58,7 @@ static void mint(void)
     macaroon_destroy(made);
 }
 
-/* Reads the macaroon, and verifies it. */
+/* Reads the macaroon and verifies it, and returns whether it is valid. */
 static int verifies(void)
 {
     enum macaroon_returncode fault;

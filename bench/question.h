@@ -67,6 +67,7 @@ static inline enum spki_status answered(struct held *held, wish *call)
     return call(held->asked, held->buffer, held->room, &needed);
 }
 
+/* The call by which a question is decided. Returns the status alone. */
 static inline enum spki_status decision_of(const spki_asked *asked, void *buffer, size_t length, size_t *needed)
 {
     return spki_asked_decide(asked, buffer, length, needed).status;

@@ -24,7 +24,7 @@ def named(count: int) -> bytes:
 
 @dataclass(frozen=True)
 class Tag:
-    """A tag: lists or sets in one another, of which the innermost has these members."""
+    """A tag: lists or sets in one another, of which the innermost has so many members of the kind `of`, each with so many octets; or one leaf."""
 
     kind: str = "star"
     members: int = 1
@@ -71,7 +71,7 @@ class Tag:
 
 @dataclass(frozen=True)
 class Entries:
-    """Entries for the owner, or for a name of the owner."""
+    """Entries for the owner, or for a name of the owner with so many strings. `grows` is the field, of these or of the tag, that grows."""
 
     tag: Tag = Tag()
     count: int = 1
@@ -134,7 +134,7 @@ class Recipe:
         return [self.list_text(), group(string("sequence"), *items), OTHER if self.is_by_other else OWNER, request, string(AT)]
 
     def case(self) -> bytes:
-        """The same as one text, with a row for each certificate."""
+        """The list and the question as one text, a case with a row for each certificate."""
         listed, sequence, key, request, moment = self.parts()
         rows = {group(string("by"), OWNER, digest(cert), string("s")) for cert in self.certificates()}
         return group(string("case"), listed, group(string("accepted"), *sorted(rows)), sequence, group(string("key"), key),
@@ -195,7 +195,7 @@ def fitted(recipe: Recipe, listed: int, asked: int, certificates: int) -> Recipe
         return None
 
     def lists(number: int) -> bool:
-        """The same of the list."""
+        """Whether the list is read and small enough with this as the growing number of its entries."""
         larger = made.with_list(number)
         return larger.is_read(certificates) and len(larger.list_text()) <= listed
 
@@ -205,7 +205,8 @@ def fitted(recipe: Recipe, listed: int, asked: int, certificates: int) -> Recipe
 
 @dataclass(frozen=True)
 class Form:
-    """A text for the conversions: lists in one another, of which the innermost has strings of one kind."""
+    """A text for the conversions: so many times side by side, lists in one another to a depth, of which the innermost has `count` strings of one kind
+    with so many octets."""
 
     kind: str = "token"
     count: int = 1

@@ -79,7 +79,7 @@ class Kept:
 
 
 def simulated_hits(chosen, count, kept, requests):
-    """The share of the second half of the requests that a cache answers."""
+    """The share of the second half of so many requests that a cache of `kept` of `count` keys answers. `chosen` is the source of chance."""
     cache, found = Kept(kept), 0
     for turn in range(requests):
         is_there = cache.has(drawn(count, SKEW, chosen.random()))
@@ -95,13 +95,14 @@ def machines(rate, hits):
 
 
 def last_poll(chosen, daemons, replicas):
-    """The seconds after the commit of a removal at which the last daemon has read it, by chance."""
+    """The seconds after the commit of a removal at which the last daemon has read it. `chosen` is the source of chance."""
     delays = [DELAY * math.exp(chosen.gauss(0, DELAY_SPREAD)) for _ in range(replicas)]
     return max(delays[place % replicas] + chosen.random() * POLL + ROWS for place in range(daemons))
 
 
 def after_loss(chosen, count, kept, daemons):
-    """The share of hits before a third of the daemons is lost, and those of ten parts of the requests after it. Each key has its daemon."""
+    """The share of hits before a third of the daemons is lost, and those of ten parts of the requests after it. Each of `count` keys has its daemon,
+    whose cache keeps at most `kept`. `chosen` is the source of chance."""
     caches = [Kept(kept) for _ in range(daemons)]
     lost = daemons // 3
 

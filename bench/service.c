@@ -54,7 +54,7 @@ static double time_of(enum spki_status (*call)(struct held *), struct held *held
     return (now() - begun) / CALLS;
 }
 
-/* The way `decide`. */
+/* The way `decide`: prints the least µs of listing the signatures, and of a decision. */
 static void decide_file(const char *path)
 {
     struct held held = held_in(path, &highest);
@@ -123,7 +123,7 @@ static wish *wish_of(const char *word)
     exit(2);
 }
 
-/* The way `widest`. */
+/* The way `widest`: prints the status of one answer of the kind that `word` names, its ms, those of listing the signatures, and the MiB. */
 static void ask_widest(const char *word, const char *path)
 {
     struct spki_limits limits = SPKI_USUAL_LIMITS;
@@ -145,6 +145,7 @@ static void ask_widest(const char *word, const char *path)
 
 static atomic_bool stop;
 static struct held of_threads[MOST_THREADS];
+/* How often each thread did its work, and waited. `apart` keeps the numbers of two threads out of the same line of a processor's cache. */
 static struct { long count, waits; char apart[112]; } made[MOST_THREADS];
 
 /* How often the thread that calls has waited for something else than a processor. */
@@ -168,7 +169,7 @@ static void *decide_on(void *which)
     return NULL;
 }
 
-/* The same, but only counts: it uses nothing that threads share. */
+/* What a thread does until it is stopped, to find out how many processors are free: it only counts, and uses nothing that threads share. */
 static void *count_on(void *which)
 {
     long count = 0;
@@ -183,7 +184,7 @@ struct rate {
     double by_time, waits;
 };
 
-/* Has so many threads work for half a second. */
+/* Has so many threads do some work for half a second, and returns how often they did it. */
 static struct rate rate_of(void *(*work)(void *), size_t threads)
 {
     pthread_t ids[MOST_THREADS];
@@ -209,7 +210,7 @@ static void keep_fastest(struct rate *fastest, struct rate met)
         *fastest = met;
 }
 
-/* The way `threads`. */
+/* The way `threads`: prints the decisions a second of one thread and of many, how many times as far many count as one, and how often many wait. */
 static void ask_by_threads(size_t threads, const char *path)
 {
     void *(*const works[])(void *) = {decide_on, count_on};
@@ -224,7 +225,7 @@ static void ask_by_threads(size_t threads, const char *path)
     printf("%.0f %.0f %.2f %.3f\n", one[0].by_time, many[0].by_time, many[1].by_time / one[1].by_time, many[0].waits);
 }
 
-/* The way `ask`. */
+/* The way `ask`: opens the question, lists the signatures and decides, so many times. */
 static void ask(const char *path, long calls)
 {
     struct held held = held_in(path, &highest);
@@ -233,7 +234,7 @@ static void ask(const char *path, long calls)
             exit(4);
 }
 
-/* The way `reopen`. */
+/* The way `reopen`: opens and closes a guard of a list, so many times. */
 static void reopen(const char *path, long calls)
 {
     struct spki_text list = whole_file(path);
@@ -241,7 +242,7 @@ static void reopen(const char *path, long calls)
         spki_guard_close(open_guard(list, &highest));
 }
 
-/* The way `answer`. */
+/* The way `answer`: decides a case from its text, so many times. */
 static void answer(const char *path, long calls)
 {
     struct spki_text text = whole_file(path);

@@ -108,7 +108,7 @@ class Driver:
 
 
 def by_key(owner):
-    """The subject of an entry for a key itself. `digest` is the same for its hash."""
+    """The subject of an entry for a key: the key itself. (`digest` makes the other subject, which is its hash.)"""
     return owner
 
 
@@ -132,7 +132,7 @@ def other_entries(count, subject_of=by_key):
 # Each of the parts below yields pairs: the name of a limit in MOST or LEAST, and the measured value.
 
 def many_entries(driver):
-    """The ratios of decisions with 10,000 entries to those with one."""
+    """Yields (name of a limit, ratio): the instructions of decisions with 10,000 entries to those with one."""
     for subjects, subject_of in (("keys", by_key), ("hashes", digest)):
         for what, make in (("no certificate", case_without_certificates), ("three certificates", case_with_three)):
             few, many = (driver.instructions("ask", driver.question("entries", make(count, subject_of))) for count in (1, ENTRIES))
@@ -141,8 +141,8 @@ def many_entries(driver):
 
 
 def opening_a_list(driver):
-    """The ratio of opening a list of 1 MiB to a decision of a case of it. The decision denies entries of other keys by their subjects, and
-    makes no index."""
+    """Yields (name of a limit, ratio): the instructions of opening a list of 1 MiB to those of a decision of a case of it. The decision denies
+    entries of other keys by their subjects, and makes no index."""
     empty = len(case([], [], asks=key("a")))
     text = case(other_entries((MOST_OCTETS - empty) // len(other_entries(1)[0])), [], asks=key("a"))
     opening = driver.instructions("reopen", driver.file("list", parts_of(text)[0]), 2)
@@ -152,13 +152,13 @@ def opening_a_list(driver):
 
 
 def from_text(driver):
-    """The instructions of a decision by three certificates from the text of a case."""
+    """Yields (name of a limit, instructions) of a decision by three certificates from the text of a case."""
     yield "instructions of a case", driver.instructions("answer", driver.file("case", by_keys(3)))
 
 
 def beside_macaroons(driver):
-    """The ratios of a decision by three certificates to the verification of a macaroon: of a question that is open already, and with the opening.
-    Nothing if libmacaroons is not there."""
+    """Yields (name of a limit, ratio): a decision by three certificates to the verification of a macaroon, of a question that is open already, and
+    with the opening. Yields nothing if libmacaroons is not there."""
     words = built(driver.room, driver.library)
     if words is None:
         print("libmacaroons is not there (Debian: libmacaroons-dev): the decision beside a macaroon is left out")
@@ -174,7 +174,8 @@ def beside_macaroons(driver):
 
 
 def beside_digests(driver):
-    """The ratio of a question by three certificates, opened, listed and decided, to the digests in it. Nothing without valgrind."""
+    """Yields (name of a limit, ratio): a question by three certificates, opened, listed and decided, to the digests in it. Yields nothing without
+    valgrind."""
     path = driver.question("three", case_with_three(1))
     if shutil.which("valgrind") is None:
         print("valgrind is not there (Debian: valgrind): the digests are left out")
@@ -207,8 +208,9 @@ spki = {{ path = "{TOP}/bindings/rust" }}
 
 
 def through_rust(driver):
-    """The ratio of a decision through Rust to the calls in C, where there is `cargo`. The same blocks of memory cost up to 3 percent more or less
-    as the C library keeps few or many that were freed. So the mean for several numbers of them is taken. Rust must take no more blocks."""
+    """Yields (name of a limit, value): the ratio of a decision through Rust to the calls in C, and how many blocks of memory it takes more. Yields
+    nothing without `cargo`. The same blocks cost up to 3 percent more or less as the C library keeps few or many that were freed. So the mean for
+    several numbers of them is taken."""
     if shutil.which("cargo") is None or shutil.which("valgrind") is None:
         print("cargo or valgrind is not there (Debian: cargo, valgrind): the decision through Rust is left out")
         return
@@ -262,7 +264,7 @@ def time_through_python(driver, text):
 
 
 def through_python(driver):
-    """The µs that a decision through Python takes more than the two calls in C."""
+    """Yields (name of a limit, µs): what a decision through Python takes more than the two calls in C."""
     what, text = "Python, µs more", case_with_three(1)
     path, calls, python = driver.question("three", text), [], []
     for _ in turns(lambda: min(python) - min(calls) <= MOST[what]):
@@ -286,7 +288,7 @@ def widest_of(shape, most_certificates=MOST_OCTETS):
 
 
 def ten_large_sets(entries, certificates, members):
-    """A large tag, with ten entries for the first issuer, each with a set of its own."""
+    """The case of `large_tag`, but with ten entries for the first issuer in place of one, each with a set of its own. `entries` has no effect."""
     value = read(large_tag(1, certificates, members))
     sets = [group(string("*"), string("set"), string(f"b{place}"), *[string("a")] * (members - 1)) for place in range(10)]
     value[1] = read(group(string("acl"), *[entry(key("k"), one) for one in sets]))
@@ -317,44 +319,45 @@ def one_question(driver, what, text):
 
 
 def key_of_lists(entries, lists):
-    """Entries for the first issuer, and a certificate for a key with so many lists: no line of a reduction is longer."""
+    """A case of entries for the first issuer, and a certificate for a key with so many lists: no line of a reduction is longer."""
     issuer = keys_of(0)[0]
     subject = group(string("public-key"), group(string("test"), *[group(string("a"))] * lists))
     return case([entry(issuer)] * entries, [(certificate(issuer, subject), issuer)], asks=subject)
 
 
 def only_entry(*parts):
-    """A list of one entry with these parts behind its subject's key, and the key asks."""
+    """A case of one entry, which has these further fields, each as Python has it. Its key asks."""
     made = read(entry(keys_of(0)[0]))
     made.extend(parts)
     return case([canonical(made)], [], asks=keys_of(0)[0])
 
 
 def entry_for_parts(count):
-    """A list of one entry, for a key with so many empty strings."""
+    """A case of one entry, for a key with so many empty strings."""
     owner = group(string("public-key"), group(string("test"), *[string("")] * count))
     return case([entry(owner)], [], asks=keys_of(0)[0])
 
 
 def entry_for_name(count):
-    """A list of one entry, for a name of so many strings."""
+    """A case of one entry, for a name of so many strings."""
     return case([entry(name(keys_of(0)[0], *["n"] * count))], [], asks=keys_of(0)[0])
 
 
 def full_list(tag):
-    """A list of 1 MiB with as many entries for a tag as can be, all for the shortest key."""
+    """A case with a list of 1 MiB: as many entries for a tag as can be, all for the shortest key, which asks."""
     asker = group(string("public-key"), group(string("a")))
     listed = group(string("entry"), asker, group(string("tag"), tag))
     return case([listed] * ((MOST_OCTETS - len(group(string("acl")))) // len(listed)), [], asks=asker)
 
 
 def lists_of_strings(members):
-    """No tags take more time to read, or more memory, for each octet."""
+    """(what it is, the case): a list of 1 MiB of entries for lists of so many strings. No tags take more time to read, or more memory, for each
+    octet."""
     return f"entries for lists of {members} strings", full_list(group(*[string("a")] * members))
 
 
 def lists_in_lists(entries, depth):
-    """Entries for the first issuer, and a certificate for a list of one list, and so on: nothing takes more memory for each node."""
+    """A case of entries for the first issuer, and a certificate for so many lists in one another: nothing takes more memory for each node."""
     tag = string("x")
     for _ in range(depth):
         tag = group(string("l"), tag)
@@ -363,8 +366,8 @@ def lists_in_lists(entries, depth):
 
 
 def equal_strings(entries, *prefixes):
-    """Entries for the first issuer, whose lines are far longer than an answer: the tags of the certificates have a long string in common, as often
-    as the product of these numbers. It begins as a token and is none, so that a printer reads it to its end."""
+    """A case of entries for the first issuer, whose lines are far longer than an answer: the tags of the certificates have a long string in common,
+    as often as the product of these numbers. It begins as a token and is none, so that a printer reads it to its end."""
     sets = [group(string("*"), string("set"), *[group(string("*"), string("prefix"), string(""))] * members) for members in prefixes]
     tags = [*sets, group(string("*"), string("set"), string("a" + " " * 43_999))]
     keys = keys_of(len(tags))
@@ -379,7 +382,7 @@ def wide_shapes():
 
 
 def by_default(driver):
-    """The most milliseconds of a decision of a guard without limits, which takes 16 certificates."""
+    """Yields (name of a limit, the most milliseconds) of a decision of a guard without limits, which takes 16 certificates."""
     limit, met = MOST["a decision by default, ms"], 0.0
     for shape, text in (widest_of(shape, USUAL_CERTIFICATES) for shape in wide_shapes()):
         _, took, *_ = one_answer(driver, "decide", driver.question("usual", text), limit)
@@ -390,7 +393,7 @@ def by_default(driver):
 
 
 def widest(driver):
-    """The most milliseconds and MiB of one answer. docs/PERFORMANCE.md says what a decision takes."""
+    """Yields (name of a limit, value): the most milliseconds and MiB of one answer. docs/PERFORMANCE.md says what a decision takes."""
     texts = [widest_of(shape) for shape in wide_shapes()]
     texts += [(f"large tags: {what}", text) for what, text in large_tags()]
     texts += [("a string 1,000 times, 60 entries", equal_strings(60, 1_000)), ("a string 9,801 times", equal_strings(1, 99, 99)),
@@ -408,18 +411,18 @@ def widest(driver):
 
 
 def in_transport_form(count):
-    """The parts of a question whose sequence is in transport form, so that it is decoded first."""
+    """The parts of a question that shows a chain of so many certificates. Its sequence is in transport form, so that it is decoded first."""
     return chained(count, lambda octets: braced(octets))
 
 
 def chained(count, form=bytes):
-    """The parts of a question that shows a chain of certificates. `form` makes the sequence's text of its canonical form."""
+    """The parts of a question that shows a chain of so many certificates. `form` makes the sequence's text of its canonical form."""
     acl, sequence, asker, request, moment = parts_of(by_keys(count))
     return acl, form(sequence), asker, request, moment
 
 
 def small_lists(count):
-    """A question whose certificate has a comment of empty lists: nothing has fewer octets for each value."""
+    """The parts of a question whose certificate has a comment of so many empty lists: nothing has fewer octets for each value."""
     keys = keys_of(1)
     made = read(certificate(*keys))
     made.append([b"comment", *[[]] * count])
@@ -427,20 +430,20 @@ def small_lists(count):
 
 
 def long_subject(count):
-    """A question whose certificate defines a name as a long one."""
+    """The parts of a question whose certificate defines a name as a name of so many strings."""
     keys = keys_of(1)
     made = definition(name(keys[0], "n"), name(keys[1], *["n"] * count))
     return parts_of(case([entry(name(keys[0], "n"))], [(made, keys[0])], asks=keys[1]))
 
 
 def many_words(count):
-    """A question for a request of short strings, as a text."""
+    """The parts of a question for a request of so many short strings, as a text."""
     acl, sequence, asker, _, moment = parts_of(by_keys(1))
     return acl, sequence, asker, group(*[string("a")] * count), moment
 
 
 def lists_of_one(count):
-    """A question for a request of 60 lists in one another, so many times."""
+    """The parts of a question for a request with 60 lists in one another, so many times."""
     acl, sequence, asker, _, moment = parts_of(by_keys(1))
     inner = string("x")
     for _ in range(60):
@@ -449,14 +452,14 @@ def lists_of_one(count):
 
 
 def empty_strings(count):
-    """A question whose certificates are for sets of 1,000 empty strings: nothing takes more memory for each octet."""
+    """The parts of a question with so many certificates for sets of 1,000 empty strings: nothing takes more memory for each octet."""
     keys = keys_of(count)
     tag = group(string("*"), string("set"), *[string("")] * 1_000)
     return parts_of(case([entry(keys[0])], [(certificate(*pair, tag), pair[0]) for pair in zip(keys, keys[1:])], asks=keys[-1]))
 
 
 def two_long_keys(count):
-    """A question by two long keys that differ late, whose certificates name them by their hashes."""
+    """The parts of a question with so many certificates of two long keys that differ late. The certificates name them by their hashes."""
     keys = [key("k" * (MOST_OCTETS // 3) + end) for end in "ab"]
     links = [(certificate(digest(issuer), key("s")), digest(issuer)) for issuer in keys for _ in range(count // 2)]
     return parts_of(case([entry(digest(keys[0]))], links, keys, asks=key("s")))
@@ -476,7 +479,8 @@ WIDE = {"{:,} certificates in a chain": chained, "the same of {:,} in transport 
 
 
 def opening(driver, program, what, make):
-    """Opens a question of 1 MiB. Returns how often its octets the memory that is kept is, and the most that is taken meanwhile, and the ms."""
+    """Opens the largest question up to 1 MiB that `make` makes by a count, and prints it as `what`. Returns the octets of memory that are kept and
+    the most that are taken meanwhile, both divided by those of the question, and the ms."""
     count = largest_count(lambda count: sum(map(len, make(count)[1:])), MOST_OCTETS)
     path = driver.file("opened", b"".join(b"%d\n%s" % (len(part), part) for part in make(count)))
     octets, taken, kept, took = map(float, subprocess.run([program, path], stdout=subprocess.PIPE, check=True).stdout.split())
@@ -486,7 +490,8 @@ def opening(driver, program, what, make):
 
 
 def opening_of_widest(driver):
-    """The most memory that is kept of a question of 1 MiB, and taken while it is opened, beside its octets, and the most time."""
+    """Yields (name of a limit, value): the most memory that is kept of a question of 1 MiB, and that is taken while it is opened, both divided by its
+    octets, and the most time."""
     program = driver.built_opening()
     held, met, times = zip(*[opening(driver, program, what, make) for what, make in WIDE.items()])
     sets = opening(driver, program, "{:,} certificates for sets of 1,000 empty strings", empty_strings)
@@ -497,8 +502,8 @@ def opening_of_widest(driver):
 
 
 def threads(driver):
-    """The ratio of the decisions of 8 threads to those of one, as on four free cores, and how often a thread waits: the best of some turns,
-    since other programs that run in one of them make the threads wait for a processor."""
+    """Yields (name of a limit, value): the ratio of the decisions of 8 threads to those of one, as on four free cores, and how often a thread waits.
+    Each is the best of some turns, since other programs that run in one of them make the threads wait for a processor."""
     met = []
     for _ in range(TURNS):
         one, many, counting, waits = driver.run("threads", THREADS, driver.question("three", case_with_three(1)))

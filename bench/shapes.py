@@ -14,14 +14,17 @@ def digest(octets):
 
 
 def name(principal, *names):
+    """A name of a principal, as it is written, by its strings."""
     return group(string("name"), principal, *map(string, names))
 
 
 def entry(subject, tag=STAR):
+    """An entry for a subject and a tag, which may delegate."""
     return group(string("entry"), subject, group(string("propagate")), group(string("tag"), tag))
 
 
 def certificate(issuer, subject, tag=STAR):
+    """A certificate of a right from an issuer to a subject, which may delegate."""
     return group(
         string("cert"), group(string("issuer"), issuer), group(string("subject"), subject), group(string("propagate")),
         group(string("tag"), tag))
@@ -47,14 +50,16 @@ def keys_of(length):
 
 
 def by_hashes(length, asks=None):
-    """The same as `by_keys`, where the issuers are hashes of keys that are shown, and the subjects are hashes."""
+    """A case of one entry and a chain of so many certificates, whose issuers are hashes of keys that are shown, and whose subjects are hashes.
+    `asks` is the key that asks, by default the last one."""
     keys = keys_of(length)
     links = [(certificate(digest(issuer), digest(subject)), issuer) for issuer, subject in zip(keys, keys[1:])]
     return case([entry(digest(keys[0]))], links, keys[:-1], asks or keys[-1])
 
 
 def by_keys(length, tag=STAR, entries=1, asks=None, turn=None):
-    """Each certificate delegates from one key to the next. Every second entry has the tag of the turn, if there is one."""
+    """A case of so many entries for the first key, and a chain of `length` certificates, each from one key to the next. All have the tag, but every
+    second entry has `turn` if it is given. `asks` is the key that asks, by default the last one."""
     keys = keys_of(length)
     links = [(certificate(issuer, subject, tag), issuer) for issuer, subject in zip(keys, keys[1:])]
     listed = [entry(keys[0], turn or tag) if place % 2 else entry(keys[0], tag) for place in range(entries)]
@@ -62,7 +67,8 @@ def by_keys(length, tag=STAR, entries=1, asks=None, turn=None):
 
 
 def through_names(length, entries=1, asks=None):
-    """Each certificate defines one key's friends as the next key's."""
+    """A case of so many entries for the first key's friends, and a chain of `length` certificates. Each defines one key's friends as the next key's,
+    and the last as the last key, which asks by default."""
     keys = keys_of(length)
     links = [(definition(name(issuer, "friends"), name(subject, "friends")), issuer) for issuer, subject in zip(keys, keys[1:-1])]
     links.append((definition(name(keys[-2], "friends"), keys[-1]), keys[-2]))

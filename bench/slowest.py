@@ -181,14 +181,14 @@ class Measure:
         return done
 
     def guard(self, call: Call, recipe: Recipe, seconds: float) -> Cost:
-        """What a guard's call takes."""
+        """What a guard's call takes on the parts of a recipe."""
         self.write(b"".join(b"%d\n%s" % (len(part), part) for part in recipe.parts()))
         done = self.run([self.driver, call.word, call.limits, call.marks, self.file], seconds, stdout=subprocess.PIPE)
         status, milliseconds, octets = done.stdout.split()
         return Cost(int(status), float(milliseconds) / 1000, int(octets) / MIB)
 
     def command(self, word: str, text: bytes, seconds: float) -> Cost:
-        """What a command takes. Its memory is measured apart."""
+        """What a command of the program, named by a word, takes on a text. Its memory is measured apart."""
         self.write(text)
         before = resource.getrusage(resource.RUSAGE_CHILDREN)
         with open(self.file, "rb") as given:

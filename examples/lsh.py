@@ -36,7 +36,7 @@ class Home:
         os.close(seed)
 
     def run(self, words, text=b""):
-        """What a program writes."""
+        """What a program writes to its standard output, run in the home with `text` as its input."""
         return subprocess.run(words, input=text, stdout=subprocess.PIPE, stderr=subprocess.DEVNULL, cwd=self.folder, env=self.settings,
                               timeout=SECONDS).stdout
 
@@ -103,7 +103,7 @@ def tries_of_keys(home):
 
 
 def tries_of_captured_list(home):
-    """The same with the list of hosts that lsh writes."""
+    """What is tried with the list of hosts that lsh writes: a remark, the actual and the expected output."""
     with open(os.path.join(HERE, "lsh", "captured"), "rb") as file:
         text = file.read()
     braces = text[text.index(b"{"):]

@@ -60,7 +60,7 @@ def items(text: str) -> Iterator[str]:
 
 
 def changelog(maintainer: str) -> str:
-    """The changelog in Debian's form."""
+    """The changelog in Debian's form. The maintainer is given as `NAME <ADDRESS>`."""
     entries = []
     for version, date, text in releases(text_of("CHANGELOG.md"), text_of("VERSION").strip()):
         when = datetime.fromisoformat(date).replace(tzinfo=timezone.utc) if DATE.fullmatch(date) else moment()
@@ -132,7 +132,7 @@ def outside(name: str, version: str) -> Row:
 
 
 def contents(maintainer: str, paths: list[str]) -> str:
-    """The list of what is inside the packages."""
+    """The list, in SPDX as JSON, of what is inside the packages at these paths. The maintainer is given as `NAME <ADDRESS>`."""
     made = [described(path, maintainer) for path in paths]
     relations = [related("SPDXRef-DOCUMENT", "DESCRIBES", it["SPDXID"]) for it, _, _ in made]
     relations += [related(it["SPDXID"], "CONTAINS", file["SPDXID"]) for it, files, _ in made for file in files]

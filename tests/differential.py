@@ -60,7 +60,7 @@ SHOWN = 5
 
 
 def model_answer(asked: Question) -> Answer:
-    """What the model answers to a text. It differs from the library's answer as `of_library` says."""
+    """The status and the answer of the model to a text. The statuses are those of the program: `of_library` turns them into the library's."""
     if asked.command == "check_accepted":
         return check_accepted(asked.text, asked.rows)
     return answer(asked.command, asked.text)
@@ -105,7 +105,7 @@ class Library:
         return None if met == wanted else f"the library answers {shown(met)}, the model {shown(wanted)}"
 
     def fault_of_string(self, asked: StringQuestion) -> str | None:
-        """What is wrong with the string that is found inside a value, None if nothing is."""
+        """What is wrong with the string that `spki_string` finds by a path inside a value, None if nothing is."""
         wanted = string_at(asked.text, asked.path)
         text, path = ctypes.create_string_buffer(asked.text, len(asked.text) + 1), (ctypes.c_size_t * len(asked.path))(*asked.path)
         octets, length = ctypes.c_void_p(), ctypes.c_size_t()
@@ -138,13 +138,13 @@ class Library:
 
 
 def fault_of_program(program: str, asked: Question, wanted: Answer) -> str | None:
-    """What is wrong with the program's answer, None if nothing is."""
+    """What is wrong with the program's answer to a text, None if nothing is. `wanted` is what the model answers."""
     done = subprocess.run([program, asked.command], input=asked.text, stdout=subprocess.PIPE, stderr=subprocess.DEVNULL, timeout=SECONDS)
     return None if (done.returncode, done.stdout) == wanted else f"the program answers {shown((done.returncode, done.stdout))}"
 
 
 def shown(said: Answer) -> str:
-    """An answer in short."""
+    """The status and the first 300 octets of an answer, for a message."""
     return f"{said[0]} {said[1][:300]!r}{'..' if len(said[1]) > 300 else ''}"
 
 
@@ -159,7 +159,8 @@ class Comparison:
     """How many cases the program has answered."""
 
     def fault(self, asked: Asked, number: int) -> str | None:
-        """What is wrong with the answers to a question, None if nothing is. By the number the program or a small buffer is tried too."""
+        """What is wrong with the answers to a case, None if nothing is. The number of the case says whether the program, or the library with a buffer
+        that is too small, is asked too."""
         if isinstance(asked, Question):
             return self.fault_of_text(asked, number)
         if self.library is None:
@@ -169,7 +170,7 @@ class Comparison:
         return self.library.fault_of_string(asked) if isinstance(asked, StringQuestion) else self.fault_of_guard(self.library, asked, number)
 
     def fault_of_guard(self, library: Library, asked: GuardQuestion, number: int) -> str | None:
-        """What is wrong with the answer of a guard, None if nothing is."""
+        """What is wrong with the answer of a guard, None if nothing is. Each fifth case, by its number, is asked with too small a buffer too."""
         try:
             wanted = model_guard_answer(asked)
         except ModelDisagrees as why:
@@ -182,7 +183,8 @@ class Comparison:
         return found and f"{found}, the model {shown(wanted[0])}"
 
     def fault_of_text(self, asked: Question, number: int) -> str | None:
-        """What is wrong with the answers to a text, None if nothing is."""
+        """What is wrong with the answers to a text, None if nothing is: that of the model breaks a law of model/laws.py, or that of the library or of
+        the program differs from it. The number of the case says whether the program and a buffer that is too small are tried."""
         try:
             wanted = model_answer(asked)
             rng = random.Random(number)
@@ -205,8 +207,8 @@ class Comparison:
 
 
 def work(comparison: Comparison, numbers: range, at: MutableSequence[int], job: int, results: Connection) -> None:
-    """Compares the cases of these numbers, and keeps the present one in `at[job]`. Sends the numbers of those that differ, the counts of the rows,
-    and how many the program answered."""
+    """Compares the cases of these numbers, in a process of its own, and keeps the present number in `at[job]`. Sends to `results` the numbers of the
+    cases that differ, the counts of the rows, and how many cases the program answered."""
     coverage.reset_counts()
     differ = []
     for number in numbers:
@@ -220,7 +222,8 @@ def work(comparison: Comparison, numbers: range, at: MutableSequence[int], job: 
 
 
 def compare(comparison: Comparison, first: int, cases: int, jobs: int) -> tuple[list[int], list[int], Counter]:
-    """The numbers of the cases that differ, the numbers of those that ended their process, and the counts of the rows."""
+    """Compares so many cases from the number `first` on, in `jobs` processes. Returns the numbers of the cases that differ, the numbers of those that
+    ended their process, and how often each row came, by its table and name."""
     at = multiprocessing.Array("q", jobs)
     workers = []
     for job in range(jobs):
@@ -248,7 +251,7 @@ def compare(comparison: Comparison, first: int, cases: int, jobs: int) -> tuple[
 
 
 def lines_of_case(comparison: Comparison, number: int) -> str:
-    """The lines about a case that differs, which is made smaller."""
+    """The lines about a case that differs: the smallest one that was found to differ too, and what is wrong with it."""
     least = smaller(question(comparison.seed, number), lambda it: comparison.fault(it, number) is not None)
     return f"case {number}: {least!r:.4000}\n    {comparison.fault(least, number)}"
 
@@ -259,7 +262,7 @@ def line_of_ended(seed: str, number: int) -> str:
 
 
 def tables(rows: Counter) -> list[str]:
-    """A line for each table of the document: its rows with their counts."""
+    """A line for each table of the model: its rows with their counts. `rows` has the counts by table and row."""
     titles: dict[str, list[str]] = {}
     for (title, name), count in rows.items():
         titles.setdefault(title, []).append(f"{name} {count}")
@@ -267,14 +270,15 @@ def tables(rows: Counter) -> list[str]:
 
 
 def shared_object(archive: str, folder: str) -> str:
-    """The library as a shared object, which Python can load."""
+    """Links the static library into a shared object in a folder, which Python can load. Returns its path."""
     path = os.path.join(folder, "libspki_c.so")
     subprocess.run(["cc", "-shared", "-o", path, "-Wl,--whole-archive", archive, "-Wl,--no-whole-archive"], check=True)
     return path
 
 
 def comparison_of(program: str, archive: str | None, folder: str, seed: str) -> Comparison:
-    """What is compared: a program and a library, or a program alone."""
+    """What is compared with the model: a program and the library of an archive, or without an archive the program alone. The folder is for a shared
+    object of the library."""
     library = Library(ctypes.CDLL(shared_object(os.path.abspath(archive), folder))) if archive else None
     return Comparison(library, os.path.abspath(program), seed)
 
@@ -298,7 +302,8 @@ def unreached(rows: Counter) -> list[str]:
 
 
 def faults_of_run(cases: int, rows: Counter, by_program: int) -> list[str]:
-    """What is wrong with the run as a whole, at most one text for each test."""
+    """What is wrong with a run of 20,000 cases or more as a whole, at most one text for each of two tests: each row came, and the program answered a
+    tenth of the cases. `by_program` is how many it answered."""
     never, is_whole = unreached(rows), cases >= WHOLE_COVERAGE
     tests = [(f"never came: {'; '.join(never)}", is_whole and never),
              (f"the program answered {by_program} cases, less than a tenth", is_whole and by_program < PROGRAM_SHARE * cases)]

@@ -13,8 +13,8 @@ NAME_GONE = re.compile(r"has no field|is not in scope|has no `|was not admitted"
 
 
 def path_of(file: str, lines: list[str], at: int, name: str) -> str:
-    """The path of the function with this head, which no other of its crate has: the type and the trait of its `impl` before its name, or else its
-    module."""
+    """The path of the function whose head is line `at`, from 0, which no other function of its crate has: before its name the type and the trait of
+    its `impl`, or else its module."""
     if lines[at].startswith(" "):
         impl = IMPL.match([line for line in lines[:at] if line[:1].strip()][-1])
         if impl:

@@ -29,7 +29,7 @@ def labels_of(engine, given):
 
 
 def question(engine, sent):
-    """Yields the answer to a question in boxes."""
+    """Yields the answer to the question in boxes that the page sent, in parts, the decision first."""
     given, labels = Given(engine, sent), labels_of(engine, sent)
     yield {"labelFaults": labels.faults}
     try:
@@ -43,7 +43,7 @@ def question(engine, sent):
 
 
 def case(engine, sent):
-    """Yields the answer to a whole case in one box."""
+    """Yields the answer to the whole case that the page sent in one box, in parts, the decision first."""
     given, labels = GivenCase(engine, sent), labels_of(engine, sent)
     yield {"labelFaults": labels.faults}
     try:
@@ -73,7 +73,7 @@ def explained(given, labels):
 
 
 def shown_reasons(story, reasons, line):
-    """The sentences, the ones that matter first, and the picture of the first."""
+    """The part of an answer that has a sentence for each reason, in their order, and the picture of the first. `line` is that of the decision."""
     sentences = [sentence_of(story, reason) for reason in reasons[:MOST_REASONS]]
     return {"reasons": sentences, "more": max(0, len(reasons) - MOST_REASONS), "title": title(sentences, line),
             "chain": chain(story, reasons[0] if reasons else None)}
@@ -100,7 +100,7 @@ def five_of(line):
 
 
 def times(engine, sent):
-    """Yields the spans of time, each with its answer."""
+    """Yields the spans of time in which the answer to the question that the page sent stays the same, each with this answer."""
     given = Given(engine, sent)
     try:
         acl, sequence, *_ = given.values()
@@ -110,7 +110,7 @@ def times(engine, sent):
 
 
 def tags(engine, sent):
-    """Yields which of two tags contains a request, and then their intersection."""
+    """Yields which of the two tags that the page sent contains the request that it sent, and then their intersection."""
     words = tuple(it.encode(errors="replace") for it in sent.get("request") or [] if isinstance(it, str))
     octets = {name: text(sent, name).encode(errors="replace") for name in ("first", "second")}
     done = {name: containment(engine, octets[name], words) for name in octets}
@@ -146,7 +146,8 @@ def fault_of_tag(engine, tag, line):
 
 
 def intersection(engine, octets, words):
-    """The text of the intersection of two tags, and what `containment` says of it; or the line of a refusal."""
+    """The text of the intersection of two tags, whose texts are the values of `octets`, and whether it contains the request of these words. Or the
+    line of a refusal."""
     try:
         both = engine.command("intersect", b"(9:intersect" + b"".join(map(engine.canonical, octets.values())) + b")")
         return {"text": both.decode()[:MOST_LETTERS], "isWhole": len(both) <= MOST_LETTERS, **containment(engine, both, words)}
@@ -155,7 +156,7 @@ def intersection(engine, octets, words):
 
 
 def forms(engine, sent):
-    """Yields the three forms of a value, one by one."""
+    """Yields the three forms of the value that the page sent, one by one, or the line of a refusal and its places."""
     octets = text(sent, "text").encode(errors="replace")
     try:
         for name in ("canonical", "advanced", "transport"):

@@ -33,7 +33,8 @@ class Chain:
         self.story, self.steps, self.subject = story, [], None
 
     def box(self, shape, label, whole, note="", state="plain"):
-        """Adds a box."""
+        """Adds a box with a label and a note below it. `whole` is its text in full. `shape` is `list`, `subject` or `request`, and `state` a
+        class of the page, such as `bad`."""
         self.steps.append({"kind": "box", "shape": shape, "label": label, "note": note, "whole": whole, "state": state})
 
     def person(self, subject, state="plain"):
@@ -109,7 +110,7 @@ def chain(story, reason):
 
 
 def shortened(steps, behind):
-    """What `chain` returns for these steps: the middle of a chain of more than MOST_STEPS is left out."""
+    """The steps, without the middle if they are more than MOST_STEPS, and `behind`, which is how many certificates behind them are not drawn."""
     if len(steps) > MOST_STEPS:
         half = MOST_STEPS // 2
         left_out = arrow("faint", f"{(len(steps) - MOST_STEPS) // 2} certificates are not drawn")

@@ -106,7 +106,7 @@ class ByLibrary(Engine):
         self.guard = functools.lru_cache(2)(self.open_guard)
 
     def answer(self, name, text):
-        """The octets that the program writes for a text."""
+        """The octets that the program `spki` would write for a text that it gets with the command `name`."""
         needed, room = ctypes.c_size_t(MOST_OCTETS), b""
         while len(room) < needed.value:
             room = ctypes.create_string_buffer(needed.value)
@@ -158,7 +158,7 @@ class ByProgram(Engine):
         self.signed = functools.lru_cache(KEPT)(self.listed)
 
     def answer(self, name, text):
-        """The octets that the program writes for a text. Raises `Failed`."""
+        """The octets that the program writes for a text that it gets with the command `name`. Raises `Failed`."""
         done = subprocess.run([self.program, name], input=text, stdout=subprocess.PIPE, stderr=subprocess.DEVNULL)
         if done.returncode not in (0, 1, 2) or not done.stdout:
             raise Failed(f"The program ended with status {done.returncode} and no answer.")
@@ -236,7 +236,7 @@ def row(signed):
 
 
 def case_text(acl, sequence, key, request, at, listed, is_strict):
-    """The case of parts in canonical form."""
+    """The text of the case that has these parts, in canonical form. `listed` are the signatures that are valid in it."""
     rows = b"".join(dict.fromkeys(map(row, listed)))
     policy = b"(6:policy6:strict)" if is_strict else b""
     return (b"(4:case" + acl + b"(8:accepted" + rows + b")" + sequence + b"(3:key" + key + b")(7:request" + request + b")(2:at" + at + b")"

@@ -35,6 +35,7 @@ def defining(name):
 
 
 def signature(signer, value):
+    """The text of a signature of the certificate TO_CAROL. Signer and value are texts too."""
     return f"  (signature {DIGEST}\n   {signer} {value})"
 
 
@@ -44,7 +45,8 @@ WRITE = ["packages", "write", "/builds/web/index.html"]
 
 
 def example(name, group, wanted, **changed):
-    """An example: its name, the line of `explain` or the refusal that matters most, and the question."""
+    """An example: its name, the group in which the page lists it, the line of `explain` or the refusal that matters most, and the question, which
+    is STORY with what is in `changed` instead."""
     return {"name": name, "group": group, "wanted": wanted, "question": {**STORY, **changed}}
 
 

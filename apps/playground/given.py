@@ -80,7 +80,7 @@ class Given:
         return numbered(line, self.heads)
 
     def fault_of_words(self, name, line):
-        """As `fault`, for the box of the request or of the moment, which is no S-expression: its first line is the place."""
+        """What is shown at the box `request` or `at` for a refusal. Its text is no S-expression, so its first line is the place."""
         typed = self.box["at"]
         why = f"{'this is no moment' if typed else 'the moment is missing'}; choose a date and a time of day, in UTC"
         if name == "request":
@@ -110,23 +110,28 @@ class GivenCase:
         return case[1], case[3], case[4][1], case[5][1], case[6][1]
 
     def check(self):
+        """The line of the decision."""
         return self.lines("check")[0]
 
     def lines(self, command):
+        """The lines of `check`, `explain` or `reduce`."""
         return self.engine.command(command, self.octets).decode().split("\n")
 
     def cut(self, items):
+        """The lines of `reduce` if the sequence of the case had these items only."""
         case = self.engine.value(self.octets)
         return self.engine.command("reduce", canonical([*case[:3], [b"sequence", *items], *case[4:]])).decode().split("\n")
 
     @functools.cached_property
     def heads(self):
+        """The words that the items of the sequence begin with."""
         return heads_in(self.octets)
 
     def shown(self, line):
-        """A refusal as the page writes it."""
+        """A refusal as the page writes it: with the number of a certificate among the certificates."""
         return numbered(line, self.heads)
 
     def fault(self, line):
+        """What is shown at the box of the case for a refusal, with its places there."""
         found = [(at, numbered(why, self.heads)) for at, why in places(self.octets, line)]
         return {"case": {"line": line, "shown": self.shown(line), "places": shown_places(self.octets, found)}}

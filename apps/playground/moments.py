@@ -42,8 +42,8 @@ def limits_of(value):
 
 
 def spans(values, answer):
-    """The spans between two changes of an answer, in their order, each with the answer and the limits at both ends. `answer` returns the answer at
-    a date. Only the first MOST_LIMITS changes are looked at."""
+    """The spans between two changes of an answer, in their order, each with the answer and the limits at both ends. The limits are those in `values`,
+    and `answer` returns the answer at a date. Only the first MOST_LIMITS changes are looked at."""
     limits = [limits_of(value) for value in values]
     begins = {moment: ("from", moment) for it in limits for moment in it[b"not-before"]}
     ends = {after(moment): ("after", moment) for it in limits for moment in it[b"not-after"] if after(moment)}

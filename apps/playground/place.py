@@ -55,7 +55,7 @@ def heads_in(text, made_up=()):
 
 def numbered(words, heads):
     """Words in which the number of an item is replaced by that of a certificate among the certificates, or of an item among those that were typed.
-    `heads` are those of `heads_in`."""
+    `heads` are the words that the items begin with, or None for one that the page made up."""
     def of_item(found):
         number = int(found[1])
         before = heads[:number]

@@ -61,7 +61,7 @@ def shown_certificates(story):
 
 
 def title(reasons, line):
-    """The answer itself, in one sentence: the first of `reasons`, which are those of `sentence_of`, or one by the line of the decision."""
+    """The answer itself, in one sentence: that of the first of `reasons`, which `sentence_of` has made, or one by the line of the decision."""
     if line.startswith("yes"):
         return reasons[0]["says"] if reasons else f"Entry {line.rsplit(' ', 1)[1]} grants the request."
     return reasons[0]["says"] if reasons else "The access list is empty."

@@ -145,7 +145,8 @@ func (k *keeper) reload(c *config, allowFewerEnded bool, now time.Time) error {
 	return err
 }
 
-// replace reads the files and replaces what was read before. After an error, which reload describes, nothing is replaced.
+// replace reads the files, and puts them in the place of those that were read before. It fails if a file is refused, or if an ended certificate is no
+// longer listed and allowFewerEnded is false: then nothing is replaced.
 func (k *keeper) replace(c *config, allowFewerEnded bool, now time.Time) error {
 	certificate, err := c.TLS.read()
 	if err != nil {

@@ -249,7 +249,8 @@ func answerOf(err error) answer {
 	return answerFailed
 }
 
-// reasonsOf returns why a request is denied, without the entries for other keys. `number` returns the number of an entry by its place in the guard.
+// reasonsOf returns why a request is denied, without the entries for other keys, or the text of `err`, the error of the explanation. `number` returns
+// the number of an entry by its place in the guard.
 func reasonsOf(explanation guard.Explanation, err error, number func(place int) int) string {
 	if err != nil {
 		return err.Error()

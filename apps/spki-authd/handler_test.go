@@ -20,7 +20,7 @@ type site struct {
 	log                        journal
 }
 
-// newSite makes a site. `fields` are more fields of its configuration, each after a comma, or empty.
+// newSite makes a site. `fields` are more fields of its configuration, each after a comma such as `, "cache": 0`, or empty.
 func newSite(t testing.TB, fields string) *site {
 	t.Helper()
 	made := &site{alice: newPerson(t), bob: newPerson(t), carol: newPerson(t), mallory: newPerson(t)}

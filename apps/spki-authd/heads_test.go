@@ -8,7 +8,8 @@ import (
 	"testing/iotest"
 )
 
-// readAll reads requests that come one after the other, and returns the method and the body of each, and at last the error after them.
+// readAll reads requests that come one after the other. It returns the method, the header X-Last, the body and the error of the body of each, and at
+// last the error after them.
 func readAll(from io.Reader) (read []string) {
 	reader := newHeads(from)
 	for {

@@ -64,7 +64,6 @@ const (
 )
 
 // begunName is the name of a file that is not whole.
-
 var begunName = regexp.MustCompile(`^[0-9a-f]{64}\.new$`)
 
 // A keptChain is a sequence in transport form, its file and when it is forgotten.
@@ -160,7 +159,7 @@ func (k *kept) read(path string, now time.Time) (isOver bool) {
 	return false
 }
 
-// put keeps a sequence in memory, behind those of the key that end before it. The mutex is held, or nobody else knows the store.
+// put keeps a sequence in memory, behind those of the key that end before it. The mutex is held, or no other goroutine has `k` yet.
 func (k *kept) put(key string, chain keptChain) {
 	// (readers still have the old ones)
 	all := append(append([]keptChain(nil), k.byKey[key]...), chain)
@@ -175,7 +174,7 @@ func (k *kept) remove(key, name string) {
 	os.Remove(filepath.Join(k.Folder, key))
 }
 
-// hasRoom says whether a key may have one more sequence, of so many octets. The mutex is held, or nobody else knows the store.
+// hasRoom says whether a key may have one more sequence, of so many octets. The mutex is held, or no other goroutine has `k` yet.
 func (k *kept) hasRoom(key string, octets int) bool {
 	_, isKnown := k.byKey[key]
 	return len(k.byKey[key]) < k.Each && (isKnown || len(k.byKey) < k.Keys) && k.octets+octets <= mostLeft
@@ -205,8 +204,8 @@ func (c *chains) chainOf(text string, from time.Time) keptChain {
 
 var notAfter = regexp.MustCompile(`\(9:not-after19:(\d{4}-\d\d-\d\d_\d\d:\d\d:\d\d)\)`)
 
-// endOf returns the earliest end of the certificates of a sequence, if one has an end. A text in a tag that looks so counts as an end too, which does
-// no harm.
+// endOf returns the earliest end of the certificates of a sequence in transport form, if one has an end. A text in a tag that looks so counts as an
+// end too, which does no harm.
 func endOf(text string) (end time.Time, hasEnd bool) {
 	// (what is no base64 is refused before)
 	octets, _ := base64.StdEncoding.DecodeString(strings.Trim(strings.Join(strings.Fields(text), ""), "{}"))
@@ -287,8 +286,8 @@ func (k *kept) write(key string, chain keptChain) error {
 	return os.Rename(path+ofBegun, path)
 }
 
-// judgeAll decides by the certificates that a request shows. Where it shows none and the list alone grants nothing, each sequence that is kept for
-// its key is tried, until one grants the request.
+// judgeAll sets the answer of a record by the certificates that the request shows. Where it shows none and the list alone grants nothing, each
+// sequence that is kept for its key is tried, until one grants the request.
 func (d *decider) judgeAll(made *record, key guard.ProvenKey, path string, asked *asked, now time.Time) {
 	begun := *made
 	d.judge(made, key, path, asked.sequence, now)

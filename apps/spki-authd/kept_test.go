@@ -132,12 +132,12 @@ func (p person) hashOfKey() string {
 	return "(4:hash6:sha256" + str(string(digest[:])) + ")"
 }
 
-// gives returns a signed certificate for a subject in canonical form, such as a hash. `more` has further fields, or is empty.
+// gives returns a signed certificate for a subject, such as a hash. All three are in canonical form. `more` has further fields, or is empty.
 func (p person) gives(subject, tag, more string) string {
 	return p.sign("(4:cert(6:issuer" + p.key + ")" + more + "(7:subject" + subject + ")(3:tag" + tag + "))")
 }
 
-// defines returns a signed certificate by which a name of a person means a subject.
+// defines returns a signed certificate by which a name of a person means a subject, which is in canonical form.
 func (p person) defines(name, subject string) string {
 	return p.sign("(4:cert(6:issuer(4:name" + p.key + str(name) + "))(7:subject" + subject + "))")
 }

@@ -40,7 +40,7 @@ type file interface {
 // Who may read a new ledger, beyond what the daemon's umask takes away.
 const modeOfLedger = 0o640
 
-// openLedger opens or makes a ledger.
+// openLedger opens or makes a ledger. `syncs` is syncNever, syncSeconds or syncEach.
 func openLedger(path, syncs string) (*ledger, error) {
 	made := &ledger{path: path, syncs: syncs}
 	return made, made.open()
@@ -159,7 +159,7 @@ func (l *ledger) prepare() error {
 	return l.fault
 }
 
-// beat writes to the disk, with `seconds`, what was written since the last time. The writer calls it each second.
+// beat writes to the disk what was written since the last time, if the ledger has syncSeconds. The writer calls it each second.
 func (l *ledger) beat() {
 	if l.syncs == syncSeconds && (l.isDirty || l.fault != nil) {
 		l.fault = l.file.Sync()

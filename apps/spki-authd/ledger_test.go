@@ -44,7 +44,8 @@ func (f *failing) Sync() error {
 	return f.File.Sync()
 }
 
-// openFailing opens a ledger with a text, and returns it with its file, which fails once that is asked of it.
+// openFailing opens a ledger that has a text already, or is new if that is empty, and returns it with its file, which fails once its fields say so.
+// `syncs` is syncNever, syncSeconds or syncEach.
 func openFailing(t *testing.T, syncs, text string) (*ledger, *failing) {
 	t.Helper()
 	path := filepath.Join(t.TempDir(), "log")

@@ -81,7 +81,7 @@ func bodyOf(request *http.Request) ([]byte, error) {
 	return body, nil
 }
 
-// shownIn returns the sequence of a body, in whatever form that is, in transport form. It fails with errChain.
+// shownIn returns the sequence of a body in transport form, whatever form the body has. It fails with errChain.
 func shownIn(body []byte) (string, error) {
 	canonical, err := guard.Canonical(body)
 	made := "{" + base64.StdEncoding.EncodeToString(canonical) + "}"
@@ -91,8 +91,8 @@ func shownIn(body []byte) (string, error) {
 	return made, nil
 }
 
-// leave keeps the certificates that a client leaves, and returns their record. Strangers can leave some too, of keys that they made. So these
-// requests have nonces of their own, and what is known or finds no room is not verified.
+// leave keeps the certificates that a client leaves, and returns the record with the answer to that. Strangers can leave some too, of keys that they
+// made. So these requests have nonces of their own, and what is known or finds no room is not verified.
 func (d *decider) leave(made record, key guard.ProvenKey, proof *httpsig.Proof, asked *asked) record {
 	made.Target = asked.target
 	if err := d.signed.leaving.Take(proof); err != nil {

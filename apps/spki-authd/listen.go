@@ -89,7 +89,7 @@ func (c *config) listen() (net.Listener, error) {
 	return c.TLS.around(listener), nil
 }
 
-// closeAfter closes a listener, which may be nil, and returns the fault after which it does.
+// closeAfter closes a listener, if it is not nil, and returns the fault that it is given.
 func closeAfter(listener net.Listener, fault error) error {
 	if listener != nil {
 		listener.Close()

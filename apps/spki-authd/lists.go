@@ -51,7 +51,7 @@ func (c *config) checkLists() error {
 	return nil
 }
 
-// check says what is wrong in a place, also if it is never reached behind the places before it.
+// check says what is wrong in a place. It is also wrong if one of the places before it takes all its requests, so that it is never reached.
 func (p *place) check(before []place) error {
 	if p.List == "" || p.Host != "" && !isHost(p.Host) {
 		return errors.New("a place has a list, and a host in small letters or none")

@@ -110,7 +110,7 @@ func wordsOf(given []string, messages io.Writer) (words, error) {
 	return made, err
 }
 
-// check says what is wrong in flags together. There must be no words beside the flags.
+// check says which flags do not go together. `rest` has the words beside the flags, of which there must be none.
 func (w *words) check(rest []string) error {
 	switch {
 	case len(rest) > 0:

@@ -22,7 +22,7 @@ import (
 	"conguraki/spki/verify"
 )
 
-// A person has a key, and a TLS certificate of it that it has signed itself.
+// A person has a key, also as an SPKI key in canonical form, and a TLS certificate of it in DER that it has signed itself.
 type person struct {
 	private ed25519.PrivateKey
 	key     string
@@ -43,7 +43,7 @@ func newPerson(t testing.TB) person {
 	return person{private, string(key), selfSigned(t, private)}
 }
 
-// selfSigned returns a certificate of X.509, in DER.
+// selfSigned returns an X.509 certificate of a key, signed by that key, in DER. Its end is long past: the daemon uses nothing but the key.
 func selfSigned(t testing.TB, private crypto.Signer) []byte {
 	t.Helper()
 	template := &x509.Certificate{SerialNumber: big.NewInt(1), Subject: pkix.Name{CommonName: "nobody"}, NotAfter: time.Unix(1, 0)}
@@ -74,13 +74,14 @@ func str(octets string) string {
 	return fmt.Sprintf("%d:%s", len(octets), octets)
 }
 
-// certificate returns a certificate in canonical form, not signed, by which a person gives another one a right. `more` has further fields, or is
-// empty.
+// certificate returns a certificate in canonical form, not signed, by which a person gives another one the right of a tag. `more` has further fields,
+// such as propagates, or is empty.
 func (p person) certificate(to person, tag, more string) string {
 	return "(4:cert(6:issuer" + p.key + ")(7:subject" + to.key + ")" + more + "(3:tag" + tag + "))"
 }
 
-// certificateUntil returns a certificate as certificate does, which ends at a time such as 2030-01-31_12:00:00.
+// certificateUntil returns a certificate in canonical form, not signed, by which a person gives another one the right of a tag until a time such as
+// 2030-01-31_12:00:00.
 func (p person) certificateUntil(to person, tag, end string) string {
 	return "(4:cert(6:issuer" + p.key + ")(7:subject" + to.key + ")(3:tag" + tag + ")(5:valid(9:not-after" + str(end) + ")))"
 }
@@ -104,7 +105,7 @@ func digestOfText(certificate string) string {
 	return hex.EncodeToString(digest[:])
 }
 
-// prefix returns the tag of all files below a path, for a word such as read.
+// prefix returns, in canonical form, the tag `(files WORD (* prefix PATH))`: a word such as read, for all paths that begin with PATH.
 func prefix(word, path string) string {
 	return "(5:files" + str(word) + "(1:*6:prefix" + str(path) + "))"
 }
@@ -120,7 +121,7 @@ func withLastLine(lines string) string {
 	return fmt.Sprintf("%send %d %s\n", lines, digests, digestOfText(lines))
 }
 
-// propagates lets the subject delegate.
+// propagates is the field of a certificate or an entry that lets the subject delegate.
 const propagates = "(9:propagate)"
 
 // writeFile writes a file in a folder of its own, and returns its path.

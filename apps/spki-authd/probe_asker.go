@@ -66,7 +66,7 @@ var (
 // errNotSent is the fault of a request that the protocol does not have.
 var errNotSent = errors.New("the protocol has no such request")
 
-// An asker sends requests by one protocol, with a key or without.
+// An asker sends requests by one protocol, which is 1 for HTTP/1.1 and 2 for HTTP/2, with a key or without.
 type asker struct {
 	name     string
 	protocol int
@@ -96,7 +96,7 @@ func askersOf(base *url.URL) ([]asker, error) {
 		newAsker("HTTP/1.1, a strange key", 1, strange), newAsker("HTTP/2, a strange key", 2, strange)}, nil
 }
 
-// newAsker returns an asker with a certificate for TLS, or with none. It follows no redirect.
+// newAsker returns an asker for a protocol, 1 for HTTP/1.1 or 2 for HTTP/2. `own` is its certificate for TLS, or nil. It follows no redirect.
 func newAsker(name string, protocol int, own *tls.Certificate) asker {
 	settings := &tls.Config{RootCAs: rootsOfSite, NextProtos: []string{"http/1.1"}}
 	if own != nil {

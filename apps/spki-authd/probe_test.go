@@ -48,7 +48,7 @@ func denies(isHole func(*http.Request) bool, status int) func(http.ResponseWrite
 func never(*http.Request) bool  { return false }
 func always(*http.Request) bool { return true }
 
-// isMethod returns a hole that is for one method.
+// isMethod returns a hole for denies: it is true for the requests of one method.
 func isMethod(method string) func(*http.Request) bool {
 	return func(request *http.Request) bool { return request.Method == method }
 }

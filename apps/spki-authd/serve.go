@@ -116,7 +116,8 @@ func (d *daemon) end(listener net.Listener, door *door) error {
 	return err
 }
 
-// reload reads the files again, as the keeper's reload, and says so to the service manager and in a message.
+// reload reads the access lists, the ended certificates and the certificate for TLS again. It keeps the old ones if a file is refused, or if an ended
+// certificate is no longer listed and allowFewerEnded is false. The service manager and a message say how it ended.
 func (d *daemon) reload(allowFewerEnded bool) error {
 	_ = notify("RELOADING=1")
 	err := d.keeper.reload(d.config, allowFewerEnded, d.now())

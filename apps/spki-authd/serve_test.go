@@ -26,7 +26,8 @@ type served struct {
 	open []net.Conn
 }
 
-// serveHere returns a site that a daemon in this process answers for at a socket, until the test ends. `fields` are those of newSite.
+// serveHere returns a site that a daemon in this process answers for at a socket, until the test ends. `fields` are more fields of its configuration,
+// each after a comma, or empty.
 func serveHere(t *testing.T, fields string) *served {
 	t.Helper()
 	room := t.TempDir()
@@ -189,7 +190,8 @@ func (s *served) exchange(t *testing.T, text string) []byte {
 	return octets
 }
 
-// request returns the text of an HTTP request that asks whether Alice may read a target. `more` has lines for its header.
+// request returns the text of an HTTP request that asks whether Alice may read a target. `method` is that of the asking request itself. `more` has
+// lines for its header, each with its CRLF, or is empty.
 func (s *served) request(method, target, more string) string {
 	return method + " / HTTP/1.1\r\nHost: x\r\nX-Original-Method: GET\r\nX-Original-URI: " + target + "\r\nX-Client-Cert: " + s.alice.escaped() + "\r\n" +
 		more + "\r\n"

@@ -98,7 +98,7 @@ func (s *shown) notEnded(access *access) (int, error) {
 	return len(s.digests), nil
 }
 
-// markFirst marks the first signatures of a question as valid, so many.
+// markFirst marks the first signatures of a question as valid. `valid` is the number of these.
 func markFirst(opened *guard.Asked, valid int) error {
 	for place := 0; place < valid; place++ {
 		if err := opened.Mark(place); err != nil {

@@ -13,8 +13,8 @@ func (s *site) kept() int {
 	return len(s.sequences.kept.old) + len(s.sequences.kept.young)
 }
 
-// mustBe asks three times, and reports an error unless each status is the one that is wanted. A valid sequence is kept after the first question, and
-// put into canonical form at the second. The last line of the log is returned.
+// mustBe asks three times to read a target by a sequence, and reports an error, which begins with `what`, unless each status is the one that is
+// wanted. A valid sequence is kept after the first question, and put into canonical form at the second. The last line of the log is returned.
 func (s *site) mustBe(t *testing.T, what string, who person, target, shown string, wanted int) record {
 	t.Helper()
 	for turn := 1; turn <= 3; turn++ {
@@ -81,6 +81,8 @@ func TestKeptSequencesAndTheList(t *testing.T) {
 	}
 }
 
+// TestKeptSequencesAndEndedCertificates ends Bob's certificate alone, then Carol's alone, and then none. Carol's kept sequence, which has both, is
+// denied until then.
 func TestKeptSequencesAndEndedCertificates(t *testing.T) {
 	s := newSite(t, "")
 	bobs, carols := s.sequencesShown()

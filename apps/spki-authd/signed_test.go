@@ -10,6 +10,7 @@ import (
 	"conguraki/spki/httpsig"
 )
 
+// ofSite are fields for newSite, by which requests may be signed for two names of the site.
 const ofSite = `, "signatures": {"names": ["files.example.org", "files.example.net:8443"]}`
 
 // signs returns the headers of a request that a person has signed, in pairs of name and value, as nginx passes them on. `sequence` and `body` may be

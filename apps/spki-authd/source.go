@@ -113,7 +113,8 @@ func (s *storeOf) stale() time.Duration {
 	return time.Duration(s.StaleSeconds) * time.Second
 }
 
-// settings returns the settings as a driver takes them. A server that is not at a socket must show a certificate for its host.
+// settings returns what the driver connects by: NAME=VALUE for each setting, with spaces between them. A server that is not at a socket must show a
+// certificate for its host.
 func (s *storeOf) settings() string {
 	made := []string{"sslmode=disable"}
 	if !s.isSocket() {
@@ -128,12 +129,12 @@ func (s *storeOf) settings() string {
 	return strings.Join(append(made, fmt.Sprintf("port=%d", s.Port), "application_name=spki-authd", "enable_seqscan=off", "jit=off", "plan_cache_mode=force_generic_plan"), " ")
 }
 
-// quotedSetting returns a value in quotes.
+// quotedSetting returns a value of settings in single quotes, with a backslash before each quote and backslash in it.
 func quotedSetting(value string) string {
 	return "'" + strings.NewReplacer(`\`, `\\`, `'`, `\'`).Replace(value) + "'"
 }
 
-// nameLists names the lists by their sources.
+// nameLists sets what each list is called in messages, from its source.
 func (c *config) nameLists() {
 	c.List = c.Source.name()
 	for number := range c.Lists {

@@ -62,7 +62,8 @@ type found struct {
 	texts   [][]byte
 }
 
-// A news has changes, or all ended certificates.
+// A news has changes, or all ended certificates. A change is in `changed`, as a digest of the key whose entries it concerns, or in `ended`. isCut
+// says that there were more changes than one poll reads.
 type news struct {
 	storeState
 	// The time of the change with the number that was asked for, or 0 if there is no such change.
@@ -161,7 +162,8 @@ func (s *store) keyOf(question *guard.Question) ([]byte, error) {
 	return []byte(first), nil
 }
 
-// read reads the entries of a key, whose digest `name` is, and keeps them if no later state was polled meanwhile.
+// read reads the entries of a key, whose digest `name` is, and returns the list of them. It is kept if it is not too large and no later state was
+// polled meanwhile, and otherwise it is closed after one question.
 func (s *store) read(name digest, key []byte) (*list, error) {
 	before := s.seenNow()
 	places := digestsOf(key)

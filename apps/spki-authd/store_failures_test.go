@@ -68,8 +68,8 @@ func newTimeline(t *testing.T) *timeline {
 	return made
 }
 
-// transact runs statements in one transaction, and returns the rows of all. `values` are those of the last statement. If it fails, another server is
-// asked the next time.
+// transact runs statements, in which @ is the schema, in one transaction, and returns the rows of all. `values` are those of the last statement. If
+// it fails, another server is asked the next time.
 func (l *timeline) transact(texts []string, values ...driver.Value) (rows [][]driver.Value, err error) {
 	writer := l.writers[l.at]
 	taken, err := writer.take()

@@ -72,7 +72,7 @@ func newFigures(t *testing.T, keys int) *figures {
 	return &figures{t, made, keys}
 }
 
-// key returns the key with a number, in canonical form, as bench/store.py does.
+// key returns the key with a number, in canonical form, for which bench/store.py has put an entry into the store.
 func key(number int) []byte {
 	return []byte(fmt.Sprintf("(10:public-key(4:test40:k%039d))", number))
 }
@@ -181,7 +181,7 @@ func (f *figures) measureLoad() {
 	printFigure("load", times)
 }
 
-// BenchmarkStored measures a request by two certificates, as BenchmarkHandler does, where the list is a store whose rows are kept.
+// BenchmarkStored measures a request by two certificates whose signatures were verified before. The list is a store whose rows are kept.
 func BenchmarkStored(b *testing.B) {
 	s := newStored(b)
 	s.grants = func([]byte) error { return nil }

@@ -10,7 +10,7 @@ type keptRows struct {
 	byPlace    map[string]*ordered.Element
 }
 
-// A keptRow is what is kept for a key.
+// A keptRow is what is kept for a key. `places` are the digests of the key by which the database has its entries, and `name` is that by SHA-256.
 type keptRow struct {
 	name   digest
 	places [][]byte
@@ -39,7 +39,8 @@ func (k *keptRows) get(name digest) *list {
 	return element.Value.(*keptRow).list
 }
 
-// add keeps the list of a key, which is found by these places, and says whether it does. Lists that were asked for long ago make room.
+// add keeps the list of a key, and says whether it does. `name` is the key's digest by SHA-256, `places` are all its digests from digestsOf, and
+// `octets` is the size of its entries' texts. Lists that were asked for long ago make room.
 func (k *keptRows) add(name digest, places [][]byte, rows *list, octets int) bool {
 	if before, isKept := k.byName[name]; isKept {
 		k.remove(before)
@@ -60,7 +61,7 @@ func (k *keptRows) add(name digest, places [][]byte, rows *list, octets int) boo
 	return true
 }
 
-// drop forgets the list of a key, given one of the places that its entries are found by.
+// drop forgets the list of a key, if one is kept. `place` is any of the key's digests from digestsOf: that which a changed entry has.
 func (k *keptRows) drop(place []byte) {
 	if element, isKept := k.byPlace[string(place)]; isKept {
 		k.remove(element)

@@ -82,7 +82,7 @@ func (l *list) stamp() string {
 	return fmt.Sprintf("change-%d-%d", seen.changes, seen.token)
 }
 
-// digestNow returns the digest of the lists, or what tells their present states from others where one is in a store.
+// digestNow returns the digest of the lists. Where one is in a store, it is made anew from the state that was polled last.
 func (a *access) digestNow() string {
 	for _, each := range a.lists {
 		if each.store != nil {

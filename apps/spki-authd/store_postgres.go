@@ -258,7 +258,8 @@ func (p *pool) since(number int64) (made news, err error) {
 	return made, requireState(hasState, err)
 }
 
-// note adds a change: of the kind `end` the digest of an ended certificate, and of another kind a place whose entries have changed.
+// note adds a change. `what` is its kind, and `place` its digest: of an ended certificate if the kind is `end`, and otherwise of the key whose
+// entries have changed.
 func (n *news) note(what driver.Value, place []byte) {
 	if text, isText := what.(string); isText && text == "end" && len(place) == len(digest{}) {
 		n.ended = append(n.ended, *(*digest)(place))

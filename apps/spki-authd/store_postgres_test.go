@@ -193,7 +193,8 @@ func (r *rig) wholeAnswer(entries map[int]string, question guard.Question) strin
 	return answerBy(opened, numbers, question)
 }
 
-// answerBy asks a guard, and returns `yes NUMBER` with the number of the entry, `no`, or the error.
+// answerBy asks a guard, and returns `yes NUMBER` with the number of the entry, `no`, or the error. `numbers` has the numbers of the guard's entries,
+// in their order.
 func answerBy(opened *guard.Guard, numbers []int, question guard.Question) string {
 	decision, err := opened.Decide(question, verify.Signature)
 	if err != nil {

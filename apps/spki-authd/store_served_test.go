@@ -37,7 +37,8 @@ const (
 	connectionsEach       = 16
 )
 
-// A load asks daemons over HTTP, nine of ten times for somebody whose rows they keep.
+// A load asks daemons over HTTP, nine of ten times for somebody whose rows they keep. Each connection begins a request every `every`, or at once if
+// that is 0, for `seconds`. `times` has what its answers took.
 type load struct {
 	*testing.T
 	requests []string

@@ -11,7 +11,7 @@ import (
 	"conguraki/spki/guard"
 )
 
-// A table is a store in memory: its entries, and what a poll would tell of its changes.
+// A table is a reader of a store in memory: it has the entries, and what a poll would return of their changes.
 type table struct {
 	texts  map[int]string
 	places map[int]string
@@ -108,7 +108,8 @@ type stored struct {
 	time  time.Time
 }
 
-// newStored returns a site whose list is such a table, in which Alice has entry 7. `fields` are those of newSite.
+// newStored returns a site whose list is a table in memory, in which Alice has entry 7. `fields` are more fields of its configuration, each after a
+// comma.
 func newStored(t testing.TB, fields ...string) *stored {
 	t.Helper()
 	made := &stored{site: newSite(t, strings.Join(fields, "")), table: &table{texts: map[int]string{}, places: map[int]string{}}, time: time.Now()}
@@ -143,7 +144,7 @@ func (s *stored) beat() {
 	_ = s.store.pollOnce()
 }
 
-// expect asks for Alice, and reports an error unless the status is the one that is wanted.
+// expect asks whether Alice may read /web/x, and reports an error, which begins with `name`, unless the status is the one that is wanted.
 func (s *stored) expect(t *testing.T, name string, wanted int) {
 	t.Helper()
 	if met := s.by(s.alice, "GET", "/web/x", ""); met.StatusCode != wanted {

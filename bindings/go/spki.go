@@ -73,7 +73,7 @@ func (k ProvenKey) Text() string {
 	return k.text
 }
 
-// String returns the same, for a log.
+// String returns the octets of the key, with `?` for those that are no UTF-8, for a log.
 func (k ProvenKey) String() string {
 	return strings.ToValidUTF8(k.text, "?")
 }

@@ -54,7 +54,7 @@ def right(signature):
 
 
 def wrong(signature):
-    """A verifier for which none is."""
+    """A verifier for which no signature is valid."""
     return False
 
 

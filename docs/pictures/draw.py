@@ -31,7 +31,7 @@ def arrow(x1, y1, x2, y2, *beside):
 
 
 def chain():
-    """From an access list to a yes."""
+    """The lines of chain.svg: from an access list to a yes."""
     return page(
         860, 250, "A chain from an access list to a yes",
         box(20, 50, 190, 90, ["access list, entry 1", "read and write /builds/", "may be delegated"], "own"),
@@ -64,7 +64,7 @@ WHAT = {
 
 
 def crates():
-    """Which crate uses which. An arrow that follows from two others is left out."""
+    """The lines of crates.svg: which crate uses which. An arrow that follows from two others is left out."""
     width, height = 150, 44
     boxes = [part for name, (x, y) in CRATES.items() for part in box(x, y, width, height, [name, WHAT[name]])]
     arrows = []
@@ -86,7 +86,7 @@ STEPS = [
 
 
 def octets():
-    """The way of the octets to an answer, in two rows."""
+    """The lines of octets.svg: the way of the octets to an answer, in two rows."""
     width, height, gap = 150, 56, 22
     boxes, arrows = [], []
     for place, (name, what, kind) in enumerate(STEPS):
@@ -106,7 +106,7 @@ def octets():
 
 
 def of_case(name, program):
-    """The chain of a case, from top to bottom."""
+    """The lines of the picture of the case examples/guide/NAME.sexp: its chain from top to bottom, by what the program at a path says of it."""
     return svg_of_drawing(drawn(program, os.path.join(HERE, "..", "..", "examples", "guide", f"{name}.sexp"), PICTURE_WIDTH), CASES[name])
 
 

@@ -28,7 +28,7 @@ class Camera(InChromium):
     """The browser of the tests."""
 
     def take(self, name, width, height, example):
-        """Takes one picture."""
+        """Chooses the example with a number on the page, waits for its answer, and writes the picture NAME.png, so many pixels wide and high."""
         size = {"width": width, "height": height, "deviceScaleFactor": 1, "mobile": False}
         self.browser.execute_cdp_cmd("Emulation.setDeviceMetricsOverride", size)
         self.setUp()

@@ -20,7 +20,7 @@ static uint64_t rotated(uint64_t word, unsigned bits)
     return word << bits | word >> (64 - bits);
 }
 
-/* So many rounds of SipHash. */
+/* Changes the state of SipHash by `count` rounds. */
 static void sip_rounds(uint64_t v[4], int count)
 {
     for (; count > 0; count--) {

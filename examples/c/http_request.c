@@ -33,7 +33,7 @@ static struct spki_text literal(const char *text)
     return (struct spki_text){text, strlen(text)};
 }
 
-/* Whether a text is a C string. */
+/* Whether a text equals a C string. */
 static bool is_text(struct spki_text text, const char *wanted)
 {
     return text.length == strlen(wanted) && (text.length == 0 || memcmp(text.octets, wanted, text.length) == 0);
@@ -70,7 +70,7 @@ static struct spki_text trimmed(struct spki_text value)
     return between(first, end);
 }
 
-/* Whether a component is among those that the signature covers. */
+/* Whether a component is among those that the signature covers, by its name. */
 static bool covers(const struct input *input, const char *name)
 {
     for (size_t i = 0; i < input->count; i++)
@@ -164,7 +164,7 @@ static bool read_integer(struct cursor *in, long long *number)
     return digits > 0 && digits <= MOST_DIGITS && (digits == 1 || *first != '0');
 }
 
-/* Sets the cursor to what follows the label and its `=`. The label must be `spki`. */
+/* Sets the cursor to what follows the label and its `=`. The label must be `spki`. Returns null, or the name of the refusal. */
 static const char *read_label(struct spki_text value, struct cursor *in)
 {
     const unsigned char *first = value.octets;
@@ -175,7 +175,7 @@ static const char *read_label(struct spki_text value, struct cursor *in)
     return is_text(name, "spki") ? NULL : "other-label";
 }
 
-/* The refusal of what follows the first member, or null if nothing does. */
+/* The name of the refusal of what follows the first member, or null if nothing does. */
 static const char *expect_end(struct cursor in)
 {
     if (in.at == in.end)
@@ -204,7 +204,7 @@ static bool is_component(struct spki_text name)
     return name.length > 0 && !is_text(name, "signature") && !is_text(name, "signature-input");
 }
 
-/* Reads the list of the names of components, in parentheses. */
+/* Reads the list of the names of components, in parentheses. Returns null, or the name of the refusal. */
 static const char *read_components(struct cursor *in, struct input *input)
 {
     if (!try_skip(in, "("))
@@ -223,7 +223,7 @@ static const char *read_components(struct cursor *in, struct input *input)
     return NULL;
 }
 
-/* Reads the parameters up to the end of the field. Then no component and no parameter that the profile requires may be missing. */
+/* Reads the parameters up to the end of the field. Returns null, or the name of the refusal, also if a component or parameter is missing. */
 static const char *read_parameters(struct cursor *in, struct input *input)
 {
     unsigned seen = 0;
@@ -250,7 +250,7 @@ static const char *read_parameters(struct cursor *in, struct input *input)
     return seen == (1U << PARAMETERS) - 1 ? NULL : "missing-parameter";
 }
 
-/* Reads `Signature-Input`. */
+/* Reads the value of `Signature-Input`. Returns null, or the name of the refusal. */
 static const char *read_input(struct spki_text value, struct input *input)
 {
     struct cursor in;
@@ -273,7 +273,7 @@ static bool read_octets(struct cursor *in, unsigned char *octets, size_t room, s
     return decode_base64(between(first, in->at), octets, room, length) && try_skip(in, ":");
 }
 
-/* Reads `Signature`. One that is too long for each algorithm is read too: check_message refuses it. */
+/* Reads `Signature`, also if it is too long for each algorithm: check_message refuses that. Returns null, or the name of the refusal. */
 static const char *read_signature(struct spki_text value, unsigned char octets[MOST_INPUT], size_t *length)
 {
     struct cursor in;
@@ -295,7 +295,7 @@ static size_t count_lines(const struct http_request *request, const char *name, 
     return count;
 }
 
-/* Sets `value` to that of a field, which must be there in one line of printable ASCII. */
+/* Sets `value` to that of a field, which must be there in one line of printable ASCII. Returns null, or the name of the refusal. */
 static const char *read_field(const struct http_request *request, struct spki_text name, struct spki_text *value)
 {
     size_t count = 0;
@@ -369,7 +369,7 @@ static void put(struct writer *out, struct spki_text text)
     out->length += text.length;
 }
 
-/* Writes the value of a component. The refusal is that of a field which cannot be read. */
+/* Writes the value of a component by its name. Returns null, or the name of the refusal of a field that cannot be read. */
 static const char *put_value(struct writer *out, const struct http_request *request, struct spki_text authority, struct spki_text name)
 {
     struct spki_text target = request->target, value;
@@ -393,7 +393,7 @@ static const char *put_value(struct writer *out, const struct http_request *requ
     return why;
 }
 
-/* Writes the signature base of RFC 9421: the text that is signed. */
+/* Writes the signature base of RFC 9421: the text that is signed. Returns null, or the name of the refusal. */
 static const char *put_base(struct writer *out, const struct http_request *request, struct spki_text authority, const struct input *input)
 {
     for (size_t i = 0; i < input->count; i++) {
@@ -435,7 +435,7 @@ static const char *read_key(struct spki_text text, struct http_proof *proof, siz
     return "rsa-v1_5-sha256";
 }
 
-/* Writes LENGTH:OCTETS. */
+/* Writes a string in canonical form, LENGTH:OCTETS. */
 static void put_string(struct writer *out, struct spki_text string)
 {
     char digits[8];
@@ -447,7 +447,7 @@ static void put_string(struct writer *out, struct spki_text string)
     put(out, string);
 }
 
-/* Writes the canonical value of a signature, whose octets are those of HTTP. */
+/* Writes the canonical value, `(7:sig-val..)`, of the octets that `Signature` has. With RSA they are one string of it, else two halves. */
 static void put_signature(struct writer *out, struct spki_text algorithm, struct spki_text octets)
 {
     const unsigned char *first = octets.octets, *half = first + octets.length / 2;
@@ -465,7 +465,7 @@ static void put_signature(struct writer *out, struct spki_text algorithm, struct
 
 /* ---- the tests */
 
-/* Checks the tag, the length of the nonce, and the times. */
+/* Checks the tag, the length of the nonce, and the times. Returns null, or the name of the refusal. */
 static const char *check_parameters(const struct http_service *service, const struct input *input, long long now)
 {
     if (!is_text(input->strings[TAG], "spki"))
@@ -481,7 +481,7 @@ static const char *check_parameters(const struct http_service *service, const st
     return input->created < service->start ? "before-start" : NULL;
 }
 
-/* Reads `Content-Digest` into the proof. */
+/* Reads the value of `Content-Digest` into the proof. Returns null, or the name of the refusal. */
 static const char *read_digest(struct spki_text value, struct http_proof *proof)
 {
     const unsigned char *first = value.octets;
@@ -491,7 +491,7 @@ static const char *read_digest(struct spki_text value, struct http_proof *proof)
     return is_one && proof->digest_length == wanted ? NULL : "bad-digest";
 }
 
-/* Checks that fields on which the answer depends are covered, and reads the digest of the body. */
+/* Checks that fields on which the answer depends are covered, and reads the digest of the body. Returns null, or the name of the refusal. */
 static const char *check_fields(const struct http_request *request, const struct input *input, struct http_proof *proof)
 {
     const char *const all[] = {chained, sequence, body_digest};
@@ -506,7 +506,7 @@ static const char *check_fields(const struct http_request *request, const struct
     return why ? why : read_digest(value, proof);
 }
 
-/* Whether a text is a hash in hexadecimal digits. */
+/* Whether a text is this hash in hexadecimal digits. */
 static bool is_hash(struct spki_text text, const unsigned char hash[VERIFY_HASH])
 {
     static const char digits[] = "0123456789abcdef";
@@ -518,7 +518,7 @@ static bool is_hash(struct spki_text text, const unsigned char hash[VERIFY_HASH]
     return is_text(text, written);
 }
 
-/* Reads the key of the request, which must be that of `keyid` and `alg`. Sets the length of its signatures. */
+/* Reads the key, which must be that of `keyid` and `alg`. Sets the length of its signatures. Returns null, or the name of the refusal. */
 static const char *check_key(const struct http_request *request, const struct input *input, struct http_proof *proof, size_t *signature_length)
 {
     unsigned char hash[VERIFY_HASH];
@@ -536,7 +536,7 @@ static const char *check_key(const struct http_request *request, const struct in
     return is_text(input->strings[ALG], algorithm) ? NULL : "other-algorithm";
 }
 
-/* Verifies the octets of a signature, whose message is the signature base. */
+/* Verifies the octets of a signature, whose message is the signature base. Returns null, or the name of the refusal. */
 static const char *check_signature(struct spki_text key, struct spki_text algorithm, struct spki_text octets, struct writer *base)
 {
     unsigned char text[MOST_SIGNATURE + 64];
@@ -547,7 +547,7 @@ static const char *check_signature(struct spki_text key, struct spki_text algori
     return is_valid ? NULL : "invalid-signature";
 }
 
-/* Tests the message, and then its signature. The base is written twice: the first time only its octets are counted. */
+/* Tests the message, then its signature, and returns null or a refusal. The base is written twice: first only its octets are counted. */
 static const char *check_message(const struct http_service *service, const struct http_request *request, const struct input *input,
                                  struct spki_text octets, struct http_proof *proof)
 {
@@ -574,7 +574,7 @@ static const char *check_message(const struct http_service *service, const struc
     return why;
 }
 
-/* Reads `Signature-Input` and `Signature`. */
+/* Reads `Signature-Input` and `Signature`. Returns null, or the name of the refusal. */
 static const char *read_fields(const struct http_request *request, struct input *input, unsigned char octets[MOST_INPUT], size_t *length)
 {
     struct spki_text given, signature;

@@ -56,7 +56,8 @@ static inline struct spki_proven_key http_proven_key(const struct http_proof *pr
     return spki_assume_key((struct spki_text){proof->key, proof->key_length});
 }
 
-/* Nonces in memory: room for so many in each of two sets, as hashes of eight octets. One thread at a time may call. Null if there is no memory. */
+/* Nonces in memory, as hashes of eight octets: room for `most` in each of two sets. Null if there is no memory. `http_nonces_take` is for `take` of a
+ * service. One thread at a time may call. */
 struct http_nonces;
 struct http_nonces *http_nonces_open(size_t most);
 const char *http_nonces_take(void *nonces, struct spki_text key, struct spki_text nonce, long long now, long long seconds);

@@ -159,6 +159,7 @@ static inline bool verify_is_ecdsa(struct spki_text q, struct spki_text r, struc
            && verify_is_below(s, order);
 }
 
+/* Whether q can be a key of ECDSA with P-256, and r and s a signature. */
 static inline bool verify_is_p256(struct spki_text q, struct spki_text r, struct spki_text s)
 {
     static const char p[] = "\xff\xff\xff\xff\0\0\0\1\0\0\0\0\0\0\0\0\0\0\0\0\xff\xff\xff\xff\xff\xff\xff\xff\xff\xff\xff\xff",
@@ -167,6 +168,7 @@ static inline bool verify_is_p256(struct spki_text q, struct spki_text r, struct
     return verify_is_ecdsa(q, r, s, (struct spki_text){p, sizeof p - 1}, (struct spki_text){order, sizeof order - 1});
 }
 
+/* Whether q can be a key of ECDSA with P-384, and r and s a signature. */
 static inline bool verify_is_p384(struct spki_text q, struct spki_text r, struct spki_text s)
 {
     static const char p[] = "\xff\xff\xff\xff\xff\xff\xff\xff\xff\xff\xff\xff\xff\xff\xff\xff\xff\xff\xff\xff\xff\xff\xff\xff\xff\xff\xff\xff"

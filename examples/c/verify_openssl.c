@@ -13,7 +13,7 @@
 /* The octets of the largest signature: that of RSA. */
 enum { MOST_SIGNATURE = VERIFY_MOST_BITS / 8 };
 
-/* OpenSSL's public key of a kind, such as "RSA", by its parameters. Null if they are null or no key, or without memory. */
+/* OpenSSL's public key of a kind, such as "RSA", by its parameters. Null if they are null or no key, or if memory ran out. */
 static EVP_PKEY *key_from(const char *kind, OSSL_PARAM *parameters)
 {
     EVP_PKEY *key = NULL;

@@ -68,7 +68,7 @@ class Story:
         self.to_carol = f'(cert (issuer {bob}) (subject {carol}) (tag (packages read)) (not-after "2026-06-30_23:59:59"))'
 
     def sequence(self, last, keys=True):
-        """Alice's key, her two certificates, and the last one as it is given: with its signature."""
+        """Alice's key, unless `keys` is false, her two certificates with their signatures, and `last`, a certificate with its signature."""
         shown = self.alice.text if keys else ""
         return f"(sequence {shown} {signed(self.to_builders, self.alice)} {signed(self.bob_is_builder, self.alice)} {last})"
 
@@ -139,7 +139,7 @@ class Service:
 
 
 def requests(story):
-    """The requests that come: a remark, the request as of `asked_by`, and the name of its refusal, or None if it proves a key."""
+    """The requests that come: a remark, method, target and fields, and the name of the refusal, or None if the request proves a key."""
     alice, bob, carol = story.alice, story.bob, story.carol
     good = asked_by(carol, READ)
     method, target, fields = asked_by(carol, READ)
@@ -169,7 +169,7 @@ def try_request(service, remark, request, wanted):
 
 
 def unasked(story):
-    """What the service does not ask `spki` about: a remark and the sequence."""
+    """The sequences that the service refuses before it asks `spki check`: a remark and the sequence."""
     good = signed(story.to_carol, story.bob)
     yield "the sequence is too long", sexp.canonical([b"sequence", bytes(MOST_SHOWN)])
     yield "there are too many certificates", canonical(story.sequence(good * (MOST_CERTIFICATES - 1)))
@@ -177,7 +177,7 @@ def unasked(story):
 
 
 def try_unasked(story, remark, sequence):
-    """Asks with such a sequence, prints the refusal, and returns whether there was one."""
+    """Asks with a sequence of `unasked`, prints the refusal, and returns whether there was one."""
     try:
         Service(story.access_list).ask(*asked_by(story.carol, READ, sequence), NOON)
     except ValueError as refusal:
@@ -212,7 +212,8 @@ def attempts(story):
 
 
 def wanted_lines(wrong):
-    """What `explain` should say. A certificate that fails a test is one line; else there is a line for each entry.
+    """What `explain` should say. `wrong` is the line that names the fault, or None for a grant. A certificate that fails a test is one line; else
+    there is a line for each entry.
 
     Bob's entry is never what the certificates begin with: the first of them, item 2, is by Alice.
     """
@@ -222,7 +223,8 @@ def wanted_lines(wrong):
 
 
 def attempt(story, folder, name, remark, sequence, holder, words, moment, wrong):
-    """Asks, prints the answers, keeps the case in the folder, and returns whether the answers are as wanted."""
+    """Asks, prints the answers, keeps the case in the folder, and returns whether the answers are as wanted. `wrong` is the line of `explain` that
+    names the fault, or None for a grant."""
     case, status, answer = Service(story.access_list).ask(*asked_by(holder, words, sequence), moment)
     answer, text = answer.decode(), laid_out(case) + "\n"
     explained = spki("explain", text)[1].decode()

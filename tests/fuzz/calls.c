@@ -15,6 +15,7 @@ __attribute__((section("__libfuzzer_extra_counters"))) static uint8_t met[COUNTE
 
 int LLVMFuzzerTestOneInput(const uint8_t *data, size_t size);
 
+/* Ends the process with a line about what is wrong, unless this is so. */
 static void holds(int is_so, const char *what)
 {
     if (is_so)
@@ -32,6 +33,7 @@ void *__real_realloc(void *block, size_t size);
 void *__wrap_malloc(size_t size);
 void *__wrap_realloc(void *block, size_t size);
 
+/* Counts a request for memory, and returns whether it is refused. */
 static int refuses(void)
 {
     if (!until_refusal || --until_refusal)
@@ -136,6 +138,7 @@ static int are_same(const struct answer *one, const struct answer *other)
 
 /* ---- texts */
 
+/* A command and its text, or a case and the text of its rows. */
 struct of_text {
     enum spki_command command;
     struct spki_text text, rows;
@@ -158,6 +161,7 @@ static int equals(struct spki_text one, struct spki_text other)
     return one.length == other.length && !memcmp(one.octets, other.octets, one.length);
 }
 
+/* A text as the library takes it. Its octets stay those of `text`. */
 static struct spki_text lent(const struct text *text)
 {
     struct spki_text given = {text->octets, text->length};
@@ -201,6 +205,7 @@ static void find(struct input *in, struct spki_text text)
 
 /* ---- guards and questions */
 
+/* What a guard is opened with, and where it is put. */
 struct of_guard {
     struct spki_text list;
     enum spki_policy policy;
@@ -216,6 +221,7 @@ static enum spki_status opens(const void *with, void *buffer, size_t length, siz
     return status;
 }
 
+/* A guard, the question that it is asked, and where the opened question is put. */
 struct of_question {
     const spki_guard *guard;
     struct spki_question *question;

@@ -33,6 +33,7 @@ struct parts {
 /* The question whose parts are made: tags are often those of its request. */
 static const struct parts *made;
 
+/* A number below `count` by the next octet of the input, 0 behind its end. */
 static unsigned below(struct input *in, unsigned count)
 {
     if (!in->left)
@@ -47,6 +48,7 @@ static unsigned mostly(struct input *in, unsigned usual, unsigned count)
     return below(in, 4) == 3 ? below(in, count) : usual;
 }
 
+/* Adds octets to a text, or nothing if they have no room. */
 static void put(struct text *to, const void *octets, size_t length)
 {
     if (length > sizeof to->octets - to->length)
@@ -63,6 +65,7 @@ static void put_string(struct text *to, const void *octets, size_t length)
     put(to, octets, length);
 }
 
+/* Adds a string: the octets up to the first 00. */
 static void word(struct text *to, const char *octets)
 {
     put_string(to, octets, strlen(octets));
@@ -80,6 +83,7 @@ static void end(struct text *to)
     put(to, ")", 1);
 }
 
+/* Adds the key with this number: a key of one letter, `a` for 0. */
 static void put_key(struct text *to, unsigned which)
 {
     const char name[] = {(char)('a' + which), 0};
@@ -90,7 +94,7 @@ static void put_key(struct text *to, unsigned which)
     end(to);
 }
 
-/* A hash of a text by one of the three algorithms. */
+/* Adds a hash of a text by one of the three algorithms: 0, 1 or 2. */
 static void put_hash(struct text *to, const struct text *of, unsigned algorithm)
 {
     static const char *const names[] = {"sha256", "sha512", "sha1"};
@@ -108,6 +112,7 @@ static void put_hash(struct text *to, const struct text *of, unsigned algorithm)
     end(to);
 }
 
+/* Adds the key with this number, or in one of three cases its hash. */
 static void put_principal(struct input *in, struct text *to, unsigned which)
 {
     struct text key = {0};
@@ -122,7 +127,7 @@ static void put_principal(struct input *in, struct text *to, unsigned which)
 static const char *const strings[] = {"ftp", "read", "write", "a", "", "10", "9", "/team/", "/team/x", "2024-01-01_00:00:00"};
 enum { STRINGS = sizeof strings / sizeof *strings };
 
-/* A principal, or a name of it, in an entry or a certificate. */
+/* Adds the field with the subject of a certificate: the principal of the key with this number, or a name of it. */
 static void put_subject(struct input *in, struct text *to, unsigned which)
 {
     unsigned names = mostly(in, 0, 4);
@@ -130,9 +135,9 @@ static void put_subject(struct input *in, struct text *to, unsigned which)
     if (names)
         begin(to, "name");
     put_principal(in, to, which);
-    while (names-- > 1)
+    for (unsigned name = 1; name < names; name++)
         word(to, strings[below(in, 4)]);
-    if (to->octets[to->length - 1] != ')')
+    if (names)
         end(to);
     end(to);
 }
@@ -160,7 +165,7 @@ static void put_prefix(struct input *in, struct text *to)
     end(to);
 }
 
-/* The first strings of the request: a tag that contains it. */
+/* Adds a tag that contains the request: its first strings. */
 static void put_requested(struct input *in, struct text *to)
 {
     size_t count = made->word_count > 1 ? 1 + below(in, 64) % made->word_count : made->word_count;
@@ -172,7 +177,7 @@ static void put_requested(struct input *in, struct text *to)
         end(to);
 }
 
-/* A tag, with lists and sets in it to a depth. */
+/* Adds a tag, with lists and sets in one another up to a depth. */
 static void put_tag(struct input *in, struct text *to, unsigned depth)
 {
     static void (*const kinds[])(struct input *, struct text *) = {put_requested, put_prefix, put_range};
@@ -200,6 +205,7 @@ static const struct {
                {4102444800, "2100-01-01_00:00:00"}};
 enum { MOMENTS = sizeof moments / sizeof *moments };
 
+/* Adds a limit of a window: mostly the moment at the place `usual` of `moments`. */
 static void put_limit(struct input *in, struct text *to, const char *head, unsigned usual)
 {
     begin(to, head);
@@ -207,7 +213,7 @@ static void put_limit(struct input *in, struct text *to, const char *head, unsig
     end(to);
 }
 
-/* What an entry and a certificate have in common: the right to delegate, the tag, the window. */
+/* Adds what an entry and a certificate have in common: the right to delegate, the tag, the window. */
 static void put_fields(struct input *in, struct text *to)
 {
     if (mostly(in, 1, 2)) {
@@ -223,7 +229,7 @@ static void put_fields(struct input *in, struct text *to)
         put_limit(in, to, "not-after", 3);
 }
 
-/* A certificate and its signature. */
+/* Adds a certificate and its signature. It is mostly from the key with the number `place` to the next one. */
 static void put_certificate(struct input *in, struct text *to, unsigned place)
 {
     static struct text message;
@@ -275,6 +281,7 @@ static void spoil(struct input *in, struct text *text)
         text->length = at;
 }
 
+/* Makes the request, as strings and as the text that they mean. */
 static void make_request(struct input *in, struct parts *parts)
 {
     unsigned count = mostly(in, 2, MOST_WORDS);
@@ -295,6 +302,7 @@ static void make_request(struct input *in, struct parts *parts)
         end(&parts->request);
 }
 
+/* Makes all parts of a question from the input. */
 static void make(struct input *in, struct parts *parts)
 {
     unsigned certificates = mostly(in, below(in, 4), 18), entries = 1 + below(in, 4), moment = mostly(in, 0, MOMENTS);

@@ -14,8 +14,8 @@ class Question:
 @dataclass(frozen=True)
 class Call:
     """A call for C programs with a number that need not be a command's, or of `spki_check_accepted` if there is none; and with texts that
-    are empty or, if they are null or too long, none. Each text is whether it is null, and its length; so is the buffer. `command` is the
-    name of all such calls."""
+    are empty or, if they are null or too long, none. Each text, and the buffer, is a pair: whether the pointer is null, and the length that
+    the call is given. `command` is the name of all such calls."""
 
     number: int | None
     texts: tuple[tuple[bool, int], ...]

@@ -52,7 +52,7 @@ class Builder:
     # ---- parts
 
     def principal(self, key: Value, by_hash: float = 0.3) -> Value:
-        """A key, or a hash of it."""
+        """A key, or with the chance `by_hash` a hash of it."""
         if self.rng.random() >= by_hash:
             return key
         algorithm = self.rng.choice((b"sha1", b"sha256", b"sha256", b"sha512"))
@@ -100,7 +100,7 @@ class Builder:
     # ---- the chain
 
     def next_subject(self, name_chance: float) -> Subject:
-        """Whom an authorization or a name goes to."""
+        """A subject to which an authorization or a name goes: one of the keys, or with the chance `name_chance` a name of it."""
         names = [self.rng.choice(NAMES) for _ in range(self.rng.choice((1, 1, 2)))] if self.rng.random() < name_chance else []
         return Subject(self.rng.choice(self.keys), names)
 

@@ -66,7 +66,7 @@ def ed25519(private: Ed25519PrivateKey) -> Key:
 
 
 def ecdsa(private: ec.EllipticCurvePrivateKey, bits: int, digest: SHA256 | SHA384) -> Key:
-    """The same for a private key of a curve of so many bits, which signs by a digest."""
+    """The key of the table for a private key of ECDSA on the curve NIST P-`bits`. It hashes by `digest`, and signs as r and s side by side."""
     def sign(message: bytes) -> bytes:
         return b"".join(it.to_bytes(bits // 8, "big") for it in decode_dss_signature(private.sign(message, ec.ECDSA(digest))))
     octets = private.public_key().public_bytes(Encoding.X962, PublicFormat.UncompressedPoint)
@@ -74,6 +74,7 @@ def ecdsa(private: ec.EllipticCurvePrivateKey, bits: int, digest: SHA256 | SHA38
 
 
 def rsa2048(private: rsa.RSAPrivateKey) -> Key:
+    """The key of the table for a private key of RSA of 2,048 bits. Its modulus has an octet 00 in front, as a key's text requires."""
     n = private.public_key().public_numbers().n
     text = b"(10:public-key(3:rsa(1:n%s)(1:e3:\1\0\1)))" % string(n.to_bytes(257, "big"))
     return Key(text, "rsa-v1_5-sha256", lambda message: private.sign(message, padding.PKCS1v15(), SHA256()))

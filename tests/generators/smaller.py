@@ -47,7 +47,7 @@ def candidates(question: Asked) -> Iterator[Asked]:
 
 
 def smaller_parts(question: GuardQuestion) -> Iterator[GuardQuestion]:
-    """Questions to a guard with fewer or without_one strings, fewer seconds, or the usual limits."""
+    """Questions to a guard with one string less or a shorter one, a moment nearer to 1970 or as a text, or the usual limits."""
     if question.strings is not None:
         yield from (replace(question, strings=strings) for strings in without_one(question.strings))
         for number, string in enumerate(question.strings):

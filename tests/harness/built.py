@@ -60,7 +60,7 @@ class OfProgram(unittest.TestCase):
 
 
 class OfLibrary(OfProgram):
-    """Tests of the library, whose answers the program knows."""
+    """Tests of the library. They have the program too, whose answers some compare with those of the library."""
 
     library: str
     shared: str

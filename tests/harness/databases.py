@@ -48,7 +48,7 @@ OWNER = ["setpriv", "--reuid=postgres", "--regid=postgres", "--clear-groups"]
 
 class Server:
     """A server in a temporary folder, which trusts whoever reaches its socket there. It ends with its context. It may be at a node of a network, and
-    then trusts other nodes too, and on a disk of its own of so many MiB."""
+    then trusts other nodes too, and on a disk of its own of so many MiB. `settings` are those of PostgreSQL."""
 
     def __init__(self, at: networks.Node | None = None, mib: int = 0, **settings: str) -> None:
         self.folder = tempfile.mkdtemp(prefix="spki-pg-")
@@ -119,7 +119,7 @@ class Server:
             self.process = None
 
     def replica(self, at: networks.Node | None = None, mib: int = 0, **settings: str) -> Server:
-        """A replica of this server, which is not started yet."""
+        """A replica of this server, which is not started yet. It has the settings of this server, except for those that are given."""
         made = Server(at, mib, **{**self.settings, **settings})
         made.run("pg_basebackup", "-d", made.source(self), "-D", made.data, "-R", "-X", "stream", "-c", "fast", "--no-sync")
         return made

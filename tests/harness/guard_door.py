@@ -54,7 +54,7 @@ class Listed(Structure):
 
 
 def text_of(octets: bytes) -> Text:
-    """A text as C has it."""
+    """Octets as a `struct spki_text`."""
     return Text(octets, len(octets))
 
 
@@ -105,7 +105,8 @@ class GuardDoor:
             call.argtypes = [c_void_p, c_void_p, c_size_t, needed]
 
     def decide(self, asked: Any, line: Any, room: int, needed: Any) -> int:
-        """Decides, with the arguments and the status of the calls that explain and reduce. Keeps the last second in `until`."""
+        """Calls `spki_asked_decide`, which writes a line of at most `room` octets. Returns the status alone, as the calls that explain and reduce do,
+        and keeps the last second of the decision in `until`."""
         said = self.decision(asked, line, room, needed)
         self.until = said.until
         return int(said.status)
@@ -131,7 +132,7 @@ class GuardDoor:
         return f"the guard lists {len(listed)} signatures, or others than the model"
 
     def wanted_truths(self, question: GuardQuestion, met: Answer) -> tuple[bool, ...]:
-        """Whether a decision is a yes, and whether the model says that it can be one."""
+        """What `truths` must be: whether the answer that was met is a yes, and whether the model says that it can be one."""
         return met[0] == GRANTED, guard.is_possible(question.acl, parts_of(question), question.policy, question.limits)
 
     def fault_with_small_buffer(self, question: GuardQuestion) -> str | None:

@@ -33,8 +33,8 @@ def release() -> str:
 
 
 def output_on_machine(packages: list[str], clone: str, by_root: str, script: str) -> str:
-    """Makes a machine and runs two scripts there: root the first in the clone, then a user the second in an empty folder. Returns all that they
-    write. Raises CalledProcessError if the machine is not made or the first fails."""
+    """Makes a machine with these packages and a copy of the folder `clone`, and runs two scripts there: root runs `by_root` in the copy, then a user
+    runs `script` in an empty folder. Returns all that they write. Raises CalledProcessError if the machine is not made or `by_root` fails."""
     with tempfile.TemporaryDirectory() as room:
         for name, text in (("by-root", by_root), ("script", script)):
             with open(os.path.join(room, name), "w", encoding="utf-8") as file:

@@ -141,12 +141,12 @@ THERE = {need.name: need.is_found() for need in NEEDS}
 
 
 def has(*names: str) -> bool:
-    """Whether this machine has all of these."""
+    """Whether this machine has all needs of these names."""
     return all(BY_NAME[name].is_there for name in names)
 
 
 def needs(*names: str) -> Callable[[Any], Any]:
-    """Skips a test, or all tests of a class, where one of these is not there."""
+    """A decorator that skips a test, or all tests of a class, where a need of one of these names is not there."""
     gone = [need.reason for need in map(BY_NAME.__getitem__, names) if not need.is_there]
     return unittest.skipIf(bool(gone), ", ".join(gone))
 

@@ -15,7 +15,7 @@ def ip(*words: str) -> None:
 
 
 class Node:
-    """A machine of a network: a namespace with an address."""
+    """A machine of a network: a namespace with an address. A command that begins with `words` runs there."""
 
     def __init__(self, network: Network, number: int) -> None:
         self.network, self.name, self.port, self.address = network, f"{network.name}-{number}", f"port{number}", f"10.77.0.{number}"

@@ -32,7 +32,7 @@ FIRST = set("apt-get cc cd chmod chown cmake cp curl dot echo eval export for go
 
 
 class Command(NamedTuple):
-    """A command of a page, or of the help of a program."""
+    """A command of a page, or of the help of a program. `kind` says where it is: `console`, `indented`, `inline` or `help`."""
 
     page: str
     kind: str
@@ -112,7 +112,7 @@ def after_prompts(block: str) -> Iterator[str]:
 
 
 def indented_blocks(text: str) -> Iterator[str]:
-    """The indented blocks of a page in which some line is a command. Those below a language are snippets."""
+    """The indented blocks of a page in which some line is a command. A block below the name of a language, as `**C.**`, is a snippet and left out."""
     parts = re.split(r"\n{2,}", FENCED.sub("", text))
     for above, block in zip(parts, parts[1:]):
         lines = textwrap.dedent(block).splitlines()

@@ -35,7 +35,7 @@ class Ended:
 
 
 def compiled(folder):
-    """The library that refuses, compiled."""
+    """Compiles `refuse.c` into a folder. Returns the path of the library, which is preloaded before a program."""
     library = os.path.join(folder, "refuse.so")
     source = os.path.join(TESTS, "programs", "refuse.c")
     subprocess.run(["cc", "-O1", "-Wall", "-shared", "-fPIC", "-o", library, source, "-ldl"], check=True)
@@ -74,11 +74,14 @@ def read_to_end(reader):
 
 
 class Program:
+    """A program, and the compiled `refuse.c` by whose path `run` preloads it."""
+
     def __init__(self, path, library):
         self.path, self.library = path, library
 
     def run(self, command, text, before=(), **plan):
-        """A run under refuse.c. The plan has its settings, as `memory=3`. `before` is a program that starts the run, with its words."""
+        """A run under refuse.c. The plan has its settings: `memory=3` refuses the third request for memory, and `memory="3.."` all from there on.
+        `before` is a program that starts the run, with its words."""
         environment = {"LD_PRELOAD": self.library, "REFUSE_IN": self.path, "PATH": os.environ["PATH"]}
         environment |= {f"REFUSE_{name.upper()}": str(value) for name, value in plan.items()}
         ends = [os.pipe() for _ in range(3)]
@@ -93,13 +96,13 @@ class Program:
         return Ended(status, out, err, dict(zip(NAMES, counts[::2])), sum(counts[1::2]), before_reads)
 
     def started(self, command, reader, writer, **how):
-        """Starts the program on descriptors, and closes the one that it reads."""
+        """Starts the program on two descriptors, and closes the one that it reads. `how` are settings of `subprocess.Popen`. Returns the process."""
         child = subprocess.Popen([self.path, command], stdin=reader, stdout=writer, stderr=subprocess.PIPE, **how)
         os.close(reader)
         return child
 
     def limited(self, command, text, what, most):
-        """A run whose resource `what` the system limits to `most`. It writes into a file."""
+        """A run for which the system limits a resource to `most`. `what` is a constant, as `resource.RLIMIT_AS`. The run writes into a file."""
         with tempfile.TemporaryFile() as out:
             child = self.started(command, descriptor_of(text), out, preexec_fn=lambda: self.limit(what, most))
             err = outputs_of(child)[1]
@@ -113,7 +116,7 @@ class Program:
         resource.setrlimit(what, (most, most))
 
     def redirected(self, command, words):
-        """A run by the shell, with redirections: the words that follow the command."""
+        """A run by the shell. `words` are the redirections behind the command, as `>&-`. Without one its input is empty."""
         shell = ["sh", "-c", f'exec "$0" "$1" {words}', self.path, command]
         child = subprocess.Popen(shell, stdin=subprocess.DEVNULL, stdout=subprocess.PIPE, stderr=subprocess.PIPE)
         out, err = outputs_of(child)

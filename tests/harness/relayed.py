@@ -24,7 +24,7 @@ SIMPLE: Any = c_int.__mro__[1]
 
 
 def numbers(*of: int) -> bytes:
-    """The octets of numbers of 64 bits."""
+    """The octets of numbers, 64 bits each and the lowest octet first, as `relay.c` reads them."""
     return struct.pack(f"<{len(of)}Q", *(number % 2**64 for number in of))
 
 
@@ -39,12 +39,12 @@ class Request:
         """The blocks that are copied back, and where to."""
 
     def block(self, octets: bytes) -> int:
-        """The number of a new block."""
+        """Adds a block of memory with these octets. Returns its number."""
         self.blocks.append(octets)
         return len(self.blocks) - 1
 
     def give(self, value: Any, kind: Any) -> None:
-        """Adds an argument that ctypes converts to a type."""
+        """Adds an argument of a call. `kind` is the type to which ctypes would convert the value."""
         is_pointer = not issubclass(kind, SIMPLE)
         if isinstance(value, REFERENCE):
             self.lend(cast(Any, value)._obj)
@@ -63,7 +63,7 @@ class Request:
             self.written.append((block, value))
 
     def question(self, asked: Asked) -> int:
-        """A block that is a question, with blocks for all that it points to."""
+        """Adds a block that is a question, and blocks for all that it points to. Returns the number of the first."""
         block = self.block(bytes(asked))
         for name in PARTS:
             self.text(block, getattr(Asked, name).offset, getattr(asked, name))
@@ -78,7 +78,7 @@ class Request:
         return block
 
     def text(self, block: int, place: int, text: Text) -> None:
-        """Copies the octets of a text that is at a place in a block."""
+        """Adds a block with the octets of a text, and a link to it from the place of the text in another block."""
         at = c_void_p.from_address(addressof(text)).value
         if at:
             self.links.append((block, place, self.block(string_at(at, text.length if text.length <= MOST_OCTETS else 1))))
@@ -106,6 +106,7 @@ class Call:
         return Decision(call(*given, byref(until)), until.value)
 
     def __call__(self, *given: Any) -> Any:
+        """Has the other machine do the call with these arguments, copies back what it has written, and returns what it returns."""
         if self.restype is Decision:
             return self.decided(*given)
         request = Request()
@@ -140,6 +141,7 @@ class Relayed:
         self.process: subprocess.Popen[bytes] | None = None
 
     def __getattr__(self, name: str) -> Callable[..., Any]:
+        """The call of the library that has this name."""
         if name not in CALLS:
             raise AttributeError(name)
         call = Call(self, CALLS.index(name))

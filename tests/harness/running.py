@@ -28,7 +28,8 @@ NOTE = "note: "
 
 @dataclass
 class Outcome:
-    """The outcome of some tests: how many passed, the names and texts of those that failed, the reasons of those that were skipped."""
+    """The outcome of some tests of one class: how many passed, the faults of those that failed by their names, the names and reasons of those that
+    were skipped, and what all of them wrote."""
 
     name: str
     passed: int = 0
@@ -122,7 +123,7 @@ def outputs_caught() -> Iterator[io.StringIO]:
 
 
 def run_part(name: str, tests: list[unittest.TestCase], is_fast: bool) -> Outcome:
-    """Runs some tests of one class. `is_fast`: it begins none after the first that fails."""
+    """Runs some tests of the class of this name. `is_fast`: it begins none after the first that fails."""
     outcome, begun = Outcome(name), time.monotonic()
     with outputs_caught() as said:
         unittest.TestSuite(tests).run(Result(outcome, is_fast))
@@ -172,7 +173,7 @@ def parts_of(tests: Iterable[unittest.TestCase]) -> list[tuple[str, list[unittes
 
 
 def print_faults(outcome: Outcome, command: str) -> None:
-    """Prints all about what failed in a part, and the notes of its tests."""
+    """Prints all about what failed in a part, and the notes of its tests. `command`, with the name of a test behind it, runs this test alone."""
     for name, text in outcome.failed.items():
         print(f"\nFAILED {name}\n{text[:FAULT_LENGTH]}alone  {command} '{name}'\n", flush=True)
     if outcome.failed and outcome.said:
@@ -189,7 +190,7 @@ def line_of_class(name: str, outcomes: list[Outcome]) -> str:
 
 
 class Report:
-    """The outcomes so far, printed by classes as they end."""
+    """The outcomes so far, printed by classes as they end. `command`, with the name of a test behind it, runs this test alone."""
 
     def __init__(self, parts: Iterable[tuple[str, list[unittest.TestCase]]], command: str) -> None:
         self.left, self.command = Counter(name for name, _ in parts), command
@@ -211,7 +212,7 @@ def outcome_of(future: Future, name: str) -> Outcome:
 
 
 def as_they_end(started: dict[Future, str]) -> Iterator[Future]:
-    """Yields each part that was begun when it has ended. After each five minutes in which none ends it prints which run."""
+    """Yields each of these parts when it has ended. After each five minutes in which none ends it prints the names of those that run."""
     left = set(started)
     while left:
         ended, left = wait(left, SECONDS_BETWEEN_LINES, FIRST_COMPLETED)
@@ -221,7 +222,8 @@ def as_they_end(started: dict[Future, str]) -> Iterator[Future]:
 
 
 def run_all(tests: list[unittest.TestCase], jobs: int, is_fast: bool, command: str) -> list[Outcome]:
-    """Runs tests in `jobs` processes, and prints their outcomes. `is_fast`: it begins none after the first that fails. `command` repeats the run."""
+    """Runs tests in `jobs` processes, and prints their outcomes. `is_fast`: it begins none after the first that fails. `command`, with
+    the name of a test behind it, runs this test alone."""
     parts = parts_of(tests)
     report = Report(parts, command)
     for name, part in parts:

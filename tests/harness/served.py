@@ -22,7 +22,7 @@ SECONDS = 600
 
 
 def path_of_commands() -> str:
-    """The path in which `spki-cert` and nginx are."""
+    """The value of PATH by which `spki-cert` and nginx are found."""
     return os.pathsep.join([os.path.join(TOP, "apps", "spki-cert"), os.environ["PATH"], "/usr/sbin"])
 
 
@@ -73,7 +73,7 @@ class Site:
             file.write(text)
 
     def sh(self, *words: str) -> str:
-        """What a command writes in the folder. It must succeed."""
+        """Runs a command in the folder, which must succeed. Returns what it writes on both streams."""
         done = subprocess.run(words, cwd=self.room if os.path.isdir(self.room) else None, env=self.settings, stdout=subprocess.PIPE,
                               stderr=subprocess.STDOUT, text=True, timeout=SECONDS)
         if done.returncode:
@@ -81,7 +81,7 @@ class Site:
         return done.stdout
 
     def cert(self, *words: str) -> str:
-        """What `spki-cert` writes."""
+        """Runs `spki-cert` in the folder, which must succeed. Returns what it writes."""
         return self.sh(sys.executable, os.path.join(TOP, "apps", "spki-cert", "spki-cert"), *words)
 
     # ---- the programs
@@ -160,20 +160,20 @@ class Site:
 
     @contextlib.contextmanager
     def connected(self, who: str | None) -> Iterator[ssl.SSLSocket]:
-        """A context with a connection of a client, by TLS."""
+        """A context with a connection of a client, by TLS. `who` names its certificate and key. None: it has no certificate."""
         with socket.create_connection(("127.0.0.1", self.port), SECONDS) as plain:
             with self.context(who).wrap_socket(plain, server_hostname="localhost") as client:
                 yield client
 
     def answer(self, who: str | None, request: bytes) -> bytes:
-        """All that nginx answers to some octets, until it ends the connection. Empty if there is no connection. Where the rate is exceeded, the
-        client waits and asks again."""
+        """All that the web server answers to some octets, until it ends the connection. Empty if there is no connection. Where the rate is exceeded,
+        the client waits and asks again. `who` names its certificate and key. None: it has no certificate."""
         while (said := self.answer_at_once(who, request)).startswith(b"HTTP/1.1 429"):
             time.sleep(0.2)
         return said
 
     def answer_at_once(self, who: str | None, request: bytes) -> bytes:
-        """The same, but returns an answer 429 too."""
+        """All that the web server answers to some octets, sent once: also 429, if the rate is exceeded. Empty if there is no connection."""
         said = b""
         with contextlib.suppress(OSError), self.connected(who) as client:
             client.sendall(request)
@@ -182,7 +182,8 @@ class Site:
         return said
 
     def status(self, who: str | None, method: str, path: str, *lines: str, body: str = "") -> int:
-        """The status of the answer to a request, with these lines added to its header."""
+        """The status of the answer to a request, with these lines added to its header. `who` names the client's certificate and key. None: it has no
+        certificate."""
         header = [f"{method} {path} HTTP/1.1", "Host: localhost", "Connection: close", *lines]
         header += [f"Content-Length: {len(body)}"] if body else []
         return int(self.answer(who, "\r\n".join([*header, "", body]).encode("latin-1")).split(b" ", 2)[1])

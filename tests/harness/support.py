@@ -54,7 +54,7 @@ def output_of(*words, text=None, seconds=SECONDS, **settings):
 
 
 def is_compiled(*words):
-    """Whether a program in C compiles, with `spki.h`, and links."""
+    """Whether this command, which begins with the compiler, compiles and links a program in C. It finds `spki.h`."""
     return subprocess.run([*words, "-I", os.path.join(TOP, "crates", "spki_c")], timeout=SECONDS_TO_COMPILE).returncode == 0
 
 

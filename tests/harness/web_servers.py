@@ -58,7 +58,7 @@ class Behind(served.Site):
         return "localhost"
 
     def restart_with(self, more: More) -> None:
-        """Starts the server again, with these lines put into the example's files, and without those of before."""
+        """Starts the server again, with these lines put into the example's files, and without those that were put there before."""
         self.restart_replacing([(name, place, place + lines) for name, place, lines in more])
 
     def restart_asking_port(self, port: int) -> None:
@@ -66,7 +66,8 @@ class Behind(served.Site):
         self.restart_replacing([(name, place, lines.replace("{port}", str(port))) for name, place, lines in self.on_port])
 
     def restart_replacing(self, changes: list[tuple[str, str, str]]) -> None:
-        """Starts the server again, with its files as they were but for these changes: a file, a text of it, and the text in its place."""
+        """Starts the server again, with the files of its example but for these changes: a file, a text of it, and the text in its place. `{room}` in
+        both texts is the folder of the site."""
         for name, text in self.kept.items():
             self.write(f"etc/{name}", text)
         self.kept = {name: self.text(f"etc/{name}") for name, _, _ in changes}
@@ -94,6 +95,7 @@ class Nginx(Behind):
                 "proxy_ssl_trusted_certificate {room}/etc/authd.crt; proxy_set_header X-Spki-Secret THE-SECRET;")]
 
     def replaced(self, text: str) -> str:
+        """The text of a file of the example for this site: nginx listens on its port, and limits no rate that tests reach."""
         text = super().replaced(text).replace("listen 443 ssl", f"listen 127.0.0.1:{self.port} ssl http2")
         return re.sub("rate=[0-9]+r/s", "rate=9000r/s", text)
 
@@ -121,10 +123,12 @@ class Caddy(Behind):
                ("Caddyfile", "header_up -X-Spki-Secret\n\t\t\tcopy_headers", "header_up X-Spki-Secret THE-SECRET\ncopy_headers")]
 
     def replaced(self, text: str) -> str:
+        """The text of a file of the example for this site: Caddy waits 1 s at most for a client, and opens no port besides."""
         text = re.sub("(read_header|read_body|idle) [0-9]+s", r"\1 1s", super().replaced(text))
         return text.replace("{\n\tservers", "{\n\tadmin off\n\tauto_https off\n\tservers", 1)
 
     def host(self) -> str:
+        """The address of the site, as a Caddyfile names a site."""
         return f"https://localhost:{self.port}"
 
     def command(self) -> list[str]:
@@ -155,6 +159,7 @@ class HAProxy(Behind):
                 'url = "https://spki-authd/", dst = "ipv4@127.0.0.1:{port}", timeout = 5000, headers = { ["x-spki-secret"] = { "THE-SECRET" },\n')]
 
     def prepare(self) -> None:
+        """Writes the files that HAProxy reads, and starts the server of files behind it."""
         super().prepare()
         self.write("etc/server.pem", self.text("etc/server.crt") + self.text("etc/server.key"))
         self.write("etc/sorry.http", f"HTTP/1.1 200 OK\r\nContent-Length: {len(SORRY_TEXT)}\r\nConnection: close\r\n\r\n{SORRY_TEXT}")
@@ -162,6 +167,7 @@ class HAProxy(Behind):
         self.behind = FileServer(self.at("run/files/socket"), self.at("files"))
 
     def replaced(self, text: str) -> str:
+        """The text of a file of the example for this site: HAProxy listens on its port, waits 1 s at most for a client, and keeps its user."""
         text = re.sub("(?m)^    (user|group) .*\n", "", super().replaced(text))
         text = text.replace("timeout http-request 10s", "timeout http-request 1s").replace("timeout client 10s", "timeout client 1s")
         return text.replace("bind :443", f"bind 127.0.0.1:{self.port}")
@@ -201,6 +207,7 @@ class Apache(Behind):
     hole = [("spki.lua", "function decide(r)\n", "    if r.method == 'DELETE' then return apache2.DECLINED end\n")]
 
     def prepare(self) -> None:
+        """Writes the files that Apache reads: also main.conf, which loads its modules and includes the example."""
         super().prepare()
         modules = "".join(f"LoadModule {name}_module {FOLDER_OF_MODULES}/mod_{name}.so\n" for name in MODULES)
         is_root = os.getuid() == 0
@@ -214,6 +221,7 @@ class Apache(Behind):
             subprocess.run(["chown", "-R", "www-data", self.at("files"), self.at("tmp")], check=True)
 
     def replaced(self, text: str) -> str:
+        """The text of a file of the example for this site: Apache listens on its port."""
         return super().replaced(text).replace("*:443", f"127.0.0.1:{self.port}")
 
     def command(self) -> list[str]:

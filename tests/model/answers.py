@@ -176,7 +176,7 @@ def check(case: Case, rows: list[Row]) -> Answer:
 
 
 def decide(case: Case, rows: list[Row]) -> Answer:
-    """The same as a guard decides it: no tags are intersected, so TooLarge is never raised."""
+    """The answer of a guard: the first entry that grants the request, or no. Unlike `check` it intersects no tags, so it never refuses a case."""
     try:
         steps = [step for _, step in evidence.proved_tuples(case.items, rows, case.strict)]
     except evidence.Stopped:

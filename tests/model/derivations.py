@@ -30,7 +30,8 @@ def grants(leaves: list[Tuple], key: Key, request: Value, moment: bytes, strict:
 
 
 def grants_from_left(leaves: list[Tuple], key: Key, request: Value, moment: bytes, strict: bool) -> bool:
-    """The same as `grants` by a single tree, which joins the leaves from the left. It grants if any tree does, and is quick for many leaves."""
+    """Whether the tree that joins all leaves from the left grants a request of a key at a moment. It grants if any tree does, so
+    the answer is that of `grants`, and is quick for many leaves. The first leaf is the entry's."""
     if not all_contain(leaves, request, moment):
         return False
     root: Node | None = node_of(leaves[0])

@@ -20,7 +20,8 @@ def read(text: bytes) -> Value:
 
 
 def read_within_limit(text: bytes) -> Value:
-    """The same for commands that work on the canonical form, which is a text that is read: TooLong if it is too long."""
+    """The value of a text, for commands that work on its canonical form. Raises FormFault: the first fault, or TooLong if the canonical form has
+    more octets than a text may have."""
     value = read(text)
     # no canonical form has four times as many octets as another text of the value
     if len(text) > LONGEST // 4 and len(canonical(value)) > LONGEST:

@@ -263,7 +263,8 @@ def status_too_small(row: str) -> int:
 
 
 def misuse_of_opening(policy: int, limits: Limits, oddity: str) -> str | None:
-    """The row of OPENED that says what is misuse when a guard is opened, None if nothing is."""
+    """The row of OPENED that says what is misuse when a guard is opened, None if nothing is. `oddity` is that row itself for misuse that neither
+    the policy nor the limits show."""
     if policy not in POLICIES:
         return OPENED[0]
     above = [row for row, limit in zip(OPENED[1:4], ("octets", "nodes", "work"), strict=True) if getattr(limits, limit) > getattr(HIGHEST, limit)]
@@ -272,8 +273,9 @@ def misuse_of_opening(policy: int, limits: Limits, oddity: str) -> str | None:
 
 def answer(wish: str, list_text: bytes, question: Parts, rows: list[Row], policy: int, limits: Limits, oddity: str
            ) -> tuple[Answer, list[Signed]]:
-    """What the library answers to a question, and the signatures that it lists. The verifier accepts the signatures of the rows. The oddity is
-    a row of MISUSES or of ALLOWED: what is misuse in the calls, or which optional pointer is null. It is empty if nothing is odd."""
+    """What the library answers to a question, and the signatures that it lists. `wish` is the call: decide, explain or reduce. The verifier accepts
+    the signatures of the rows. The oddity is a row of MISUSES or of ALLOWED: what is misuse in the calls, or which optional pointer is null. It
+    is empty if nothing is odd."""
     if row := misuse_of_opening(policy, limits, oddity):
         return misused(row)
     listed: list[Signed] = []

@@ -190,7 +190,8 @@ def of_ranges(a: Range, b: Range) -> Tag:
 
 
 def tighter(which: str, a: Limit | None, b: Limit | None) -> Limit | None:
-    """The greater of two lower limits, or the lesser of two upper ones. A missing limit gives way, and so does `ge` and `le`."""
+    """The greater of two limits if `which` is `lower`, the lesser if it is `upper`. A missing limit gives way to the other one. Of two limits with
+    the same string, `ge` or `le` gives way to `g` or `l`."""
     if a is None or b is None:
         LIMITS.count_use(f"{which}: {'none' if a is b else 'one is missing'}")
         return a or b
@@ -203,7 +204,7 @@ def tighter(which: str, a: Limit | None, b: Limit | None) -> Limit | None:
 
 
 def of_lists(a: tuple[Tag, ...], b: tuple[Tag, ...]) -> Tag:
-    """Two lists member by member, their heads first. The further members of the longer one stay."""
+    """The intersection of two lists, member by member, their heads first. The further members of the longer one stay."""
     members: list[Tag] = []
     for first, second in zip(a, b):
         left = together(first, second)

@@ -11,7 +11,7 @@ WAYS = Rows("printed text, a string", ["token", "quoted", "base64", "with a hint
 
 
 def string(octets: bytes) -> bytes:
-    """A string, hint or not, as it is printed."""
+    """The printed text of octets, which are the body of a string or its display hint."""
     if TOKEN.fullmatch(octets):
         WAYS.count_use("token")
         return octets

@@ -60,7 +60,7 @@ def shape(row: str) -> StructureFault:
 
 
 def fault_at(kind: str, place: str) -> StructureFault:
-    """Another fault to raise. Counts a row of PLACES."""
+    """The StructureFault of a kind other than Shape to raise. Counts the row `KIND: PLACE` of PLACES."""
     PLACES.count_use(f"{kind}: {place}")
     return StructureFault(kind)
 
@@ -142,7 +142,7 @@ class Signature:
 
 @dataclass(frozen=True, slots=True)
 class Operation:
-    """Reads `(do hash alg)`, which has no effect."""
+    """An item `(do hash alg)`, which has no effect."""
 
 
 Item = Union[Key, Operation, Certificate, Signature]
@@ -213,7 +213,7 @@ def read_hash(value: Value) -> Hash:
 
 
 def read_principal(value: Value) -> Principal:
-    """A key, or the hash of one."""
+    """Reads a principal: a key, or the hash of one."""
     if head_of(value) == b"public-key":
         return read_key(value)
     if head_of(value) == b"hash":
@@ -281,7 +281,7 @@ def read_tag(value: Value) -> Tag:
 
 
 def read_version(value: Value, place: str = "a list") -> None:
-    """Reads `(version "0")`."""
+    """Reads `(version "0")`. `place` names the structure that it is in, as PLACES does."""
     members = Members(value, b"version")
     number = members.next()
     if isinstance(number, tuple):
@@ -314,12 +314,12 @@ def read_propagate(value: Value) -> bool:
 
 
 def read_ignored(value: Value) -> None:
-    """A field that is accepted and not looked at."""
+    """Reads a field of any content, which has no effect."""
     FORMS.count_use("ignored field")
 
 
 def read_issuer(value: Value) -> Subject:
-    """The member of `(issuer ..)`: a principal, or a principal and one name."""
+    """Reads the member of `(issuer ..)`: a principal, or `(name principal n)` with one name."""
     if head_of(value) != b"name":
         return Subject(read_principal(value))
     subject = read_name(value)
@@ -336,7 +336,7 @@ def read_valid(value: Value) -> dict[bytes, Any]:
 
 
 def read_certificate_version(value: Value) -> None:
-    """The version of a certificate."""
+    """Reads `(version "0")` in a certificate."""
     read_version(value, "a certificate")
     FORMS.count_use("version of a certificate")
 

@@ -177,7 +177,8 @@ def range_of(members: tuple[Value, ...]) -> Tag:
 
 
 def limit(members: tuple[Value, ...], strict: bytes, other: bytes) -> tuple[Limit | None, tuple[Value, ...]]:
-    """The limit that members begin with, and the members behind it. The limit is None if they do not begin with one of the two words and a string."""
+    """The limit that members begin with, and the members behind it. The limit is None if they do not begin with a string behind one of the two words:
+    `strict`, by which the string itself is outside, or `other`."""
     if len(members) >= 2 and is_plain(members[0], strict, other) and is_plain(members[1]):
         word, body = members[0], members[1]
         assert isinstance(word, Atom) and isinstance(body, Atom)

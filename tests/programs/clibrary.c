@@ -153,6 +153,7 @@ static void *ask_all(void *place)
     return NULL;
 }
 
+/* Asks all questions in each of `count` threads with small stacks at once. */
 static void ask_side_by_side(size_t count)
 {
     pthread_t threads[64];

@@ -65,13 +65,14 @@ _Static_assert(sizeof(struct spki_text) == 2 * sizeof(size_t) && sizeof(struct s
 /* The fields of 0.2.0: the sizes of its structures must be read by each library of this interface. */
 enum { LIMITS = 7 * sizeof(size_t), QUESTION = 12 * sizeof(size_t), MORE = 4 };
 
-/* Calls spki.c with a structure that is an array of these numbers, of which the first is its size. */
+/* Opens a guard by spki.c with limits that are an array of numbers, of which the first is their size. */
 static enum spki_status open_guard(size_t *limits)
 {
     spki_guard *guard;
     return spki_guard_open("(acl)", 5, SPKI_STRICT, (const struct spki_limits *)(void *)limits, &guard, NULL, 0, NULL);
 }
 
+/* Asks by spki.c a question that is an array of numbers, of which the first is its size. */
 static enum spki_status ask(size_t *question)
 {
     static size_t guard;

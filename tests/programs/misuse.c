@@ -37,7 +37,7 @@ static void expect_misused(enum spki_status status, const char *what)
     expect_misused_unwritten(status, what);
 }
 
-/* The same for spki_guard_open, and then for spki_guard_ask: the handle must be null. */
+/* A call of spki_guard_open must have been misuse: it has left no line in the buffer, and has set `no_guard` to null. */
 static void expect_no_guard(enum spki_status status, const char *what)
 {
     expect_misused(status, what);
@@ -45,6 +45,7 @@ static void expect_no_guard(enum spki_status status, const char *what)
     no_guard = guard;
 }
 
+/* A call of spki_guard_ask must have been misuse: it has left no line in the buffer, and has set `no_asked` to null. */
 static void expect_no_question(enum spki_status status, const char *what)
 {
     expect_misused(status, what);
@@ -52,6 +53,7 @@ static void expect_no_question(enum spki_status status, const char *what)
     no_asked = asked;
 }
 
+/* The guard is asked this question, which must be misuse. */
 static void expect_misused_question(const struct spki_question *question, const char *what)
 {
     expect_no_question(spki_guard_ask(guard, question, &no_asked, BUFFER), what);

@@ -7,6 +7,7 @@
 #include <thread>
 #include <utility>
 
+// Unless this holds, prints its line and returns 1 from the test, which is a function without arguments. At its end a test returns 0.
 #define CHECK(what)                                     \
     do {                                                \
         if (!(what)) {                                  \
@@ -52,7 +53,7 @@ template <typename Call> static bool is_misuse(Call call)
     return false;
 }
 
-// This test and those below return 0, or 1 from a CHECK that fails.
+// A guard grants by a valid signature of the right key alone. A decision is no number, and a handle has one owner.
 static int decisions()
 {
     spki::guard guard(list);
@@ -66,6 +67,7 @@ static int decisions()
     return 0;
 }
 
+// An opened question keeps its text, outlives its guard and a move, and is granted once its signature is marked.
 static int opened()
 {
     auto guard = std::make_unique<spki::guard>(list);
@@ -167,6 +169,7 @@ static int given_away()
     return 0;
 }
 
+// What is refused throws the line that says why.
 static int refusals()
 {
     spki::guard guard(list);
@@ -195,6 +198,7 @@ static int logins()
     return 0;
 }
 
+// SPKI_LITERAL has all octets of a literal, without the 00 behind it.
 static int literals()
 {
     const spki_text text = SPKI_LITERAL("a\0b");

@@ -24,6 +24,7 @@
     static __typeof__(type) next; \
     if (next == NULL) next = (__typeof__(type))dlsym(RTLD_NEXT, name)
 
+/* The calls of one kind: the first that is refused (0 for none), how many were asked and refused, and whether all behind the first are too. */
 struct calls {
     unsigned long first, asked, refused;
     int all;
@@ -127,12 +128,14 @@ static int counting_main(int count, char **words, char **environment) {
     return program(count, words, environment);
 }
 
+/* Is called at the start of each program, by its name in the C library. Puts counting_main in the place of the program's main. */
 int __libc_start_main(entry *main, int count, char **words, void (*init)(void), void (*fini)(void), void (*end)(void), void *stack) {
     NEXT(int (*)(entry *, int, char **, void (*)(void), void (*)(void), void (*)(void), void *), "__libc_start_main");
     program = main;
     return next(counting_main, count, words, init, fini, end, stack);
 }
 
+/* Is called at the end. Writes the line with the counts to descriptor 3. */
 __attribute__((destructor)) static void report(void) {
     char line[200];
     counting = 0;

@@ -10,10 +10,12 @@ commas between them are a row each. Texts and answers are written as in `tables/
                                     authorization, or the cause of a stop
     decide, explain, judge ..       a case, and a verifier: rows, or `all`, or `broken`, which is out of memory
     Guard::read                     a list, its policy, the most octets and nodes
-    PreparedQuestion::decide ..     the same; a sequence, a key, a request, a moment; a verifier or marks
-    answer_opened                   a guard's four texts, what is asked for, then questions of five texts each, the last being marks
-    OwnedQuestion::signed, OwnedQuestion::decide_by, OwnedQuestion::is_possible   one question, which is opened, without what is asked for
-    Guard::ask                      the first four; a key, seconds, and the strings of a request
+    PreparedQuestion::decide ..     the four texts of `Guard::read`; a sequence, a key, a request, a moment; a verifier or marks
+    answer_opened                   the four texts of `Guard::read`; `decide`, `explain` or `reduce`; then questions of five texts each: a
+                                    sequence, a key, a request, a moment, marks
+    OwnedQuestion::signed           the four texts of `Guard::read`; a sequence, a key, a request, a moment
+    OwnedQuestion::decide_by ..     as many texts, and marks
+    Guard::ask                      the four texts of `Guard::read`; a key, seconds, and the strings of a request
     first_member, grants ..         what the callers in `test_callers` take: `crates/test_one_call/src/callers.rt` says it
     run                             a command, a text; of the reader and of the writer: the octets of each call, the room, what follows
                                     then (`fails`, `interrupted`, or nothing more); and whether a flush fails. The answer is the status;

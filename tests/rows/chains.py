@@ -24,7 +24,7 @@ def key(letter):
 
 
 def cert(issuer, subject, fields="(propagate) (tag (*))"):
-    """A certificate, as it is written."""
+    """A certificate, as it is written. `fields` is the text behind its issuer and subject."""
     return f"(cert (issuer {issuer}) (subject {subject}) {fields})"
 
 
@@ -34,16 +34,17 @@ def signed(certificate, signer, value="sig", of=None):
 
 
 def row(certificate, signer, value="sig"):
-    """The row that accepts a signature of a certificate."""
+    """The row that accepts a signature of a certificate by a key, as it is written."""
     return f"(by {signer} {digest(certificate)} {value})"
 
 
 def case(entries, rows="", items="", asks=key("d"), request="(ftp)", at=NOW, policy=""):
+    """A case, as it is written. Its parts are pasted in: `entries`, `rows` and `items` are the members of their lists, side by side."""
     return f"(case (acl {entries}) (accepted {rows}) (sequence {items}) (key {asks}) (request {request}) (at {at}) {policy})"
 
 
 def entry(letter, fields="(propagate) (tag (*))"):
-    """An entry for the key of a letter."""
+    """An entry for the key of a letter. `fields` is the text behind its subject."""
     return f"(entry {key(letter)} {fields})"
 
 
@@ -75,7 +76,7 @@ def chain(changed=None, how=None):
 
 
 def chains():
-    """The chain, and others that differ from it at one place."""
+    """Yields (name, text, what `check` answers): the chain, and others that differ from it at one place."""
     yield "whole chain", case(entry("a"), *chain()), YES
     for place in range(3):
         for how in ("key not shown", "digest differs", "signer differs", "not accepted"):
@@ -95,7 +96,7 @@ def chains():
 
 
 def windows_and_tags():
-    """A certificate whose window or tag decides."""
+    """Yields (name, text, what `check` answers): cases with a certificate whose window or tag decides."""
     for limit, answer in (('(not-after "2024-01-01_00:00:00")', YES), ('(not-after "2023-12-31_23:59:59")', NO),
                           ('(valid (not-before "2024-01-01_00:00:01"))', NO)):
         c = cert(key("a"), key("d"), f"(tag (*)) {limit}")
@@ -106,7 +107,7 @@ def windows_and_tags():
 
 
 def sizes():
-    """Products of nodes from both sides of 1,000,000, and an entry before and behind a larger one."""
+    """Yields (name, text, what `check` answers): products of nodes from both sides of 1,000,000, and an entry before and behind a larger one."""
     def set_of(n):
         return "(* set " + " ".join(f"n{i}" for i in range(n)) + ")"
 
@@ -125,7 +126,7 @@ def sizes():
 
 
 def long_lists():
-    """Lists of eight entries that are denied, each for one reason, and a ninth."""
+    """Yields (name, text, what `check` answers): lists of eight entries that are denied, each for one reason, and a ninth."""
     rows, items = chain()
     ninth = (0, "yes entry 9\n")
     over = '(not-after "2023-12-31_23:59:59")'
@@ -152,7 +153,8 @@ def long_lists():
 
 
 def long_lists_of_tags():
-    """Lists of nine entries, and two certificates whose tags have over 1,000,000 as the product of their nodes."""
+    """Yields (name, text, what `check` answers): lists of nine entries, and two certificates whose tags have over 1,000,000 as the
+    product of their nodes."""
     def behind(entries, tag):
         """A case of entries and of two certificates with a tag."""
         first, second = cert(key("a"), key("b"), f"(propagate) (tag {tag})"), cert(key("b"), key("d"), f"(tag {tag})")
@@ -167,7 +169,7 @@ def long_lists_of_tags():
 
 
 def moments():
-    """A window that holds its own last moment, and two windows that share one moment or none."""
+    """Yields (name, text, what `check` answers): a window that holds its own last moment, and two windows that share one moment or none."""
     alone = f"(entry {key('a')} (tag (*)) (not-after \"2024-12-31_23:59:59\"))"
     for at, answer in (("2024-12-31_23:59:59", YES), ("2025-01-01_00:00:00", NO)):
         yield f"windows: entry alone at {at}", case(alone, asks=key("a"), at=f'"{at}"'), answer
@@ -181,7 +183,8 @@ def moments():
 
 
 def policies():
-    """What the strict policy refuses: hashes by SHA-1 as subject, issuer and signer, and not as a message's digest."""
+    """Yields (name, text, what `check` answers): what the strict policy refuses, which is hashes by SHA-1 as subject, issuer and signer, and
+    not as a message's digest."""
     a, b = key("a"), key("b")
     c1 = cert(a, b, "(tag (*))")
     hashed = {alg: cert(digest(a, alg), b, "(tag (*))") for alg in ("sha1", "sha256", "sha512")}
@@ -207,7 +210,7 @@ def policies():
 
 
 def order():
-    """Signatures at right and wrong places of a sequence."""
+    """Yields (name, text, what `check` answers): signatures at right and wrong places of a sequence."""
     a, c1 = key("a"), cert(key("a"), key("b"), "(tag (*))")
     one = f"(signature {digest(c1)} {a} sig)"
     for items, line in ((one, "1 StraySignature"), (f"{c1} {a} {one}", "1 UnsignedCert"), (c1, "1 UnsignedCert"),
@@ -223,7 +226,8 @@ HASH = digest("x")
 
 
 def malformed():
-    """Cases that are refused for a row or a policy, or have several faults, of which the first is named."""
+    """Yields (name, text, what `check` answers): cases that are refused for a row or a policy, or have several faults, of which the first
+    is named."""
     faults = [
         ("()", "Shape"), ("x", "Shape"), ("(by)", "Shape"), ("(row)", "Shape"), (f"(by {key('a')})", "Shape"),
         (f"(by {key('a')} {HASH})", "Shape"), (f"(by {key('a')} {HASH} sig sig)", "Shape"), (f"(by a {HASH} sig)", "Shape"),

@@ -25,7 +25,7 @@ SHAPES = {"Canonical": lambda text: text, "Advanced": lambda text: printed(forms
 
 
 def case(entries: str, rows: str = "", items: str = "", asks: str = KB, request: str = "(ftp)") -> bytes:
-    """The canonical text of a case."""
+    """The canonical text of a case, by the texts of its entries, of its rows and of the items of its sequence, and by the key that asks."""
     return canonical(chains.case(entries, rows, items, asks, request))
 
 
@@ -146,7 +146,8 @@ def parts_of(text: bytes) -> list[bytes]:
 
 
 def answer_of(wish: str, parts: list[bytes], rows: bytes) -> tuple[guard.Answer, list[guard.Signed]]:
-    """What the model answers to the parts of a case, and the signatures that it lists."""
+    """What the model answers to the parts of a case (`parts_of`) by the text of its rows, and the signatures that it lists. `wish` is `decide`,
+    `explain` or `reduce`."""
     asked = guard.Parts(*parts[1:5])
     said, listed = guard.answer(wish, parts[0], asked, cases.read_rows(forms.read(rows)), int(parts[5] == b"open"), guard.USUAL, "")
     return said, listed

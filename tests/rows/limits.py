@@ -12,12 +12,12 @@ STRUCTURES = {"intersect": "intersect Shape", "check": "case Shape", "reduce": "
 
 
 def strings(count, each="a"):
-    """One string so many times."""
+    """The string `each` so many times, with spaces between."""
     return " ".join([each] * count)
 
 
 def numbered(count):
-    """So many different strings."""
+    """So many different strings, with spaces between."""
     return " ".join(f"n{place}" for place in range(count))
 
 
@@ -31,7 +31,8 @@ def one_string(size, form):
 
 
 def lengths():
-    """A string, and a case with whitespace behind it, of 1,048,576 octets; and one octet more, two, or as many again."""
+    """Yields (name, command, text, answer): a string, and a case with whitespace behind it, of 1,048,576 octets; and one octet more, two, or as many
+    again."""
     for form in FORMS:
         text, canonical = one_string(MOST_OCTETS, form)
         name = f"{len(text)} octets in {form} form"
@@ -51,7 +52,7 @@ def lengths():
 
 
 def longer_in_canonical_form():
-    """A text with fewer octets than the limit, whose canonical form has more."""
+    """Yields (name, command, text, answer): a text with fewer octets than the limit, whose canonical form has more."""
     text = b"(" + b"a " * 400000 + b")"
     yield "400,000 tokens", "canonical", text, (0, b"(" + b"1:a" * 400000 + b")")
     for command in STRUCTURES:
@@ -59,7 +60,7 @@ def longer_in_canonical_form():
 
 
 def lists_in_lists():
-    """As many lists open at once as may be, and one more, for each reader."""
+    """Yields (name, command, text, answer): as many lists open at once as may be, and one more, for each reader."""
     for depth in (MOST_DEPTH, MOST_DEPTH + 1):
         canonical = b"(" * depth + b")" * depth
         for form, text in zip(FORMS, (canonical, b"( " * depth + b") " * depth, braced(canonical))):
@@ -72,7 +73,7 @@ def lists_in_lists():
 
 
 def deep_parts():
-    """Requests and tags as deep as may be, and deeper by one list."""
+    """Yields (name, command, text, answer): requests and tags as deep as may be, and deeper by one list."""
     def nested(depth):
         """A list of so many lists in one another."""
         return "(f " * depth + "f" + ")" * depth
@@ -88,7 +89,7 @@ def deep_parts():
 
 
 def nodes():
-    """Tags of 1,024 nodes, and of one more, wherever a tag stands."""
+    """Yields (name, command, text, answer): tags of 1,024 nodes, and of one more, wherever a tag may be."""
     for how in ("* set", "x"):
         fits, larger = (f"({how} {strings(MOST_NODES - 1 - (how == 'x') + more)})" for more in (0, 1))
         yield "the first tag", "intersect", f"(intersect {fits} (*))", (0, fits + "\n")
@@ -103,8 +104,9 @@ def nodes():
 
 
 def products():
-    """Products of two tags' nodes around 1,000,000."""
+    """Yields (name, command, text, answer): products of two tags' nodes around 1,000,000."""
     def sets(one, other):
+        """The text that asks for the intersection of two sets, whose members are these texts."""
         return f"(intersect (* set {one}) (* set {other}))"
 
     yield "1,024 nodes and 976", "intersect", sets(strings(1023), strings(975)), (0, f"(* set {strings(1023 * 975)})\n")
@@ -123,11 +125,11 @@ def products():
 
 
 def work():
-    """Entries and certificates whose work is 2,200,000,000, and more. Each of 22 entries has 1,000 nodes, each of which costs 15 times the 4 nodes of
-    the first certificate, its 4 tags and its 99,936 octets. Then nothing is left of the tags. The second certificate has 336 nodes, so that the
-    product of all is over 1,000,000."""
+    """Yields (name, command, text, answer): entries and certificates whose work is 2,200,000,000, and more. Each of 22 entries has 1,000 nodes, each
+    of which costs 15 times the 4 nodes of the first certificate, its 4 tags and its 99,936 octets. Then nothing is left of the tags. The second
+    certificate has 336 nodes, so that the product of all is over 1,000,000."""
     def chain_of(more, *tags):
-        """The rows and the items of the first certificate, with so many octets more, and of one for each tag."""
+        """The rows and the items of the first certificate, whose tag has so many octets more, and of a further one for each of these tags."""
         first = cert(key("a"), key("b"), f"(propagate) (tag (* set r {'x' * 49_967} {'y' * (49_968 + more)}))")
         shown = [(first, "a")] + [(cert(key("b"), key("b"), f"(propagate) (tag {tag})"), "b") for tag in tags]
         return "".join(row(it, key(by)) for it, by in shown), "".join(signed(it, key(by)) for it, by in shown)

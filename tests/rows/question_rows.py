@@ -185,6 +185,7 @@ FIRST = {b"a": (6, 6), b"b": (3, 4), b"c": (4, 4), b"d": (2, 2), b"e": (2, 2), b
 def of_several_entries() -> Iterator[CallRow]:
     """Entries for KA by its hashes, for KA itself, and for others. The tag of each is another set."""
     def hashed(alg: str, tag: str) -> str:
+        """An entry for the hash of KA by an algorithm, with a tag."""
         return f"(entry (hash {alg} #{hashlib.new(alg, A).hexdigest()}#) (tag {tag}))"
 
     every = "(* set a b c d e)"

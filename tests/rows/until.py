@@ -7,7 +7,7 @@ GROUP = f"(name {key('a')} friends)"
 # Of each row: its name; the limits of the entry, of a certificate from a by b and of a definition of a's name, each a date or none; the moment;
 # and the last second.
 ROWS = [
-    ("nothing window_until", "", "", "", "2024-01-01_00:00:00", NO_END),
+    ("nothing ends", "", "", "", "2024-01-01_00:00:00", NO_END),
     ("the entry", "2024-06-30_12:00:00", "", "", "2024-01-01_00:00:00", 1719748800),
     ("a certificate", "", "2024-06-30_12:00:00", "", "2024-01-01_00:00:00", 1719748800),
     ("a definition of a name", "", "", "2024-06-30_12:00:00", "2024-01-01_00:00:00", 1719748800),
@@ -27,12 +27,13 @@ ROWS = [
 
 
 def window_until(limit):
-    """The validity that window_until at a date, or nothing if the date is empty."""
+    """The field of a window that ends at a date, or nothing if the date is empty."""
     return f'(valid (not-after "{limit}"))' if limit else ""
 
 
 def parts_of(of_entry, of_certificate, of_definition):
-    """The list, the sequence and the key of a chain: an entry for a, whose certificate is for its friends, of whom c is one."""
+    """The list, the sequence and the key of a chain: an entry for a, a certificate by a for its friends, and a definition by which c is one. Each
+    argument is the last moment of one of these, or empty for none."""
     right = cert(key("a"), GROUP, f"(tag (*)) {window_until(of_certificate)}")
     friend = f"(cert (issuer {GROUP}) (subject {key('c')}) {window_until(of_definition)})"
     acl = f"(acl {entry('a', f'(propagate) (tag (*)) {window_until(of_entry)}')})"

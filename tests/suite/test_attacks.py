@@ -17,12 +17,12 @@ STOPPED = "stopped, "
 
 
 def is_chosen(row: str, share: int = 10) -> bool:
-    """Whether a row is run: in the gate each tenth, by the digest of its name."""
+    """Whether the row with this name is run: in the long tests each is, in the gate one in `share`, chosen by the digest of the name."""
     return built.IS_LONG or hashlib.sha256(row.encode()).digest()[0] % share == 0
 
 
 def columns_of(kind: type[web_servers.Behind]) -> list[str]:
-    """The columns of a server. Debian's Caddy has no cache."""
+    """The columns of the table that a server has: `plain`, `stopped`, and those of the sites in `kind.sites`. Debian's Caddy has no cache."""
     return [column for column in COLUMNS if column in ("plain", "stopped") or column.removeprefix(STOPPED) in kind.sites]
 
 
@@ -72,7 +72,7 @@ class Table(unittest.TestCase):
         self.assertEqual(self.site.status("ann", "GET", "/web/index.html"), 200)
 
     def check_rows(self, column: str) -> None:
-        """Each row of a column must fail as an attack. Before them and behind them Ann is granted what she may do, unless the daemon is stopped."""
+        """Each attack of a column must fail. Before them and after them Ann is granted what she may do, unless the daemon is stopped."""
         is_stopped = column.startswith("stopped")
         self.site.restart_with(self.kind.sites.get(column.removeprefix(STOPPED), []))
         self.grants_ann()
@@ -89,14 +89,16 @@ class Table(unittest.TestCase):
             self.assertNotIn('"answer":"failed"', self.site.text("log/authd.log"))
 
     def check_attack(self, each: attacks.Attack, is_stopped: bool) -> None:
-        """An attack must be answered as the table says, and leave all else as it is."""
+        """The answer to an attack must have one of its statuses; while the daemon is stopped also 403 or an error of the server, and not 401.
+        No file may be sent or changed."""
         answer = self.site.answer(each.who, self.sender.filled(each.octets))
         must = (each.must | attacks.DENIED) - {401} | attacks.WITHOUT_DAEMON if is_stopped else each.must
         self.assertLessEqual(set(attackers.statuses(answer) or [0]), must, answer)
         self.assertEqual(list(attackers.changes_of(self.site, answer)), [])
 
     def check_sites(self) -> None:
-        """Among the lines of each other site, and there without the daemon, nobody gets what the daemon denies. The gate has a third of them."""
+        """With the lines of each other site in its files, the server grants nothing that the daemon denies; and while the daemon is stopped, nothing.
+        The gate runs a third of the sites."""
         for name, more in self.kind.sites.items():
             if not is_chosen(f"{self.kind.name}, {name}", 3):
                 continue
@@ -125,14 +127,15 @@ class Table(unittest.TestCase):
             self.site.start_daemon()
 
     def probe(self, status: int, said: str, *more: str) -> None:
-        """Probes the site, which must end with a status, and write a text among others."""
+        """Runs `spki-authd -probe` on the site, with the options `more`. It must end with this status, and write the text `said` among others."""
         words = (self.site.program, "-probe", f"https://localhost:{self.site.port}/web/", *more)
         met = output_of(*words, env={**self.site.settings, "SSL_CERT_FILE": self.site.at("ca/ca.crt")}, seconds=served.SECONDS)
         self.assertEqual((met[0], said in met[1]), (status, True), met[1])
         self.assertNotIn("left out", met[1])
 
     def check_port(self) -> None:
-        """On a port the server lets pass what the holder of the daemon's certificate says, and tells its secret to nobody else."""
+        """A server that asks the daemon on a port with TLS grants what the holder of the daemon's certificate grants there. Of another program it
+        takes no answer, and does not send it its secret."""
         make = ("openssl", "req", "-x509", "-newkey", "ed25519", "-nodes", "-days", "9", "-subj", "/CN=spki-authd", "-addext",
                 "subjectAltName=DNS:spki-authd,IP:127.0.0.1")
         for name in ("authd", "other"):

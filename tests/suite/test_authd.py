@@ -72,7 +72,8 @@ class OfDaemon(test_go.OfGo):
 
     @contextlib.contextmanager
     def daemon(self, *before: str, **more: object) -> Iterator[Daemon]:
-        """A context with a daemon, which must start, and end with status 0. `before` and `more` are those of `Daemon`."""
+        """A context with a daemon, which must start, and end with status 0. `before` are the words of a command that starts its program, and `more`
+        are fields of its configuration."""
         with tempfile.TemporaryDirectory() as room:
             made = Daemon(room, self.daemon_program, self.access_list, *before, **more)
             try:
@@ -89,7 +90,7 @@ class OfDaemon(test_go.OfGo):
         return {"X-Original-Method": "GET", "X-Original-URI": target, "X-Client-Cert": urllib.parse.quote(self.alice.certificate)}
 
     def ask_often(self, path: str, times: int, headers: dict[str, str], target: str = "/") -> list[int]:
-        """The statuses of the answers to so many requests on one connection."""
+        """Sends a GET request `times` times on one connection to the socket with this path. Returns the statuses of the answers."""
         connection = OverSocket(path)
         found = []
         try:
@@ -230,7 +231,7 @@ class Manager:
         return process
 
     def message(self) -> str:
-        """What the daemon says next."""
+        """Waits for the daemon's next message to the manager, and returns it."""
         return self.told.recv(4096).decode()
 
     def close(self) -> None:
@@ -240,7 +241,7 @@ class Manager:
 
 @contextlib.contextmanager
 def managed(program: str, access_list: str) -> Iterator[Manager]:
-    """A manager, where a daemon has run before."""
+    """A context with a manager, whose daemon has run once and ended: its configuration, list and logs are there."""
     with tempfile.TemporaryDirectory() as room:
         daemon = Daemon(room, program, access_list)
         daemon.process.terminate()
@@ -345,7 +346,7 @@ class Started(OfDaemon):
 
     @staticmethod
     def queue(path: str) -> int:
-        """How many connections the system lets wait at a socket."""
+        """How many connections the system lets wait at the socket with this path."""
         said = subprocess.run(["ss", "-xl"], stdout=subprocess.PIPE, text=True, check=True).stdout
         return next(int(line.split()[3]) for line in said.splitlines() if f" {path} " in line)
 
@@ -396,7 +397,7 @@ class BehindNginx(OfDaemon):
 
     @contextlib.contextmanager
     def nginx(self, room: str, at: str, scheme: str) -> Iterator[str]:
-        """The socket of nginx, which asks at a place."""
+        """A context with the path of nginx's socket. nginx asks the daemon at the address `at`, by `http` or `https` (`scheme`)."""
         user = "user root;" if os.getuid() == 0 else ""
         certificate = urllib.parse.quote(self.alice.certificate)
         settings = {"room": room, "at": at, "scheme": scheme, "secret": SECRET, "certificate": certificate, "user": user}
@@ -415,7 +416,7 @@ class BehindNginx(OfDaemon):
 
     @staticmethod
     def certificate(room: str, name: str) -> None:
-        """Writes a certificate of a daemon, with another key each time."""
+        """Makes a key and a TLS certificate of it for the name spki-authd. Writes them to `name`.key and to `name`."""
         words = ["openssl", "req", "-x509", "-newkey", "ed25519", "-nodes", "-subj", "/CN=spki-authd", "-addext", "subjectAltName=DNS:spki-authd",
                  "-keyout", os.path.join(room, f"{name}.key"), "-out", os.path.join(room, name)]
         subprocess.run(words, check=True, stderr=subprocess.DEVNULL)
@@ -447,7 +448,8 @@ class BehindNginx(OfDaemon):
 
     @contextlib.contextmanager
     def impostor(self, room: str, at: str) -> Iterator[list[bytes]]:
-        """A program that shows another certificate, answers 200 to all, and keeps what it hears."""
+        """A context with a server at `at`, a host and a port. It shows another certificate than the daemon's, answers 200 to all, and adds what it
+        receives to the list."""
         context = ssl.SSLContext(ssl.PROTOCOL_TLS_SERVER)
         context.load_cert_chain(os.path.join(room, "other"), os.path.join(room, "other.key"))
         heard: list[bytes] = []
@@ -504,7 +506,7 @@ class Units(unittest.TestCase):
 
     @needs.needs("systemd-analyze")
     def test_exposure(self) -> None:
-        """What the daemon may do beyond its work, as systemd counts it from 0 to 100."""
+        """systemd rates what the service may do beyond its work at 6 or less, from 0 to 100."""
         done = subprocess.run(["systemd-analyze", "security", "--offline=yes", "--threshold=6", UNITS[0]], stdout=subprocess.PIPE,
                               stderr=subprocess.STDOUT, text=True)
         self.assertEqual(done.returncode, 0, done.stdout[-300:])

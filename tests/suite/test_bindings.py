@@ -94,7 +94,8 @@ def seconds_of(moment):
 
 
 def questions_of(program, text, name) -> Iterator[Asked]:
-    """The questions of a case, in which the request and the moment are texts, and again strings and seconds where that can be."""
+    """Yields the questions of a case, whose text is in canonical form: with the request and the moment as texts, and again as strings and seconds
+    where that can be. If `check` refuses the case, its rows are left out, since a guard takes none."""
     case, line = read(text), run(program, "check", text)[1]
     if line.startswith(b"refused") and line != TOO_LARGE:
         case[2] = [b"accepted"]
@@ -159,12 +160,12 @@ def answered_by_python(spki, asked):
 
 
 def listed(strings):
-    """A list as `asked.rs` reads it."""
+    """A list of strings in the form that the examples `asked` read: their number, and then each of them, all as LENGTH:OCTETS."""
     return string(str(len(strings))) + b"".join(map(string, strings))
 
 
 def framed(asked):
-    """A question as `asked.rs` reads it."""
+    """A question in the form that the examples `asked` read: its fields one after the other, as LENGTH:OCTETS or as lists of such strings."""
     is_text, is_date = isinstance(asked.request, bytes), isinstance(asked.moment, bytes)
     fields = [asked.command, "strict" if asked.is_strict else "open", asked.limits, asked.access_list, asked.sequence, asked.key]
     request = string("text" if is_text else "words") + listed([asked.request] if is_text else asked.request)
@@ -182,7 +183,7 @@ def strings_in(octets):
 
 
 def cargo(folder, words, given=None):
-    """Runs cargo in the crate, offline and with the libraries of a folder. Returns how it ended."""
+    """Runs cargo in the crate, offline, with the libraries of a folder and the input `given`. Returns how it ended."""
     settings = {**os.environ, "SPKI_LIB_DIR": folder, "RUSTDOCFLAGS": "-D warnings", "CARGO_NET_OFFLINE": "true"}
     return subprocess.run(["cargo", *words], cwd=RUST, input=given, capture_output=True, env=settings, timeout=SECONDS)
 
@@ -247,7 +248,7 @@ class Words(unittest.TestCase):
 
 @functools.cache
 def asked_of(program):
-    """The questions, which two tests ask."""
+    """All questions, made once for the tests of several languages."""
     return questions(program)
 
 
@@ -277,7 +278,7 @@ class Binding(built.OfLibrary):
                 self.check_output(words, (access_list, [b"sequence", alice.key, certificate, signature], holder.key), wanted)
 
     def check_output(self, words, parts, wanted):
-        """An example must write the wanted text for a list, a sequence and a key."""
+        """An example, which `words` run, must write the text `wanted` for the access list, the sequence and the key in `parts`."""
         with tempfile.TemporaryDirectory() as room:
             paths = [os.path.join(room, name) for name in ("acl", "sequence", "key")]
             for path, value in zip(paths, parts):
@@ -362,7 +363,7 @@ class InC(Binding):
     """The example in C, with each verifier."""
 
     def check_verifier(self, verifier, library):
-        """The example in C must decide by this verifier, which uses a library."""
+        """`decide.c` must decide by the verifier in the file `verifier`.c, linked with a library: `library` is the option for the linker."""
         with tempfile.TemporaryDirectory() as room:
             to, sources = os.path.join(room, "decide"), [os.path.join(EXAMPLES, "c", name) for name in ("decide.c", f"{verifier}.c")]
             flags = ["-std=c11", "-Wall", "-Wextra", "-Wpedantic", "-Werror", "-I", CRATE]
@@ -383,7 +384,7 @@ class InCpp(Binding):
     """The header for C++."""
 
     def check_owners(self, flags, *by):
-        """`owned.cpp` must compile with these flags and find nothing wrong. `by` are the words before it."""
+        """`owned.cpp` must compile with these flags and find nothing wrong. `by` is a command that runs it, as words."""
         with tempfile.TemporaryDirectory() as room:
             to, source = os.path.join(room, "owned"), os.path.join(TESTS, "programs", "owned.cpp")
             words = ["-std=c++17", "-Wall", "-Wextra", "-Wpedantic", "-Werror", "-g", "-pthread", *flags, "-I", CRATE]
@@ -411,7 +412,7 @@ class InRust(Binding):
     """The crate in Rust."""
 
     def does(self, *words, given=None):
-        """Runs cargo in the crate, which must succeed. Returns its output."""
+        """Runs cargo in the crate, with the input `given`. It must succeed. Returns its output."""
         done = cargo(self.folder, words, given)
         self.assertEqual(done.returncode, 0, f"cargo {' '.join(words)}: {(done.stdout + done.stderr).decode(errors='replace')[-4000:]}")
         return done.stdout

@@ -32,7 +32,7 @@ class Caches(built.OfLibrary):
         self.room = room_for(self)
 
     def serves(self, *words: str) -> None:
-        """A cache answers Bob's lines, denies all to Carol, and all to Bob if the signature is another one."""
+        """The cache that these words start must answer Bob as LINES says, deny all to Carol, and all to Bob if the signature is of another text."""
         from spki_cert_tool import keys
         alice, bob, carol = (keys.FileSigner(keys.new_private(kind)) for kind in (keys.P256, keys.ED25519, keys.ED25519))
         issuer = keys.principal_of(alice.key)
@@ -48,7 +48,7 @@ class Caches(built.OfLibrary):
             self.assertEqual(met, [wanted if name == "bob" else "denied" for _, wanted in LINES], name)
 
     def answers(self, words: tuple[str, ...], name: str, *parts: "Value") -> list[str]:
-        """What a cache in a folder of its own answers, of a list, a key and a sequence."""
+        """Starts a cache by `words` in a new folder `name`, with an access list, a key and a sequence (`parts`). Returns what it answers to LINES."""
         folder = os.path.join(self.room, name)
         os.makedirs(os.path.join(folder, "files", "builds"))
         paths = [os.path.join(folder, part) for part in ("acl", "key", "sequence")]
@@ -64,7 +64,7 @@ class Caches(built.OfLibrary):
         return done.stdout.splitlines()
 
     def made(self, *words: str, folder: str = TOP, **more: str) -> None:
-        """Runs a compiler."""
+        """Runs a compiler in a folder, with the settings `more` in its environment. It must succeed."""
         done = subprocess.run(words, cwd=folder, stdout=subprocess.PIPE, stderr=subprocess.STDOUT, text=True, timeout=SECONDS,
                               env={**os.environ, **more})
         self.assertEqual(done.returncode, 0, done.stdout)

@@ -25,7 +25,7 @@ def page_of(crate):
 
 
 def path_in(crate, path):
-    """The path of a file that a crate's page names."""
+    """The path from the top of the repository of a file that a crate's page names by its path from the crate, or from crates/."""
     return f"crates/{crate}/{path}" if path.startswith("src/") else f"crates/{path}"
 
 
@@ -58,7 +58,8 @@ def calls_at(crate):
 
 
 def calls_of(crate, item):
-    """The calls of an item of a crate: those of a type or a trait, wherever they stand, or the function."""
+    """Yields the calls of an item of a crate: those of a type or a trait, in any file, or the function. Each is a file and twice its name, as it is
+    there and as callers write it."""
     for path, owner, name in calls_at(crate):
         if owner == item:
             yield path, f"{owner}::{name}", f"{owner}::{name}"
@@ -113,7 +114,7 @@ class Pages(unittest.TestCase):
 
 
 def made_test(crate: str, about: str, fault: str | None) -> Callable[[Pages], None]:
-    """The test of something on a page."""
+    """Returns a test that fails if there is a fault: what is wrong with what `about` names on a crate's page."""
     return lambda self: self.assertIsNone(fault, f"crates/{crate}/CALLING.md: {about} {fault}")
 
 

@@ -44,7 +44,7 @@ def rank(row: CallRow) -> tuple[bool, int]:
 
 
 def is_example(row: CallRow) -> bool:
-    """Whether a row may be an example: it is short, it is not about depth, and no end or verifier of it fails by itself. The writer of `run`
+    """Whether a row may be an example: it is short, it is not about depth, and no reader, writer or verifier fails by itself. The writer of `run`
     allocates what it keeps, so a request that is refused there is a fault of writing."""
     texts = b" ".join(row.texts)
     is_short = row.call != "run" and len(texts) <= MOST_OCTETS

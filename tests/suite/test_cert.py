@@ -41,7 +41,8 @@ PEM_TYPES = {"ed25519": ["ed25519"], "rsa": ["RSA", "-pkeyopt", "rsa_keygen_bits
 TAG = "(packages (* set read write) (* prefix /web/))"
 Reason = collections.namedtuple("Reason", "entry item word")
 FEW_FILES, FILES = 100, 1000
-# How many times the processor time of FEW_FILES those of FILES may take: 10 and what the machine does beside. And how many modules a start loads.
+# How many times as much processor time FILES files may take as FEW_FILES: 10, and more for what else the machine does. And how many modules a start
+# may load.
 MOST_TIMES, MOST_MODULES = 20, 100
 # What a program takes that hangs.
 SECONDS = 1800
@@ -52,7 +53,7 @@ needs_ssh = needs.needs("ssh-keygen")
 
 
 def quiet(*words, **settings):
-    """The output of a command, which must end with status 0."""
+    """The output of a command, which must end with status 0. `settings` are those of `subprocess.run`."""
     return subprocess.run(words, check=True, stdout=subprocess.PIPE, stderr=subprocess.PIPE, **settings).stdout
 
 
@@ -179,6 +180,7 @@ class OfKeys(Case):
         self.assertIn("must be `(public-key ..)`", self.done("key", "key.pem", wanted=2))
 
     def weak(self, kind):
+        """A public key in PEM that `spki-cert` does not use: of RSA with 1024 bits for `rsa`, or else on the curve P-521."""
         from cryptography.hazmat.primitives.asymmetric import ec, rsa
         from cryptography.hazmat.primitives.serialization import Encoding, PublicFormat
         made = rsa.generate_private_key(65537, 1024) if kind == "rsa" else ec.generate_private_key(ec.SECP521R1())
@@ -216,7 +218,8 @@ class OfKeys(Case):
 
 class OfPassphrases(Case):
     def on_a_terminal(self, words, typed):
-        """What the command writes on a terminal, where a passphrase is typed as often as it is asked for."""
+        """Runs `spki-cert` by `words` on a terminal, where the passphrase `typed` is typed as often as it is asked for. Returns the status, and what
+        it writes."""
         child, terminal = pty.fork()
         if child == 0:
             os.chdir(self.room)
@@ -272,6 +275,8 @@ class OfCertificates(Case):
         self.ssh_key("bob")
 
     def sign(self, *words, by="alice", to="bob.pub", tag=TAG, wanted=0, **more):
+        """Runs `spki-cert sign`, with more options in `words`. It must end with the status `wanted`. Returns what it writes. `more` are settings of
+        the environment."""
         return self.done("sign", "--by", by, "--to", to, "--tag", tag, *words, wanted=wanted, **more)
 
     def test_each_kind_of_key_signs(self):
@@ -440,6 +445,7 @@ class OfMistakes(Case):
         self.assertTrue(json.loads(self.done("check", "--json", "folder/acl.sexp", wanted=2))["remarks"][0]["refused"])
 
     def private(self):
+        """A private key in PEM without a passphrase."""
         from cryptography.hazmat.primitives.serialization import Encoding, NoEncryption, PrivateFormat
         return keys.new_private("ed25519").private_bytes(Encoding.PEM, PrivateFormat.PKCS8, NoEncryption())
 
@@ -501,7 +507,8 @@ class OfWords(Case):
         self.assertLessEqual({"grants", "TagLacks", "NotTheKey", "NotIssuer", "NotAccepted"}, met)
 
     def word_of(self, text, case):
-        """The word that is chosen for a case of the model, which must have words, and a picture."""
+        """A list with the word of the reason that is chosen for a case, whose lines of `explain` are the model's; empty if these are no reasons. What
+        is said of the reason must have two lines or more. `case` is the value of the text."""
         lines = answers.answer("explain", text)[1].decode().splitlines()
         found = [re.fullmatch(r"(?:entry (\d+) )?(?:item (\d+) )?(\w+)", line) for line in lines]
         if None in found:
@@ -520,7 +527,7 @@ class OfAnswers(Case):
         self.settings["SPKI_LIBRARY"] = built.shared()
 
     def in_the_path(self):
-        """The settings with which `spki-cert` is in the path."""
+        """Makes `spki-cert` a program in a new folder. Returns settings of the environment that have this folder in the path."""
         os.mkdir(self.at("bin"))
         self.write("bin/spki-cert", f"#!/bin/sh\nexec '{sys.executable}' '{COMMAND}' \"$@\"\n")
         os.chmod(self.at("bin/spki-cert"), 0o755)
@@ -548,6 +555,7 @@ class OfAnswers(Case):
         self.assertEqual(met, [*(answer.strip("\n") for _, _, answer in steps), ""])
 
     def test_the_story_of_three_teams(self):
+        """examples/builds/story.sh has at most 40 lines, its questions get the answers that are wanted, and its certificates verify."""
         folder = self.at("story")
         os.mkdir(folder)
         path = os.path.join(TOP, "examples", "builds", "story.sh")
@@ -565,6 +573,7 @@ class OfAnswers(Case):
             self.verified(os.path.join("story", "certs", name))
 
     def test_each_reason_in_words(self):
+        """`ask` says in words why a right is granted or denied. A case that it saves gets the same answer, and it picks certificates."""
         for name in ("alice", "bob", "carol"):
             self.ssh_key(name)
         self.write("acl.sexp", f"(acl (entry {self.done('key', 'alice.pub')} (propagate) (tag {TAG})))")
@@ -591,7 +600,8 @@ class OfAnswers(Case):
         self.assertIn("NotTheKey", self.done("ask", "--acl", "acl.sexp", "--key", "bob.pub", *request[1:], wanted=1))
 
     def certificates_are_picked(self, asks, request):
-        """The certificates of a chain that are given in another order, and with others, are picked. The sequence that is written grants too."""
+        """The certificates of a chain that are given in another order, and with others, are picked. The sequence that is written grants too. `asks`
+        are the words of `ask` up to the files of certificates, and `request` those of the request."""
         self.done("sign", "--by", "bob", "--to", "carol.pub", "--tag", "(packages read)", "--days", "20", *into("second.sexp"))
         self.done("sign", "--by", "carol", "--to", "alice.pub", "--tag", "(mail)", "--days", "20", *into("other.sexp"))
         self.done("sign", "--by", "alice", "--to", "bob.pub", "--tag", TAG, "--days", "30", *into("first.sexp"), "--propagate")
@@ -617,7 +627,8 @@ class OfAnswers(Case):
         self.assertIn("no moment of that is in the windows before it (NoValidity)", self.done(*asks, wanted=1))
 
     def names_are_compared(self, asks):
-        """A name that is misspelt, and one that another issuer defines."""
+        """What is said of a name that is misspelt, and of one that another issuer defines. `asks` are the words of an `ask`, which end with the file
+        c.sexp, `--` and the request."""
         defines, more = ("name", "--to", "carol.pub", "--days", "30"), (*asks[:-5], "c.sexp", "d.sexp", *asks[-4:])
         self.done(*defines, "--by", "alice", "--name", "bilders", *into("c.sexp"))
         self.assertIn("the right is with builders of alice there; is `builders` meant? (NotTheName)", self.done(*asks, wanted=1))
@@ -669,6 +680,7 @@ int main(int count, char **words)
 
     def test_it_loads_few_modules(self):
         def loaded(*words):
+            """The names of the modules that Python loads when it is run with these words."""
             lines = subprocess.run([sys.executable, "-X", "importtime", *words], capture_output=True, text=True, check=True).stderr.splitlines()
             return {line.rpartition("|")[2].strip() for line in lines if line.startswith("import time:")}
 
@@ -721,7 +733,7 @@ int main(int count, char **words)
 
 
 def into(name):
-    """The words that write a file which may be there."""
+    """The options of `spki-cert` that write to a file, also if it is there already."""
     return "--force", "-o", name
 
 

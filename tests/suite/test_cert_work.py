@@ -75,6 +75,7 @@ def counted() -> Iterator[None]:
 
 
 def key(name: str, octets: int = 1) -> Any:
+    """A public key whose value is the name, repeated `octets` times."""
     return [b"public-key", [b"test", name.encode() * octets]]
 
 
@@ -87,6 +88,7 @@ def certificate(issuer: Any, subject: Any, *more: Any) -> Any:
 
 
 def signed(one: Any) -> Any:
+    """A certificate and a signature of it by its issuer, as two items of a sequence."""
     return [one, [b"signature", hash_of(one), one[1][1], b"sig"]]
 
 
@@ -99,7 +101,7 @@ def members_behind_a_long_line(parts: int) -> bytes:
 
 
 def entries_that_ended(parts: int) -> bytes:
-    """A remark on each line."""
+    """A list with one entry on each line, of which all have ended: `check` makes a remark on each."""
     return b"(acl" + b"".join(b'\n (entry (public-key (test k%d)) (tag (ftp)) (not-after "2020-01-01_00:00:00"))' % at for at in range(parts)) + b")"
 
 
@@ -123,7 +125,7 @@ def entries_for_a_long_key(parts: int) -> bytes:
 
 
 def keys_in_lines(parts: int) -> bytes:
-    """Keys of OpenSSH that are none."""
+    """Lines that begin as keys of OpenSSH do, and have no key."""
     return b"".join(b"ssh-ed25519 AAAA%06d comment\n" % at for at in range(parts))
 
 
@@ -201,7 +203,8 @@ class OfAsk(unittest.TestCase):
     """The search for chains."""
 
     def found(self, pairs, entries, holder, most=20_000):
-        """The chains that are found from entries to a holder, and the steps. `pairs` are the issuers and subjects of the certificates."""
+        """The chains that are found from entries to a holder, and the steps. `pairs` are the issuers and subjects of the certificates, `entries` the
+        subjects of the entries, and `most` is the bound of steps."""
         from spki_cert_tool import certificates
         given = [certificates.Signed(certificates.terms_of(certificate(*pair)), b"", 1) for pair in pairs]
         steps = certificates.Steps(most)

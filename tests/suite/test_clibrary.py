@@ -56,7 +56,8 @@ NO_ROWS = b"(accepted)"
 
 
 def as_library(command, answer):
-    """The library's answer to a command, by its number, given the program's. Only decisions return GRANTED or NO; other calls return DONE."""
+    """The library's answer to the command with this number, by that of the program; both are a status and octets. Only decisions return GRANTED or
+    NO; other calls return DONE."""
     status, octets = answer
     if status > NO:
         return answer
@@ -64,7 +65,8 @@ def as_library(command, answer):
 
 
 def questions_of_files(program):
-    """Each command on each file of the examples, with what the program answers."""
+    """Each command on each file of the examples, as pairs of a question and an answer. A question has a name, the number of a command, a text, and
+    the text of its separate rows, which is empty here. The answer is the wanted status and octets of the library, by what the program answers."""
     texts = {}
     for folder, _, names in os.walk(EXAMPLES):
         for name in names:
@@ -78,7 +80,7 @@ def questions_of_files(program):
 
 
 def questions_of_tables():
-    """The rows of the tables, with what is wanted."""
+    """Yields the rows of the tables, as pairs of a question (place, number of a command, text, no separate rows) and the wanted status and octets."""
     for table in tables_here():
         for place, command, text, status, answer in rows_of(table):
             number = COMMANDS.index(command)
@@ -86,8 +88,8 @@ def questions_of_tables():
 
 
 def rows_apart(program, answered):
-    """Three questions for each case that the program decides: its rows apart, beside the case without rows and beside the whole case; and no rows
-    beside the whole case, whose own rows must not count then."""
+    """Yields three questions for each case that the program decides, with the wanted answers: its rows apart, beside the case without rows and beside
+    the whole case; and no rows beside the whole case, whose own rows must not count then. `answered` are pairs of a question and its answer."""
     cases = {text for (_, command, text, _), (status, _) in answered if COMMANDS[command] == "check" and status in (NO, GRANTED)}
     for text in sorted(cases, key=lambda each: (len(each), each)):
         whole = read(run(program, "canonical", text)[1])
@@ -101,7 +103,7 @@ def rows_apart(program, answered):
 
 
 def worked_rows():
-    """The case of the first certificate, with its rows apart, changed and not readable."""
+    """Yields questions on the case of the first certificate, with the wanted answers: its rows are apart, changed, or not readable."""
     with open(os.path.join(EXAMPLES, "delegation.sexp"), "rb") as file:
         case = file.read()
     at, end = case.index(b"(accepted"), case.index(b"\n (sequence")
@@ -138,7 +140,8 @@ def worked_rows():
 
 
 def answers_of(words, questions):
-    """Runs `clibrary.c` by these words on questions. Returns its status, what it writes to standard error, and its answers."""
+    """Runs `clibrary.c` by these words on questions, which are pairs with the wanted answers. Returns its status, what it writes to standard error,
+    and its answers, each a status and octets."""
     given = b"".join(b"%d %d %d\n%s%s" % (command, len(text), len(rows), text, rows) for (_, command, text, rows), _ in questions)
     done = subprocess.run(words, input=given, capture_output=True, timeout=SECONDS)
     answers, at = [], 0
@@ -151,7 +154,8 @@ def answers_of(words, questions):
 
 
 def faults_of_answers(words, questions):
-    """A text with what is wrong with the answers of `clibrary.c`, empty if nothing is. `words` start it."""
+    """A text with what is wrong with the answers of `clibrary.c`, empty if nothing is. `words` start it. `questions` are pairs of a question and the
+    wanted answer."""
     status, said, answers = answers_of(words, questions)
     if status or len(answers) != len(questions):
         return f"status {status} after {len(answers)} of {len(questions)} answers: {said[-2000:]}"
@@ -193,13 +197,13 @@ def rpath_to(shared):
 
 @functools.cache
 def asked_of(program):
-    """The questions of the files, of the tables and of rows apart, each with what is wanted."""
+    """Three lists: the questions of the files, of the tables and of rows apart, each with the wanted answer."""
     files, tables = questions_of_files(program), list(questions_of_tables())
     return files, tables, list(rows_apart(program, files + tables))
 
 
 def short_of(program):
-    """The short questions, for ways of asking that are slow."""
+    """For slow ways of asking: the questions of files and of rows apart that have at most SHORT octets, and a few others, with the wanted answers."""
     files, _, apart = asked_of(program)
     return [each for each in files + apart if len(each[0][2]) + len(each[0][3]) <= SHORT] + list(worked_rows())[:8]
 
@@ -241,8 +245,8 @@ class OfC(built.OfLibrary):
         return to
 
     def check_answers(self, questions, library, *more, by=(), threads=2, refusals=0):
-        """`clibrary.c` must give the wanted answers to questions, in so many threads. `by` are the words before the program, and with refusals it
-        refuses requests for memory."""
+        """`clibrary.c` must give the wanted answers to questions, in so many threads. For each question it refuses the first `refusals` requests for
+        memory in turn. `library` is `static` or `shared`, `more` are options of the compiler, and `by` is a command that runs the program."""
         print(f"{len(questions)} questions")
         fault = faults_of_answers([*self.by, *by, self.compiled("clibrary.c", library, *more), str(threads), str(refusals)], questions)
         self.assertEqual(fault, "", fault)
@@ -258,13 +262,15 @@ class OfC(built.OfLibrary):
         self.assertLessEqual(needed, NEEDED)
 
     def check_program(self, source, library, *more, by=(), words=()):
-        """A program in C that checks the library itself must end with status 0. `by` are the words before it, `words` those behind it."""
+        """A program in C that checks the library itself must end with status 0. `by` is a command that runs it, and `words` are its arguments.
+        `library` is `static` or `shared`, and `more` are options of the compiler."""
         words = [*self.by, *by, self.compiled(source, library, *more), *words]
         done = subprocess.run(words, capture_output=True, text=True, timeout=SECONDS)
         self.assertEqual(done.returncode, 0, f"{' '.join(words)[:300]}: {done.stderr[-2000:]}")
 
     def check_guards(self, library, *more, by=(), threads=THREADS, refusals=0):
-        """Guards must do as the header says, and misuse must be seen."""
+        """Guards must do as the header says (`cguard.c`, in so many threads and with so many requests for memory refused in turn), and misuse must be
+        seen (`misuse.c`). `library` is `static` or `shared`, `more` are options of the compiler, and `by` is a command that runs each program."""
         self.check_program("cguard.c", library, *more, by=by, words=[str(threads), str(refusals), *worked_question()])
         self.check_program("misuse.c", library, *more, by=by)
 
@@ -279,7 +285,7 @@ class Links(OfC):
         self.has_its_symbols(self.shared, "--dynamic")
 
     def check_linking(self, *words):
-        """`linked.c` must be compiled and linked in each way, and end with 0."""
+        """`linked.c` must be compiled and linked in each way by a compiler, which `words` are with its options. It must end with 0."""
         other, to = os.path.join(self.room, "libother.a"), os.path.join(self.room, "linked")
         renamed = [f"--redefine-sym={name}=other_{name}" for name in calls_of_header()]
         subprocess.run(["objcopy", *renamed, self.library, other], check=True)
@@ -371,7 +377,7 @@ int main(void)
     return 0;
 }
 """
-    # What is put for the points of each line.
+    # Parts of the sample that have points, or are changed for the test, and what replaces each.
     PARTS = {"question.sequence = ...": "question.sequence = sequence;", "question.seconds = ...": "question.seconds = &now;",
              "question.key = spki_assume_key(...)": 'question.key = spki_assume_key(SPKI_LITERAL("(public-key (test b))"));',
              "question.words = ...": "question.words = words, question.word_count = 2;", "SPKI_STRICT, NULL,": "SPKI_STRICT, &limits,",
@@ -380,6 +386,7 @@ int main(void)
             "(signature (hash sha256 #{}#) (public-key (test a)) sig)")
 
     def test_sample(self):
+        """The sample compiles with PARTS in it, and grants."""
         lines = self.SAMPLE.search(text_of("crates/spki_c/spki.h"))[1].splitlines()
         sample = "\n".join(re.sub(r"(\.\.\.\)?|;) {2,}\w.*", r"\1", line[7:]) for line in lines)
         for old, new in self.PARTS.items():
@@ -400,7 +407,7 @@ int main(void)
 class Until(OfC):
     """`until.c`: a decision says the last second at which the same question is a yes."""
 
-    # The seconds that a question can be asked at, with a later one.
+    # The seconds at which a question can be asked, but for the last: each has a next one.
     ASKED = range(253_402_300_799)
 
     def test_rows(self):
@@ -417,7 +424,7 @@ class Swapped(OfC):
     """`swapped.c`: a guard is changed while threads ask it, by a lock for reading and writing."""
 
     def check_swapping(self, *by):
-        """`swapped.c` must end with status 0 and write nothing. `by` are the words before it."""
+        """`swapped.c` must end with status 0 and write nothing. `by` is a command that runs it, as words."""
         to = os.path.join(self.room, "swapped")
         self.assertTrue(is_compiled("cc", *STRICT, "-o", to, os.path.join(TESTS, "programs", "swapped.c"), self.library), "swapped.c is not compiled")
         done = subprocess.run([*by, to], stdout=subprocess.PIPE, stderr=subprocess.STDOUT, text=True, timeout=SECONDS)
@@ -468,7 +475,7 @@ class Fuzzed(OfC):
     """`fuzz/calls.c`: the answers to fuzzed parts, through an spki.c that is checked as well."""
 
     def check_fuzzing(self, *flags):
-        """Fuzzing must find nothing. What it finds is kept in tests/out/."""
+        """Fuzzing by libFuzzer, with these options, must find nothing. What it finds is kept in tests/out/."""
         to, folder, kept = (os.path.join(*words) for words in ((self.room, "fuzz"), (TESTS, "fuzz"), (TESTS, "out")))
         sources = [os.path.join(folder, "calls.c"), *(os.path.join(CRATE, name) for name in ("spki.c", "heap.c"))]
         proved = os.path.join(os.path.dirname(built.library()), "proved", "libspki_c.a")

@@ -98,12 +98,12 @@ class InACopy(built.OfLibrary):
         return output_of("sh", text=script, cwd=folder, env={"HOME": home, "PATH": ":".join(commands)}, seconds=SECONDS)[1]
 
     def check_lines(self, folder: str, page: str, lines: list[str]) -> None:
-        """Commands must end as they are to. Before them is made what their page presupposes."""
+        """Commands must end with status 0, or that of STATUSES. Before them those of BEFORE make what their page presupposes."""
         said = self.output(folder, BEFORE.get(page, "") + f"echo '{END}' 0\n" + statuses_of(lines))
         self.assertEqual(faults_in(lines, STATUS.split(said, maxsplit=1)[-1]), [])
 
     def test_examples(self) -> None:
-        """Those of examples/README.md that no list leaves out, each block in a shell of its own."""
+        """The commands of examples/README.md that NOT_RUN does not leave out, each block in a shell of its own."""
         for block in page_commands.indented_blocks(text_of("examples/README.md")):
             each = [Command("examples/README.md", "indented", line) for line in block.splitlines()]
             lines = [it.line for it in each if not any(page_commands.covers(row, it) for row in NOT_RUN)]
@@ -111,7 +111,7 @@ class InACopy(built.OfLibrary):
                 self.check_lines(os.path.join(self.room, "clone"), "examples/README.md", lines)
 
     def test_peers(self) -> None:
-        """Those of docs/PEERS.md."""
+        """The commands of docs/PEERS.md, in one shell."""
         lines = [line for block in page_commands.indented_blocks(text_of("docs/PEERS.md")) for line in block.splitlines()]
         self.check_lines(tempfile.mkdtemp(dir=self.room), "docs/PEERS.md", lines)
 
@@ -132,7 +132,8 @@ class InACopy(built.OfLibrary):
 
 
 class Machine(NamedTuple):
-    """A page whose commands run on a machine of its own: what root and the user did before by the words of the page, and what its package needs."""
+    """A page whose commands run on a machine of its own; the commands that root (`by_root`) and the user (`before`) run there first, as the page
+    presupposes; and the Debian packages that the machine has beside those that the page names."""
 
     page: str
     by_root: str = ""
@@ -196,7 +197,7 @@ class OnMachines(built.OfLibrary):
             self.check_statuses(machine, by_root, by_user)
 
     def check_statuses(self, machine: Machine, by_root: list[str], by_user: list[list[str]]) -> None:
-        """Commands of root, and then blocks of the user, must end as they are to."""
+        """Commands of root, and then blocks of commands of the user, must end with status 0, or that of STATUSES."""
         begin = "cd ~/clone\n" * (machine.blocks != "on")
         script = "cd ~/clone\n" + "".join(begin + statuses_of(lines) for lines in by_user)
         said = self.output(machine, f"echo '{END}' 0\n" + statuses_of(by_root), script)

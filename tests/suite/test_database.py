@@ -39,7 +39,7 @@ def hash_of(value, algorithm="sha256"):
 
 
 def is_right(signature):
-    """The verifier of these tests."""
+    """The verifier of these tests: a signature is right if its value is `sig`."""
     return signature.value == b"3:sig"
 
 
@@ -68,6 +68,7 @@ class Maker:
                                             [b"packages", b"write"]])]
 
     def validity(self):
+        """A list of no field or one: an end or a beginning of the validity, before NOON."""
         return self.random.choice([[], [], [], [[b"not-after", b"2026-02-01_00:00:00"]], [[b"not-before", b"2026-02-01_00:00:00"]]])
 
     def entry(self):
@@ -120,7 +121,8 @@ def decider_by_whole_list(store, policy):
 
 
 def agrees_with_whole_list(store, seed, policy):
-    """Whether a service answers random questions as the whole list does, before and after some entries are removed."""
+    """Whether a service answers random questions as the whole list does, before and after some entries are removed, and more than 10 of them with a
+    yes, with a no, and with a refusal. Prints the numbers."""
     maker, met = Maker(seed), {"yes": 0, "no": 0, "refused": 0}
     numbers = []
     for _ in range(ENTRIES):
@@ -146,7 +148,8 @@ def agrees_with_whole_list(store, seed, policy):
 
 
 def client(opened, place):
-    """Adds and removes entries of a key of its own, and asks in between. `opened` connects to the store. Returns what was wrong, or None."""
+    """Adds and removes entries of a key of its own, and asks in between. `opened` connects to the store, and `place` is the number of the client.
+    Returns what was wrong, or None."""
     store, own = opened(), key_of(b"client%d" % place)
     service, asked = entries.Service(store), question(b"(sequence)", own)
     for turn in range(ROUNDS):
@@ -165,7 +168,7 @@ def client(opened, place):
 
 
 def clients_agree(opened):
-    """Whether several clients at once find nothing wrong. Prints what they find."""
+    """Whether several clients at once find nothing wrong. Prints what they find. `opened` connects to the store."""
     with ThreadPoolExecutor(CLIENTS) as pool:
         wrong = list(filter(None, pool.map(lambda place: client(opened, place), range(CLIENTS))))
     print("".join(f"{each}\n" for each in wrong), end="")

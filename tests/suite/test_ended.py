@@ -131,7 +131,7 @@ class Case(unittest.TestCase):
         return [line[:64] for line in lines if re.match("[0-9a-f]{64}", line)]
 
     def is_unchanged(self, before: bytes, said: str) -> None:
-        """The file of ended certificates must be as before, and no temporary file may be left."""
+        """The file of ended certificates must be as before, and no temporary file may be left. `said`, which a command wrote, is shown if not."""
         self.assertEqual(self.octets(ENDED), before, said)
         self.assertEqual([name for name in os.listdir(self.room) if name.startswith(".")], [], said)
 
@@ -290,6 +290,7 @@ class Refuses(Case):
     """What ends with a status that is not 0, and changes nothing."""
 
     def test_what_is_meant(self) -> None:
+        """Words that do not name a certificate, or that do not go together, are refused."""
         self.write(ENDED, sealed(A))
         self.write("none", b"(sequence)")
         self.write("list", b"(acl)")

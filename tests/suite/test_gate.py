@@ -35,7 +35,7 @@ impl<'a> Display for Name<'a> {
 
 
 def changed(old: str, new: str, file: str = "src/names.rt") -> set[str | None]:
-    """The functions that an edit of the source changes."""
+    """The functions of SOURCE that an edit of it changes, with None for what is in no function."""
     assert SOURCE.count(old) == 1
     return bodies.functions_changed(file, SOURCE, SOURCE.replace(old, new))
 
@@ -72,6 +72,7 @@ class Verdicts(unittest.TestCase):
     """What a check must say to refuse a wrong body."""
 
     def is_refused(self, *lines: str) -> bool:
+        """Whether a check that says these lines refuses a wrong body of the function names::tried in the crate `low`."""
         return bodies.refuses("low", "names::tried", "\n".join(lines))
 
     def test_refused(self) -> None:
@@ -108,6 +109,8 @@ class Logs(unittest.TestCase):
     """How logs are counted."""
 
     def counts(self, said: str, status: int, has_counts: bool = True) -> tuple[int, int, list[str]]:
+        """The tests that passed, those that failed, and what was left out, by the output and the status of a command. Without `has_counts` it is one
+        that never writes a line of counts."""
         counts = Counts()
         counts.add_log(said, status, has_counts)
         return counts.passed, counts.failed, counts.left_out

@@ -34,7 +34,7 @@ class OfGo(test_bindings.Binding):
     """A test of what is written in Go."""
 
     def does(self, folder: str, *words: str, given: bytes | None = None, **more: str) -> bytes:
-        """Runs a command of Go in a folder, which must succeed. Returns its output."""
+        """Runs a command of Go in a folder, with the input `given` and more settings of the environment. It must succeed. Returns its output."""
         done = golang.go(folder, list(words), self.library, given, **more)
         said = (done.stdout + done.stderr).decode(errors="replace")
         self.assertEqual(done.returncode, 0, f"go {' '.join(words)}: {said[-4000:]}")
@@ -159,7 +159,9 @@ def spki_cert(*words: str) -> bytes:
 
 
 class Daemon:
-    """A daemon that runs."""
+    """A daemon that runs, with its files in the folder `room`. `before` are the words of a command that starts its program, and `more` are fields of
+    its configuration. `event` is the first message on its standard error, `log` the path of its standard output, and `grants` that of its log of
+    grants."""
 
     def __init__(self, room: str, program: str, access_list: str, *before: str, **more: object) -> None:
         self.program = program

@@ -42,7 +42,7 @@ SHELLS = ("sh", "bash")
 
 
 def commands(text):
-    """Yields the steps of a block of commands: `command`, the command, and what it should write."""
+    """Yields the steps of a block of commands: for each the word `command`, the command, and what it should write."""
     for part in re.split(r"^\$ ", text, flags=re.MULTILINE)[1:]:
         first, *rest = part.splitlines()
         more = list(itertools.takewhile(lambda line: line.startswith("> "), rest))
@@ -50,8 +50,8 @@ def commands(text):
 
 
 def steps_of_markdown(page):
-    """Yields the steps of a page in order, each three texts: `file` or `quotation`, its name and its text; or `command`, the command, and what it
-    should write. Raises ValueError if a block is none of these."""
+    """Yields the steps of the text of a page in order, each three texts: `file` or `quotation`, its name and its text; or `command`, the command,
+    and what it should write. Raises ValueError if a block is none of these."""
     for kind, name, text in BLOCK.findall(page):
         if kind in ("c", "rust", "python") and name and program_of(name):
             yield "quotation", name, text
@@ -64,13 +64,13 @@ def steps_of_markdown(page):
 
 
 def program_of(name):
-    """The path of the program in examples/ with this name, None if there is none."""
+    """The path of the program with this name in the folders of PROGRAMS, None if there is none."""
     paths = [os.path.join(TOP, folder, name) for folder in PROGRAMS]
     return next(filter(os.path.exists, paths), None)
 
 
 def steps_of_manual(page):
-    """The steps of a manual: the commands in its blocks without filling."""
+    """The steps of the text of a manual: the commands in its blocks without filling."""
     for block in re.findall(r"^\.nf\n(.*?)^\.fi$", page, re.MULTILINE | re.DOTALL):
         yield from commands(textwrap.dedent(block).replace("\\-", "-").replace("\\(aq", "'").replace("\\(ga", "`"))
 
@@ -85,7 +85,8 @@ def script(found):
 
 
 def outputs_of(shell, found, program):
-    """Runs the steps in a shell, in an empty folder. Returns what each command writes, and what is written behind the last."""
+    """Runs steps in a shell, in an empty folder, with the program at this path as `spki`. Returns what each command writes, and what is written
+    behind the last."""
     with tempfile.TemporaryDirectory() as room:
         for folder in ("bin", "work"):
             os.mkdir(os.path.join(room, folder))
@@ -112,7 +113,8 @@ def of_library(found: Iterable[tuple[str, str, str]]) -> dict[str, str]:
 
 
 def is_as_in_examples(kind, name, text):
-    """Whether a file of examples/ has just this text, or for a quotation has it inside. True if there is no such file."""
+    """Whether the file of examples/ with this name has just this text, or for the kind `quotation` the program has it inside. True if there is no
+    such file."""
     path = program_of(name) if kind == "quotation" else os.path.join(TOP, "examples", name)
     if not os.path.exists(path):
         return True
@@ -125,7 +127,7 @@ def is_as_in_examples(kind, name, text):
 
 
 def indented(page):
-    """The indented blocks of a page, each with the paragraph above it."""
+    """The indented blocks of the text of a page. Yields pairs of the paragraph above and the block."""
     parts = re.split(r"\n{2,}", FENCED.sub("", page))
     for above, block in zip(parts, parts[1:]):
         if all(line.startswith("    ") for line in block.splitlines()):
@@ -133,17 +135,17 @@ def indented(page):
 
 
 def snippets_of(page):
-    """The snippets of a page, each with its language."""
+    """The snippets of the text of a page, as pairs of the language and the snippet."""
     return [(found[1], block) for above, block in indented(page) if (found := SNIPPET_BELOW.match(above))]
 
 
 def commands_of(page):
-    """The indented commands of a page, without those of the first certificate, which tests/suite/test_cert.py runs."""
+    """The indented commands of the text of a page, without those of the first certificate, which tests/suite/test_cert.py runs."""
     return [line for above, block in indented(page) if not SNIPPET_BELOW.match(above) and "spki-cert" not in block for line in block.splitlines()]
 
 
 def lines_of_first_certificate(page: str) -> list[str]:
-    """The indented commands of a page that make the first certificate."""
+    """The indented commands of the text of a page that make the first certificate."""
     return [line for _, block in indented(page) if "spki-cert" in block for line in block.splitlines()]
 
 

@@ -42,7 +42,7 @@ READ_FAULT = (3, b"", b"spki: read fault\n")
 WRITE_FAULT = (3, b"", b"spki: write fault\n")
 UNSAID_FAULT = (3, b"", b"")
 
-# What is written of the cases of examples/, and of some of chains.py: the status and the line. A command that the program does not
+# What each command writes on the cases of examples/, and on some of chains.py: the status and the line. A command that the program does not
 # have is passed over.
 FILES = {
     "first-run.csexp": {"check": "0 yes entry 1", "explain": "0 entry 1 grants",
@@ -131,7 +131,7 @@ def of_limits():
 
 
 def known(*sources, most=MOST_OCTETS * 2):
-    """The examples of some sources, of at most `most` octets, whose command the program has."""
+    """The examples that some functions yield, of at most `most` octets, whose command the program has."""
     return [example for source in sources for example in source() if example.command in COMMANDS and len(example.text) <= most]
 
 
@@ -151,7 +151,7 @@ def first_run():
 
 
 def most_work():
-    """The texts that ask for the most work known, each with what its answer begins with."""
+    """Yields the texts that need the most work known: a name, the command, the text, and what the answer begins with."""
     scripts = (os.path.join(BENCH, f"{name}.py") for name in ("check", "convert", "intersect", "chains", "linear"))
     check, convert, intersect, long, linear = map(loaded, scripts)
     for make in (check.many_entries, check.many_structures, check.many_certificates, check.many_members, check.lists_in_lists,
@@ -185,9 +185,10 @@ def most_work():
 # ---- what is done with an example: each returns the number of runs, the number of refusals, and the faults
 
 def refused_in_turn(program, example, behind):
-    """A run for each N, until a run asks for memory less than N times: its Nth request is refused. `behind` is "", or ".." if all later requests are
-    refused too. Where there are very many requests it is some of these. Those for the words of the command line, which are the same on each text,
-    are refused on one example of each command alone; clap may do without what it is refused there."""
+    """Runs of an example in which the Nth request for memory is refused, for each N up to one more than it makes, or for some of them if these are
+    very many. `behind` is "", or ".." if all later requests are refused too. The requests for the words of the command line, which are the same on
+    each text, are refused on one example of each command alone; clap may do without what it is refused there. Returns the number of runs, of
+    refusals, and the faults."""
     whole = program.run(example.command, example.text)
     answer = example.answer or whole.answer
     asked, refusals, faults = whole.asked["memory"], 0, []
@@ -204,14 +205,16 @@ def refused_in_turn(program, example, behind):
 
 
 def call_refused(program, row, behind):
-    """The same for a row of `calls/`, which `test_one_call` does by itself."""
+    """Runs of `test_one_call` on a row of `calls/`, in which each request for memory is refused in turn, and if `behind` is ".." all later ones too.
+    Returns the number of runs, of refusals, and the faults."""
     one_call = Program(built.existing(built.ONE_CALL), program.library)
     answer = 0, row.answer.hex().encode() + b"\n", b""
     return refused_in_turn(one_call, Example(row.place, row.call, row.line(), answer), behind)
 
 
 def cut_short(program, command, text, places):
-    """The text ends after each of these numbers of octets: all runs must refuse it as Short."""
+    """A run of a command on the first octets of a text for each number in `places`, which must refuse it as Short. Returns the number of runs, of
+    refusals, and the faults."""
     faults = []
     for length in places:
         ended = program.run(command, text[:length])
@@ -221,8 +224,9 @@ def cut_short(program, command, text, places):
 
 
 def failing_in_turn(program, example, end, told, wanted):
-    """Each call that reads or writes (`end`) does so for one octet. The Nth returns the error `told`, or 0 octets. `wanted(example, N)` returns how
-    such a run must end."""
+    """Runs of an example in which each call that reads or writes (`end` is `read` or `write`) does so for one octet, and the Nth is refused, for each
+    N until none is: it returns the error `told`, or if this is 0 no octet. `wanted(example, N)` is how such a run must end. Returns the number of
+    runs, of refusals, and the faults."""
     refusals, faults = 0, []
     for number in count(1):
         ended = program.run(example.command, example.text, step=1, **{end: number, "with": told})
@@ -237,23 +241,29 @@ def failing_in_turn(program, example, end, told, wanted):
 # `wanted` of failing_in_turn: how a run of an example must end whose call of this number is told an error, or 0.
 
 def read_fault(example, number):
+    """How a run must end whose read of this number fails."""
     return READ_FAULT
 
 
 def write_fault(example, number):
+    """How a run must end whose write of this number fails or takes no octet, after one octet with each write before it."""
     return 3, example.answer[1][:number - 1], WRITE_FAULT[2]
 
 
 def asked_again(example, number):
+    """How a run must end whose call of this number is interrupted: as any other, since the call is made again."""
     return example.answer
 
 
 def ended_early(example, number):
+    """How a run must end whose read of this number returns no octet, after one octet with each read before it: the text is refused as Short, unless
+    it was read as a whole before."""
     return SHORT if number <= len(example.text) else example.answer
 
 
 def interrupted_for_ever(program, example, end, asks, wanted):
-    """Each call returns that it was interrupted, until the program has called `asks` times."""
+    """A run in which each read or each write (`end`) returns that it was interrupted. It must call `asks` times, and then end as `wanted`. Returns
+    the number of runs, of refusals, and the faults."""
     ended = program.run(example.command, example.text, step=1, **{end: "1..", "with": EINTR})
     right = ended.answer == wanted and ended.asked[end] == asks
     return 1, ended.refused, [] if right else [f"{example}: {end} interrupted for ever: {ended}, {ended.asked[end]} asks"]
@@ -267,13 +277,14 @@ def one_run(program, what, wanted, call, *words):
 
 
 def with_small_stack(program, example):
-    """One run with a small stack, which must end as one with a large stack does."""
+    """One run with a small stack, which must end as one with a large stack does. Returns the number of runs, of refusals, and the faults."""
     wanted = example.answer or program.run(example.command, example.text).answer
     return one_run(program, f"{example} in {STACK} octets of stack", wanted, "limited", example.command, example.text, resource.RLIMIT_STACK, STACK)
 
 
 def in_less_memory(program, example):
-    """Runs with less and less memory in all: each must give the right answer, or say that memory was lacking."""
+    """Runs with each of LIMITS, in MiB, as the memory in all: each must give the right answer, or say that memory was lacking. Returns the number of
+    runs, of those that lacked memory, and the faults."""
     refusals, faults = 0, []
     wanted = example.answer or program.run(example.command, example.text).answer
     for mebibytes in LIMITS:
@@ -285,7 +296,8 @@ def in_less_memory(program, example):
 
 
 def within_limits(program, example):
-    """One run of much work, which must take at most MOST_SECONDS and MOST_MEMORY MiB."""
+    """One run of much work, which must take at most MOST_SECONDS and MOST_MEMORY MiB. Its answer must begin with that of the example. Returns the
+    number of runs, of refusals, and the faults."""
     ended = program.run(example.command, example.text)
     seconds, mebibytes = memory.used(program.path, example.command, example.text)
     print(f"{example.name:<40}{example.command:<10}{len(example.text):>9}{len(ended.out):>9}{seconds:>8.2f} s{mebibytes:>8.1f} MiB", flush=True)
@@ -295,7 +307,8 @@ def within_limits(program, example):
 
 
 def with_valgrind(program, example, plan):
-    """One run under valgrind, with the settings of refuse.c in `plan`. Valgrind must find no lost memory, and no forbidden read or write."""
+    """One run under valgrind, with the settings of refuse.c in `plan`. Valgrind must find no lost memory, and no forbidden read or write.
+    Returns the number of runs, of refusals, and the faults."""
     leaks = ["--leak-check=full", "--show-leak-kinds=definite", "--errors-for-leak-kinds=definite", "--error-exitcode=99"]
     words = ["valgrind", "-q", "--soname-synonyms=somalloc=nouserintercepts", *leaks]
     wanted = example.answer or program.run(example.command, example.text).answer
@@ -305,7 +318,7 @@ def with_valgrind(program, example, plan):
 
 
 def attempted(do, program, *words):
-    """Does a task, and returns what it returns. An OSError is a fault."""
+    """Does a task, the function `do` of a Program and more words. Returns the number of runs, of refusals, and the faults: an OSError is one."""
     try:
         return do(program, *words)
     except OSError as fault:
@@ -315,17 +328,21 @@ def attempted(do, program, *words):
 # ---- the parts: the tasks of each, as functions and their words
 
 def memory_refused(behind):
+    """Tasks that refuse each request for memory in turn, on examples of at most MOST_REFUSED octets. With `behind` ".." all later requests are
+    refused too."""
     for example in known(of_files, of_chains, of_tables, most=MOST_REFUSED):
         yield refused_in_turn, example, behind
 
 
 def calls_refused():
+    """Tasks that refuse requests for memory of single calls of the libraries."""
     for row in test_calls.examples():
         for behind in ("", ".."):
             yield call_refused, row, behind
 
 
 def truncation():
+    """Tasks that cut texts short at each octet, and those that put whitespace behind a case."""
     commands = [(command, text) for command in COMMANDS for text in first_run()]
     for command, text in commands + [("check", text) for text in three_certificates()]:
         for start in range(0, len(text), 100):
@@ -336,6 +353,7 @@ def truncation():
 
 
 def ends_failing():
+    """Tasks in which reads and writes fail: in turn, for ever, and by what the shell redirects them to."""
     whole = Example("first-run.csexp", "check", first_run()[0], end_of("0 yes entry 1"))
     short = Example("a short text", "canonical", b"(abc def)", (0, b"(3:abc3:def)", b""))
     for example in (whole, short):
@@ -352,13 +370,13 @@ def ends_failing():
 
 
 def long_answer(members, octets):
-    """Two sets of equal strings, and the tag in which they meet: it has a member for each pair."""
+    """The text of an intersection of two sets, each of so many equal strings of so many octets, and the answer: a set with a member for each pair."""
     tag = group(string("*"), string("set"), *[string("a" * octets)] * members)
     return group(string("intersect"), tag, tag), b"(* set" + (b" " + b"a" * octets) * members ** 2 + b")\n"
 
 
 def long_answers():
-    """Answers that are longer than a page, to files that are full, and with less memory than they are long."""
+    """Tasks with answers that are longer than a page, to files that are full, and with less memory than they are long."""
     text, whole = long_answer(100, 1)
     for most in (0, 4095, 4096, 4097, 12288, len(whole) - 1):
         wanted = 3, whole[:most], WRITE_FAULT[2]
@@ -369,6 +387,7 @@ def long_answers():
 
 
 def pipes_and_files():
+    """Tasks with pipes without a reader, pipes that do not block, files that are full, and texts that come octet by octet."""
     long = b"(" + b"3:abc" * 200000 + b")"
     whole = first_run()[0]
     for dies in (False, True):
@@ -385,27 +404,32 @@ def pipes_and_files():
 
 
 def at_limits():
+    """Tasks with one run on each text at the limits."""
     for example in known(of_limits):
         yield one_run, example, example.answer, "run", example.command, example.text
 
 
 def in_small_stack():
+    """Tasks with a small stack, on the texts at the limits and those that need the most work."""
     for example in known(of_limits) + [Example(what, command, text, None) for what, command, text, _ in most_work()]:
         yield with_small_stack, example
 
 
 def less_memory():
+    """Tasks with less and less memory, on the texts that need the most work."""
     for what, command, text, _ in most_work():
         yield in_less_memory, Example(what, command, text, None)
 
 
 def work():
+    """Tasks that measure time and memory, on the texts that need the most work. Prints the heading of the table that they print."""
     print(f"{'text':<40}{'command':<10}{'octets':>9}{'written':>9}{'time':>10}{'memory':>12}")
     for what, command, text, begins in most_work():
         yield within_limits, Example(what, command, text, begins)
 
 
 def under_valgrind():
+    """Tasks under valgrind on every VALGRIND_STEP-th example, without a refused request for memory and with some."""
     for example in known(of_files, of_chains)[::VALGRIND_STEP]:
         for number in ("0", "5", "40.."):
             yield with_valgrind, example, {"memory": number}
@@ -440,7 +464,7 @@ class Hostile(built.OfProgram):
         cls.refusing = Program(cls.program, compiled(cls.room.name))
 
     def is_met(self, part, tasks):
-        """No task of a part may find a fault."""
+        """No task of a part may find a fault. `tasks` yields them, each a function and its words. `part` is the name that is printed."""
         begun = time.perf_counter()
         with ProcessPoolExecutor() as pool:
             started = [pool.submit(attempted, do, self.refusing, *words) for do, *words in tasks()]

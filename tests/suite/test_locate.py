@@ -33,10 +33,12 @@ CASE = f'(case (acl (entry {KEY} (tag ftp)))\n (accepted)\n (sequence {KEY} {KEY
 
 
 def with_certificate(text):
+    """The text of a case that has this text in the place of its certificate."""
     return CASE.replace("CERT", text)
 
 
 def with_field(field):
+    """The text of a case whose certificate has this text as its last field."""
     return with_certificate(CERT.replace("FIELD", field))
 
 
@@ -76,7 +78,8 @@ MISTAKES = [
 ]
 
 
-# The same of a part of a question to a guard, or of an access list, with the refusal that is given.
+# Parts of a question to a guard, and access lists: the text, the words of the refusal that `locate` is given or none, the refusal that it must
+# show, the place as line and column, and words of the remark.
 SIGNED = f"(signature {HASH} {KEY} sig)"
 OF_PARTS = [
     (f"(acl\n (entry {KEY} (tag a))\n (entry {KEY}\n (taag a)))", "", "acl 2 Shape", (4, 2), "`tag` meant"),
@@ -138,7 +141,8 @@ def has_no_place(answer):
 
 
 def show_places(wrong, inner, places):
-    """Has `locate` show each place of a fault. It must not raise."""
+    """Has `locate` show each place of the fault `wrong`, unless it is None. It must not raise. `inner` is the text in which the places are: without
+    its braces, if it has some. `places` are then the offsets of its octets, or else None."""
     for at, _ in [(wrong.at, wrong.why), *wrong.others] if wrong else []:
         LOCATE.place_shown(inner, places, at)
 
@@ -167,7 +171,8 @@ class Refusals(unittest.TestCase):
             self.fail(f"text   {text!r}, given {given!r}\nwanted {wanted} at line {place[0]}, column {place[1]}, {words}\ncame   {said}")
 
     def finds(self, place: str, command: str, text: bytes, wanted: tuple[int, bytes]) -> None:
-        """`locate` must find the refusal that `wanted` is, or none if it is no refusal. `place` names the text."""
+        """`locate` must find the refusal that a command answers to a text, or none if it answers otherwise. `wanted` is its status and its answer,
+        and `place` names the text."""
         (wrong, inner, places), _ = LOCATE.read_text(text, READ_AS.get(command, "refused form"))
         found = f"{LOCATE.refusal(wrong, places)}\n".encode() if wrong else b""
         show_places(wrong, inner, places)

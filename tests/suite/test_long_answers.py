@@ -20,7 +20,8 @@ BY_PYTHON = "import pickle, sys; sys.path.append(sys.argv[1]); import spki; from
 
 
 def case_of(subject, items, rows):
-    """A case of many entries for the request, and of some items, by which a subject asks."""
+    """The text of a case of many equal entries for the request, with these rows of accepted signatures and items of the sequence, in which a subject
+    asks."""
     entry = [b"entry", ISSUER, [b"propagate"], [b"tag", [b"ftp"]]]
     return canonical([b"case", [b"acl", *[entry] * ENTRIES], [b"accepted", *rows], [b"sequence", *items], [b"key", subject], [b"request", b"ftp"],
                       [b"at", AT], [b"policy", b"strict"]])
@@ -36,7 +37,7 @@ def long_key():
 
 @needs.needs("ld", "objcopy")
 class Counted(test_bindings.Binding):
-    """The bindings by a library that counts."""
+    """The bindings with a library whose calls of NAMES are those of `counted.c`: each calls the library itself, and adds a line to a file."""
 
     @classmethod
     def setUpClass(cls):
@@ -52,6 +53,7 @@ class Counted(test_bindings.Binding):
                       ["cc", "-shared", "-o", cls.counting, whole]):
             subprocess.run(words, check=True, timeout=SECONDS)
         few, many = case_of([b"public-key", [b"test", b"b"]], [], []), long_key()
+        # (a question of the guard by strings or seconds has `by` in its name)
         cls.asked = [each._replace(limits=limits) for text, limits in ((few, "usual"), (few, "highest"), (many, "highest"))
                      for each in test_bindings.questions_of(cls.program, text, limits) if each.command != "decide" and "by" not in each.name]
         cls.archive = archive

@@ -26,7 +26,7 @@ SEED = "spki-cert"
 
 
 def key_pair(kind="ed25519"):
-    """The octets of a private key and of its public one."""
+    """A new private key, as a file of it has it, and its public key, as a line of OpenSSH."""
     private = keys.new_private(kind)
     return keys.file_of(private, b""), keys.openssh_line(private.public_key())
 
@@ -50,7 +50,7 @@ class Room(Case):
         self.sign("--propagate", "-o", "to-bob")
 
     def sign(self, *words, by="alice", to="bob.pub", tag="(packages read)", wanted=0, days=("--days", "30")):
-        """Runs `spki-cert sign`. Returns what it writes."""
+        """Runs `spki-cert sign`, which must end with the status `wanted`. Returns what it writes."""
         return self.done("sign", "--by", by, "--to", to, "--tag", tag, *days, *words, wanted=wanted)
 
     def changes_nothing(self, *words, said="", wanted=2):
@@ -116,7 +116,8 @@ class OfWriting(Room):
         self.changes_nothing("key", "bob.pub", "--force", "-o", "ended", said="the file of ended certificates is there already")
 
     def no_word_is_shown(self, secret, *parts):
-        """Nothing of a secret that is given as a word is said. A seed alone is known only where a file is named."""
+        """A command that gets a secret as a word must not write any of these parts of it. A seed alone is known as a secret only where a command
+        takes the name of a file."""
         as_file = [("key", secret), ("show", secret), ("key", "alice.pub", secret), ("ask", "--acl", secret, "--key", "bob.pub", "--", "x"),
                    ("sign", "--by", secret, "--to", "bob.pub", "--tag", TAG), ("sign", "--by", "alice", "--to", secret, "--tag", TAG, "--days", "1")]
         as_word = [(secret,), ("entry", "--to", "bob.pub", "--tag", secret), ("entry", "--to", "bob.pub", "--tag", f"x {secret}"),
@@ -210,7 +211,7 @@ class OfWriting(Room):
 
 @needs.needs(*needs.LIBRARY)
 class OfTheLibrary(Room):
-    """The same of what the library answers."""
+    """No answer of the library is written over a file that the command reads."""
 
     def setUp(self):
         super().setUp()
@@ -317,7 +318,7 @@ class OfChains(Room):
     """The search for chains, and what is left of one."""
 
     def signed(self, count):
-        """A sequence of certificates of bob for himself, one for carol, and the one of alice for bob."""
+        """Sequences of one certificate: so many of bob for himself, one of bob for carol, and the one of alice for bob."""
         made = [self.signed_here("bob", "bob", number) for number in range(count)]
         return [*made, self.signed_here("bob", "carol", 0), value_in(octets_in(self.at("to-bob"))).value]
 
@@ -358,7 +359,7 @@ class OfTheRightOfAChain(OfChains):
         self.settings["SPKI_LIBRARY"] = built.shared()
 
     def chained(self, *words, by="bob", to="carol.pub", tag="(packages read)", chain="to-bob", wanted=0):
-        """Runs `spki-cert sign --chain`. Returns what it writes."""
+        """Runs `spki-cert sign --chain`, which must end with the status `wanted`. Returns what it writes."""
         return self.sign("--chain", chain, "--force", "-o", "c.sexp", *words, by=by, to=to, tag=tag, wanted=wanted, days=("--days", "5"))
 
     def test_what_the_issuer_has_is_signed(self):
@@ -434,7 +435,8 @@ class OfTheRightOfAChain(OfChains):
 
 
 class Child:
-    """A command in a forked child of this process, with streams of its own."""
+    """A command in a forked child of this process. `stdin` is a path, and `stdout` a function that opens a file: None is a stream that is closed.
+    `before` is called in the child before the command."""
 
     def __init__(self, room, words, settings, stdin="/dev/null", stdout=None, before=lambda: None):
         self.said = tempfile.TemporaryFile()
@@ -468,11 +470,13 @@ class Child:
 
 
 def output(path, encoding="utf-8"):
-    """Returns a function that opens a file as standard output."""
+    """A function that opens a file for writing, in which a `Child` has its standard output."""
     return lambda: open(path, "w", encoding=encoding)
 
 
 class OfStreams(Room):
+    """What commands say where a stream is closed, full or of another encoding. `EACH` has the words of each."""
+
     EACH = {"key": ("key", "alice.pub"), "key new": ("key", "new", "--no-passphrase", "new"), "check": ("check", "acl.sexp"),
             "sign": ("sign", "--by", "alice", "--to", "bob.pub", "--tag", TAG, "--days", "1"), "show": ("show", "to-bob"),
             "name": ("name", "--by", "alice", "--to", "bob.pub", "--name", "x", "--days", "1"), "completion": ("completion",),
@@ -511,6 +515,8 @@ class OfStreams(Room):
 
 
 class OfSignals(Room):
+    """Signals that a command gets while it waits. With the words of `WAITING` each waits for its input, or for its output to be read."""
+
     WAITING = {"key": ("key", "-"), "sign": ("sign", "--by", "-", "--to", "bob.pub", "--tag", TAG, "--days", "1", "-o", "c.sexp"),
                "name": ("name", "--by", "-", "--to", "bob.pub", "--name", "x", "--days", "1", "-o", "c.sexp"), "show": ("show", "-"),
                "entry": ("entry", "--to", "bob.pub", "--tag", TAG, "--acl", "-"), "check": ("check", "-"),

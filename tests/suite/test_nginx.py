@@ -49,7 +49,7 @@ class Attacks(OfSite):
         return sum(self.site.text(name).count("\n") for name in LOGS)
 
     def test_what_is_granted(self) -> None:
-        """What attacks are made of grants where it is not an attack."""
+        """The right requests from which attacks are made are granted, so that none is denied for another reason than the attack."""
         sent = Attackers(self.site).sent
         self.assertEqual(self.site.status("ben", "GET", "/web/index.html?x=1", f"Authorization: SPKI {sent['ben']}"), 200)
         self.assertEqual(self.site.status("ben", "HEAD", "/web/index.html", f"X-Spki-Sequence: {sent['ben']}"), 200)
@@ -105,7 +105,7 @@ SITES: list[tuple[str, str, str]] = [
     ("a folder where any will do", "", "location /secret/ { satisfy any; allow all; }"),
     ("open files that are kept", "open_file_cache max=100; open_file_cache_errors on; open_file_cache_valid 1h;", ""),
 ]
-# Lines of one lock that are taken away, with what they keep out.
+# Locks that are broken: a name, the lines of other sites that the lock keeps out, and a pattern of the lock's own lines, which are taken away.
 LOCKS: list[tuple[str, str, str]] = [
     ("error pages", f"proxy_intercept_errors on; error_page 401 403 {ERRORS} =200 {SORRY};", "(error_page 599 /|proxy_intercept_errors off);"),
     ("satisfy any", "satisfy any; allow all;", "satisfy all;"),

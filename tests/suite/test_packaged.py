@@ -50,12 +50,12 @@ def make_packages(top: str, *words: str, **settings: str) -> tuple[int, str]:
 
 
 def sections(path: str) -> list[str]:
-    """The sections of a program or a library."""
+    """The names of the sections of a program or a library."""
     return SECTIONS.findall(output_of("readelf", "-SW", path)[1])
 
 
 def logics(path: str) -> set[bytes]:
-    """The logics that a program or a library names."""
+    """The words `rattle logic=DIGEST` in a program or a library. The digest is that of the logic by which it was proved."""
     with open(path, "rb") as file:
         return set(re.findall(rb"rattle logic=[0-9a-f]{64}", file.read()))
 
@@ -245,7 +245,7 @@ class Packages(built.OfLibrary):
         self.assertEqual(named, {os.path.basename(path) for path in self.made.values()})
 
     def digests(self, name: str) -> dict[str, dict[str, str]]:
-        """The digests of the files of an unpacked package."""
+        """The SHA-1 and the SHA-256 of each file of an unpacked package, by its path, which begins with `./`."""
         found: dict[str, dict[str, str]] = {}
         for path in output_of("find", ".", "-name", "DEBIAN", "-prune", "-o", "-type", "f", "-print", cwd=self.inside(name))[1].splitlines():
             with open(self.inside(name, path), "rb") as file:
@@ -337,7 +337,7 @@ class PackagesForArm(built.OfLibrary):
                 self.assertEqual(self.code(packed, room), self.code(f"{built.arm().removesuffix('a')}{own}", room), end)
 
     def code(self, library: str, room: str) -> bytes:
-        """The code of a library for ARM."""
+        """The code of a library for ARM, as objdump writes it to a file in a folder."""
         to = os.path.join(room, "code")
         with open(to, "w", encoding="utf-8") as file:
             subprocess.run(["aarch64-linux-gnu-objdump", "-s", "-j", ".text", library], stdout=file, check=True)

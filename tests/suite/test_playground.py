@@ -37,7 +37,8 @@ EXAMPLES = loaded(os.path.join(FOLDER, "examples.py")).EXAMPLES
 STORY = EXAMPLES[0]["question"]
 
 
-# What people paste into a box in the place of a text: what is marked, and what is said of it.
+# What people paste: the box, the text of it in whose place they paste, or nothing for all of it, what they paste, the first character that is
+# marked, and what is said of it.
 PASTED = [
     ("key", "", "-----BEGIN CERTIFICATE-----\nMIIBszCCAVmg\n-----END CERTIFICATE-----\n", "-", "an X.509 certificate"),
     ("key", "", "-----BEGIN CERTIFICATE REQUEST-----\nMIIBszCCAVmg\n-----END CERTIFICATE REQUEST-----\n", "-", "a request for an X.509 certificate"),
@@ -52,7 +53,7 @@ PASTED = [
 
 
 class Page:
-    """A playground that runs."""
+    """A playground that runs, in which `engine`, `program` or `library`, decides. A question may take so many seconds."""
 
     def __init__(self, engine, seconds):
         words = [sys.executable, FOLDER, "--no-browser", "--engine", engine, "--seconds", str(seconds)]
@@ -182,6 +183,7 @@ class Answers(OfPage):
                 self.assertIn(why, place["why"])
 
     def test_a_place_behind_a_signature_that_was_made_up(self) -> None:
+        """The page adds signatures to the sequence. The place of a mistake behind one is still that in the text that was typed."""
         text = STORY["sequence"][:-1] + "\n (cert (issuer (public-key (test carol))) (subjekt x)))"
         answer = self.page.ask("question", **{**STORY, "sequence": text})
         self.assertEqual(answer["line"], "refused sequence 3 Shape")
@@ -296,7 +298,7 @@ class Answers(OfPage):
 
 @needs.needs(*needs.LIBRARY)
 class AnswersOfLibrary(Answers):
-    """The same where the library decides."""
+    """What the page is answered where the library decides."""
 
     engine = "library"
 
@@ -330,7 +332,7 @@ class Hostile(OfPage):
 
 @needs.needs(*needs.LIBRARY)
 class HostileToLibrary(Hostile):
-    """The same where the library decides. A guard intersects nothing, so the decision is there without an explanation."""
+    """A text whose explanation takes minutes, where the library decides. A guard intersects nothing, so the decision comes without explanation."""
 
     engine = "library"
 
@@ -453,6 +455,7 @@ class InChromium(OfPage):
         ActionChains(self.browser, duration=0).send_keys(*keys).perform()
 
     def focused(self):
+        """The id of the element that has the focus, or its text if it has no id."""
         return self.browser.execute_script("return document.activeElement.id || document.activeElement.textContent")
 
     def test_examples_have_the_answers_of_the_program(self) -> None:

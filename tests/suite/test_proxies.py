@@ -74,12 +74,14 @@ class Proxies(unittest.TestCase):
         waits_for("the proxy listens", listens)
 
     def start_nginx(self, more: str, to: str = "", http: str = "") -> None:
+        """Starts nginx before `to`, by default the first service. `more` are lines of its location, and `http` lines outside of its server."""
         as_user = "user root;" if os.getuid() == 0 else ""
         self.start(["nginx", "-p", self.room, "-c", "conf", "-e", "log", "-g", as_user],
                    NGINX.format(room=self.room, to=to or self.service.name, more=more, http=http))
 
     def asked(self, method: str, target: str, change: Change = same, host: str = NAME, body: bytes = b"") -> str:
-        """Sends a signed request through the proxy. Returns `valid`, or the verifier's refusal, or the status if the proxy itself answers."""
+        """Sends a signed request through the proxy. `change` changes the lines with its signature before they are sent. Returns `valid`, or the
+        verifier's refusal, or the status if the proxy itself answers."""
         fields = self.signer.fields(method, f"http://{NAME}{target}", body)
         length = [f"Content-Length: {len(body)}"] if body else []
         lines = change([f"{name}: {it}" for name, it in fields.items()])
@@ -95,7 +97,8 @@ class Proxies(unittest.TestCase):
         return "valid" if b"(10:public-key" in answer else answer.decode() if status == "401" else status
 
     def check_answers(self, wanted: dict[str, str]) -> None:
-        """Each kind of request must have the wanted answer, by default `valid`."""
+        """Each kind of request must have its usual answer, or the one in `wanted`. Usually all are valid but folded lines, a line twice and another
+        name."""
         kinds: dict[str, tuple[str, Change, str]] = {
             "plain": ("/a/b?c=d", same, NAME), "empty query": ("/a?", same, NAME), "percent-encoding": ("/%7ea%2Fb%2f?%20+", same, NAME),
             "dots": ("/a/../b/./c", same, NAME), "slashes": ("/a//b", same, NAME), "no URI's octets": ('/a"b|c[d]{e}', same, NAME),

@@ -36,7 +36,7 @@ class Scripts(unittest.TestCase):
     """All scripts in Python."""
 
     def finds_nothing(self, *words: str) -> None:
-        """A program that checks scripts must find nothing in all of them."""
+        """A command, which gets the paths of all scripts behind these words, must find nothing in them."""
         done = subprocess.run([*words, *scripts()], cwd=TOP, stdout=subprocess.PIPE, stderr=subprocess.STDOUT, text=True)
         self.assertEqual(done.returncode, 0, done.stdout)
 

@@ -37,7 +37,8 @@ Sent = tuple[str, str, dict[str, str]]
 
 
 class LastingStory(Story):
-    """The story with certificates that last, since the service asks by its own clock, and one that has expired."""
+    """The keys, list and certificates of examples/signed/run.py. The certificates last, since the service asks by its own clock, but for `ended`,
+    which has expired."""
 
     def __init__(self) -> None:
         super().__init__()
@@ -48,7 +49,7 @@ class LastingStory(Story):
 
 
 def chains(story: LastingStory) -> Iterator[tuple[str, Sent, bool]]:
-    """What is shown: a remark, the request, and whether it is granted."""
+    """Requests that show right and wrong certificates, or none. Yields for each a remark, the request, and whether it must be granted."""
     alice, bob, carol = story.alice, story.bob, story.carol
     good = signed(story.to_carol, bob)
     longer = story.to_carol.replace("9999-06-30", "9999-07-31")
@@ -79,7 +80,7 @@ def chains(story: LastingStory) -> Iterator[tuple[str, Sent, bool]]:
 
 
 def proofs(story: LastingStory) -> Iterator[tuple[str, Sent, bool]]:
-    """Who has signed what: a remark, the request, and whether it is granted."""
+    """Requests that are signed rightly or wrongly, or not at all. Yields for each a remark, the request, and whether it must be granted."""
     alice, bob, carol = story.alice, story.bob, story.carol
     right = story.sequence(signed(story.to_carol, bob))
     once = asked_by(carol, READ, right)
@@ -106,7 +107,7 @@ def proofs(story: LastingStory) -> Iterator[tuple[str, Sent, bool]]:
 
 
 def first_line_for(port: int, octets: bytes) -> bytes:
-    """The first line of the answer to these octets, empty if there is no answer."""
+    """The first line of what the service at a port answers to these octets, empty if it answers nothing."""
     with socket.create_connection(("127.0.0.1", port), timeout=SECONDS) as client, contextlib.suppress(OSError):
         client.sendall(octets)
         client.shutdown(socket.SHUT_WR)
@@ -115,7 +116,7 @@ def first_line_for(port: int, octets: bytes) -> bytes:
 
 
 def is_granted(port: int, sent: Sent) -> bool:
-    """Whether a request is granted."""
+    """Whether the service at a port grants a request."""
     method, target, fields = sent
     lines = [f"{method} {target} HTTP/1.1", *(f"{name}: {value}" for name, value in {"Host": NAME, "Connection": "close", **fields}.items()), "", ""]
     return b" 200 " in first_line_for(port, "\r\n".join(lines).encode("latin-1"))
@@ -182,7 +183,8 @@ class InC(Service):
     """The service in C as it is, under AddressSanitizer, and under valgrind."""
 
     def compiled(self, *more: str, verifier: str = "verify_openssl.c", library: str = "-lcrypto") -> str:
-        """The service, compiled without warnings."""
+        """Compiles the service without warnings, with more options of the compiler. Returns its path. `verifier` is the source that verifies
+        signatures, and `library` the option that links what it uses."""
         service = os.path.join(self.room, self.id())
         sources = [os.path.join(FOLDER, name) for name in ("service.c", "http_request.c", "http_nonces.c", verifier)]
         self.assertTrue(is_compiled(*STRICT, *more, "-o", service, *sources, self.library, library), "service.c is not compiled")

@@ -195,14 +195,15 @@ class InC(unittest.TestCase):
         return "valid" if made[len(digest)] == digest else "other-digest"
 
     def compiled(self, verifier: str, library: str) -> str:
-        """Compiles the verifier in C of requests, with one of signatures. Returns the path of the program."""
+        """Compiles the verifier in C of requests, with one of signatures: the name of its source without `.c`, and the option that links its library.
+        Returns the path of the program."""
         folder, program = os.path.join(TOP, "examples", "c"), os.path.join(self.room, verifier)
         files = [os.path.join(folder, f"{name}.c") for name in ("http_request", "http_nonces", verifier)]
         self.assertTrue(is_compiled(*WARNINGS, "-I", folder, "-o", program, os.path.join(TESTS, "programs", "proving.c"), *files, library))
         return program
 
     def agrees(self, verifier: str, library: str) -> None:
-        """The answers to all rows must be right, and those to mutated rows must be those of the verifier in Python."""
+        """The verifier in C, with this one of signatures, must answer all rows rightly, and mutated rows as the verifier in Python does."""
         import test_spki_http
         program, rows = self.compiled(verifier, library), [*test_spki_http.rows()]
         self.assertEqual([*zip([row[0] for row in rows], self.answers(program, rows))], [(row[0], row[4]) for row in rows])
@@ -236,7 +237,7 @@ def mutated(row: Row, chance: random.Random) -> Row:
 
 
 class Quiet(urllib.request.HTTPErrorProcessor):
-    """Answers of other statuses are answers too."""
+    """Returns an answer of any status, where urllib raises an error or follows a redirection."""
 
     def http_response(self, request: object, response: object) -> object:  # type: ignore[override]
         return response

@@ -62,7 +62,7 @@ class OfSites(unittest.TestCase):
         self.check_chain()
 
     def check_chain(self) -> None:
-        """Ben shows Ann's certificate, and must sign it too."""
+        """A request in which Ben shows Ann's certificate is granted only if his signature covers the certificate."""
         right = ("--tag", "(files read (* prefix /web/))", "--days", "9")
         self.site.cert("sign", "--by", "keys/ann", "--to", "keys/ben.pub", *right, "--force", "-o", "b")
         ben = self.fields("ben", PAGE, "--cert", "b")
@@ -72,7 +72,8 @@ class OfSites(unittest.TestCase):
         self.assertEqual(self.asked("GET", PAGE, *sent, next(line for line in ben if line.startswith("X-Spki-Sequence"))), 403)
 
     def check_left_chain(self) -> None:
-        """Ben leaves Ann's certificate, once and in any form, and his requests need nothing but the key, of TLS too."""
+        """Ben leaves Ann's certificate with the daemon, by a request that counts once. Then his requests need nothing but his key, by a signature or
+        by TLS."""
         place, body = attacks.LEAVING, self.site.text("b")
         sent, nothing = self.fields("ben", place, "--body", "b"), list[str]()
         wrong: list[tuple[str, str, list[str], str]] = [
@@ -161,6 +162,7 @@ class WithRsync(web_servers.HAProxy):
     files = (*web_servers.HAProxy.files, "rsync.cfg", "rsync.lua")
 
     def prepare(self) -> None:
+        """Writes the files that HAProxy and the daemon of rsync read, and starts this daemon."""
         self.settings["RSYNC_PORT"], self.inner = str(free_port()), free_port()
         super().prepare()
         os.mkdir(self.at("files/rsync"))

@@ -40,7 +40,7 @@ ZEROS = b"(5:entry(4:name(4:hash6:sha25632:" + bytes(32) + b")3:bob)(9:propagate
 
 
 def key_entry(name: bytes, tag: bytes = b"(1:*)") -> bytes:
-    """An entry for a key of a test."""
+    """An entry for the key `(test NAME)`, in canonical form. `tag` is what is inside its tag."""
     return b"(5:entry(10:public-key(4:test%d:%s))(3:tag%s))" % (len(name), name, tag)
 
 
@@ -200,7 +200,7 @@ class Command(OfStore):
 
 
 class Stopping(Store):
-    """A store to which a program adds twice, and then ends."""
+    """A store whose third addition raises an error, as if the program had ended there."""
 
     count = 0
 
@@ -215,7 +215,7 @@ class Schema(OfStore):
     """What the database itself refuses, and what it notes."""
 
     def refused(self, fault: type[Exception], text: str, *values: Any, role: str = "") -> None:
-        """A statement must be refused, to a role if one is given."""
+        """The database must refuse a statement with these values by this exception. `role` is who asks, by default the owner of the store."""
         with self.subTest(text), self.assertRaises(fault), self.store.connection.transaction():
             if role:
                 self.store.connection.execute(f"SET LOCAL ROLE {self.schema}_{role}")
@@ -304,6 +304,7 @@ class Schema(OfStore):
         keep = f"SELECT {self.schema}.keep(%s, %s, now() + '1 h', 2, 2)"
 
         def became(key: int, text: bytes) -> str:
+            """What the function says of a text that a key, 32 such octets, leaves: `kept`, `known` or `full`."""
             (word,), = kim.rows(keep, bytes([key]) * 32, text)
             return str(word)
         self.assertEqual([became(1, b"a"), became(1, b"a"), became(1, b"b"), became(1, b"c"), became(2, b"a"), became(3, b"a")],
@@ -375,7 +376,8 @@ SITE = "files.example.org"
 
 
 class Around:
-    """A daemon with a list in PostgreSQL."""
+    """A daemon with a list in PostgreSQL. `before` are words before its command, `chains` its setting of this name, with which clients can leave
+    certificates, and `more` other settings of its list."""
 
     def __init__(self, room: str, program: str, server: databases.Server, schema: str, *before: str, chains: object = None, **more: str) -> None:
         os.makedirs(room, exist_ok=True)
@@ -414,7 +416,8 @@ class OfServed(OfDaemon):
         cls.people = {name: Person(room, name, "ed25519") for name in ("alice", "bob", "mallory")}
 
     def start_daemon(self, name: str, server: databases.Server, *before: str, chains: object = None, **more: str) -> Around:
-        """Starts a daemon with the store of a server, in a folder of this name. It is killed after the test."""
+        """Starts a daemon with the store of a server, in a folder of this name. It is killed after the test. `before` are words before its command,
+        `chains` its setting of this name, and `more` other settings of its list."""
         made = Around(os.path.join(self.room, name), self.program, server, self.schema, *before, chains=chains, **more)
         self.addCleanup(made.kill)
         return made
@@ -541,7 +544,7 @@ class Heartbeat(OfStore):
             return int(number)
 
     def test_primary_that_is_heard_by_no_replica(self) -> None:
-        """It acknowledges no beat, and ends no connection. The heartbeat leaves it, finds the new primary, and beats there."""
+        """Such a primary acknowledges no beat, and ends no connection. The heartbeat leaves it, finds the new primary, and beats there."""
         with self.server.replica() as replica:
             change_setting(self.server, "synchronous_standby_names", "ANY 1 (*)")
             self.addCleanup(change_setting, self.server, "synchronous_standby_names", "")

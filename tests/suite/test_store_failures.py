@@ -62,7 +62,8 @@ class Failing(test_store.OfServed):
         return made
 
     def primary(self, settings: dict[str, str] = USUAL, at: networks.Node | None = None, mib: int = 0) -> Server:
-        """Starts a server, at a node and on a disk of so many MiB if given, and makes the store of this test there."""
+        """Starts a server, at a node and on a disk of so many MiB if given, and makes the store of this test there. Its table `error` says by how
+        much its clock is wrong: the tests in Go add this to the moment of each heartbeat."""
         made = self.entered(Server(at, mib, **settings))
         self.store.close()
         self.store = Store(made.address, self.schema)
@@ -72,7 +73,7 @@ class Failing(test_store.OfServed):
         return made
 
     def replica(self, of: Server, settings: dict[str, str] = USUAL, at: networks.Node | None = None, mib: int = 0) -> Server:
-        """Starts a replica of a server."""
+        """Starts a replica of a server, at a node and on a disk of so many MiB if given."""
         return self.entered(of.replica(at, mib, **settings))
 
     def network(self, count: int) -> list[networks.Node]:
@@ -105,7 +106,9 @@ class Questions(Failing):
         golang.go(golang.DAEMON, ["test", *test_store.WITH_DRIVER, "-c", "-o", cls.questions, "."], cls.library).check_returncode()
 
     def ask_while(self, host: str, writers: list[Server], fails: Callable[[], None], *before: str, root: str = "") -> None:
-        """Runs the generated questions of the daemon's tests on a store, while `fails` makes something fail. All answers must be right."""
+        """Runs the generated questions of the daemon's tests on the store at a host, while `fails` makes something fail. All answers must be right.
+        The list is changed on the one of `writers` that can be written to. `before` are words before the command, and `root` is the path of the
+        certificate by which TLS trusts the host: empty without TLS."""
         end = os.path.join(self.room, "end")
         settings = {**golang.settings(self.library), "SPKI_STORE_HOST": host, "SPKI_STORE_ROOT": root, "SPKI_STORE_SCHEMA": self.schema,
                     "SPKI_STORE_WRITERS": ",".join(each.folder for each in writers), "SPKI_STORE_SEED": str(secrets.randbelow(1 << 32)),

@@ -58,7 +58,7 @@ def faults_of_pairs(program: str) -> list[str | None]:
 
 
 def pairs_test(number: int) -> Test:
-    """The test of the pairs of one first set. The first of these tests asks the program about all pairs."""
+    """The test of the pairs whose first set has this number. The first of these tests that runs asks the program about all pairs."""
     def test(self: built.OfProgram) -> None:
         own = type(self)
         if not hasattr(own, "faults"):

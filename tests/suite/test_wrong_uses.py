@@ -45,14 +45,14 @@ class WrongUses(built.OfLibrary):
         self.environment = {**os.environ, "SPKI_LIBRARY": self.shared, "PYTHONPATH": PYTHON, "LC_ALL": "C"}
 
     def said(self, *words: str, folder: str = "", status: int | None = None) -> str:
-        """What a command writes. Its status must be the given one, if any."""
+        """Runs a command in a folder, by default that of the test. Its status must be the given one, if any. Returns what it writes."""
         done = subprocess.run(words, cwd=folder or self.room, stdout=subprocess.PIPE, stderr=subprocess.STDOUT, text=True, timeout=SECONDS,
                               env=self.environment)
         self.assertIn(done.returncode, (done.returncode if status is None else status,), done.stdout)
         return done.stdout
 
     def written(self, name: str, shared: str, rows: list[Row]) -> tuple[str, dict[int, Row]]:
-        """The file of a program with these rows, and the row of each line."""
+        """Writes a program with the code that all rows share, and these rows. Returns its path, and the row of each line that is in one."""
         text, lines = wrong_uses.program_of(shared, rows)
         path = os.path.join(self.room, name)
         os.makedirs(os.path.dirname(path), exist_ok=True)
@@ -61,7 +61,8 @@ class WrongUses(built.OfLibrary):
         return path, lines
 
     def are_refused(self, rows: list[Row], said: str, path: str, lines: dict[int, Row]) -> None:
-        """Each of these rows must be named by the compiler, with its word."""
+        """The compiler must name a line of each of these rows, and say the row's word there. `said` is what it writes, and `lines` has the row of
+        each line."""
         met: defaultdict[str, str] = defaultdict(str)
         for row, why in wrong_uses.faults_in(said, path, lines):
             met[row.name] += why
@@ -70,11 +71,11 @@ class WrongUses(built.OfLibrary):
                 self.assertRegex(met[row.name], f"(?s){row.said}")
 
     def check_outcomes(self, rows: list[Row], said: str) -> None:
-        """Each of these rows must have its outcome, by what the program says."""
+        """The program of these rows must have said the outcome of each: a line with the place of the row and its outcome."""
         self.assertEqual(said, "".join(f"{row.place} {row.outcome}\n" for row in rows), [f"{row.place}: {row.name}" for row in rows])
 
     def split(self, language: str) -> tuple[str, list[Row], list[Row]]:
-        """What rows share, those that do not compile, and the others."""
+        """The code that all rows of a language share, the rows that must not compile, and the other rows."""
         shared, rows = wrong_uses.parts_of(language)
         return shared, [row for row in rows if row.outcome == "does not compile"], [row for row in rows if row.outcome != "does not compile"]
 

@@ -11,7 +11,7 @@ const where = (reason) => [reason.entry && `entry ${reason.entry}`, reason.certi
   .filter(Boolean).join(" ");
 const EXPLAINED = "spki explain counts all items: keys, certificates and signatures. It writes: ";
 
-/** Shows above an answer, or in its place, what is missing of it. Without a text it hides that. */
+/** Shows a text in the element with this id: what is missing of an answer, or why there is none. Without a text it hides the element. */
 export function notice(id, text) {
   at(id).hidden = !text;
   say(at(id), text ?? "");
@@ -70,7 +70,8 @@ export class Answer {
     say(at("line"), "");
   }
 
-  /** Shows the decision: its kind as a word, its title, and the line of `spki`, which is `exact` where the shown one has other numbers. */
+  /** Shows the decision: its kind, which styles it, and that as a word, its title as `text`, and its line. `exact` is a tooltip of the line, and has
+    * the line of `spki` where the shown one has other numbers. */
   verdict(kind, word, text, line, exact = "") {
     at("verdict").dataset.kind = kind;
     at("line").title = exact;
@@ -88,6 +89,7 @@ export class Answer {
     return name ? `${label}${why ? `: ${why}` : " cannot be read"}${/[.?]$/.test(why ?? "") ? "" : "."}` : "";
   }
 
+  /** Shows at each box its fault in an answer, or none: at those of the texts, of the labels and of the moment. */
   showFaults(answer) {
     const faults = answer.faults ?? {};
     for (const name of ["acl", "sequence", "key", "request", "case"]) {
@@ -99,6 +101,7 @@ export class Answer {
     at("at-fault").replaceChildren(...(faults.at ? [made("li", {}, faults.at.places[0]?.why || "This is no moment.")] : []));
   }
 
+  /** Lists the reasons of an answer. For a refusal that is one, with the title. */
   showReasons(answer, title) {
     const refusal = { says: title, hint: "A refusal decides nothing. A service treats it as a no.", word: answer.shown ?? answer.line };
     const reasons = answer.kind === "refused" ? [refusal] : answer.reasons ?? [];
@@ -109,6 +112,7 @@ export class Answer {
     answer.more ? made("li", {}, `and ${answer.more} more entries`) : "");
   }
 
+  /** Lists the rights that remain. */
   showRights(answer) {
     const rights = answer.rights ?? [];
     at("rights-card").hidden = !answer.rights;
@@ -117,6 +121,7 @@ export class Answer {
       made("code", {}, right.tag))), rights.some((right) => !right.before) ? "" : made("li", {}, "Nothing remains at the end."));
   }
 
+  /** Lists the signatures with their ticks, unless they are shown already. A tick that has the focus keeps it. */
   showSignatures(answer) {
     const key = JSON.stringify([answer.signatures, this.refused]);
     at("signatures").classList.toggle("old", !answer.signatures);
@@ -143,6 +148,7 @@ export class Answer {
     return made("li", {}, made("label", { class: "tick" }, tick, says));
   }
 
+  /** Draws the chain of an answer, and writes it in words, unless it is shown already. */
   showPicture(answer) {
     at("picture-card").hidden = !answer.chain;
     const key = JSON.stringify([answer.chain, at("title").textContent]);

@@ -7,7 +7,7 @@ export function made(name, attributes = {}, ...contents) {
   return filled(document.createElement(name), attributes, contents);
 }
 
-/** An element of SVG, as `made` makes one of HTML. */
+/** An element of SVG with attributes and contents, which are elements or strings. */
 export function drawn(name, attributes = {}, ...contents) {
   return filled(document.createElementNS(SVG, name), attributes, contents);
 }

@@ -15,7 +15,7 @@ MOST_OCTETS, SECONDS = 262144, 60
 
 
 def string(octets: bytes) -> bytes:
-    """A string with its length, as SSH has it."""
+    """The octets behind their length in four octets, as SSH encodes a string."""
     return struct.pack(">I", len(octets)) + octets
 
 

@@ -49,7 +49,7 @@ class CommandParser(argparse.ArgumentParser):
             self.register("action", name, Once)
 
     def parse_known_args(self, args: Sequence[str] | None = None, namespace: Any = None) -> Any:
-        """As argparse does, but for a word that is not known it says which option or command may be meant."""
+        """Parses the words as argparse does. Raises Refused for a word that is not known, and says which option or command may be meant."""
         options = [os.fsencode(it[2:]) for each in self._actions for it in each.option_strings]
         commands = [it for each in self._actions if isinstance(each, argparse._SubParsersAction) for it in each.choices]
         for word in itertools.takewhile(lambda it: it != "--", args or []):
@@ -78,7 +78,7 @@ class CommandParser(argparse.ArgumentParser):
 
 
 def count_of(text: str) -> int:
-    """A number of at least 1."""
+    """The number of 1 or more that a word of the command line is. Raises ArgumentTypeError for another word."""
     if re.fullmatch(r"\d{4}\D.*", text):
         raise argparse.ArgumentTypeError(f"{text} is a date, and a number is wanted; a date is given by --until {text[:10]}")
     if not re.fullmatch(r"[0-9]{1,9}", text) or int(text) == 0:
@@ -87,14 +87,14 @@ def count_of(text: str) -> int:
 
 
 def not_empty(text: str) -> str:
-    """A word that is not empty."""
+    """A word of the command line as it is. Raises ArgumentTypeError if it is empty."""
     if not text:
         raise argparse.ArgumentTypeError("this is empty")
     return text
 
 
 def plain(text: str) -> str:
-    """A word that is not empty, and has no line breaks or other controls."""
+    """A word of the command line as it is. Raises ArgumentTypeError if it is empty, or has line breaks or other controls."""
     if re.search("[\0-\x1f\x7f]", text):
         raise argparse.ArgumentTypeError("this has line breaks or other controls in it")
     return not_empty(text)

@@ -66,7 +66,8 @@ class Asked:
 
 @dataclass
 class Answer:
-    """The decision about one sequence, and the library's reasons."""
+    """The decision about one sequence, and the library's reasons. `entry` is the number of the entry that grants, or None, and `reduced` has for each
+    entry the line of `reduce`."""
 
     sequence: Value
     entry: int | None
@@ -217,7 +218,7 @@ class Words:
         return f"{self.labels.of(terms.issuer)} lets {subject} {on_one_line(terms.tag or b'')}{delegates}, {terms.window}"
 
     def lines_of_cause(self, chosen: Reason) -> Iterator[str]:
-        """What the cause in a reason means in these files."""
+        """The lines that say what the word of a reason means in these files: that its entry grants the request, or why it does not."""
         if chosen.word == "grants":
             yield f"  so entry {chosen.entry} grants it"
             return
@@ -255,7 +256,8 @@ class Words:
             yield f"the right ends at {holder}, and {self.asker} is another key"
 
     def holder(self, chosen: Reason) -> tuple[str, list[Value]]:
-        """Who has the right where the chain stops, if the certificates before join, and by which names."""
+        """Who has the right where the chain of a reason stops, in words, and the names of that subject which no certificate before has defined. The
+        certificates before must join."""
         principal: Value = b""
         # (the last one first: a definition takes the first name away, and copies no others)
         left: list[Value] = []
@@ -313,7 +315,7 @@ def what_cannot_be_given(chain: Value, certificate: Value, key: Value, label: st
 
 def left_of(subject: Value, sequence: Value, certificate: Value, key: Value, labels: Labels) -> tuple[Value, list[str]]:
     """The tag that remains after a sequence whose access list would give everything to a subject, and an empty list. Or an empty string and why none
-    remains, in the words of `ask`. The certificate counts as signed."""
+    remains, in the words of `ask`. The certificate, which `key` issues, counts as signed."""
     access_list: Value = [b"acl", [b"entry", subject, [b"propagate"], [b"tag", [b"*"]]]]
     asked = Asked(access_list, key, b"", now(), labels, [sequence], unsigned=canonical(certificate))
     with guard_of(asked) as guard:

@@ -35,7 +35,7 @@ def only(value: Value | None) -> Value | None:
 
 
 def string_of(value: Value | None) -> bytes | None:
-    """A string without its display hint, or None."""
+    """The octets of a string, without its display hint. None if the value is a list or None."""
     return value[1] if isinstance(value, tuple) else value if isinstance(value, bytes) else None
 
 
@@ -216,7 +216,7 @@ Holder = tuple[bytes, ...]
 
 
 def holder_of(principal: Value, names: Iterable[Value], keys: Keys) -> Holder:
-    """The holder that a principal and names are."""
+    """The holder that a principal and the names behind it are: a hash of one of `keys` is this key."""
     return keys.text_of(principal)[1], *map(canonical, names)
 
 

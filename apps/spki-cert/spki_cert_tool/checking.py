@@ -38,7 +38,8 @@ class Remark(NamedTuple):
 
 
 def files_below(paths: list[str]) -> Iterator[tuple[str, bool]]:
-    """The files of some paths, in order, without hidden ones and what is no file; and whether each is given itself."""
+    """The files that are given or are in a folder that is given, in order, each with whether its own path is given. In folders, hidden files and
+    what is no file are left out."""
     for path in paths:
         if not os.path.isdir(path):
             yield path, True
@@ -50,8 +51,8 @@ def files_below(paths: list[str]) -> Iterator[tuple[str, bool]]:
 
 
 def remarks_on(path: str, moment: bytes, is_given: bool = True) -> tuple[str | None, list[Remark]]:
-    """What a file is, in words, and the remarks on it. What it is is None for a file of a folder that is not read, by its name and how it begins.
-    `is_given` says that its path was given itself."""
+    """What a file is, in words, and the remarks on it, as of a moment. None in place of the words if it is left out: its path was not given
+    itself (`is_given`), and by its name and how it begins it is neither an S-expression nor a key."""
     try:
         octets = octets_of(path)
     except Refused as why:
@@ -114,7 +115,7 @@ def tag_of(node: Node) -> Node:
 
 
 def probable_mistakes(node: Node, moment: bytes) -> Iterator[tuple[int, str]]:
-    """What is legal and probably a mistake in a value: for each the offset in the text, and a remark. The functions below return the same."""
+    """What is legal and probably a mistake in a value: for each the offset in the text, and a remark."""
     kind = BY_HEAD.get(node.head or b"")
     if kind in ("acl", "sequence", "case") or node.head == b"cert":
         yield from mistakes_in_parts(node, moment)
@@ -129,7 +130,7 @@ def probable_mistakes(node: Node, moment: bytes) -> Iterator[tuple[int, str]]:
 
 
 def mistakes_in_parts(node: Node, moment: bytes) -> Iterator[tuple[int, str]]:
-    """What is probably a mistake in the entries, certificates, keys and hashes of a value."""
+    """What is probably a mistake in the entries, certificates, keys and hashes of a value: for each the offset in the text, and a remark."""
     waiting = deque([node])
     while waiting:
         each = waiting.popleft()
@@ -144,7 +145,7 @@ def mistakes_in_parts(node: Node, moment: bytes) -> Iterator[tuple[int, str]]:
 
 
 def mistakes_in_terms(node: Node, moment: bytes) -> Iterator[tuple[int, str]]:
-    """What is probably a mistake in an entry or a certificate."""
+    """What is probably a mistake in an entry or a certificate: for each the offset in the text, and a remark."""
     is_certificate = node.head == b"cert"
     terms = terms_of(node.value)
     for field in node.members or []:
@@ -163,8 +164,8 @@ def mistakes_in_terms(node: Node, moment: bytes) -> Iterator[tuple[int, str]]:
 
 
 def needless_entries(node: Node) -> Iterator[tuple[int, str]]:
-    """The entries of a list that give nothing that another one does not give. Of those for one subject the first MOST_COMPARED are compared, until
-    the work is MOST_PRODUCTS."""
+    """The entries of a list that give nothing that another one does not give: for each the offset in the text, and a remark. Of those for one subject
+    the first MOST_COMPARED are compared, until the work is MOST_PRODUCTS."""
     entries = [(it, terms_of(it.value)) for it in node.rest if it.head == b"entry"]
     keys, by_subject = Keys(it.principal for _, it in entries), dict[object, list[int]]()
     for number, (_, terms) in enumerate(entries):
@@ -181,7 +182,7 @@ def needless_entries(node: Node) -> Iterator[tuple[int, str]]:
 
 
 def mistakes_in_key(node: Node) -> Iterator[tuple[int, str]]:
-    """What is probably a mistake with a key: a key in a key, or one of a kind that services verify, in another form."""
+    """The offset of a key and a remark, if it is probably a mistake: a key in a key, or one of a kind that services verify, in another form."""
     inner = node.members[1] if node.members and len(node.members) > 1 else node
     if inner.head == b"public-key":
         yield inner.begin, "this is a key in a key, so no signature by it counts: replace the whole outer `(public-key ..)` by the inner one"
@@ -190,7 +191,8 @@ def mistakes_in_key(node: Node) -> Iterator[tuple[int, str]]:
 
 
 def invalid_signatures(node: Node) -> Iterator[tuple[int, str]]:
-    """The certificates of a sequence whose signatures are not valid. Keys of kinds that are not known are left out."""
+    """The certificates of a sequence or a case whose signatures are not valid: for each the offset in the text, and a remark. A key of a kind that is
+    not known is left out."""
     sequence = node if node.head == b"sequence" else (node.members or [])[3]
     value = sequence.value
     keys = Keys(keys_in(value))

@@ -66,7 +66,7 @@ def new_key(given: argparse.Namespace) -> int:
 
 
 def sign(given: argparse.Namespace) -> int:
-    """Signs a certificate, if nothing is probably a mistake, and its issuer can give what it says."""
+    """Signs a certificate that gives a right or defines a name, if nothing is probably a mistake, and its issuer can give what it says."""
     from .asking import what_cannot_be_given
     fields, subject = fields_given(given), subject_of(given)
     chain = value_of(given.chain, "sequence") if given.chain else None

@@ -45,7 +45,7 @@ class Arrow(NamedTuple):
 
 
 class Drawing:
-    """The shapes and arrows that are drawn. A hash of a key that is known is that key."""
+    """The shapes and arrows that are drawn. A hash of a key that is known is that key. A line of text has at most `width` letters."""
 
     def __init__(self, keys: Iterable[Value], labels: Labels | None, width: int) -> None:
         known = labels.keys.by_hash.values() if labels is not None else ()
@@ -83,7 +83,7 @@ class Drawing:
                 self.arrow(b"list", self.of(entry.subject), BLACK, f"entry {number}", *self.terms(entry.value))
 
     def links(self, sequence: Value, stops: int | None = None, cause: str = "") -> None:
-        """Adds an arrow for each certificate up to item `stops`, which is red and stops the chain for a cause."""
+        """Adds an arrow for each certificate of a sequence, or up to item `stops`. That one is red: it stops the chain, for a cause of MEANINGS."""
         for number, item in enumerate(members(sequence), 1):
             if headed(item, b"cert") and number <= (stops or number):
                 terms = terms_of(item)
@@ -92,7 +92,8 @@ class Drawing:
                 self.arrow(self.of(begin), self.of(terms.subject), RED if number == stops else BLACK, *said, *self.terms(item))
 
     def ends(self, case: Value, entry: int, word: str, left: Value) -> None:
-        """Adds the request, and the arrow to it from the subject of what is left of an entry by its number. `word` is the cause, or `grants`."""
+        """Adds the request, and the arrow to it from the subject of `left`, the right `(five ..)` that the chain leaves of entry number `entry`.
+        `word` is `grants`, or a cause of MEANINGS for which it does not grant."""
         key, request, moment = members(case)[3:6]
         colour = GREEN if word == "grants" else RED
         said = [f"yes entry {entry}"] if word == "grants" else [f"{word}:", MEANINGS[word]]
@@ -104,7 +105,7 @@ class Drawing:
 
 
 def drawing_of_case(case: Value, reasons: list[Reason], reduced: Callable[[int], Value], labels: Labels | None = None, width: int = WIDTH) -> Drawing:
-    """The drawing of a case. `reasons` are those of `explain`, and `reduced` returns what is left of an entry by its number."""
+    """The drawing of a case. `reasons` are the library's. `reduced` returns the right `(five ..)` that is left of an entry, by its number."""
     chosen = furthest(reasons)
     access_list, _, sequence, key = members(case)[:4]
     drawing = Drawing([members(key)[0], *keys_in(sequence)], labels, width)
@@ -160,7 +161,7 @@ def text(x: float | str, y: float, line: str, of_class: str = "small left") -> I
 
 
 def page(width: float, height: float, title: str, *parts: Iterable[str]) -> Iterator[str]:
-    """The lines of a whole picture, which has these parts."""
+    """The lines of a whole picture, as SVG. Its parts are lines of SVG too, and its size is in pixels."""
     yield (f'<svg xmlns="http://www.w3.org/2000/svg" viewBox="0 0 {width} {height}" width="{width}" height="{height}" role="img" '
            f'aria-label="{escape(title)}">')
     yield f"<title>{escape(title)}</title>"

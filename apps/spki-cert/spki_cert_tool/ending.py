@@ -114,7 +114,8 @@ def write_lines(path: str, lines: list[bytes]) -> None:
 
 
 def meant_at(path: str, place: int | None) -> tuple[str, str]:
-    """The digest of the last certificate of a file, or of that at a place, and what it is called: one of a sequence, or the one that is alone."""
+    """The digest in hexadecimal of a certificate in a file, and what it is called: the file, and its number among the certificates. `place` is this
+    number, or None for the last one. A file that is a certificate has one."""
     value = value_headed(path, (b"cert", b"sequence"), "only a certificate of a sequence, or one that is alone, is ended")
     certificates = [value] if headed(value, b"cert") else [each.terms.value for each in certificates_in(value)]
     count = len(certificates)

@@ -135,8 +135,8 @@ def refusal_to_read(path: str, why: OSError) -> Refused:
 
 
 def text_at(path: str, given: str = "") -> tuple[bytes, Node]:
-    """The octets of a file, and its value. `given` says what it is read as, such as `refused acl`: see `read_text`. Raises Refused with the place if
-    a service would refuse it."""
+    """The octets of a file, and its value. `given` is empty, or a refusal such as `refused acl`, whose second word says what it is read as. Raises
+    Refused with the place if a service would refuse it."""
     octets = octets_of(path)
     found, node = read_text(octets, given)
     if found[0] is not None:
@@ -255,7 +255,7 @@ def moment_of(text: str, time_of_day: str = "_00:00:00") -> bytes:
 
 def target_of(path: str, made: bytes, force: bool, edits: bool) -> tuple[str, os.stat_result | None]:
     """The file that a path leads to, and its state before it is written, or None if there is none. Raises Refused if it must not be written:
-    `force` and `edits` are those of `write`. `made` are the octets to be written."""
+    with `force` it may be there already, and with `edits` it may be one that was read. `made` are the octets to be written."""
     place = os.path.realpath(path)
     try:
         before = os.stat(place)
@@ -286,7 +286,8 @@ def target_of(path: str, made: bytes, force: bool, edits: bool) -> tuple[str, os
 
 
 def instead(path: str, there: bytes, made: bytes) -> str:
-    """What to do where a file is there already, in words. One of another kind, also in braces, was hardly meant."""
+    """What to do where a file is there already, in words. `there` are its octets, and `made` those to be written: if it is of another kind, also in
+    braces, it was hardly meant."""
     head = HEAD.match(read_text(there)[0][1])
     if head is None or made.startswith(b"(" + head[1]):
         return "--force writes over it"
@@ -310,8 +311,8 @@ def write(*parts: tuple[str | None, bytes], mode: int = 0o644, force: bool = Fal
 
 
 def replace(place: str, octets: bytes, mode: int, before: os.stat_result | None) -> None:
-    """Puts a file in its place, by a temporary one beside it. What is replaced keeps its mode, its owner and its attributes. A signal waits
-    until the file is there."""
+    """Puts a file in its place, by a temporary one beside it. `before` is the state of the file that is replaced, which keeps its mode, its owner and
+    its attributes. For None there is none, and the new file has `mode`. A signal waits until the file is there."""
     import shutil
     import tempfile
     blocked, made = signal.pthread_sigmask(signal.SIG_BLOCK, signal.valid_signals()), ""

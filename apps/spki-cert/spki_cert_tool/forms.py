@@ -106,7 +106,7 @@ def column(text: bytes, at: int) -> int:
 
 
 def shape(node: Node, why: str, others: Iterable[Place] = ()) -> Wrong:
-    """The fault of a value that has not the shape that it must have."""
+    """The fault `Shape` of a value that has not the form that it must have, with a remark. `others` are further places."""
     return Wrong("Shape", node.begin, why, others)
 
 
@@ -136,7 +136,7 @@ class Parser:
     opened: list[int] = field(default_factory=list)
     """The offsets of the lists that are being read."""
     unclosed: tuple[int, int] | None = None
-    """Where a list begins that was to end earlier, by the indentation, and where."""
+    """The offset of a list that by the indentation was to end earlier, and the offset where it was to end."""
 
     def whole(self) -> Node:
         """The value of the text. Nothing may follow it."""
@@ -149,7 +149,7 @@ class Parser:
         return node
 
     def trailing(self, node: Node, behind: int) -> Wrong:
-        """The fault of what follows the value. By its indentation it may belong to the value, which a `)` too many has ended."""
+        """The fault of what follows the value, at offset `behind`. By its indentation it may belong to the value, which a `)` too many has ended."""
         begins = (node.begin, "the value begins here")
         if self.text[behind:behind + 1] == b")":
             return Wrong("Trailing", behind, "this `)` closes no list: it is one too many, or a `(` is missing before it", [begins])
@@ -225,7 +225,7 @@ class Parser:
         return Node(at, end, body, hint)
 
     def string(self, at: int, wanted: str) -> tuple[bytes, int]:
-        """The octets of the string at an offset, and the offset after it. `wanted` is as for `value`."""
+        """The octets of the string at an offset, and the offset after it. If none begins there, raises Wrong and says that `wanted` is expected."""
         octet, token = self.octet(at), None if self.is_canonical else TOKEN.match(self.text, at)
         if token:
             return token[0], token.end()
@@ -238,7 +238,7 @@ class Parser:
         return self.of_length(at, length.end(), length[0])
 
     def of_length(self, begin: int, at: int, digits: bytes) -> tuple[bytes, int]:
-        """As `string`, after the digits of its length, which end at an offset. It begins at `begin`."""
+        """The octets of a string with a length, and the offset after it. It begins at `begin` with the digits of its length, which end at `at`."""
         octet = self.octet(at, begin)
         length = int(digits) if len(digits) < 10 else 10**9
         if octet == b":":
@@ -256,7 +256,8 @@ class Parser:
         raise Wrong("Bad", at, f"{why}; otherwise the digits are the length of a string", [(at, "no length is followed by this")], begin)
 
     def marked(self, begin: int, at: int, length: int | None) -> tuple[bytes, int]:
-        """As `string`, between two marks, the first of them at an offset. It begins at `begin`, with its length if one is given."""
+        """The octets of a string between two marks, which are quotes, `#` or `|`, and the offset after it. The first mark is at `at`. The string
+        begins at `begin`: with its length, if one is given, which must be right."""
         mark = self.octet(at)
         body = found_at(BODIES[mark], self.text, at + 1)
         octets: bytes | None = self.unquoted(begin, at + 1) if mark == b'"' else b""
@@ -277,7 +278,8 @@ class Parser:
         return octets, body.end() + 1
 
     def unquoted(self, begin: int, at: int) -> bytes:
-        """The octets of the quoted string behind its mark. It begins at `begin`. Raises Wrong if an escape is wrong or cut off."""
+        """The octets of the quoted string that begins at `begin`, and whose first octet behind the mark is at `at`. Raises Wrong if an escape is
+        wrong or cut off."""
         pieces = []
         while found := PIECE.match(self.text, at):
             plain, itself, letter, octal, hexadecimal = found.groups(b"")

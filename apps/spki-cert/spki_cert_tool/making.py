@@ -18,14 +18,14 @@ def certificate_of(key: Value, subject: Value, fields: list[Value], name: bytes 
 
 
 def fields_of(tag: Value | None, begins: bytes | None, ends: bytes | None, delegates: bool = False, comment: str = "") -> list[Value]:
-    """The fields that certificates and entries have alike."""
+    """The fields that certificates and entries have alike. What is not given has none."""
     fields: list[Value] = [[b"propagate"]] if delegates else []
     given = (b"tag", tag), (b"not-before", begins), (b"not-after", ends), (b"comment", os.fsencode(comment) or None)
     return fields + [[head, value] for head, value in given if value is not None]
 
 
 def list_with(entry: Value, before: bytes) -> bytes:
-    """The text of an access list with an entry at its end. What is before the entry stays as it is, unless it is in braces. Raises Refused."""
+    """The text of the access list `before` with an entry at its end. What is before that stays as it is, unless it is in braces. Raises Refused."""
     node = value_in(before)
     text = text_of([b"acl", *members(node.value), entry])
     if not before.lstrip().startswith(b"{"):
@@ -55,7 +55,7 @@ def sequence_with(chain: Value | None, key: Value, certificate: Value, value: Va
 
 
 def list_without(subject: Value, before: bytes) -> tuple[bytes, list[tuple[int, str]]]:
-    """The text of an access list without the entries for a subject, and their numbers and tags. What is around them stays as it is."""
+    """The text of the access list `before` without the entries for a subject, and their numbers and tags. What is around them stays as it is."""
     if before.lstrip().startswith(b"{"):
         before = text_of(value_in(before).value)
     wanted, entries = terms_of([b"entry", subject]), [it for it in value_in(before).members or [] if it.head == b"entry"]
@@ -95,7 +95,8 @@ def warnings_of_certificate(terms: Terms, tag_text: str, needed: bytes | None, c
 
 
 def warnings_of_list(made: Value, before: bytes) -> Iterator[str]:
-    """What is probably a mistake in a new entry for an access list, whose text is given, until the work is MOST_PRODUCTS."""
+    """A remark for each entry of an access list that gives all of the entry `made` already. The list has the text `before`, and is compared until the
+    work is MOST_PRODUCTS."""
     entries, new, work_left = entries_of(value_in(before).value), terms_of(made), MOST_PRODUCTS
     keys = Keys(it.principal for it in (*entries, new))
     for number, it in enumerate(entries, 1):
@@ -105,7 +106,8 @@ def warnings_of_list(made: Value, before: bytes) -> Iterator[str]:
 
 
 def warnings_of(terms: Terms, tag_text: str, tries: list[Value]) -> Iterator[str]:
-    """What is probably a mistake in what certificates and entries both have. An entry needs no end, since it can be removed from its list."""
+    """What is probably a mistake in what certificates and entries both have. An entry needs no end, since it can be removed from its list.
+    `tag_text` is the tag as it was written, and `tries` are requests that the tag is to contain."""
     yield from (f"{why}: give a later date by --until" for _, why in remarks_on_window(terms.begins, terms.ends, now()))
     if headed(terms.principal, b"hash") and members(terms.principal)[0] == b"sha1":
         yield "its subject is a hash by sha1, which names no key under the strict policy"

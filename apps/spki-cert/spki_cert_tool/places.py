@@ -103,7 +103,8 @@ def read_part(name: str, read: Reader, node: Node) -> None:
 
 
 def read_numbered(name: str, read: Reader, nodes: list[Node], first: int = 1) -> None:
-    """Reads entries, items or rows, which are counted from `first`. A fault that it raises gets the place where its entry, item or row begins."""
+    """Reads the entries, items or rows of the part `name`, counted from `first`. A fault that it raises gets `name` and the number in front of its
+    kind, and the place where its entry, item or row begins."""
     for number, node in enumerate(nodes, first):
         try:
             read_part(f"{name} {number}", read, node)
@@ -114,7 +115,7 @@ def read_numbered(name: str, read: Reader, nodes: list[Node], first: int = 1) ->
 
 
 def read_list(node: Node) -> None:
-    """Reads an access list. As all functions `read_..` here, raises Wrong where the program `spki` refuses, with its name of the part."""
+    """Reads an access list. As all functions `read_..` here, raises Wrong where the program `spki` refuses it, with its name of the part."""
     read_part("acl 0", partial(Members, head=b"acl", what="the access list"), node)
     entries = node.rest
     if entries and entries[0].head == b"version":
@@ -123,7 +124,7 @@ def read_list(node: Node) -> None:
 
 
 def read_sequence(node: Node) -> None:
-    """Reads a sequence, and tests that each certificate has a signature behind it, with at most operations `(do ..)` between them."""
+    """Reads a sequence. Raises Wrong for a wrong item, or if a certificate has no signature behind it, with at most operations `(do ..)` between."""
     read_part("sequence 0", partial(Members, head=b"sequence", what="the sequence"), node)
     waits: tuple[int, Node] | None = None
     items = node.rest
@@ -142,7 +143,7 @@ def read_sequence(node: Node) -> None:
 
 
 def read_case(node: Node) -> None:
-    """Reads a case, part after part."""
+    """Reads a case, part after part. Raises Wrong if it or a part of it is none."""
     read_outline(node)
     acl, accepted, sequence, key, request, moment = node.rest[:6]
     read_list(acl)
@@ -173,7 +174,7 @@ def read_outline(node: Node) -> None:
 
 
 def read_intersect(node: Node) -> None:
-    """Reads `(intersect A B)`."""
+    """Reads `(intersect A B)`. Raises Wrong unless A and B are two tags."""
     read_part("intersect", partial(Members, head=b"intersect", what="the text"), node)
     tags = node.rest
     if len(tags) != 2:
@@ -183,7 +184,7 @@ def read_intersect(node: Node) -> None:
 
 
 def read_rows(node: Node) -> None:
-    """Reads the rows `(accepted ..)` as a text of their own."""
+    """Reads the rows `(accepted ..)` as a text of their own. Raises Wrong if they are none."""
     read_part("rows", partial(Members, head=b"accepted", what="the text"), node)
     read_numbered("rows", read_row, node.rest)
 
@@ -263,7 +264,7 @@ def value_in(text: bytes) -> Node:
 
 
 def refusal(wrong: Wrong, places: list[int] | None) -> str:
-    """The line by which the program `spki` refuses such a fault. `places` are those of `Found`."""
+    """The line by which the program `spki` refuses a text with this fault. `places` are the offsets of the octets in its braces, or None."""
     if wrong.kind.split()[-1] not in ("Bad", "Trailing"):
         return f"refused {wrong.kind}"
     return f"refused {wrong.kind} {places[-1] if places else wrong.at}"
@@ -282,7 +283,8 @@ class Lines:
 
 
 def place_shown(text: bytes, places: list[int] | None, at: int) -> tuple[str, str]:
-    """A place in words, as line and column, and the text around it with a mark below."""
+    """A place in words, as line and column, and the text around it with a mark below. If the text was in braces, `places` has for each of its octets
+    the offset in the file."""
     line, column = Lines(text).line_and_column(at)
     starts, ends = at - column + 1, text.find(b"\n", at)
     first, last = max(starts, at - WIDTH), min(len(text) if ends < 0 else ends, at + WIDTH)
@@ -294,7 +296,8 @@ def place_shown(text: bytes, places: list[int] | None, at: int) -> tuple[str, st
 
 
 def places_of(wrong: Wrong) -> list[Place]:
-    """The places of a fault with their remarks, each place once. The last remark on a further place has the number of the item."""
+    """The places of a fault with their remarks, each place once. Of several remarks on a further place the last one is kept, which
+    has the number of the item."""
     first = wrong.at if wrong.shown_at is None else wrong.shown_at
     others = {at: why for at, why in wrong.others if at != first}
     return [(first, wrong.why), *others.items()]

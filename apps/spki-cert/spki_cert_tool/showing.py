@@ -96,7 +96,7 @@ def rows_of(value: Value, moment: bytes, labels: Labels) -> Iterator[Row]:
 
 
 def lines_of(row: Row) -> Iterator[str]:
-    """A row of `rows_of` in words."""
+    """The lines that say a row in words. The row is what `rows_of` yields for an entry, a certificate, a key or a question."""
     kind, number = row["kind"], row.get("number")
     front = f"{'entry' if kind == 'entry' else 'item'} {number}" if number else "certificate without a signature"
     if kind == "key":

@@ -61,7 +61,7 @@ def list_of(head: bytes | None, what: str, *readers: tuple[str, Reader]) -> Read
 
 
 def read_key(node: Node) -> None:
-    """Reads `(public-key (ALGORITHM PART ..))`."""
+    """Reads a key `(public-key (ALGORITHM PART ..))`. Raises Wrong if it is none."""
     members = Members(node, b"public-key", "a key")
     inner = members.next("(ALGORITHM PART ..)")
     if inner.head is None:
@@ -72,7 +72,7 @@ def read_key(node: Node) -> None:
 
 
 def read_algorithm(node: Node) -> bytes:
-    """Reads the algorithm of a hash, and returns it."""
+    """Reads the algorithm of a hash, and returns it. Raises Wrong if it is none."""
     if node.members is not None:
         raise shape(node, "the algorithm of a hash is a string")
     if node.hint is not None or node.body not in DIGESTS:
@@ -82,7 +82,7 @@ def read_algorithm(node: Node) -> bytes:
 
 
 def read_hash(node: Node) -> bytes:
-    """Reads `(hash ALGORITHM DIGEST)`, and returns the algorithm."""
+    """Reads `(hash ALGORITHM DIGEST)`, and returns the algorithm. Raises Wrong if it is none."""
     members = Members(node, b"hash", "a hash")
     algorithm = read_algorithm(members.next("the algorithm"))
     digest = members.next("the digest")
@@ -98,14 +98,14 @@ def read_hash(node: Node) -> bytes:
 
 
 def read_principal(node: Node) -> None:
-    """Reads a key or a hash."""
+    """Reads a principal, which is a key or a hash. Raises Wrong if it is none."""
     if node.head not in PRINCIPALS:
         raise shape(node, f"a principal must be {but_is(node, *PRINCIPALS)}")
     (read_key if node.head == b"public-key" else read_hash)(node)
 
 
 def read_name(node: Node) -> tuple[bool, int]:
-    """Reads `(name PRINCIPAL n ..)`. Returns whether it has a principal, and how many strings."""
+    """Reads `(name PRINCIPAL n ..)` or `(name n ..)`. Returns whether it has a principal, and how many strings. Raises Wrong if it is none."""
     members = Members(node, b"name", "a name")
     has_principal = bool(members.left) and members.left[0].members is not None
     if has_principal:
@@ -118,7 +118,7 @@ def read_name(node: Node) -> tuple[bool, int]:
 
 
 def read_subject(node: Node) -> bool:
-    """Reads a subject. Returns whether it is or has a principal, and so is no relative name."""
+    """Reads a subject. Returns whether it is or has a principal, and so is no relative name. Raises Wrong if it is none."""
     for head, kind in ((b"k-of-n", "Threshold"), (b"keyholder", "Keyholder")):
         if node.head == head:
             raise Wrong(kind, node.begin, f"a subject `({head.decode()} ..)` is not supported")
@@ -131,13 +131,13 @@ def read_subject(node: Node) -> bool:
 
 
 def read_date(node: Node) -> None:
-    """Reads a date. Whether the calendar has it is not tested."""
+    """Reads a date. Raises Wrong if it has another form. Whether the calendar has it is not tested."""
     if not node.is_plain() or not MOMENT.fullmatch(node.body or b""):
         raise Wrong("BadDate", node.begin, 'a date is a string YYYY-MM-DD_HH:MM:SS in quotes, in UTC')
 
 
 def read_version_number(node: Node) -> None:
-    """Reads the string of a version, which must be 0."""
+    """Reads the string of a version. Raises Wrong unless it is 0."""
     if node.members is not None:
         raise shape(node, "a version is a string")
     if not node.is_plain(b"0"):
@@ -145,7 +145,7 @@ def read_version_number(node: Node) -> None:
 
 
 def read_issuer(node: Node) -> bool:
-    """Reads an issuer. Returns whether a certificate with it defines a name."""
+    """Reads an issuer. Returns whether a certificate with it defines a name. Raises Wrong if it is none."""
     if node.head != b"name":
         read_principal(node)
         return False
@@ -156,7 +156,7 @@ def read_issuer(node: Node) -> bool:
 
 
 def field_of(read: Reader) -> Reader:
-    """The reader of a field with one member. It returns what the reader of the member returns."""
+    """The reader of a field `(HEAD MEMBER)`, whose member is read by `read`. It returns what `read` returns."""
     return list_of(None, "a field", ("the member of this field", read))
 
 
@@ -176,7 +176,8 @@ def remark_on_no_field(node: Node, allowed: tuple[bytes, ...]) -> str:
 
 
 def read_fields(owner: Node, nodes: list[Node], allowed: tuple[bytes, ...]) -> Said:
-    """Reads fields, whose heads must be allowed. Returns by head the field's node and what its reader returns. `owner` is the list that has them."""
+    """Reads fields, whose heads must be allowed. Returns by head the field's node and what its reader returns. `owner` is the list that has them.
+    Raises Wrong."""
     said: Said = {}
     for node in nodes:
         head = node.head
@@ -203,7 +204,7 @@ def require_fields(owner: Node, said: Said, *heads: bytes) -> None:
 
 
 def read_entry(node: Node) -> None:
-    """Reads an entry of an access list."""
+    """Reads an entry of an access list. Raises Wrong if it is none."""
     if node.head == b"deny":
         raise shape(node, "there are no denials: what no entry gives is denied, so leave this out")
     members = Members(node, b"entry", "an entry")
@@ -214,7 +215,7 @@ def read_entry(node: Node) -> None:
 
 
 def read_certificate(node: Node) -> None:
-    """Reads a certificate, which gives a right or, if its issuer is a name, defines this name."""
+    """Reads a certificate, which gives a right or, if its issuer is a name, defines this name. Raises Wrong if it is none."""
     said = read_fields(node, Members(node, b"cert", "a certificate").left, CERTIFICATE_FIELDS)
     require_fields(node, said, b"issuer", b"subject")
     if said[b"issuer"][1]:
@@ -227,13 +228,13 @@ def read_certificate(node: Node) -> None:
 
 
 def read_digest_of_row(node: Node) -> None:
-    """Reads the hash in a row, which must be by SHA-256."""
+    """Reads the hash in a row. Raises Wrong unless it is one by SHA-256."""
     if read_hash(node) != b"sha256":
         raise Wrong("HashAlg", node.begin, "the hash of a row is by sha256")
 
 
 def read_operation(node: Node) -> None:
-    """Reads an item `(do hash ALGORITHM)`."""
+    """Reads an item `(do hash ALGORITHM)`. Raises Wrong if it is none."""
     if not node.rest or not node.rest[0].is_plain(b"hash"):
         raise Wrong("UnknownOp", node.begin, "the only operation is `(do hash ALGORITHM)`")
     list_of(b"do", "an operation", ("hash", lambda _: None), ("the algorithm", read_algorithm))(node)
@@ -245,7 +246,7 @@ ITEMS: dict[bytes, Reader] = {b"public-key": read_key, b"do": read_operation, b"
 
 
 def read_item(node: Node) -> None:
-    """Reads an item of a sequence."""
+    """Reads an item of a sequence: a key, an operation, a certificate or a signature. Raises Wrong if it is none."""
     if node.head is None or node.head not in ITEMS:
         raise shape(node, f"an item must be {but_is(node, *ITEMS)}")
     ITEMS[node.head](node)
@@ -271,7 +272,7 @@ def list_head(node: Node) -> Node:
 
 
 def read_tag(node: Node, nodes: list[int] | None = None) -> None:
-    """Reads a tag, and the tags in it. `nodes` is a list of one number, which counts all of them."""
+    """Reads a tag, and the tags in it. Raises Wrong if one is none. `nodes` is a list of one number, which counts all of them."""
     nodes = [0] if nodes is None else nodes
     nodes[0] += 1
     if nodes[0] > MOST_NODES:
@@ -295,14 +296,14 @@ def read_tag(node: Node, nodes: list[int] | None = None) -> None:
 
 
 def read_prefix(node: Node, behind: list[Node]) -> None:
-    """Reads a tag `(* prefix ..)`, of which the members behind the word are given."""
+    """Reads a tag `(* prefix ..)`, whose members behind the word `prefix` are given. Raises Wrong unless they are one string."""
     if len(behind) != 1 or behind[0].members is not None:
         raise Wrong("UnknownStar", node.begin, "`prefix` is followed by one string")
     refuse_hint(behind[0])
 
 
 def read_range(node: Node, behind: list[Node]) -> None:
-    """Reads a tag `(* range ..)`, of which the members behind the word are given."""
+    """Reads a tag `(* range ..)`, whose members behind the word `range` are given. Raises Wrong unless they are an ordering and limits."""
     ordering = behind[0] if behind else node
     if ordering.members is None:
         refuse_hint(ordering)
@@ -320,7 +321,7 @@ def read_range(node: Node, behind: list[Node]) -> None:
 
 
 def read_request(node: Node) -> None:
-    """Reads a request: strings and lists of them, as deep as they go."""
+    """Reads a request: strings and lists of them, as deep as they go. Raises Wrong if it is none."""
     if node.members is None:
         return refuse_hint(node)
     head = list_head(node)

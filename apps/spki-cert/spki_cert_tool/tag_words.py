@@ -93,7 +93,8 @@ def contains(wide: Terms, narrow: Terms, keys: Keys) -> bool:
 
 
 def remarks(node: Node, is_outermost: bool = True) -> Iterator[Place]:
-    """What in a tag is probably a mistake, each with its offset. `read_tag` must have accepted the tag. The functions below yield the same."""
+    """What in a tag is probably a mistake: for each the offset and a remark. `read_tag` must have accepted the tag. `is_outermost` says that it is a
+    whole tag, and no member of one."""
     if node.members is None:
         yield from remarks_on_string(node)
         return
@@ -118,7 +119,7 @@ def remarks(node: Node, is_outermost: bool = True) -> Iterator[Place]:
 
 
 def remarks_on_string(node: Node) -> Iterator[Place]:
-    """Remarks on a string."""
+    """The offset of a string in a tag and a remark, if it is probably a mistake."""
     body = node.body or b""
     front = re.match(rb"[^*?]*", body)
     if b"*" in body or body.endswith(b"?"):
@@ -132,7 +133,8 @@ def remarks_on_string(node: Node) -> Iterator[Place]:
 
 
 def remarks_on_star(node: Node, rest: list[Node], is_outermost: bool) -> Iterator[Place]:
-    """Remarks on a set, a prefix or a range, whose members behind the star are `rest`. The members of an outermost set are whole tags."""
+    """What in a set, a prefix or a range is probably a mistake: for each the offset and a remark. `rest` are its members behind the star. The members
+    of an outermost set are whole tags."""
     word = rest[0].body if rest else None
     if word == b"set":
         if len(rest) == 1:
@@ -146,7 +148,7 @@ def remarks_on_star(node: Node, rest: list[Node], is_outermost: bool) -> Iterato
 
 
 def remarks_on_prefix(node: Node, body: bytes) -> Iterator[Place]:
-    """Remarks on a prefix with this string."""
+    """The offset of a prefix with this string and a remark, if it is probably a mistake."""
     if body == b"":
         yield node.begin, "each string begins with the empty string"
     elif b"*" in body:
@@ -158,7 +160,7 @@ def remarks_on_prefix(node: Node, body: bytes) -> Iterator[Place]:
 
 
 def remarks_on_range(node: Node, ordering: bytes, limits: list[bytes]) -> Iterator[Place]:
-    """Remarks on a range with an ordering and limits, which are `g s`, `ge s`, `l s` or `le s` one after the other."""
+    """What in a range is probably a mistake: for each the offset and a remark. Its limits are `g s`, `ge s`, `l s` or `le s` one after the other."""
     given = dict(zip(limits[::2], limits[1::2]))
     low, up = given.get(b"g", given.get(b"ge")), given.get(b"l", given.get(b"le"))
     for limit in filter(None, (low, up)):

@@ -149,8 +149,8 @@ CREATE TRIGGER refused BEFORE UPDATE OR TRUNCATE ON @SCHEMA@.entries FOR EACH ST
 CREATE TRIGGER refused BEFORE UPDATE OR DELETE OR TRUNCATE ON @SCHEMA@.ended FOR EACH STATEMENT EXECUTE FUNCTION @SCHEMA@.refuse_change();
 CREATE TRIGGER refused BEFORE UPDATE OR DELETE OR TRUNCATE ON @SCHEMA@.changes FOR EACH STATEMENT EXECUTE FUNCTION @SCHEMA@.refuse_change();
 
--- Keeps the certificates of a key until a time, and says what became of that: `kept`, `known`, or `full` if this key has as many as it may, or as many
--- keys have some. Those that have ended are removed. Only this function adds any, one after the other.
+-- Keeps the certificates of a key until a time, and says what became of that: `kept`, `known`, or `full` if this key has `most_each`, or if it has
+-- none and `most_keys` others have some. Those that have ended are removed. Only this function adds any, one after the other.
 CREATE FUNCTION @SCHEMA@.keep(of_key bytea, shown bytea, ends timestamptz, most_each integer, most_keys integer) RETURNS text
 LANGUAGE plpgsql SECURITY DEFINER SET search_path = pg_catalog, pg_temp AS $$
 DECLARE

@@ -104,7 +104,8 @@ class Store:
                                        for table in ("entries", "ended", "chains", "changes", "state", "heartbeat", "imports")})
 
     def rows(self, text: str, *values: Any) -> list[Any]:
-        """Runs one statement, with values for its `%s`. Returns its rows. It is a transaction of its own, unless one was begun."""
+        """Runs one statement, in which a table is written as `{entries}`, with values for its `%s`. Returns its rows. It is a transaction of its own,
+        unless one was begun."""
         done = self.connection.execute(self.statement(text), values, binary=True)
         return done.fetchall() if done.description else []
 
@@ -154,7 +155,8 @@ class Store:
             yield Row(*row)
 
     def paged(self, text: str) -> Iterator[tuple[Any, ...]]:
-        """The rows of a statement, as of one moment. They are read in parts, so they may be more than fit into memory."""
+        """The rows of a statement, in which a table is written as `{entries}`, as of one moment. They are read in parts, so they may be more than fit
+        into memory."""
         with self.connection.transaction(), self.connection.cursor("all_rows", binary=True) as cursor:
             cursor.itersize = PAGE
             cursor.execute(self.statement(text))

@@ -43,7 +43,7 @@ def digest_of(text: mmap.mmap | bytes) -> bytes:
 
 def import_list(store: Store, path: str, is_shown: bool) -> tuple[int, int]:
     """Adds the entries of a list. Returns how many were added now, and how many before by an import of this file that did not end. Entries and
-    how far the import is are one transaction: nothing is added twice."""
+    how far the import is are one transaction: nothing is added twice. `is_shown` says whether to show the progress."""
     with open_list(path) as text:
         digest, octets, before = digest_of(text), 0, 0
         for octets, before, is_done in store.rows("SELECT octets, entries, is_done FROM {imports} WHERE file = %s", digest):

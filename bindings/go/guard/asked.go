@@ -38,7 +38,7 @@ func (h *heldAsked) close() {
 	}
 }
 
-// lock returns the open handle. If there is no error, the caller unlocks a.held.mutex.
+// lock locks a.held.mutex and returns the open handle. The caller unlocks it, unless the error is ErrClosed.
 func (a *Asked) lock() (askedHandle, error) {
 	if a.held == nil {
 		return nil, ErrClosed
@@ -62,9 +62,9 @@ func (a *Asked) Count() int {
 	return a.count
 }
 
-// Each calls a function with each of these signatures, in order, until it returns false. A signature is copied when it is its turn, and one
-// whose key is that of the signature before has the same octets for it: do not change them. The error is ErrClosed if the question is closed
-// meanwhile.
+// Each calls a function with the place, from 0, of each signature that the decision depends on, and with the signature, in order, until it returns
+// false. A signature is copied when it is its turn, and one whose key is that of the signature before has the same octets for it: do not change
+// them. The error is ErrClosed if the question is closed meanwhile.
 func (a *Asked) Each(use func(place int, signed Signature) bool) error {
 	var signed Signature
 	for place := 0; place < a.count; place++ {
@@ -80,7 +80,7 @@ func (a *Asked) Each(use func(place int, signed Signature) bool) error {
 	return nil
 }
 
-// Signatures returns all signatures that Each does, and none after Close.
+// Signatures returns all signatures that the decision depends on, in order, and nil after Close.
 func (a *Asked) Signatures() []Signature {
 	listed := make([]Signature, 0, a.count)
 	if a.Each(func(_ int, signed Signature) bool { listed = append(listed, signed); return true }) != nil {
@@ -89,7 +89,7 @@ func (a *Asked) Signatures() []Signature {
 	return listed
 }
 
-// signature returns the signature at a place. Its key is the given one if that is equal.
+// signature returns a copy of the signature at a place, from 0. If its key equals the given one, that is used and not copied.
 func (a *Asked) signature(place int, key []byte) (Signature, error) {
 	handle, err := a.lock()
 	if err != nil {
@@ -120,15 +120,16 @@ func (a *Asked) Mark(place int) error {
 	return nil
 }
 
-// Verify marks each signature that is valid, in order, up to the first that is not. To explain a denial, verify also what is not possible.
+// Verify calls a function with each signature, in order, up to the first that is not valid, and marks those that are. To explain a denial, call it
+// also where Possible is false.
 func (a *Asked) Verify(verify Verify) error {
 	return a.VerifyContext(context.Background(), func(_ context.Context, signature Signature) (bool, error) {
 		return verify(signature), nil
 	})
 }
 
-// VerifyContext is as Verify, with a verifier that may fail. The context is tested before each signature and after the last. With an error
-// nothing is marked.
+// VerifyContext calls a function that may fail with each signature, in order, up to the first that is not valid, and marks those that are. The
+// context is tested before each signature and after the last. The error is that of the function or of the context, and then nothing is marked.
 func (a *Asked) VerifyContext(ctx context.Context, verify VerifyContext) error {
 	valid, failed := 0, ctx.Err()
 	err := a.Each(func(place int, signed Signature) bool {
@@ -164,7 +165,7 @@ func (a *Asked) Possible() bool {
 	return possible(handle)
 }
 
-// Decide decides, if exactly the marked signatures are valid. The error is ErrClosed after Close.
+// Decide decides whether the request is granted, if exactly the marked signatures are valid. The error is ErrClosed after Close.
 func (a *Asked) Decide() (Decision, error) {
 	handle, err := a.lock()
 	if err != nil {
@@ -192,7 +193,7 @@ func (a *Asked) Close() {
 	}
 }
 
-// lines returns the lines of Explain or Reduce, without the last line feed.
+// lines returns the lines of Explain or of Reduce, whichever is wished for, without the last line feed.
 func (a *Asked) lines(wish wish) (string, error) {
 	handle, err := a.lock()
 	if err != nil {

@@ -24,8 +24,8 @@ func (d Decision) Entry() int {
 	return d.entry
 }
 
-// Until returns a second. From its own moment to then the same question is granted, if the same signatures are valid: it is the least not-after
-// of the entry and of all certificates. After it another entry may grant it. It is zero if no window ends, and for a no.
+// Until returns the last second of the grant: from the question's time to then, the same question with the same valid signatures is granted. It is
+// the least not-after of the entry and of all certificates. After it another entry may grant it. It is zero if no window ends, and for a no.
 func (d Decision) Until() time.Time {
 	if !d.Granted() || d.until == math.MaxInt64 {
 		return time.Time{}
@@ -33,8 +33,9 @@ func (d Decision) Until() time.Time {
 	return time.Unix(d.until, 0).UTC()
 }
 
-// HoldsAt says whether a decision that was kept still grants the request at a time, from the question's own on. Never before 1970, as where a
-// clock failed. It says nothing of a list that was read anew, nor of a certificate that its verifier would reject by now.
+// HoldsAt says whether a decision that was kept still grants the request at a time, which must not precede the question's. It is false before 1970:
+// such a time is that of a clock that failed. It does not know of a list that was read anew, nor of a certificate that its verifier would reject by
+// now.
 func (d Decision) HoldsAt(now time.Time) bool {
 	return d.Granted() && now.Unix() >= 0 && now.Unix() <= d.until
 }
@@ -47,7 +48,7 @@ func (d Decision) String() string {
 	return "no"
 }
 
-// decisionOf reads the line of a yes until a second.
+// decisionOf reads the line `yes entry N`, for a grant until a second since 1970: math.MaxInt64 if no window ends.
 func decisionOf(line string, until int64) (Decision, error) {
 	const before = "yes entry "
 	entry, err := strconv.Atoi(strings.TrimPrefix(lineOf(line), before))

@@ -78,7 +78,7 @@ func (h *heldGuard) close() {
 	}
 }
 
-// lock returns the open handle. If there is no error, the caller unlocks g.held.mutex for reading.
+// lock locks g.held.mutex for reading and returns the open handle. The caller unlocks it, unless the error is ErrClosed.
 func (g *Guard) lock() (guardHandle, error) {
 	if g.held == nil {
 		return nil, ErrClosed
@@ -142,7 +142,7 @@ func (g *Guard) Ask(question Question) (*Asked, error) {
 	return &asked, nil
 }
 
-// ask is Ask for a caller that closes the question in any case.
+// ask is Ask without the finalizer, for a caller that closes the question in any case.
 func (g *Guard) ask(question *Question) (Asked, error) {
 	handle, err := g.lock()
 	if err != nil {
@@ -158,12 +158,12 @@ func (g *Guard) ask(question *Question) (Asked, error) {
 }
 
 // Decide asks a question, verifies its signatures in order, up to the first that is not valid, and decides. Nothing is verified where the
-// request cannot be granted, whatever is valid. The error is that of Ask. With an error the decision is not a yes.
+// request cannot be granted, whatever is valid. The error is that of Ask: a *Refusal, ErrMisused or ErrClosed. With an error the decision is no yes.
 func (g *Guard) Decide(question Question, verify Verify) (Decision, error) {
 	return g.decideAndLog(question, func() (Decision, error) { return g.decide(&question, verify) })
 }
 
-// decideAndLog decides by a function, and calls that of the log, if there is one.
+// decideAndLog returns what decide returns, and before that calls the function of the log with it, if there is one.
 func (g *Guard) decideAndLog(question Question, decide func() (Decision, error)) (Decision, error) {
 	if g.log == nil {
 		return decide()
@@ -190,8 +190,9 @@ func (g *Guard) decide(question *Question, verify Verify) (Decision, error) {
 	return asked.Decide()
 }
 
-// DecideContext is as Decide, with a verifier that may fail. The context is tested before each signature and before the decision. The error
-// is also that of the verifier or of the context.
+// DecideContext asks a question, verifies its signatures by a function that may fail, in order, up to the first that is not valid, and decides. The
+// context is tested before each signature and before the decision. The error is that of Ask, of the function or of the context. Then nothing is
+// granted.
 func (g *Guard) DecideContext(ctx context.Context, question Question, verify VerifyContext) (Decision, error) {
 	return g.decideAndLog(question, func() (Decision, error) { return g.decideContext(ctx, &question, verify) })
 }
@@ -212,7 +213,8 @@ func (g *Guard) decideContext(ctx context.Context, question *Question, verify Ve
 	return asked.Decide()
 }
 
-// Require is as DecideContext for a caller that tests nothing but the error: nil is a yes, with the number of the entry, and a no is ErrDenied.
+// Require decides as DecideContext does, and returns the number of the entry that grants the request. A no is an error too: ErrDenied. So a caller
+// tests nothing but the error.
 func (g *Guard) Require(ctx context.Context, question Question, verify VerifyContext) (int, error) {
 	decision, err := g.DecideContext(ctx, question, verify)
 	if err == nil && !decision.Granted() {
@@ -224,8 +226,8 @@ func (g *Guard) Require(ctx context.Context, question Question, verify VerifyCon
 	return decision.Entry(), nil
 }
 
-// Explain is as Decide, and says of each entry why it grants the request or does not, or which certificate stops all of them. Its time grows
-// with the number of all entries.
+// Explain asks a question, verifies its signatures in order, up to the first that is not valid, and says of each entry why it grants the request or
+// does not, or which certificate stops all of them. The error is that of Ask, or ErrTooLarge. Its time grows with the number of all entries.
 func (g *Guard) Explain(question Question, verify Verify) (Explanation, error) {
 	asked, err := g.ask(&question)
 	if err != nil {
@@ -238,7 +240,8 @@ func (g *Guard) Explain(question Question, verify Verify) (Explanation, error) {
 	return asked.Explain()
 }
 
-// Reduce is as Explain, and writes which right remains of each entry after all certificates: the lines of the program's command reduce.
+// Reduce asks a question, verifies its signatures in order, up to the first that is not valid, and returns which right remains of each entry after
+// all certificates: the lines of the program's command reduce. The error is that of Ask, or ErrTooLarge.
 func (g *Guard) Reduce(question Question, verify Verify) (string, error) {
 	asked, err := g.ask(&question)
 	if err != nil {

@@ -32,7 +32,7 @@ var signed = []string{
 	"3:sig",
 }
 
-// shown returns a question by b, who shows a certificate so many times.
+// shown returns a question by b, who shows the certificate `pair` so many times.
 func shown(times int) guard.Question {
 	return guard.Question{
 		Sequence: []byte("(sequence " + strings.Repeat(pair, times) + ")"), Key: spki.AssumeKey([]byte("(public-key (test b))")),
@@ -40,7 +40,7 @@ func shown(times int) guard.Question {
 	}
 }
 
-// opened returns a guard.
+// opened returns a guard of a list under the strict policy, which is closed when the test ends.
 func opened(t testing.TB, list string) *guard.Guard {
 	t.Helper()
 	made, err := guard.Open([]byte(list), guard.Strict, guard.Limits{})
@@ -76,7 +76,7 @@ func marked(t testing.TB, made *guard.Guard, question guard.Question, places ...
 	return asked
 }
 
-// granted says whether a question is granted. It must be decided.
+// granted says whether a question is granted by its marks. The test ends if there is no decision.
 func granted(t testing.TB, asked *guard.Asked) bool {
 	t.Helper()
 	decision, err := asked.Decide()
@@ -154,7 +154,7 @@ func TestMarks(t *testing.T) {
 	}
 }
 
-// verified returns what is known of a question in which the signatures at these places are marked.
+// verified returns the Verified of a question in which the signatures at these places are marked.
 func verified(t *testing.T, made *guard.Guard, question guard.Question, places ...int) guard.Verified {
 	t.Helper()
 	asked, err := made.Ask(question)
@@ -170,7 +170,8 @@ func verified(t *testing.T, made *guard.Guard, question guard.Question, places .
 	return asked.Verified()
 }
 
-// TestVerifiedBefore decides by signatures that are known to be valid, as by marks.
+// TestVerifiedBefore decides by signatures that are known to be valid. A row has the places that are marked, how many marks count, and the entry that
+// grants the request, or 0.
 func TestVerifiedBefore(t *testing.T) {
 	made, question := opened(t, list), shown(1)
 	shows := question
@@ -619,7 +620,7 @@ func TestVerifierThatFails(t *testing.T) {
 	}
 }
 
-// byLongKey returns a question with so many certificates by one key of so many octets, which their issuers and signatures name by its hash.
+// byLongKey returns a question with `times` certificates by one key of `octets` octets, which their issuers and signatures name by its hash.
 func byLongKey(t testing.TB, times, octets int) guard.Question {
 	t.Helper()
 	key := fmt.Sprintf("(10:public-key(4:test%d:%s))", octets, strings.Repeat("x", octets))

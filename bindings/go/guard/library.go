@@ -45,7 +45,7 @@ const (
 	toReduce  wish = C.LIBRARY_REDUCE
 )
 
-// text lends octets for one call.
+// text returns octets as the library takes them. It lends them for one call.
 func text(octets []byte) C.struct_spki_text {
 	if len(octets) == 0 {
 		return C.struct_spki_text{}
@@ -126,7 +126,7 @@ type lent struct {
 	lengths          *C.size_t
 }
 
-// lend lends a question for one call.
+// lend returns a question as one call takes it. It borrows the octets of the sequence.
 func lend(question *Question) lent {
 	joined, lengths := question.joined()
 	made := lent{
@@ -152,7 +152,7 @@ func ask(guard guardHandle, question *Question) (asked askedHandle, count int, e
 	return said.asked, int(said.count), nil
 }
 
-// signature returns a copy of what is to be verified at a place. Its key is the given one if that is equal.
+// signature returns a copy of the signature at a place, from 0. If its key equals the given one, that is used and not copied.
 func signature(asked askedHandle, place int, key []byte) (Signature, error) {
 	var signed C.struct_spki_signed
 	if met := C.spki_asked_signature(asked, C.size_t(place), &signed); met != C.SPKI_DONE {
@@ -167,7 +167,7 @@ func signature(asked askedHandle, place int, key []byte) (Signature, error) {
 	return Signature{Key: key, Message: both[:length:length], Value: both[length:]}, nil
 }
 
-// mark says that the signature at a place is valid.
+// mark says that the signature at a place, from 0, is valid.
 func mark(asked askedHandle, place int) error {
 	if met := C.spki_asked_mark(asked, C.size_t(place)); met != C.SPKI_DONE {
 		return errorOf(met, "")
@@ -186,7 +186,7 @@ func decide(asked askedHandle) (Decision, error) {
 	return decisionIn(&said)
 }
 
-// decideVerified returns the decision of a question that must list so many signatures, of which the first `valid` are valid.
+// decideVerified returns the decision of a question of which the first `valid` signatures are valid. It is ErrMisused unless `listed` are listed.
 func decideVerified(guard guardHandle, question *Question, listed, valid int) (Decision, error) {
 	lent := lend(question)
 	said := C.library_decide_verified(guard, lent.parts, lent.sequence, lent.joined, lent.lengths, C.size_t(listed), C.size_t(valid))
@@ -204,7 +204,7 @@ func decisionIn(said *C.struct_library_said) (Decision, error) {
 	return Decision{}, errorOf(said.status, lineIn(said))
 }
 
-// lines returns the lines of an answer that is no decision, without the last line feed. It has at most so many octets.
+// lines returns the lines of an explanation or of a reduction, whichever is wished for, without the last line feed. They have at most `most` octets.
 func lines(asked askedHandle, wish wish, most int) (string, error) {
 	if most < roomForLine {
 		most = roomForLine
@@ -223,7 +223,7 @@ func closeAsked(asked askedHandle) {
 	C.spki_asked_close(asked)
 }
 
-// converted returns a text in the form that a command writes.
+// converted returns a text in another form. The command is SPKI_CANONICAL, SPKI_ADVANCED or SPKI_TRANSPORT.
 func converted(command C.enum_spki_command, given []byte) ([]byte, error) {
 	// (an octet that is printed in base64 takes 7 for the 3 of its canonical text)
 	buffer, needed := make([]byte, 3*len(given)+roomForLine), C.size_t(0)
@@ -238,17 +238,18 @@ func converted(command C.enum_spki_command, given []byte) ([]byte, error) {
 	return append([]byte(nil), buffer[:needed]...), nil
 }
 
-// Canonical returns the canonical form of the one value that a text is, in any of the three forms of RFC 9804.
+// Canonical returns the canonical form of the one value that a text is, in any of the three forms of RFC 9804. The error is a *Refusal.
 func Canonical(text []byte) ([]byte, error) {
 	return converted(C.SPKI_CANONICAL, text)
 }
 
-// Advanced returns the same in advanced form, on one line, with a line feed at its end.
+// Advanced returns the advanced form of a text, which Canonical would accept, on one line, with a line feed at its end. The error is a *Refusal.
 func Advanced(text []byte) ([]byte, error) {
 	return converted(C.SPKI_ADVANCED, text)
 }
 
-// Transport returns the same in transport form, on one line, with a line feed at its end. It is the form for a header.
+// Transport returns the transport form of a text, which Canonical would accept, on one line, with a line feed at its end. It is the form for a
+// header. The error is a *Refusal.
 func Transport(text []byte) ([]byte, error) {
 	return converted(C.SPKI_TRANSPORT, text)
 }

@@ -5,7 +5,7 @@
 
 enum library_wish { LIBRARY_EXPLAIN, LIBRARY_REDUCE };
 
-/* As many strings of a request need no allocation, and each decision and each refusal fits in so many octets. */
+/* A request of at most LIBRARY_FEW_WORDS strings needs no allocation. Each decision and each refusal fits in LIBRARY_LINE octets. */
 enum { LIBRARY_FEW_WORDS = 64, LIBRARY_LINE = 128 };
 
 /* What a call says. It is returned as a value: Go takes no memory for what C would write through a pointer. */
@@ -18,15 +18,16 @@ struct library_said {
     char line[LIBRARY_LINE];
 };
 
-/* A question but its texts, of which the sequence is apart. The key, the request, the moment and the strings of the request are one after the other
- * in one piece, and as many lengths are beside it. It has no pointer: Go looks through all that is behind one, at each call. */
+/* What a question has besides its texts. A call takes these apart from it: `sequence`, and `joined`, which has the key, the request, the moment and
+ * the strings of the request, one after the other. `lengths` has the length of each text of `joined`. `by_words` is 1 if the request is given by
+ * its strings, and `by_seconds` if the moment is `seconds`. It has no pointer: Go looks through all that is behind one, at each call. */
 struct library_question {
     size_t sequence_length, word_count;
     int by_words, by_seconds;
     int64_t seconds;
 };
 
-/* Opens a guard. Limits that are all 0 are the usual ones. `line` is that of a refusal. */
+/* Opens a guard. Limits that are all 0 are the usual ones. `line` is the line of a refusal, if there is one. */
 static inline struct library_said library_open(struct spki_text list, enum spki_policy policy, struct spki_limits limits)
 {
     struct library_said said = {0};
@@ -44,7 +45,7 @@ static inline struct spki_text library_next(const char **rest, const size_t **le
     return text;
 }
 
-/* Reads a question and counts its signatures. `line` is that of a refusal. */
+/* Reads a question and counts its signatures. `line` is the line of a refusal, if there is one. */
 static inline struct library_said library_ask(const spki_guard *guard, struct library_question parts, const char *sequence, const char *joined,
                                               const size_t *lengths)
 {

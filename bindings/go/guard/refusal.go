@@ -55,7 +55,7 @@ func (r *Refusal) Fault() string {
 	return ""
 }
 
-// Is says whether the refusal is one of the errors above.
+// Is says whether the refusal is ErrRefused, ErrTooLong, ErrTooLarge or ErrMemory. It is for errors.Is.
 func (r *Refusal) Is(target error) bool {
 	switch target {
 	case ErrRefused:

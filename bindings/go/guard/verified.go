@@ -12,8 +12,8 @@ type Verified struct {
 // noCertificates is a sequence that lists no signatures.
 var noCertificates = []byte("(8:sequence)")
 
-// Verified returns the sequence of a question with its marks: those from the first on that were set in order, up to the first that is not set. So
-// a service need not verify a sequence again that it is shown again.
+// Verified returns the sequence of a question with the marks that were set in order from the first signature on, up to the first signature without
+// one. So a service need not verify a sequence again that it is shown again.
 func (a *Asked) Verified() Verified {
 	if a.held == nil {
 		return Verified{}
@@ -23,7 +23,7 @@ func (a *Asked) Verified() Verified {
 	return Verified{a.held.sequence, a.held.policy, a.count, a.held.marked}
 }
 
-// Sequence returns the sequence.
+// Sequence returns a copy of the sequence's octets.
 func (v Verified) Sequence() []byte {
 	return append([]byte(nil), v.text()...)
 }
@@ -36,7 +36,7 @@ func (v Verified) text() []byte {
 	return v.sequence
 }
 
-// First returns the same with at most so many marks, from the first on.
+// First returns the same sequence with the first `most` of its marks, or with all if it has fewer.
 func (v Verified) First(most int) Verified {
 	if most < 0 {
 		most = 0
@@ -47,7 +47,8 @@ func (v Verified) First(most int) Verified {
 	return v
 }
 
-// Canonical returns the same in canonical form, which is read in three quarters of the time. To make it takes as long as a decision.
+// Canonical returns the same marks with the sequence in canonical form, which is read in three quarters of the time. To make it takes as long as a
+// decision.
 func (v Verified) Canonical() (Verified, error) {
 	canonical, err := Canonical(v.text())
 	if err != nil {
@@ -58,8 +59,8 @@ func (v Verified) Canonical() (Verified, error) {
 }
 
 // DecideVerified decides a question whose certificates are those of a Verified, if exactly its marks count. It is Ask, Mark and Decide in one call.
-// The error is ErrMisused if the question has a Sequence of its own, or if the Verified comes from a guard with another policy. Else it is that of
-// Ask.
+// The error is ErrMisused if the question has a Sequence of its own, or if the Verified comes from a guard with another policy. Otherwise it is that
+// of Ask: a *Refusal, ErrMisused or ErrClosed.
 func (g *Guard) DecideVerified(question Question, verified Verified) (Decision, error) {
 	if len(question.Sequence) > 0 {
 		return Decision{}, ErrMisused

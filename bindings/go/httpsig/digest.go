@@ -8,7 +8,7 @@ import (
 	"strings"
 )
 
-// A digest is that of a body, by `Content-Digest`.
+// A digest is the digest of a body, as `Content-Digest` gives it. The algorithm is `sha-256` or `sha-512`.
 type digest struct {
 	algorithm string
 	octets    []byte
@@ -26,7 +26,7 @@ func digestOf(value string) (digest, error) {
 	return digest{name, octets}, nil
 }
 
-// is says whether a digest is that of a body.
+// matches says whether a digest is that of a body.
 func (d digest) matches(body []byte) bool {
 	if d.algorithm == "sha-512" {
 		made := sha512.Sum512(body)

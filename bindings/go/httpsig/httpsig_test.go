@@ -26,8 +26,8 @@ import (
 	"conguraki/spki"
 )
 
-// A row is one of the table that all languages read: tests/generators/signed_requests.py says what its lines are. With isAgain the same message came
-// so many seconds before.
+// A row is one of the table that all languages read: tests/generators/signed_requests.py says what its lines are. `gives` is the answer: `valid` or
+// the name of a refusal. With isAgain the same message came `again` seconds before, too.
 type row struct {
 	name, gives string
 	message     Message
@@ -52,7 +52,7 @@ func rowsOf(t testing.TB) (rows []row) {
 	return rows
 }
 
-// set sets what a line says, whose first word is this.
+// set sets the part of the row that a line gives. `word` is the first word of the line, and `text` is what follows it.
 func (r *row) set(word, text string) {
 	switch word {
 	case "on":
@@ -72,7 +72,7 @@ func (r *row) set(word, text string) {
 	}
 }
 
-// unescaped replaces what the table escapes.
+// unescaped returns a text of the table without its escapes, such as `\n` and `\xff`.
 func unescaped(text string) string {
 	made, err := strconv.Unquote(`"` + strings.ReplaceAll(text, `"`, `\"`) + `"`)
 	if err != nil {
@@ -88,7 +88,7 @@ func verifierAt(now *int64) *Verifier {
 	return made
 }
 
-// answerOf returns `valid` or the name of a refusal.
+// answerOf returns what a verifier answers as a row gives it: `valid` or the name of a refusal.
 func answerOf(proof *Proof, err error) string {
 	var refusal Refusal
 	if err == nil && proof.Key.Text() != "" {
@@ -180,7 +180,7 @@ func TestPublishedExamples(t *testing.T) {
 	}
 }
 
-// signers returns a signer by each kind of key.
+// signers returns a signer with a new key for each algorithm, by its name.
 func signers(t testing.TB) map[string]*Signer {
 	_, edwards, _ := ed25519.GenerateKey(rand.Reader)
 	curve, _ := ecdsa.GenerateKey(elliptic.P256(), rand.Reader)
@@ -295,7 +295,7 @@ func TestNonces(t *testing.T) {
 	}
 }
 
-// Whatever is in the fields, there is no panic, and what Check takes was signed.
+// FuzzFields shows that there is no panic whatever is in the fields, and that Check takes only what the verifier found signed.
 func FuzzFields(f *testing.F) {
 	for _, row := range rowsOf(f) {
 		header := row.message.Header
@@ -321,7 +321,7 @@ func FuzzFields(f *testing.F) {
 	})
 }
 
-// What a client can send is what a server takes.
+// FuzzSigned shows that a server takes each request that a client can sign.
 func FuzzSigned(f *testing.F) {
 	f.Add("GET", "/foo?a=b", "accept", "text/html", "body")
 	all, kinds := signers(f), []string{Ed25519, P256, P384, RSA}

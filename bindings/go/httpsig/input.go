@@ -41,7 +41,7 @@ type input struct {
 	algorithm, tag   string
 }
 
-// A parser takes a field apart from the left. What a method returns is taken off the rest.
+// A parser takes a field apart from the left. What a method reads is taken off the rest.
 type parser struct {
 	rest string
 }
@@ -128,7 +128,7 @@ func (p *parser) integer() (int64, error) {
 	return strconv.ParseInt(text, 10, 64)
 }
 
-// components reads the list of components.
+// components returns the names in the list of components, `("@method" ..)`, in order. The error is a Refusal.
 func (p *parser) components() ([]string, error) {
 	if !p.trySkip("(") {
 		return nil, Malformed
@@ -180,7 +180,7 @@ func contains(names []string, name string) bool {
 	return false
 }
 
-// inputOf reads `Signature-Input`.
+// inputOf reads the value of `Signature-Input`. The error is a Refusal, also if a component or a parameter is missing that the profile requires.
 func inputOf(text string) (*input, error) {
 	if len(text) > mostInput {
 		return nil, Malformed
@@ -246,7 +246,7 @@ func (i *input) parameters(p *parser) (int, error) {
 	return seen, p.expectEnd()
 }
 
-// readInto reads what a place points to: a number or a string.
+// readInto reads a number or a string, and stores it where a place of `places` points.
 func (p *parser) readInto(place any) (err error) {
 	switch place := place.(type) {
 	case *int64:
@@ -257,7 +257,7 @@ func (p *parser) readInto(place any) (err error) {
 	return err
 }
 
-// octetsOf reads `Signature`.
+// octetsOf returns the octets of the signature in the value of `Signature`. The error is a Refusal.
 func octetsOf(text string) ([]byte, error) {
 	p := &parser{text}
 	if len(text) > mostInput {
@@ -290,7 +290,8 @@ func (p *parser) octets() ([]byte, error) {
 	return octets, nil
 }
 
-// decodeBase64 returns the octets of base64 with its padding, in the one text that they have. (Go's decoder passes over ends of lines.)
+// decodeBase64 decodes base64, and says whether the text is exactly how its octets are encoded, with padding. (Go's decoder passes over ends of
+// lines.)
 func decodeBase64(text string) ([]byte, bool) {
 	if strings.ContainsAny(text, "\r\n") {
 		return nil, false

@@ -78,7 +78,8 @@ func kindOf(key []byte) (algorithm string, octets int) {
 	return "", 0
 }
 
-// valueOf returns the canonical value of the octets of a signature. They are as many as the algorithm has.
+// valueOf returns the canonical value, `(7:sig-val..)`, of the octets of a signature, which are as many as the algorithm has. With RSA they are one
+// string of it, and otherwise two equal halves.
 func valueOf(algorithm string, octets []byte) []byte {
 	strings := [][]byte{octets}
 	if half := len(octets) / 2; algorithm != RSA {

@@ -32,7 +32,7 @@ func MessageOf(request *http.Request) Message {
 	}
 }
 
-// mayHaveBody says whether a digest must be covered.
+// mayHaveBody says whether the message may have a body, so that its digest must be covered.
 func (m *Message) mayHaveBody() bool {
 	for _, length := range m.Header.Values("Content-Length") {
 		if strings.Trim(length, " \t") != "0" {
@@ -48,7 +48,7 @@ func AuthorityOf(scheme, authority string) string {
 	return strings.TrimSuffix(strings.ToLower(authority), usual)
 }
 
-// isToken says whether a text is a token of HTTP, as a method is.
+// isToken says whether a text is a token of HTTP, as a method is. The `x-` leaves of isComponent only the test of the octets.
 func isToken(text string) bool {
 	return text != "" && isComponent(strings.ToLower("x-"+text))
 }
@@ -66,13 +66,14 @@ func isTarget(target string) bool {
 	return true
 }
 
-// A base writes the text that is signed.
+// A base makes the text of a message that is signed. The scheme and the authority are written as they are signed.
 type base struct {
 	*Message
 	scheme, authority string
 }
 
-// text returns the signature base of components. The parameters are those of `Signature-Input`, as they were sent.
+// text returns the signature base of components: the text that is signed. The parameters are what follows `spki=` in `Signature-Input`, as it was
+// sent.
 func (b *base) text(components []string, parameters string) ([]byte, error) {
 	made := make([]byte, 0, 1024)
 	for _, name := range components {
@@ -85,7 +86,7 @@ func (b *base) text(components []string, parameters string) ([]byte, error) {
 	return append(append(made, `"@signature-params": `...), parameters...), nil
 }
 
-// value returns the value of a component.
+// value returns the value of a component by its name, such as `@path`. For a field the error is AbsentField, RepeatedField or BadValue.
 func (b *base) value(name string) (string, error) {
 	sentPath, sentQuery, hasQuery := strings.Cut(b.Target, "?")
 	switch name {
@@ -106,7 +107,7 @@ func (b *base) value(name string) (string, error) {
 	return fieldOf(b.Header, name)
 }
 
-// fieldOf returns the value of a field, which must be there in one line.
+// fieldOf returns the value of a field, which must be there in one line. The error is AbsentField, RepeatedField or BadValue.
 func fieldOf(header http.Header, name string) (string, error) {
 	values := header.Values(name)
 	switch len(values) {

@@ -7,8 +7,8 @@ import (
 
 // Nonces keeps which nonces were used. Several services may share one.
 type Nonces interface {
-	// Take returns nil if this nonce of this key was not used before, and keeps it for so many seconds from now. Otherwise it returns NonceSeen,
-	// or another error.
+	// Take returns nil if this nonce of this key was not used before, and keeps it for so many seconds from now, the time in seconds since 1970.
+	// Otherwise it returns NonceSeen, or another error.
 	Take(key []byte, nonce string, now, seconds int64) error
 }
 
@@ -26,12 +26,13 @@ type Memory struct {
 	old, young map[uint64]struct{}
 }
 
-// NewMemory returns a store of at most twice so many nonces.
+// NewMemory returns a store of two sets, which have at most `most` nonces each.
 func NewMemory(most int) *Memory {
 	return &Memory{seed: maphash.MakeSeed(), most: most, old: map[uint64]struct{}{}, young: map[uint64]struct{}{}}
 }
 
-// Take is that of Nonces. A full set takes no more: nothing is forgotten early.
+// Take keeps a nonce of a key for so many seconds from now, the time in seconds since 1970. The error is NonceSeen if it was used before, and
+// StoreFull if the young set is full: nothing is forgotten early.
 func (m *Memory) Take(key []byte, nonce string, now, seconds int64) error {
 	var hash maphash.Hash
 	hash.SetSeed(m.seed)
@@ -56,7 +57,7 @@ func (m *Memory) Take(key []byte, nonce string, now, seconds int64) error {
 	return nil
 }
 
-// turn makes the young set the old one once it is so many seconds old. If the clock went back, nothing is forgotten. The mutex is held.
+// turn makes the young set the old one once it is `seconds` old. If the clock went back, nothing is forgotten. The mutex is held.
 func (m *Memory) turn(now, seconds int64) {
 	age := now - m.turned
 	if age < seconds {

@@ -39,7 +39,8 @@ func NewSigner(private crypto.Signer) (*Signer, error) {
 }
 
 // Sign puts the fields of a signature into the header of a request: also the key, the certificates, and the digest of the body where one is due. The
-// header must be whole otherwise. More names of fields may be given that are to be covered. What is written is for this request alone.
+// header must be whole otherwise. The scheme is `https` or `http`. `covered` names more fields that the signature covers, in small letters, if the
+// request has them. What is written is for this request alone.
 func (s *Signer) Sign(scheme string, message Message, covered ...string) error {
 	names := []string{method, authority, path, query, publicKey}
 	message.Header.Set(publicKey, transport(s.key))
@@ -74,7 +75,7 @@ func (s *Signer) Sign(scheme string, message Message, covered ...string) error {
 	return nil
 }
 
-// parameters returns the value of `@signature-params`, with a new nonce.
+// parameters returns the value of `@signature-params` for components of these names, created now, with a new nonce.
 func (s *Signer) parameters(names []string) (string, error) {
 	nonce := make([]byte, 16)
 	if _, err := s.random(nonce); err != nil {

@@ -18,7 +18,7 @@ type Transport struct {
 	Base http.RoundTripper
 }
 
-// RoundTrip is that of an http.RoundTripper. It has the whole body in memory.
+// RoundTrip sends a request, signed if it goes to one of the names, and returns the response. The whole body of a signed request is in memory.
 func (t *Transport) RoundTrip(request *http.Request) (*http.Response, error) {
 	under := t.Base
 	if under == nil {

@@ -61,7 +61,7 @@ func (p *Proof) Hash() string {
 	return hashOf([]byte(p.Key.Text()))
 }
 
-// Body reads a body of at most so many octets, and returns it if it is the signed one. Otherwise it returns an error: OtherDigest, or one of
+// Body reads a body of at most `most` octets, and returns it if it is the signed one. Otherwise it returns an error: OtherDigest, or one of
 // reading. A request without a digest has no body.
 func (p *Proof) Body(from io.Reader, most int64) ([]byte, error) {
 	body, err := io.ReadAll(io.LimitReader(from, most+1))
@@ -85,7 +85,7 @@ func (v *Verifier) Request(request *http.Request) (*Proof, error) {
 	return v.Message(MessageOf(request))
 }
 
-// Message returns the proof of a message, and uses up its nonce.
+// Message returns the proof of a message, and uses up its nonce. The error is a Refusal, or one of Nonces.
 func (v *Verifier) Message(message Message) (*Proof, error) {
 	proof, err := v.Check(message)
 	if err == nil {
@@ -97,13 +97,13 @@ func (v *Verifier) Message(message Message) (*Proof, error) {
 	return proof, nil
 }
 
-// Take uses up the nonce of a proof. NO PROOF COUNTS WITHOUT IT: a caller of Check takes the nonce before it acts, as a service does that first
-// decides, so that strangers do not fill the store.
+// Take uses up the nonce of a proof that Check has returned. The error is NonceSeen or StoreFull, or one of Nonces. NO PROOF COUNTS WITHOUT IT: a
+// caller of Check takes the nonce before it acts. It may decide before that, so that strangers do not fill the store.
 func (v *Verifier) Take(proof *Proof) error {
 	return v.Nonces.Take([]byte(proof.Key.Text()), proof.nonce, v.Now().Unix(), mostWindow+mostAhead)
 }
 
-// Check returns the proof of a message, and leaves the nonce. Take must follow.
+// Check returns the proof of a message, or a Refusal. It does not use up the nonce: Take must follow.
 func (v *Verifier) Check(message Message) (*Proof, error) {
 	input, octets, err := signatureOf(message.Header)
 	if err != nil {
@@ -151,7 +151,7 @@ func signerOf(header http.Header, input *input) (key []byte, octets int, err err
 	return key, octets, nil
 }
 
-// sequenceOf returns the certificates that a request shows. Their field was checked before: it has one line at most.
+// sequenceOf returns the certificates that a request shows, or a sequence of none. Their field was checked before: it has one line at most.
 func (v *Verifier) sequenceOf(header http.Header) []byte {
 	if shown := header.Get(v.Sequence); shown != "" {
 		return []byte(shown)
@@ -198,7 +198,7 @@ func (v *Verifier) checkParameters(input *input) error {
 	return nil
 }
 
-// checkMessage returns the signed text of a message, and the digest of its body if it has one.
+// checkMessage tests a message, and returns its signed text and the digest of its body. The digest has no octets if none is covered.
 func (v *Verifier) checkMessage(message Message, input *input) (text []byte, digest digest, err error) {
 	if !isToken(message.Method) {
 		return nil, digest, BadMethod

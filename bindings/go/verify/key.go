@@ -41,7 +41,7 @@ var curves = []curve{
 	{elliptic.P384(), "(10:public-key(3:ecc(5:curve10:NIST P-384)(1:q", crypto.SHA384},
 }
 
-// curveOf returns a curve, or nil if it is not used.
+// curveOf returns the element of `curves` for a curve of package elliptic, or nil if there is none.
 func curveOf(of elliptic.Curve) *curve {
 	for place := range curves {
 		if curves[place].Curve == of {
@@ -117,7 +117,7 @@ func publicOf(text *reader) crypto.PublicKey {
 }
 
 // The coordinate y of points of Ed25519 that are no keys: those from p - 1 on, whose octets are no number below p or those of the point of
-// order 2, and those of order 8. The others of small order are below 2^192, as is none that anybody happens to have.
+// order 2, and those of order 8. The others of small order have y below 2^192, as no random key has.
 var (
 	lastY  = numberOf("7fffffffffffffffffffffffffffffffffffffffffffffffffffffffffffffec")
 	eighth = numberOf("05fc536d880238b13933c6d305acdfd5f098eff289f4c345b027b2c28f95e826")
@@ -130,7 +130,8 @@ func numberOf(digits string) *big.Int {
 	return number
 }
 
-// isUsablePoint says whether a point of Ed25519 has no small order and one text only, as far as its y says that.
+// isUsablePoint says whether the coordinate y in a text of Ed25519 rules out a small order and a second text of the point. That it is a point is not
+// tested.
 func isUsablePoint(q []byte) bool {
 	if len(q) != ed25519.PublicKeySize {
 		return false
@@ -165,7 +166,7 @@ func pointOf(of curve, octets []byte) crypto.PublicKey {
 	return &ecdsa.PublicKey{Curve: of.Curve, X: x, Y: y}
 }
 
-// rsaKey returns the key of a modulus and an exponent, or nil if it is too weak.
+// rsaKey returns the key of a modulus and an exponent, or nil if it is not within the limits of isStrong.
 func rsaKey(modulus, exponent []byte) crypto.PublicKey {
 	e := new(big.Int).SetBytes(exponent)
 	if e.BitLen() > MostExponentBits {

@@ -19,7 +19,7 @@ func (r *reader) trySkip(text string) bool {
 	return true
 }
 
-// string returns the string that the rest begins with, and goes behind it. It says whether there is one of at most so many octets.
+// string returns the string that the rest begins with, and goes behind it. It says whether there is one of at most `most` octets.
 func (r *reader) string(most int) ([]byte, bool) {
 	colon := bytes.IndexByte(r.rest[:min(len(r.rest), len("4096:"))], ':')
 	if colon < 0 {

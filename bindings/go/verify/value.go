@@ -57,7 +57,7 @@ func ecdsaValue(value []byte, curve elliptic.Curve) (*big.Int, *big.Int, bool) {
 	return r, s, ok && r.Sign() > 0 && s.Sign() > 0 && r.Cmp(order) < 0 && s.Cmp(order) < 0
 }
 
-// pair reads the two strings of a value, of which the first follows a text.
+// pair returns the two strings, r and s, of a value that begins with a text such as beforeR, and whether the value has this form.
 func pair(value []byte, before string) ([]byte, []byte, bool) {
 	text := reader{rest: value}
 	if len(value) > mostOctets || !text.trySkip(before) {

@@ -27,8 +27,8 @@ func Signature(signed spki.Signature) bool {
 	return signature(signed, pkcs1v15)
 }
 
-// SignatureOrPSS is as Signature, but accepts RSA with PSS as well: with SHA-256 for the message and for the mask, and a salt of 32 octets.
-// The value of a signature does not say which of them it is.
+// SignatureOrPSS says whether a signature is valid as Signature has it, or by RSA with PSS: with SHA-256 for the message and for the mask, and a salt
+// of 32 octets. The value of a signature does not say by which of the two it was made.
 func SignatureOrPSS(signed spki.Signature) bool {
 	return signature(signed, pkcs1v15) || signature(signed, pss)
 }
@@ -44,7 +44,7 @@ func pss(key *rsa.PublicKey, digest, value []byte) error {
 	return rsa.VerifyPSS(key, crypto.SHA256, digest, value, &rsa.PSSOptions{SaltLength: rsa.PSSSaltLengthEqualsHash})
 }
 
-// signature says whether a signature is valid, which with a key of RSA is by this scheme.
+// signature says whether a signature is valid. With a key of RSA it must be by this scheme.
 func signature(signed spki.Signature, scheme scheme) bool {
 	public, err := PublicOf(signed.Key)
 	if err != nil || len(signed.Message) == 0 {

@@ -225,6 +225,7 @@ func TestPSS(t *testing.T) {
 	}
 }
 
+// TestFewerZerosInFront looks for a signature by RSA that begins with one octet 00. Its value is valid without that octet, and with more of them.
 func TestFewerZerosInFront(t *testing.T) {
 	private, err := rsa.GenerateKey(rand.Reader, LeastBits)
 	if err != nil {

@@ -86,14 +86,14 @@ class _GuardHandle(_Handle):
 
 
 class _AskedHandle(_Handle):
-    """An opened question of the library, closed likewise."""
+    """An opened question of the library. It is closed when nothing refers to it."""
 
     def __del__(self, close: Callable[[c_void_p], None] = of.close) -> None:
         self.free(close)
 
 
 class _Open(_Alone):
-    """What is open until it is closed."""
+    """A guard or an opened question: it can be used until `close` is called."""
 
     _handle: c_void_p | None
 
@@ -242,17 +242,20 @@ class Guard(_Open):
             of.close(handle)
 
     def require(self, question: Question, verify: Verify) -> int:
-        """The number of the entry that grants the question's request. Raises `Denied` if none does, and `Refused` as `decide` does."""
+        """The number of the entry that grants the question's request. Raises `Denied` if none does, and `Refused` if a part of the question cannot be
+        read."""
         return _required(self.decide(question, verify))
 
     def explain(self, question: Question, verify: Verify) -> Explanation:
-        """Says of each entry why it grants the request or does not. Raises `Refused` as `decide` does."""
+        """Says of each entry why it grants the request or does not. Raises `Refused` if a part of the question cannot be read, or if the
+        explanation is too large."""
         with self.ask(question) as asked:
             asked.verify(verify)
             return asked.explain()
 
     def reduce(self, question: Question, verify: Verify) -> Reduction:
-        """Which right remains of each entry after all certificates. Raises `Refused` as `decide` does."""
+        """Which right remains of each entry after all certificates. Raises `Refused` if a part of the question cannot be read, or if the
+        reduction is too large."""
         with self.ask(question) as asked:
             asked.verify(verify)
             return asked.reduce()
@@ -319,7 +322,7 @@ class _Room:
 
 
 class _Lines:
-    """Memory for an answer of at most so many octets. The system gives no more of it than was used."""
+    """Memory for an answer of at most `octets` octets. The system gives no more of it than was used."""
 
     def __init__(self, octets: int) -> None:
         self.buffer, self.octets, self.needed = mmap.mmap(-1, octets, mmap.MAP_PRIVATE), c_size_t(octets), c_size_t()
@@ -350,7 +353,7 @@ def _take_lines() -> _Lines:
 
 
 def _number(number: int) -> c_size_t:
-    """A number as the library takes it."""
+    """A number as an argument of the library. Small ones are made once."""
     return _numbers[number] if number < len(_numbers) else c_size_t(number)
 
 
@@ -382,7 +385,8 @@ def _opened(guard: c_void_p, question: Question) -> int | None:
 
 
 def _texts(handle: c_void_p, place: int, room: _Room) -> tuple[int, ...]:
-    """The address and the length of each text of `struct spki_signed`: the key, the message, the value, and its octets. `room` is for the call."""
+    """Eight numbers: address and length of the key, message and value of the signature at a place, and of the octets of the value. `room` is memory
+    for the call."""
     status = of.signature(handle, _number(place), room.at_signed)
     if status != of.DONE:
         raise _refused(status, b"")
@@ -452,7 +456,7 @@ def _granted(line: bytes, until: int) -> Grant:
 
 
 def _expect(status: int, answer: bytes) -> None:
-    """Raises the exception of a call that failed."""
+    """Raises the exception of a call that failed, by its status and its answer. A call that is done raises none."""
     if status != of.DONE:
         raise _refused(status, answer)
 

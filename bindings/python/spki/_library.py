@@ -8,6 +8,7 @@ from collections.abc import Callable
 from ctypes import POINTER, Structure, c_bool, c_char_p, c_int, c_int64, c_size_t, c_uint, c_void_p
 from typing import Protocol, cast
 
+# `enum spki_status`, and `enum spki_command`.
 NO, REFUSED, TOO_SMALL, DONE, NO_MEMORY, YES = 1, 2, 4, 6, 8, 9
 CANONICAL, ADVANCED, TRANSPORT = 0, 1, 2
 # The most that limits may set, and the usual limit of an answer.

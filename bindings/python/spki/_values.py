@@ -258,13 +258,14 @@ class Grant:
     entry: int
     """The number of the first entry that grants the request, from 1."""
     until: datetime | None = None
-    """From its own moment to this second the same question is granted, if the same signatures are valid: it is the least `not-after` of the
-    entry and of all certificates. After it another entry may grant it. `None` if no window ends."""
+    """The last second of the grant: from the question's moment to then, the same question with the same valid signatures is granted. It is the
+    least `not-after` of the entry and of all certificates. After it another entry may grant it. `None` if no window ends."""
 
     def holds_at(self, moment: datetime) -> bool:
-        """Whether a grant that was kept still holds at a moment, from the question's own on. Never before 1970, as where a clock failed.
+        """Whether a grant that was kept still holds at a moment, which must not precede the question's. It does not before 1970: such a moment is
+        that of a clock that failed.
 
-        It says nothing of a list that was read anew, nor of a certificate that its verifier would reject by now."""
+        It does not know of a list that was read anew, nor of a certificate that its verifier would reject by now."""
         seconds = seconds_of(moment)
         return seconds >= 0 and (self.until is None or seconds <= seconds_of(self.until))
 
@@ -318,7 +319,7 @@ class Reduction(NoDecision):
 
 
 def answer_of(answer: object) -> bool:
-    """The answer of a verifier. Raises `TypeError` if it is neither `True` nor `False`."""
+    """The answer of a verifier, as it is. Raises `TypeError` if it is neither `True` nor `False`."""
     if answer is not True and answer is not False:
         raise TypeError(f"a signature is valid by True or not by False, and not by {type(answer).__name__}")
     return answer

@@ -125,7 +125,7 @@ def is_component(name: str) -> bool:
 
 
 def input_of(text: str) -> Input:
-    """Reads `Signature-Input`."""
+    """Reads the value of `Signature-Input`. Raises `Refused`, also if a component or a parameter that the profile requires is missing."""
     parser = Parser(text)
     begin = parser.at
     components, found = parser.components(), parser.parameters()
@@ -138,7 +138,7 @@ def input_of(text: str) -> Input:
 
 
 def signature_of(text: str) -> bytes:
-    """Reads `Signature`."""
+    """The octets of the signature in the value of `Signature`. Raises `Refused`."""
     parser = Parser(text)
     octets = decoded(parser.take(OCTETS)[1])
     if octets is None:
@@ -157,7 +157,7 @@ def decoded(text: str) -> bytes | None:
 
 
 def digest_of(value: str) -> tuple[str, bytes]:
-    """Reads `Content-Digest`: its algorithm and its octets."""
+    """The algorithm, `sha-256` or `sha-512`, and the octets in the value of `Content-Digest`. Raises `Refused`."""
     name, _, rest = value.partition("=")
     found = OCTETS.fullmatch(rest)
     octets = decoded(found[1]) if found else None
@@ -198,7 +198,7 @@ def kind_of(key: bytes) -> tuple[str, int]:
 
 
 def value_of(algorithm: str, octets: bytes) -> bytes:
-    """The canonical value, `(7:sig-val..)`, of a signature's octets. They are split into two equal strings, with RSA into one."""
+    """The canonical value, `(7:sig-val..)`, of the octets of a signature. They are one string of it with RSA, and otherwise two equal halves."""
     half = len(octets) if algorithm.startswith("rsa") else len(octets) // 2
     strings = [octets[:half], octets[half:]][:len(octets) // half]
     return FORMS[algorithm][1].replace(b"%", b"%d:%s") % tuple(part for it in strings for part in (len(it), it))

@@ -29,7 +29,7 @@ class Message:
     has_body: bool = False
 
     def values(self, name: str) -> list[str]:
-        """The values of a field, without the spaces around them."""
+        """The values of a field, whose name is given in small letters, without the spaces around them."""
         return [value.strip(" \t") for known, value in self.fields if known.lower() == name]
 
     def may_have_body(self) -> bool:
@@ -45,7 +45,7 @@ def authority_of(scheme: str, authority: str) -> str:
 
 def base_of(message: Message, scheme: str, components: list[str], parameters: str) -> bytes:
     """The signature base: the text that is signed. `components` are names, and `parameters` is the rest of `Signature-Input` after `spki=`. Raises
-    `Refused` as `value_of` does."""
+    `Refused` if a component is a field that is absent, repeated or not printable ASCII."""
     lines = [f'"{name}": {value_of(message, scheme, name)}' for name in components]
     return "\n".join([*lines, f'"@signature-params": {parameters}']).encode("ascii")
 

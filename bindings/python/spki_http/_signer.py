@@ -47,7 +47,7 @@ class Signer:
         return {**own, "Signature-Input": f"{LABEL}={parameters}", "Signature": f"{LABEL}=:{base64.b64encode(octets).decode()}:"}
 
     def _parameters(self, names: list[str]) -> str:
-        """The value of `@signature-params` for these components, from now on and with a new nonce."""
+        """The value of `@signature-params` for components of these names, created now, with a new nonce."""
         created, listed = int(time.time()), " ".join(f'"{name}"' for name in names)
         keyid, nonce = hash_of(self.key), secrets.token_urlsafe(16)
         return f'({listed});created={created};expires={created + MOST_WINDOW};nonce="{nonce}";keyid="{keyid}";alg="{self.algorithm}";tag="{TAG}"'

@@ -36,7 +36,8 @@ class Nonces(Protocol):
     """Keeps which nonces were used. Several verifiers may share one."""
 
     def take(self, key: bytes, nonce: str, now: int, seconds: int) -> None:
-        """Keeps a nonce of a key for so many seconds. Raises `Refused` if it was used before, or if there is no room."""
+        """Keeps a nonce of a key for so many seconds from `now`, in seconds since 1970. Raises `Refused` if it was used before, or if there is no
+        room."""
 
 
 class Memory:
@@ -49,7 +50,8 @@ class Memory:
         self.young: set[bytes] = set()
 
     def take(self, key: bytes, nonce: str, now: int, seconds: int) -> None:
-        """Keeps a nonce, as `Nonces` says."""
+        """Keeps a nonce of a key for so many seconds from `now`, in seconds since 1970. Raises `Refused` if it was used before, or if the young set
+        is full."""
         name = hashlib.sha256(key + b"\0" + nonce.encode()).digest()[:16]
         with self.lock:
             if now - self.turned >= seconds:
@@ -93,7 +95,8 @@ class Verifier:
         self.start = int(now() if start is None else start)
 
     def prove(self, method: str, authority: str, target: str, fields: Iterable[tuple[str, str]], body: bytes | None = None) -> Proof:
-        """The proof of a request, whose nonce is used up. Raises `Refused`. A body that is None must be tested later, by `Proof.covers`."""
+        """The proof of a request, whose parts are those of `Message`. Its nonce is used up. Raises `Refused`. A body that is None must be tested
+        later, by `Proof.covers`."""
         proof = self.check(Message(method, authority, target, fields, body))
         self.take(proof)
         return proof

@@ -76,7 +76,7 @@ def verify(signature: Signed) -> bool:
 
 
 def verify_texts(*, key: bytes, message: bytes, value: bytes) -> bool:
-    """As `verify`, of three texts."""
+    """Whether `value` is a valid signature of `message` by `key`. Key and value are canonical texts; those of any other form are not valid."""
     public = public_of(key)
     try:
         return public is not None and message != b"" and _is_signed(public, message, value)

@@ -84,7 +84,7 @@ pub(crate) fn line_of(answer: &[u8]) -> &str {
         .trim_end_matches('\n')
 }
 
-/// Makes a call that writes one line, with a buffer, its room, and where the length goes. `made` gets what it returns, and the line.
+/// Makes a call that writes one line. `call` gets a buffer, its room, and where the length goes; `made` gets what `call` returns, and the line.
 pub(crate) fn with_line<A, T>(
     call: impl FnOnce(*mut c_void, usize, *mut usize) -> A,
     made: impl FnOnce(A, &[u8]) -> T,

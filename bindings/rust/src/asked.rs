@@ -51,7 +51,7 @@ impl fmt::Debug for Asked {
 }
 
 impl Asked {
-    /// The question of a handle that is open, whose answers have at most so many octets.
+    /// The question of a handle that is open. Its explanation and its reduction have at most `most_answer` octets.
     pub(crate) fn new(handle: NonNull<sys::Asked>, most_answer: usize) -> Asked {
         // SAFETY: the handle is open.
         let count = unsafe { sys::spki_asked_count(handle.as_ptr()) };

@@ -13,13 +13,13 @@ use std::time::{Duration, SystemTime, UNIX_EPOCH};
 pub struct Grant {
     /// The number of the first entry that grants the request, from 1.
     pub entry: usize,
-    /// From its own moment to this second the same question is granted, if the same signatures are valid: it is the least `not-after` of the
-    /// entry and of all certificates. After it another entry may grant it. `None` if no window ends.
+    /// The last second of the grant: from the question's moment to then, the same question with the same valid signatures is granted. It is the
+    /// least `not-after` of the entry and of all certificates. After it another entry may grant it. `None` if no window ends.
     pub until: Option<SystemTime>,
 }
 
 impl Grant {
-    /// The grant by an entry until a second since 1970, which `i64::MAX` says is none.
+    /// The grant by an entry until a second since 1970. `i64::MAX` means that no window ends.
     pub(crate) fn lasting(entry: usize, seconds: i64) -> Grant {
         let (after, length) = (seconds >= 0, Duration::from_secs(seconds.unsigned_abs()));
         let until = (seconds < i64::MAX).then(|| match after {
@@ -29,9 +29,10 @@ impl Grant {
         Grant { entry, until }
     }
 
-    /// Whether a grant that was kept still holds at a time, from the question's own moment on. Never before 1970, as where a clock failed.
+    /// Whether a grant that was kept still holds at a time, which must not precede the question's moment. It does not before 1970: such a time is
+    /// that of a clock that failed.
     ///
-    /// It says nothing of a list that was read anew, nor of a certificate that its verifier would reject by now.
+    /// It does not know of a list that was read anew, nor of a certificate that its verifier would reject by now.
     #[must_use]
     pub fn holds_at(&self, now: SystemTime) -> bool {
         let is_over = |until| now >= until + Duration::from_secs(1);

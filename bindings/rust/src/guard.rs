@@ -91,7 +91,7 @@ impl Limits {
         ]
     }
 
-    /// The most octets that the texts of a question may have together. More than the library's highest means that.
+    /// The most octets that the texts of a question may have together. A number above the library's highest sets the highest.
     #[must_use]
     pub const fn octets(mut self, most: usize) -> Limits {
         self.values.octets = at_most(most, sys::MOST_OCTETS);
@@ -112,16 +112,16 @@ impl Limits {
         self
     }
 
-    /// The most nodes of one tag times nodes of another for which `explain` and `reduce` compute their intersection. More than the library's
-    /// highest means that.
+    /// The most nodes of one tag times nodes of another for which `explain` and `reduce` compute their intersection. A number above
+    /// the library's highest sets the highest.
     #[must_use]
     pub const fn nodes(mut self, most: usize) -> Limits {
         self.values.nodes = at_most(most, sys::MOST_NODES);
         self
     }
 
-    /// The most work of all certificates and entries together, as `struct spki_limits` of `spki.h` counts it. More than the library's
-    /// highest means that.
+    /// The most work of all certificates and entries together, as `struct spki_limits` of `spki.h` counts it. A number above the
+    /// library's highest sets the highest.
     #[must_use]
     pub const fn work(mut self, most: usize) -> Limits {
         self.values.work = at_most(most, sys::MOST_WORK);
@@ -129,7 +129,7 @@ impl Limits {
     }
 
     /// The most octets of the lines of `explain` and `reduce`: a call takes address space for as many, of which only those of the answer are
-    /// used. More than 256 MiB means that.
+    /// used. A number above 256 MiB sets 256 MiB.
     #[must_use]
     pub const fn answer(mut self, most: usize) -> Limits {
         self.values.answer = at_most(most, sys::MOST_ANSWER);
@@ -137,7 +137,7 @@ impl Limits {
     }
 }
 
-/// A number, or the highest one.
+/// The smaller of a number and the highest, as `min` has it, which is no `const fn`.
 const fn at_most(number: usize, highest: usize) -> usize {
     if number < highest {
         number
@@ -244,7 +244,7 @@ impl Guard {
         let answer = question.lend(|question| {
             let call = |buffer, room, needed| {
                 let guard = self.handle.as_ptr();
-                // SAFETY: the handle is open, and the pointers are as in `read`.
+                // SAFETY: the handle is open. Each pointer is to as many octets as its length says, or to one value of its type, and none overlap.
                 unsafe { sys::spki_guard_ask(guard, question, &mut handle, buffer, room, needed) }
             };
             with_line(call, |status, line| (status, line.to_owned()))
@@ -278,11 +278,11 @@ impl Guard {
         asked.decided()
     }
 
-    /// The same, by a [`Verifier`].
+    /// Decides whether the question's request is granted, by a [`Verifier`]. Only `Ok` is a yes.
     ///
     /// # Errors
     ///
-    /// Those of [`decide`](Guard::decide).
+    /// No entry grants the request; a part of the question cannot be read, or exceeds a limit; the verifier failed; an allocation failed.
     pub fn decide_by<V: Verifier>(
         &self,
         question: &Question,

@@ -146,7 +146,7 @@ impl<N: TakeNonce> Requests<N> {
         }
     }
 
-    /// The certificates that a request shows. Their field was checked before: it has one line at most.
+    /// The certificates that a request shows, or a sequence of none. Their field was checked before: it has one line at most.
     fn sequence_of(&self, message: &Message) -> Vec<u8> {
         let shown = message.values(&self.sequence).next();
         shown.unwrap_or(b"(sequence)").to_vec()
@@ -174,7 +174,7 @@ impl<N: TakeNonce> Requests<N> {
         }
     }
 
-    /// The signed text of a message, and the digest of its body if one is covered.
+    /// Tests a message. Returns its signed text, and the digest of its body if one is covered.
     fn check_message(
         &self,
         message: &Message,

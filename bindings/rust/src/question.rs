@@ -6,7 +6,7 @@ use std::mem::size_of;
 use std::ptr;
 use std::time::{SystemTime, UNIX_EPOCH};
 
-/// A request of at most so many strings is lent without an allocation.
+/// The most strings of a request that is lent without an allocation.
 const WORDS: usize = 16;
 
 /// What a service asks a guard. Each text is one value in any of the three forms of RFC 9804, so that no octets of one part can become
@@ -93,7 +93,7 @@ impl<'q> Question<'q> {
         call(&self.with(few.as_ptr(), words.len()))
     }
 
-    /// The question with the strings of its request: null and 0 if it is a text.
+    /// The question as the library takes it. `words` are the strings of its request: null, and 0 of them, if the request is a text.
     fn with(&self, words: *const sys::Text, word_count: usize) -> sys::Question {
         let request = match self.request {
             Request::Text(text) => sys::Text::of(text),

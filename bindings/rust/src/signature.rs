@@ -39,7 +39,7 @@ const FRONTS: [(&[u8], Scheme); 3] = [
 ];
 
 impl<'a> Signature<'a> {
-    /// How it is made. `None` for a key of another form.
+    /// How the signature is made, by the form of its key. `None` for a key of another form.
     #[must_use]
     pub fn scheme(&self) -> Option<Scheme> {
         let found = FRONTS.iter().find(|(front, _)| self.key.starts_with(front));

@@ -61,11 +61,11 @@ pub fn canonical(text: &[u8]) -> Result<Vec<u8>, Refusal> {
     converted(sys::CANONICAL, text)
 }
 
-/// The same in advanced form, on one line, with a line feed at its end.
+/// The advanced form of a text, which [`canonical`] would accept, on one line, with a line feed at its end.
 ///
 /// # Errors
 ///
-/// Those of [`canonical`].
+/// The text is not one value within the limits, or an allocation failed.
 ///
 /// ```
 /// assert_eq!(spki::advanced(b"(8:packages4:read)")?, b"(packages read)\n");
@@ -75,11 +75,11 @@ pub fn advanced(text: &[u8]) -> Result<Vec<u8>, Refusal> {
     converted(sys::ADVANCED, text)
 }
 
-/// The same in the transport form, on one line, with a line feed at its end.
+/// The transport form of a text, which [`canonical`] would accept, on one line, with a line feed at its end.
 ///
 /// # Errors
 ///
-/// Those of [`canonical`].
+/// The text is not one value within the limits, or an allocation failed.
 ///
 /// ```
 /// assert_eq!(spki::transport(b"(a)")?, b"{KDE6YSk=}\n");
@@ -89,12 +89,12 @@ pub fn transport(text: &[u8]) -> Result<Vec<u8>, Refusal> {
     converted(sys::TRANSPORT, text)
 }
 
-/// The answer of a command that writes a text in another form.
+/// A text in another form: `command` is `sys::CANONICAL`, `sys::ADVANCED` or `sys::TRANSPORT`.
 fn converted(command: c_int, text: &[u8]) -> Result<Vec<u8>, Refusal> {
     library::check();
     // (an octet that is printed in base64 takes 7 for the 3 of its canonical text)
     let (status, answer) = with_answer(3 * text.len() + 64, |buffer, room, needed| {
-        // SAFETY: as above.
+        // SAFETY: each pointer is to as many octets as its length says, or to one value of its type, and they do not overlap.
         unsafe {
             sys::spki_answer(
                 command,

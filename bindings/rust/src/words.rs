@@ -13,7 +13,7 @@ macro_rules! words {
         }
 
         impl $kind {
-            /// What a word of a line says.
+            /// The variant for a word of a line. A word that is not known is `Other`.
             pub(crate) fn of(word: &str) -> $kind {
                 // (the words of parts and `grants` are in small letters)
                 $(if word.eq_ignore_ascii_case(stringify!($word)) {
@@ -36,7 +36,7 @@ words! {
         DigestLength,
         /// A list of nothing in a tag or a request.
         EmptyList,
-        /// An algorithm of a hash that is none of three.
+        /// A hash by another algorithm than SHA-1, SHA-256 or SHA-512.
         HashAlg,
         /// A display hint in a tag or a request.
         Hint,
@@ -52,9 +52,9 @@ words! {
         Misused,
         /// A validity with `(online ..)`.
         Online,
-        /// A limit of a range in a tag that is none.
+        /// A range in a tag whose limits are neither one limit nor a lower and then an upper one.
         RangeLimit,
-        /// An ordering of a range in a tag that is none.
+        /// A range in a tag by another ordering than `alpha`, `time` or `date`, or by none.
         RangeOrdering,
         /// An entry for a name without a principal.
         RelativeInEntry,
@@ -82,11 +82,11 @@ words! {
         TooManyWords,
         /// Octets behind a value.
         Trailing,
-        /// A `(do ..)` that is none.
+        /// A `(do ..)` that is not `(do hash ..)`.
         UnknownOp,
         /// A `(* ..)` of no known kind in a tag.
         UnknownStar,
-        /// A version that is none.
+        /// A version other than 0.
         UnknownVersion,
         /// A certificate that no signature follows.
         UnsignedCert,

@@ -87,7 +87,7 @@ pub fn sha256(octets: &[u8]) -> [u8; 32] {
     hashed(octets).unwrap_or_default()
 }
 
-/// The same, or `None` if the command fails.
+/// The SHA-256 hash of octets, or `None` if the command fails.
 fn hashed(octets: &[u8]) -> Option<[u8; 32]> {
     let room = Room::new().ok()?;
     fs::write(room.path.join("message"), octets).ok()?;
@@ -149,7 +149,7 @@ fn signed(key: &[u8], value: &[u8]) -> Option<Signed> {
         .or_else(|| rsa(key, value))
 }
 
-/// A key and a signature of Ed25519. `None` for others, and for those that docs/FORMATS.md excludes. So are the next two for theirs.
+/// A key and a signature of Ed25519. `None` for others, and for those that docs/FORMATS.md excludes.
 fn ed25519(key: &[u8], value: &[u8]) -> Option<Signed> {
     let [point] = strings(
         key,
@@ -164,7 +164,7 @@ fn ed25519(key: &[u8], value: &[u8]) -> Option<Signed> {
     })
 }
 
-/// Whether a point of Ed25519 has no small order and one text only, as far as y says that.
+/// Whether the coordinate y in a text of Ed25519 rules out a small order and a second text of the point. That it is a point is not tested.
 fn is_of_large_order(point: &[u8]) -> bool {
     let mut y = reversed(point);
     y[0] &= 0x7f;
@@ -172,7 +172,7 @@ fn is_of_large_order(point: &[u8]) -> bool {
     y[..8] != [0; 8] && is_below(&y, LAST_Y) && !is_eighth
 }
 
-/// A key of a curve, and a signature by ECDSA.
+/// A key of a curve, and a signature by ECDSA. `None` for others, and for those that docs/FORMATS.md excludes.
 fn ecdsa(curve: &Curve, key: &[u8], value: &[u8]) -> Option<Signed> {
     let [point] = strings(key, curve.form)?;
     let numbers: [&[u8]; 2] = strings(value, b"(7:sig-val(5:ecdsa(1:r%)(1:s%)))")?;
@@ -190,7 +190,7 @@ fn ecdsa(curve: &Curve, key: &[u8], value: &[u8]) -> Option<Signed> {
     })
 }
 
-/// A key and a signature of RSA.
+/// A key and a signature of RSA. `None` for others, and for those that docs/FORMATS.md excludes.
 fn rsa(key: &[u8], value: &[u8]) -> Option<Signed> {
     let [modulus, exponent] = strings(key, b"(10:public-key(3:rsa(1:n%)(1:e%)))")?;
     let [number] = strings(value, b"(7:sig-val(3:rsa(1:s%)))")?;

@@ -14,7 +14,7 @@ pub fn serialize<S: Serializer>(limits: &Limits, to: S) -> Result<S::Ok, S::Erro
     to.collect_map(limits.named().into_iter().filter(|(_, most)| *most > 0))
 }
 
-/// Reads limits. More than the library's highest means that.
+/// Reads limits. A number above the library's highest sets the highest.
 ///
 /// # Errors
 ///
@@ -50,7 +50,7 @@ impl<'de> Visitor<'de> for Named {
     }
 }
 
-/// The limits with another one set, if there is one of this name.
+/// The limits with the one of this name set. `None` if no limit has this name.
 fn with(limits: Limits, name: &str, most: usize) -> Option<Limits> {
     Some(match name {
         "octets" => limits.octets(most),

@@ -11,7 +11,7 @@ const WORDS: [(Policy, &str); 2] = [
     (Policy::AllowSha1, "allow-sha1"),
 ];
 
-/// Writes the word.
+/// Writes the word of a policy, `strict` or `allow-sha1`.
 ///
 /// # Errors
 ///
@@ -24,7 +24,7 @@ pub fn serialize<S: Serializer>(policy: &Policy, to: S) -> Result<S::Ok, S::Erro
         .and_then(|(_, word)| to.serialize_str(word))
 }
 
-/// Reads the word.
+/// Reads a policy by its word, `strict` or `allow-sha1`.
 ///
 /// # Errors
 ///

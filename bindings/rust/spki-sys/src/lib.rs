@@ -215,7 +215,7 @@ extern "C" {
     pub fn spki_asked_granted(asked: *const Asked) -> bool;
     /// Whether the request would be granted if all signatures were valid.
     pub fn spki_asked_possible(asked: *const Asked) -> bool;
-    /// Decides as `spki_asked_granted` does. The answer is the line `yes entry N` or `no`.
+    /// Decides whether the request is granted, if exactly the marked signatures are valid. The answer is the line `yes entry N` or `no`.
     pub fn spki_asked_decide(
         asked: *const Asked,
         buffer: *mut c_void,
@@ -247,7 +247,7 @@ extern "C" {
         octets: *mut *const c_void,
         length: *mut usize,
     ) -> Status;
-    /// Runs a command on a text.
+    /// Writes a text in another form, by a command: `CANONICAL`, `ADVANCED` or `TRANSPORT`.
     pub fn spki_answer(
         command: c_int,
         text: *const c_void,

@@ -202,7 +202,7 @@ fn is_component(name: &str) -> bool {
         || !["", "signature", "signature-input"].contains(&name) && name.bytes().all(is_small)
 }
 
-/// Reads `Signature-Input`.
+/// Reads the value of `Signature-Input`. A component or a parameter that the profile requires must not be missing.
 pub(super) fn input_of(value: &[u8]) -> Result<Input<'_>, Unproved> {
     let mut parser = Parser::new(value)?;
     let mut made = Input {
@@ -214,7 +214,7 @@ pub(super) fn input_of(value: &[u8]) -> Result<Input<'_>, Unproved> {
     Ok(made)
 }
 
-/// Reads `Signature`.
+/// The octets of the signature in the value of `Signature`.
 pub(super) fn signature_of(value: &[u8]) -> Result<Vec<u8>, Unproved> {
     let mut parser = Parser::new(value)?;
     let octets = parser.octets()?;
@@ -222,7 +222,7 @@ pub(super) fn signature_of(value: &[u8]) -> Result<Vec<u8>, Unproved> {
     Ok(octets)
 }
 
-/// Reads `Content-Digest`: one member, by SHA-256 or SHA-512.
+/// Reads the value of `Content-Digest`: one member, by SHA-256 or SHA-512.
 pub(super) fn digest_of(value: &[u8]) -> Result<ContentDigest, Unproved> {
     let text = std::str::from_utf8(value).map_err(|_| Unproved::BadDigest)?;
     let (name, rest) = text.split_once('=').ok_or(Unproved::BadDigest)?;
@@ -245,7 +245,7 @@ pub(super) fn digest_of(value: &[u8]) -> Result<ContentDigest, Unproved> {
     })
 }
 
-/// The octets of base64 with its padding. `None` if it is none, or not the one text that the octets have.
+/// The octets of a text in base64. `None` if the text is not exactly how these octets are encoded, with padding.
 pub(super) fn decode_base64(text: &[u8]) -> Option<Vec<u8>> {
     let padding = text.iter().rev().take(2).filter(|it| **it == b'=').count();
     if text.len() % 4 != 0 {

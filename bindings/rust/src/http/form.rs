@@ -42,7 +42,8 @@ pub(super) struct Kind {
 }
 
 impl Kind {
-    /// The canonical value of the octets of a signature. They are as many as the algorithm has.
+    /// The canonical value, `(7:sig-val..)`, of the octets of a signature, which are as many as the algorithm has. With RSA they are one string
+    /// of it, and otherwise two equal halves.
     pub(super) fn value_of(&self, octets: &[u8]) -> Vec<u8> {
         let halves = self.value.matches('%').count();
         let mut strings = octets.chunks(octets.len() / halves);
@@ -86,7 +87,7 @@ pub(super) fn key_of(text: &[u8]) -> Result<(Vec<u8>, Kind), Unproved> {
     Err(Unproved::BadKey)
 }
 
-/// The first of the strings of a canonical text that are at the marks of a form. `None` if the text has another form.
+/// The first of the strings of a canonical text that are at the marks `%` of a form. `None` if the text has another form.
 fn first_string<'a>(mut text: &'a [u8], form: &str) -> Option<&'a [u8]> {
     let mut first = None;
     for octet in form.bytes() {
@@ -101,7 +102,7 @@ fn first_string<'a>(mut text: &'a [u8], form: &str) -> Option<&'a [u8]> {
     first.filter(|_| text.is_empty())
 }
 
-/// The string that a canonical text begins with, and the rest.
+/// The string that a canonical text begins with, and the rest. `None` if it begins with none.
 fn string_of(text: &[u8]) -> Option<(&[u8], &[u8])> {
     let colon = text.iter().take(5).position(|octet| *octet == b':')?;
     let digits = std::str::from_utf8(&text[..colon]).ok()?;

@@ -32,7 +32,7 @@ impl<'a> Message<'a> {
         }
     }
 
-    /// The values of a field, without the spaces around them.
+    /// The values of a field, one for each of its lines, without the spaces around them.
     pub(super) fn values<'n>(&self, name: &'n str) -> impl Iterator<Item = &'a [u8]> + 'n
     where
         'a: 'n,
@@ -43,7 +43,7 @@ impl<'a> Message<'a> {
             .map(|(_, value)| trimmed(value))
     }
 
-    /// The value of a field, which must be there in one line.
+    /// The value of a field, which must be there in one line of printable ASCII.
     pub(super) fn field(&self, name: &str) -> Result<Vec<u8>, Unproved> {
         let mut values = self.values(name);
         let value = values.next().ok_or(Unproved::AbsentField)?;
@@ -59,14 +59,14 @@ impl<'a> Message<'a> {
         Ok(value.to_vec())
     }
 
-    /// Whether a digest must be covered.
+    /// Whether it may have a body, so that a digest must be covered.
     pub(super) fn may_have_body(&self) -> bool {
         !matches!(self.method, "GET" | "HEAD")
             || self.values("content-length").any(|value| value != b"0")
             || self.values("transfer-encoding").next().is_some()
     }
 
-    /// The signature base.
+    /// The signature base: the text that is signed. The authority is one of `authority_of`.
     pub(super) fn base(
         &self,
         scheme: &str,
@@ -84,7 +84,7 @@ impl<'a> Message<'a> {
         Ok(made)
     }
 
-    /// The value of a component.
+    /// The value of a component by its name, such as `@path`. It fails for a field that `field` refuses.
     fn value(&self, scheme: &str, authority: &str, name: &str) -> Result<Vec<u8>, Unproved> {
         let (path, query) = match self.target.split_once('?') {
             Some((path, query)) => (path, Some(query)),

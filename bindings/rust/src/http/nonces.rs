@@ -8,7 +8,7 @@ use std::sync::{Mutex, PoisonError};
 
 /// Keeps which nonces were used.
 pub trait TakeNonce {
-    /// Keeps a nonce of a key for so many seconds from now.
+    /// Keeps a nonce of a key for so many seconds from `now`, the time in seconds since 1970.
     ///
     /// # Errors
     /// If the nonce was used before, or there is no room for it.
@@ -33,7 +33,7 @@ struct Sets {
 }
 
 impl Nonces {
-    /// Room for so many nonces in each of the two sets. A full one refuses.
+    /// Room for `most` nonces in each of the two sets. If the young set is full, a nonce is refused.
     #[must_use]
     pub fn new(most: usize) -> Nonces {
         Nonces {
