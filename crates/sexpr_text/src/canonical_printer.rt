@@ -73,7 +73,7 @@ fn print_members<'t, S: Sink>(text: &'t [u8], sink: &mut S) -> &'t [u8]
     rest
 }
 
-/// Prints the value with which a text must begin, in canonical form. Returns the text behind it.
+/// Prints, in advanced form, the value with which `text` begins, which must be in canonical form. Returns the text behind it.
 #[cycle(printing)]
 fn print_first<'t, S: Sink>(text: &'t [u8], sink: &mut S) -> &'t [u8]
     requires { (v : Value) × (behind : List ℕ) × (text.now ≡ canon v ++ behind) }

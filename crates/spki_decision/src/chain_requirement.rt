@@ -45,11 +45,11 @@ impl<'a> ChainRequirement<'a> {
         ensures answer { IfOk result (IsChainRequirement (model case.now) (tuples_of steps.now)) }
         ensures end { IfOk result (HasEnd (tuples_of steps.now)) }
     {
-        ChainRequirement::of_from::<Brand>(alloc, case, steps, Blank::new(1))
+        ChainRequirement::of_with_new_count::<Brand>(alloc, case, steps, Blank::new(1))
     }
 
     /// Calls `of_counted` with a new count, which `blank` opens. The count exists only in contracts, and is dropped afterwards.
-    fn of_from<L: Ledger>(
+    fn of_with_new_count<L: Ledger>(
         alloc: Global,
         case: &Case<'a>,
         steps: &[Step<'a>],
@@ -98,11 +98,11 @@ impl<'a> ChainRequirement<'a> {
         ensures { (tuples : List Tuple) → IsChainRequirement (model case.now) tuples self.now
             → IsTrue result ↔ Supported (model case.now) tuples entry.now }
     {
-        self.grants_from::<Brand>(entry, case, Blank::new(1))
+        self.grants_with_new_count::<Brand>(entry, case, Blank::new(1))
     }
 
     /// Calls `grants_counted` with a new count, which `blank` opens. The count exists only in contracts, and is dropped afterwards.
-    fn grants_from<L: Ledger>(&self, entry: &Entry, case: &Case, blank: Blank) -> bool
+    fn grants_with_new_count<L: Ledger>(&self, entry: &Entry, case: &Case, blank: Blank) -> bool
         requires name { blank.name ≡ L.name }
         requires parts { blank.parts ≡ L.parts }
         requires some { 0 < blank.parts }

@@ -138,11 +138,11 @@ pub fn entry_fold<'a>(
     ensures same_sizes { IsBudgetFor (tuples_of steps.now) budget.new }
     ensures within_limit { IfOk result (λ fold. ¬ TooLargeAt case.now.most_nodes case.now.policy (five (entry_tuple entry.now)) (tuples_of steps.now)) }
 {
-    entry_fold_from::<Brand>(alloc, case, entry, shown, steps, budget, Blank::new(1))
+    entry_fold_with_new_count::<Brand>(alloc, case, entry, shown, steps, budget, Blank::new(1))
 }
 
 /// Calls `entry_fold_counted` with a new count, which `blank` opens. The count exists only in contracts, and is dropped afterwards.
-fn entry_fold_from<'a, L: Ledger>(
+fn entry_fold_with_new_count<'a, L: Ledger>(
     alloc: Global,
     case: &Case<'a>,
     entry: &Entry<'a>,

@@ -103,11 +103,11 @@ pub fn fold_owned<'a>(
     ensures worked { OnOk result ((n : ℕ) × IsWork policy (five (five_tuple first.entry)) (tuples_of steps.now) n
         × Takes (left_of work.old) (left_of work.new) n) }
 {
-    fold_from::<Brand>(alloc, first, steps, policy, most, work, Blank::new(1))
+    fold_with_new_count::<Brand>(alloc, first, steps, policy, most, work, Blank::new(1))
 }
 
-/// Like `fold_owned`, counted in a ledger of its own.
-fn fold_from<'a, L: Ledger>(
+/// Calls `fold_owned_counted` with a new count, which `blank` opens. The count exists only in contracts, and is dropped afterwards.
+fn fold_with_new_count<'a, L: Ledger>(
     alloc: Global,
     first: Five<'a>,
     steps: &[Step<'a>],

@@ -141,11 +141,11 @@ impl<'a> Five<'a> {
             (λ cause. Stops policy (five (five_tuple self.entry)) (four (four_tuple definition.now)) cause)) }
         ensures refused { IfErr result (λ fault. fault ≡ ReduceFault.Memory) }
     {
-        self.resolve_from::<Brand>(definition, policy, Blank::new(1))
+        self.resolve_with_new_count::<Brand>(definition, policy, Blank::new(1))
     }
 
-    /// Like `into_resolve`, counted in a ledger of its own.
-    fn resolve_from<L: Ledger>(
+    /// Calls `into_resolve_counted` with a new count, which `blank` opens. The count exists only in contracts, and is dropped afterwards.
+    fn resolve_with_new_count<L: Ledger>(
         self,
         definition: &Four<'a>,
         policy: Policy,

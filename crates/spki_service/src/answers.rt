@@ -77,7 +77,7 @@ impl<'a> PreparedQuestion<'a> {
     pub fn grant_by(&self, alloc: Global) -> Result<Option<Grant>, AllocError>
         ensures { IfOk result (GrantsMarked self.now) }
     {
-        self.grant_by_from::<Brand>(alloc, Blank::new(1))
+        self.grant_by_with_new_count::<Brand>(alloc, Blank::new(1))
     }
 
     /// Decides the question, if exactly the marked signatures are valid. So the answer is no unless each signature that `signed` lists
@@ -115,7 +115,7 @@ impl<'a> PreparedQuestion<'a> {
     pub(crate) fn granted(&self, alloc: Global) -> Result<Option<Grant>, AllocError>
         ensures { IfOk result (Grants every self.now) }
     {
-        self.granted_from::<Brand>(alloc, Blank::new(1))
+        self.granted_with_new_count::<Brand>(alloc, Blank::new(1))
     }
 
     /// Explains the question, as `spki_decision::explain` explains the case of the question's parts and the guard's
@@ -135,7 +135,7 @@ impl<'a> PreparedQuestion<'a> {
         ensures { Answers (λ c answer. IsExplained c (V.accepted verifier.now) answer) self.now result }
     {
         match first_refused(alloc, &self.examined.signed, verifier)? {
-            None => self.explained_from::<Brand>(alloc, Blank::new(1)),
+            None => self.explained_with_new_count::<Brand>(alloc, Blank::new(1)),
             Some(place) => Ok(Explanation::Evidence {
                 item: self.examined.signed[place].item,
                 stop: Stop::NotAccepted,
@@ -151,7 +151,7 @@ impl<'a> PreparedQuestion<'a> {
     pub fn explain_by(&self, alloc: Global) -> Result<Explanation, GuardFault>
         ensures { ExplainsMarked self.now result }
     {
-        self.explain_by_from::<Brand>(alloc, Blank::new(1))
+        self.explain_by_with_new_count::<Brand>(alloc, Blank::new(1))
     }
 
     /// Reduces the question, as `spki_decision::reduce_case` reduces the case of the question's parts and the guard's
@@ -171,7 +171,7 @@ impl<'a> PreparedQuestion<'a> {
         ensures end { IfOk result EndAtDates }
     {
         match first_refused(alloc, &self.examined.signed, verifier)? {
-            None => self.reduced_from::<Brand>(alloc, Blank::new(1)),
+            None => self.reduced_with_new_count::<Brand>(alloc, Blank::new(1)),
             Some(place) => Ok(Reduction::Evidence {
                 item: self.examined.signed[place].item,
                 stop: Stop::NotAccepted,
@@ -188,7 +188,7 @@ impl<'a> PreparedQuestion<'a> {
         ensures reduced { ReducesMarked self.now result }
         ensures end { IfOk result EndAtDates }
     {
-        self.reduce_by_from::<Brand>(alloc, Blank::new(1))
+        self.reduce_by_with_new_count::<Brand>(alloc, Blank::new(1))
     }
 
     /// Reduces the question as `reduce_by` does, and puts what each entry becomes into `sink` as soon as it is found. So no more

@@ -53,7 +53,7 @@ impl<'a> PreparedQuestion<'a> {
     }
 
     /// Calls `grant_by_counted` with a new count, which `blank` opens. The count exists only in contracts, and is dropped afterwards.
-    pub(crate) fn grant_by_from<L: Ledger>(
+    pub(crate) fn grant_by_with_new_count<L: Ledger>(
         &self,
         alloc: Global,
         blank: Blank,
@@ -82,8 +82,8 @@ impl<'a> PreparedQuestion<'a> {
         }
     }
 
-    /// Does what `granted` does: calls `granted_counted` with a new count, which `blank` opens and which is dropped afterwards.
-    pub(crate) fn granted_from<L: Ledger>(
+    /// Calls `granted_counted` with a new count, which `blank` opens. The count exists only in contracts, and is dropped afterwards.
+    pub(crate) fn granted_with_new_count<L: Ledger>(
         &self,
         alloc: Global,
         blank: Blank,

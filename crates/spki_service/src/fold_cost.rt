@@ -51,7 +51,7 @@ impl<'a> PreparedQuestion<'a> {
     }
 
     /// Calls `explain_by_counted` with a new count, which `blank` opens. The count exists only in contracts, and is dropped afterwards.
-    pub(crate) fn explain_by_from<L: Ledger>(
+    pub(crate) fn explain_by_with_new_count<L: Ledger>(
         &self,
         alloc: Global,
         blank: Blank,
@@ -88,7 +88,7 @@ impl<'a> PreparedQuestion<'a> {
     }
 
     /// Calls `reduce_by_counted` with a new count, which `blank` opens. The count exists only in contracts, and is dropped afterwards.
-    pub(crate) fn reduce_by_from<L: Ledger>(
+    pub(crate) fn reduce_by_with_new_count<L: Ledger>(
         &self,
         alloc: Global,
         blank: Blank,
@@ -152,7 +152,7 @@ impl<'a> PreparedQuestion<'a> {
     }
 
     /// Calls `explained_counted` with a new count, which `blank` opens. The count exists only in contracts, and is dropped afterwards.
-    pub(crate) fn explained_from<L: Ledger>(
+    pub(crate) fn explained_with_new_count<L: Ledger>(
         &self,
         alloc: Global,
         blank: Blank,
@@ -184,7 +184,7 @@ impl<'a> PreparedQuestion<'a> {
     }
 
     /// Calls `reduced_counted` with a new count, which `blank` opens. The count exists only in contracts, and is dropped afterwards.
-    pub(crate) fn reduced_from<L: Ledger>(
+    pub(crate) fn reduced_with_new_count<L: Ledger>(
         &self,
         alloc: Global,
         blank: Blank,

@@ -33,11 +33,15 @@ pub(crate) fn mark_at(marks: &mut [bool], place: usize) -> bool
 pub(crate) fn first_unmarked(count: usize, marks: &[bool]) -> Option<usize>
     ensures { IsFirstUnmarked count marks.now result }
 {
-    first_unmarked_from::<Brand>(count, marks, Blank::new(1))
+    first_unmarked_with_new_count::<Brand>(count, marks, Blank::new(1))
 }
 
 /// Calls `first_unmarked_counted` with a new count, which `blank` opens. The count exists only in contracts, and is dropped afterwards.
-fn first_unmarked_from<L: Ledger>(count: usize, marks: &[bool], blank: Blank) -> Option<usize>
+fn first_unmarked_with_new_count<L: Ledger>(
+    count: usize,
+    marks: &[bool],
+    blank: Blank,
+) -> Option<usize>
     requires name { blank.name ≡ L.name }
     requires parts { blank.parts ≡ L.parts }
     requires some { 0 < blank.parts }

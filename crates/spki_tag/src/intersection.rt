@@ -230,11 +230,11 @@ impl Tag {
             × (ldepth c ≤ max (ldepth self.now) (ldepth other.now))) }
         ensures too_large { IsErrOf result MeetFault.TooLarge ↔ (most < nodes self.now * nodes other.now) }
     {
-        self.meet_from::<Brand>(alloc, other, most, Blank::new(1))
+        self.meet_with_new_count::<Brand>(alloc, other, most, Blank::new(1))
     }
 
-    /// Like `meet_within`, counted in a ledger of its own.
-    fn meet_from<L: Ledger>(
+    /// Calls `meet_counted` with a new count, which `blank` opens. The count exists only in contracts, and is dropped afterwards.
+    fn meet_with_new_count<L: Ledger>(
         &self,
         alloc: Global,
         other: &Tag,
@@ -295,11 +295,11 @@ impl Tag {
             × (ldepth c ≤ max (ldepth self) (ldepth other.now))) }
         ensures too_large { IsErrOf result MeetFault.TooLarge ↔ (most < nodes self * nodes other.now) }
     {
-        self.into_meet_from::<Brand>(alloc, other, most, Blank::new(1))
+        self.into_meet_with_new_count::<Brand>(alloc, other, most, Blank::new(1))
     }
 
-    /// Like `into_meet`, counted in a ledger of its own.
-    fn into_meet_from<L: Ledger>(
+    /// Calls `into_meet_counted` with a new count, which `blank` opens. The count exists only in contracts, and is dropped afterwards.
+    fn into_meet_with_new_count<L: Ledger>(
         self,
         alloc: Global,
         other: &Tag,

@@ -16,11 +16,11 @@ impl Tag {
     pub fn holds(&self, request: &Ground) -> bool
         ensures { result ≡ contains self.now request.now }
     {
-        self.holds_from::<Brand>(request, Blank::new(1))
+        self.holds_with_new_count::<Brand>(request, Blank::new(1))
     }
 
     /// Calls `holds_counted` with a new count, which `blank` opens. The count exists only in contracts, and is dropped afterwards.
-    fn holds_from<L: Ledger>(&self, request: &Ground, blank: Blank) -> bool
+    fn holds_with_new_count<L: Ledger>(&self, request: &Ground, blank: Blank) -> bool
         requires name { blank.name ≡ L.name }
         requires parts { blank.parts ≡ L.parts }
         requires some { 0 < blank.parts }

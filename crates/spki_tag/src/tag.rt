@@ -146,13 +146,13 @@ impl Clone for Tag {
 
     /// Returns a copy. Err if memory ran out.
     fn clone(&self) -> Result<Tag, AllocError> {
-        self.copy_from::<Brand>(Blank::new(1))
+        self.copy_with_new_count::<Brand>(Blank::new(1))
     }
 }
 
 impl Tag {
-    /// A copy, counted in a ledger of its own.
-    fn copy_from<L: Ledger>(&self, blank: Blank) -> Result<Tag, AllocError>
+    /// Calls `copy_counted` with a new count, which `blank` opens. The count exists only in contracts, and is dropped afterwards.
+    fn copy_with_new_count<L: Ledger>(&self, blank: Blank) -> Result<Tag, AllocError>
         requires name { blank.name ≡ L.name }
         requires parts { blank.parts ≡ L.parts }
         requires some { 0 < blank.parts }

@@ -7,6 +7,9 @@ use std::sync::ledger::{Blank, Book, Ledger, Share};
 
 /// A count of work. It takes no octets and no time, since it exists only in contracts. Only `tick` and `read` change it, and they
 /// only add. In a contract it is a number.
+///
+/// `.._counted` adds to the caller's count. Who has none calls `.._with_new_count`, a function of its own because the type `L`, by which
+/// one count is told from another, can only be picked where a generic function is called.
 #[derive(Drop)]
 pub struct Ticks<L: Ledger> {
     book: Book<L>,

@@ -1,4 +1,4 @@
 use Rattle.spki_service.proofs.prepared_question.PreparedQuestion.granted.Given as goal
 
-abbrev pub ghosts-granted_from : goal.ghosts-granted_from
-ghosts-granted_from a = record { name = a.blank.name; parts = a.blank.parts }
+abbrev pub ghosts-granted_with_new_count : goal.ghosts-granted_with_new_count
+ghosts-granted_with_new_count a = record { name = a.blank.name; parts = a.blank.parts }
