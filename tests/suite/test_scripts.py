@@ -50,8 +50,8 @@ class Scripts(unittest.TestCase):
         for name, paths in groups.items():
             settings = {**os.environ, "MYPYPATH": ":".join([*[PAGE] * (name == PAGE), *MODULES])}
             with self.subTest(name):
-                done = subprocess.run(["mypy", "--cache-dir", os.path.join(TESTS, "out", "mypy"), *paths], cwd=TOP, stdout=subprocess.PIPE,
-                                      stderr=subprocess.STDOUT, text=True, env=settings)
+                words = ["mypy", "--config-file", os.path.join(TESTS, "mypy.ini"), "--cache-dir", os.path.join(TESTS, "out", "mypy"), *paths]
+                done = subprocess.run(words, cwd=TOP, stdout=subprocess.PIPE, stderr=subprocess.STDOUT, text=True, env=settings)
                 self.assertEqual(done.returncode, 0, done.stdout)
 
     def test_imports(self) -> None:
