@@ -4,7 +4,8 @@
 The list has 10,000 entries. Each request shows three certificates by Ed25519. The signatures of nine requests of ten were verified before, and
 those of the tenth were not: the caches are too small for them.
 
-- Requests a second through nginx with `auth_request`, beside nginx alone. The daemon must reach 0.55 of the handler's.
+- Requests a second through nginx with `auth_request`, beside nginx alone: the most that any of these numbers of connections gets. The daemon must
+  reach 0.55 of the handler's.
 - The processor time of a request.
 - The 99th percentile of the time at half of that load.
 - Under load, with a reload each second: wrong answers, and the resident memory.
@@ -28,7 +29,8 @@ from authd_site import Site, processor_seconds, reload, resident
 sys.path.append(os.path.join(os.path.dirname(os.path.abspath(__file__)), "..", "tests"))
 from shared import LIBRARY  # noqa: E402
 
-CONNECTIONS = 32
+# The numbers of connections with which a rate is measured. With fewer the processors are idle at times, as each connection waits for its answer.
+CONNECTIONS = 32, 64, 128
 WAYS = "nginx alone", "nginx and handler", "nginx and daemon"
 LEAST_RATIO, MOST_P99, MOST_GROWTH = 0.55, 10.0, 1.10
 RACE_SECONDS = 10
@@ -45,15 +47,14 @@ def arguments():
 
 
 def measure_ways(site, seconds):
-    """The figures of each way to ask, by its name. Each way is measured twice, and the better figures count."""
+    """The figures of each way to ask, by its name, with the number of connections that gets the highest rate. Each number is measured twice."""
     best = {}
-    for _ in range(2):
+    for connections in 2 * CONNECTIONS:
         for name, port in zip(WAYS, site.nginx):
-            figures = site.load(port, seconds, CONNECTIONS)
+            figures = site.load(port, seconds, connections)
+            print(f"{name:<20}{connections:>4} connections: {figures}", flush=True)
             if name not in best or figures.rate > best[name].rate:
                 best[name] = figures
-    for name, figures in best.items():
-        print(f"{name:<20}{figures}", flush=True)
     return best
 
 
@@ -61,13 +62,13 @@ def print_processor_time(site, daemon, seconds):
     """Prints the processor time of a request in the handler and in the daemon. Other programs change it less than they change a rate."""
     for name, process, port in (("handler", site.handler, site.nginx[1]), ("daemon", daemon, site.nginx[2])):
         before = processor_seconds(process)
-        figures = site.load(port, seconds, CONNECTIONS)
+        figures = site.load(port, seconds, CONNECTIONS[0])
         print(f"{name}: {(processor_seconds(process) - before) / figures.requests * 1e6:.0f} µs of processor time a request", flush=True)
 
 
 def at_half_load(site, seconds, full):
     """The figures at about half of the rate of `full`, which are figures too: each connection waits some random time before each request."""
-    connections = 4 * CONNECTIONS
+    connections = CONNECTIONS[-1]
     delay = round(1000 * connections / (full.rate / 2))
     figures = site.load(site.nginx[2], seconds, connections, delay)
     print(f"{'daemon, half load':<20}{figures}", flush=True)
@@ -77,7 +78,7 @@ def at_half_load(site, seconds, full):
 def run_soak(site, process, seconds):
     """The figures under load with a reload each second, and a list of the daemon's resident memory after each reload, in KiB."""
     found = []
-    load = threading.Thread(target=lambda: found.append(site.load(site.nginx[2], seconds, CONNECTIONS)))
+    load = threading.Thread(target=lambda: found.append(site.load(site.nginx[2], seconds, CONNECTIONS[0])))
     load.start()
     memory = []
     while load.is_alive():
