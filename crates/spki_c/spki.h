@@ -194,8 +194,8 @@ struct spki_limits {
     size_t words;        /* the most strings of a request: more are `refused question TooManyWords` */
     size_t nodes;        /* the most nodes of one tag times nodes of another, whose intersection is computed */
     size_t work;         /* the most work of all certificates and entries together. A certificate of authorization that joins takes, for each node
-                          * of the tags before it, 15 for each node of its tag, 1 for each but heads of lists and 1 for each octet; and 1 for
-                          * each name of its subject. A definition takes 1, and 1 for each name of both subjects */
+                          * of the tags before it, 32, 15 for each node of its tag, 1 for each but heads of lists, 1 for each octet and 48 for
+                          * each prefix and range; and 1 for each name of its subject. A definition takes 1, and 1 for each name of both subjects */
     size_t answer;       /* the most octets of the answer */
 };
 

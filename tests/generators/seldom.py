@@ -150,8 +150,8 @@ def makers_of_guards() -> Iterator[Maker]:
     for wish in WISHES:
         question = guard_question(case_of_two_lists(4, 4), wish)
         yield from (always(replace(question, limits=Limits(nodes=nodes))) for nodes in (15, 16))
-        # 4 nodes, each times 15 for 4 nodes, 3 tags and 3 octets
-        yield from (always(replace(question, limits=Limits(work=work))) for work in (263, 264))
+        # 4 nodes, each times 32, 15 for 4 nodes, 3 tags and 3 octets
+        yield from (always(replace(question, limits=Limits(work=work))) for work in (391, 392))
         yield from (always(replace(question, limits=Limits(answer=answer))) for answer in (1, 12, 15, 16, 17, 1000))
         yield always(guard_question(case_of_two_lists(1000, 1001), wish))
         yield from (always(replace(question, acl=acl)) for acl in (b"acl", b'(acl (version "1"))', b"(acl (version [0:]1:0))"))

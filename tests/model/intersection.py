@@ -7,7 +7,7 @@ from .coverage import Rows
 from .tags import NOTHING, AnyOf, Limit, Plain, Prefix, Range, Star, Tag, Text, has_set, in_range, nodes
 
 MOST_PRODUCT = 1_000_000
-MOST_WORK = 2_200_000_000
+MOST_WORK = 2_300_000_000
 RULES = Rows("intersection, rule", [
     "(*) and any", "a set and any: none is left", "a set and any: one is left", "a set and any: a set is left",
     "two sets of several members: several are left", "two strings: equal",

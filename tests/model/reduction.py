@@ -3,7 +3,7 @@ from .coverage import Rows
 from .evidence import Authorization, Definition, Tuple, names
 from .intersection import counting_work, intersection, spend_work
 from .structures import Entry, Subject, Window
-from .tags import NOTHING, nodes, weight
+from .tags import NOTHING, node_cost, nodes
 
 CAUSES = Rows("reduction, cause", [
     "NotIssuer: names left", "NotIssuer: another key", "NotTheName: no name left", "NotTheName: another key", "NotTheName: another name",
@@ -59,7 +59,7 @@ def joined(left: Authorization, right: Authorization, strict: bool) -> Authoriza
     window = common_window(left.window, right.window)
     if window is None:
         raise no_join("NoValidity: an authorization")
-    spend_work(nodes(left.tag) * (15 * nodes(right.tag) + weight(right.tag)) + len(right.subject.names))
+    spend_work(nodes(left.tag) * (32 + node_cost(right.tag)) + len(right.subject.names))
     tag = intersection(left.tag, right.tag)
     if tag == NOTHING:
         raise no_join("NoTag")

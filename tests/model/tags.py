@@ -236,6 +236,16 @@ def weight(tag: Tag) -> int:
     return 1 + len(tag.body if isinstance(tag, Text) else tag.start if isinstance(tag, Prefix) else b"")
 
 
+def ranges(tag: Tag) -> int:
+    """The number of prefixes and ranges in a tag."""
+    return sum(map(ranges, tag.members)) if isinstance(tag, (Plain, AnyOf)) else int(isinstance(tag, (Prefix, Range)))
+
+
+def node_cost(tag: Tag) -> int:
+    """What it costs to intersect a node with the tag."""
+    return 15 * nodes(tag) + 48 * ranges(tag) + weight(tag)
+
+
 def written(tag: Tag) -> Value:
     """The value that a tag is written as."""
     if isinstance(tag, Star):

@@ -125,12 +125,12 @@ def products():
 
 
 def work():
-    """Yields (name, command, text, answer): entries and certificates whose work is 2,200,000,000, and more. Each of 22 entries has 1,000 nodes, each
-    of which costs 15 times the 4 nodes of the first certificate, its 4 tags and its 99,936 octets. Then nothing is left of the tags. The second
+    """Yields (name, command, text, answer): entries and certificates whose work is 2,300,000,000, and more. Each of 23 entries has 1,000 nodes, each
+    of which costs 32, 15 times the 4 nodes of the first certificate, its 4 tags and its 99,904 octets. Then nothing is left of the tags. The second
     certificate has 336 nodes, so that the product of all is over 1,000,000."""
     def chain_of(more, *tags):
         """The rows and the items of the first certificate, whose tag has so many octets more, and of a further one for each of these tags."""
-        first = cert(key("a"), key("b"), f"(propagate) (tag (* set r {'x' * 49_967} {'y' * (49_968 + more)}))")
+        first = cert(key("a"), key("b"), f"(propagate) (tag (* set r {'x' * 49_951} {'y' * (49_952 + more)}))")
         shown = [(first, "a")] + [(cert(key("b"), key("b"), f"(propagate) (tag {tag})"), "b") for tag in tags]
         return "".join(row(it, key(by)) for it, by in shown), "".join(signed(it, key(by)) for it, by in shown)
 
@@ -138,12 +138,12 @@ def work():
     second = f"(* set r {numbered(334)})"
     asked = {"asks": key("b"), "request": "r"}
     for more, answer in ((0, NO), (1, refused("TooLarge"))):
-        yield f"the work of 22 entries, {more} octets more", "check", case(each * 22, *chain_of(more, second), **asked), answer
-        yield f"an entry that grants before, {more} octets more", "check", case(grants + each * 22, *chain_of(more, second), **asked), YES
+        yield f"the work of 23 entries, {more} octets more", "check", case(each * 23, *chain_of(more, second), **asked), answer
+        yield f"an entry that grants before, {more} octets more", "check", case(grants + each * 23, *chain_of(more, second), **asked), YES
     for command in ("explain", "reduce"):
-        yield "the work of 22 entries, 1 octet more", command, case(each * 22, *chain_of(1, second), **asked), refused("TooLarge")
-    yield "23 entries whose product of nodes is 4,000", "check", case(each * 23, *chain_of(1), **asked), NO
-    yield "23 entries and a certificate for all requests", "check", case(each * 23, *chain_of(1, "(*)"), **asked), NO
+        yield "the work of 23 entries, 1 octet more", command, case(each * 23, *chain_of(1, second), **asked), refused("TooLarge")
+    yield "24 entries whose product of nodes is 4,000", "check", case(each * 24, *chain_of(1), **asked), NO
+    yield "24 entries and a certificate for all requests", "check", case(each * 24, *chain_of(1, "(*)"), **asked), NO
 
 
 def octets_of(text):

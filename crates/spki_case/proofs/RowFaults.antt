@@ -103,7 +103,7 @@ case-of p octets (acl, rows, sequence, key, request, at) =
         moment = moment.0;
         policy = p.policy;
         most_nodes = 1000000;
-        most_work = 2200000000;
+        most_work = 2300000000;
         uncounted = 1000000;
       },
       record {

@@ -250,7 +250,7 @@ pub record CaseOf (v : Value) (c : Case) : Type 0 where
   pub moment : DateOf parts.at c.moment
   pub policy : c.policy ≡ parts.policy
   pub limit : c.most_nodes ≡ 1000000
-  pub work : c.most_work ≡ 2200000000
+  pub work : c.most_work ≡ 2300000000
   pub uncounted : c.uncounted ≡ 1000000
 
 -- ---- refusals

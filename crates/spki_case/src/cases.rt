@@ -86,12 +86,12 @@ pub struct Case<'a> {
 const MOST_NODES: usize = 1_000_000;
 
 /// The most work of entries whose chains are not small, for a case that is read.
-const MOST_WORK: usize = 2_200_000_000;
+const MOST_WORK: usize = 2_300_000_000;
 
 impl<'a> Case<'a> {
     ghost use Rattle.spki_case.specs.View.{model};
 
-    /// Reads a case in canonical form. Its `most_nodes` and `uncounted` are 1,000,000, and its `most_work` 2,200,000,000.
+    /// Reads a case in canonical form. Its `most_nodes` and `uncounted` are 1,000,000, and its `most_work` 2,300,000,000.
     ///
     /// # Errors
     ///

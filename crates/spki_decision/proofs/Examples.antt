@@ -72,7 +72,7 @@ module _ (verified : Verified) where
     moment = codes "2024-01-01_00:00:00";
     policy = Open;
     most_nodes = 1000000;
-    most_work = 2200000000;
+    most_work = 2300000000;
     uncounted = 1000000;
   }
 

@@ -5,12 +5,12 @@ use Rattle.spki_cert.specs.declared.{principal.Policy.{Policy}, window.Window.{W
 use Rattle.spki_reduce.specs.declared.{fold.Cause.{Cause}, tuple.{Step.{Step}, Five.{Five}, Four.{Four}}}
 use Rattle.spki_reduce.specs.Reduction.{Tuple, FiveTuple, five, four, five_tuple, four_tuple, step_tuple}
 use Rattle.spki_reduce.specs.Chain.{meet_costs, step_cost, IsNumber, Reaches, IsCostOf}
-use Rattle.spki_tag.{specs.{Tag.{Tag, nodes}, Cost.{weight, meet_cost}}, proofs.MeetSizes.{nodes-some}}
+use Rattle.spki_tag.{specs.{Tag.{Tag, nodes}, Cost.{node_cost, meet_cost}}, proofs.MeetSizes.{nodes-some}}
 
 module _ (tag : Tag) (next : Five) (path : List (List ℕ)) where
   -- the cost of one node of the tag
   abbrev each : ℕ
-  each = 15 * nodes next.tag + weight next.tag
+  each = 32 + node_cost next.tag
 
   pub cost_is : step_cost tag path (five (five_tuple next)) ≡ nodes tag * each + length next.subject.names
   unfolding step_cost meet_costs
@@ -62,18 +62,16 @@ costs_none policy left tag right n apart (inr h) = h.1
 
 -- a step that joins costs something
 pub cost-some : (tag : Tag) (path : List (List ℕ)) (next : Five) → 0 < step_cost tag path (five (five_tuple next))
-cost-some tag path next =
-    let weighty : 1 ≤ 15 * nodes next.tag + weight next.tag = omega (arith, nodes-some next.tag) in
-    omega (arith, costs_over tag next path 1 weighty)
+cost-some tag path next = omega (arith, costs_over tag next path 1 (omega arith))
 
 -- what it costs to join an authorization with the next one
 pub joined-cost : (policy : Policy) (f next : Five) (n : ℕ) → Reaches policy (five_tuple f) (five (five_tuple next))
     → IsCostOf policy (five_tuple f) f.tag (five (five_tuple next)) n
-    → (n ≡ meet_cost f.tag next.tag + length next.subject.names) × (0 < n)
+    → (meet_cost f.tag next.tag + length next.subject.names ≤ n) × (0 < n)
 joined-cost policy f next n joins h =
     let is : n ≡ step_cost f.tag f.subject.names (five (five_tuple next)) =
     costs_step policy (five_tuple f) f.tag (five (five_tuple next)) n joins h in
-    (is ∙ cost_is f.tag next f.subject.names, omega (arith, is, cost-some f.tag f.subject.names next))
+    (omega (arith, is, cost_is f.tag next f.subject.names), omega (arith, is, cost-some f.tag f.subject.names next))
 
 -- and to resolve its first name by a definition
 pub resolved-cost : (policy : Policy) (f : Five) (definition : Four) (n : ℕ) → Reaches policy (five_tuple f) (four (four_tuple definition))

@@ -2,7 +2,7 @@
 -- stops, and the work of folding it.
 use Rattle.std.specs.Prelude.{◌≡◌, ◌≢◌, ℕ, ◌<◌, suc, List, [], ◌∷◌, Some, map, take, flat_map, slice_get, ◌⊎◌, zero, ◌+◌, ◌≤◌, ◌++◌, length, Option, None, ◌*◌, ◌^◌}
 use Rattle.spki_cert.specs.declared.{principal.Policy.{Policy}, window.Window.{Window}}
-use Rattle.spki_tag.specs.{Request.{Request, IsRequest}, Tag.{Tag, set, none}, Cost.{meet_cost}}
+use Rattle.spki_tag.specs.{Request.{Request, IsRequest}, Tag.{Tag, set, none, nodes}, Cost.{node_cost}}
 use Rattle.spki_reduce.specs.declared.fold.Cause.{Cause, TheVariants.{NotIssuer, NotTheName, NoDelegation, NoValidity, NoTag}}
 use Rattle.spki_reduce.specs.declared.fold.Fold.{Fold, TheVariants.{Done, Stopped}}
 use Rattle.spki_reduce.specs.declared.{tuple.{Five.{Five}, Step.{Step}}, work.Work.{Work}}
@@ -98,10 +98,11 @@ MatchFold (Stopped step cause) P Q = Q step cause
 -- The work of folding a chain: for each step that is reached, its cost. It covers what the step compares and copies: nodes and
 -- octets of tags, and names of subjects (RFC 2693, sections 6.3.1 and 6.4).
 
--- what it costs to intersect a tag with each of these
+-- What it costs to intersect a tag with each of these: for each node of the tag 32, since what is left of it is looked for and kept apart,
+-- and what a node costs that is intersected with the other.
 unfoldable pub meet_costs : Tag → List Tag → ℕ
 meet_costs tag [] = 0
-meet_costs tag (other ∷ others) = meet_cost tag other + meet_costs tag others
+meet_costs tag (other ∷ others) = nodes tag * (32 + node_cost other) + meet_costs tag others
 
 -- The cost of a step: of joining an authorization with this tag, and with these names in its subject, with a tuple. The names of the
 -- next subject are copied. A definition has no tag; it puts its subject's names before those that are left.

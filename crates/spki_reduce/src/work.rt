@@ -9,9 +9,8 @@ use crate::tuple::{Five, Four};
 use spki_cert::Subject;
 use spki_tag::Tag;
 
-/// How much work may still be done. A step that joins two authorizations takes, for each node of the tag before it, 15 for
-/// each node of its own tag, one for each of that tag's tags, and one for each octet of their strings; and one for each name of
-/// its subject. A step that applies a definition takes one, and one for each name of both subjects.
+/// How much work may still be done. A step that joins two authorizations takes, for each node of the tag before it, 32 and the
+/// `Tag::node_cost` of its own tag; and one for each name of its subject. A step that applies a definition takes one, and one for each name of both subjects.
 #[derive(Clone, Copy, Debug, PartialEq, Eq)]
 pub struct Work {
     left: Option<usize>,
@@ -61,10 +60,10 @@ fn rest_of(left: usize, work: Option<usize>) -> Option<usize>
 pub(crate) fn intersection_cost(tag: &Tag, next: &Five) -> Option<usize>
     ensures { (path : List (List ℕ)) → IsNumber result (step_cost tag.now path (five (five_tuple next.now))) }
 {
-    let Some(weight) = next.tag.weight() else {
+    let Some(met) = next.tag.node_cost() else {
         return None;
     };
-    let Some(each) = weight.checked_add(15 * next.tag.nodes()) else {
+    let Some(each) = met.checked_add(32) else {
         return None;
     };
     let Some(product) = each.checked_mul(tag.nodes()) else {

@@ -3,16 +3,15 @@ use Rattle.std.proofs.Common.{◌≡◌, ℕ, zero, suc, ◌+◌, ◌*◌, ◌<�
 use Rattle.std.proofs.lemmas.{Nat.{mul-le}, List.{drop_more, get_or_default}}
 use Rattle.std.specs.Prelude.{All}
 use Rattle.spki_tag.specs.Tag.{Tag, Tags, tags, star, string, prefix, range, list, set, none, more, is_set, nodes, nodes_all}
-use Rattle.spki_tag.specs.{Cost.{weight, weight_all, node_cost, node_costs, meet_cost}, Meet.{members, may_share, places_where, tags_at}}
+use Rattle.spki_tag.specs.{Cost.{node_cost, node_costs, meet_cost}, Meet.{members, may_share, places_where, tags_at}}
 use Rattle.spki_tag.proofs.{MeetSizes.{nodes-some}, MeetSteps.{members_of, members-le, members-less, cut, tags-members}, Places.{at_places-le}}
 
 -- ---- pairs
 
 -- the pairs behind the first, and the first
-pairs-less : (n m w rest more_nodes more_weight before now at : ℕ) → now ≤ before + 3 * (n * (15 * m + w))
-    → before + 3 * ((n + rest) * (15 * (m + more_nodes) + (w + more_weight))) ≤ at
-    → now + 3 * (rest * (15 * more_nodes + more_weight)) ≤ at
-pairs-less n m w rest more_nodes more_weight before now at h k = omega arith
+pairs-less : (n cost rest costs before now at : ℕ) → now ≤ before + 3 * (n * cost)
+    → before + 3 * ((n + rest) * (cost + costs)) ≤ at → now + 3 * (rest * costs) ≤ at
+pairs-less n cost rest costs before now at h k = omega arith
 
 -- a step of the loop over the places of two lists
 pub each-step : (ts us : List Tag) (i : ℕ) (t u : Tag) (before now at : ℕ) → i < length ts → i < length us
@@ -20,9 +19,12 @@ pub each-step : (ts us : List Tag) (i : ℕ) (t u : Tag) (before now at : ℕ) �
     → before + 3 * (nodes_all (tags (drop i ts)) * node_costs (tags (drop i us))) ≤ at
     → now + 3 * (nodes_all (tags (drop (i + 1) ts)) * node_costs (tags (drop (i + 1) us))) ≤ at
 each-step ts us i t u before now at h k e f c d =
-    pairs-less (nodes t) (nodes u) (weight u) (nodes_all (tags (drop (i + 1) ts))) (nodes_all (tags (drop (i + 1) us)))
-    (weight_all (tags (drop (i + 1) us))) before now at c
-    (rw (cut ts i t h e, cut us i u k f) at d)
+    let rest = nodes_all (tags (drop (i + 1) ts)) in
+    let costs = node_costs (tags (drop (i + 1) us)) in
+    let whole : before + 3 * ((nodes t + rest) * node_costs (tags (u ∷ drop (i + 1) us))) ≤ at = rw (cut ts i t h e, cut us i u k f) at d in
+    let split : node_costs (tags (u ∷ drop (i + 1) us)) ≡ node_cost u + costs = omega arith in
+    pairs-less (nodes t) (node_cost u) rest costs before now at c
+    (subst (λ n. before + 3 * ((nodes t + rest) * n) ≤ at) split whole)
 
 -- ---- rows
 

@@ -21,14 +21,28 @@ abbrev mutual
   weight_all none = 0
   weight_all (more t ts) = weight t + weight_all ts
 
--- what a node costs that is intersected with a tag: 15 for each node of the tag, one for each of its tags, and one for each octet of
--- their strings
+abbrev mutual
+  -- the number of prefixes and ranges in a tag
+  pub ranges : Tag → ℕ
+  ranges star = 0
+  ranges (string octets) = 0
+  ranges (prefix octets) = 1
+  ranges (range ordering low up) = 1
+  ranges (list head further) = ranges_all further
+  ranges (set members) = ranges_all members
+
+  pub ranges_all : Tags → ℕ
+  ranges_all none = 0
+  ranges_all (more t ts) = ranges t + ranges_all ts
+
+-- What a node costs that is intersected with a tag: 15 for each node of the tag, one for each of its tags, and one for each octet of
+-- their strings; and 48 for each prefix and range, since two of them make a new range.
 abbrev pub node_cost : Tag → ℕ
-node_cost t = 15 * nodes t + weight t
+node_cost t = 15 * nodes t + 48 * ranges t + weight t
 
 -- the same for some tags
 abbrev pub node_costs : Tags → ℕ
-node_costs ts = 15 * nodes_all ts + weight_all ts
+node_costs ts = 15 * nodes_all ts + 48 * ranges_all ts + weight_all ts
 
 -- the cost of the intersection of two tags: that of each node of the first with the second
 abbrev pub meet_cost : Tag → Tag → ℕ

@@ -321,7 +321,7 @@ impl Tag {
     }
 
     /// Does what `into_meet` does. A tick is a pair of tags that is looked at, a tag that is copied, or an octet of the other tag's strings
-    /// that is compared. For each node of this tag there are at most three times 15 for each node of the other, and its weight.
+    /// that is compared. For each node of this tag there are at most three times as many as the other's `node_cost`.
     ///
     /// # Errors
     ///

@@ -3,6 +3,7 @@
 //! `Tag::read`, `Ground::read` and `Tag::write` are only for programs in Rattle that use this library.
 #![tactic(auto)]
 
+mod cost;
 mod equality;
 mod fault;
 mod form;
@@ -26,7 +27,6 @@ mod sets;
 mod string_octets;
 mod tag;
 mod ticks;
-mod weight;
 mod writer;
 
 pub use fault::{MeetFault, TagFault};

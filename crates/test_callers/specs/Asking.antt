@@ -16,6 +16,6 @@ asked_case entries items question = record {
   moment = question.moment;
   policy = Strict;
   most_nodes = 1000000;
-  most_work = 2200000000;
+  most_work = 2300000000;
   uncounted = 1000000;
 }

@@ -59,7 +59,7 @@ pub fn case_of<'a>(
         moment,
         policy: Policy::Strict,
         most_nodes: 1_000_000,
-        most_work: 2_200_000_000,
+        most_work: 2_300_000_000,
         uncounted: 1_000_000,
     })
 }

@@ -15,7 +15,7 @@ pub(crate) fn call(alloc: Global, name: &str, texts: &[Vec<u8>]) -> Option<Reply
         | "Tag::meet"
         | "Tag::meet_within"
         | "Tag::into_meet"
-        | "Tag::weight"
+        | "Tag::node_cost"
         | "Index::places" => Some(call_on(alloc, read::<Tag>(alloc, at(texts, 0)), name, texts)),
         "merged" => Some(merge(alloc, at(texts, 0), at(texts, 1))),
         _ => windows::call(alloc, name, texts),
@@ -28,7 +28,7 @@ impl Called for Tag {
         match name {
             "Tag::clone" => answer(alloc, self.clone()?),
             "Tag::holds" => holds(alloc, self, at(texts, 1)),
-            "Tag::weight" => weight(alloc, self),
+            "Tag::node_cost" => node_cost(alloc, self),
             _ => with_other(alloc, name, self, texts),
         }
     }
@@ -42,13 +42,13 @@ fn holds(alloc: Global, tag: &Tag, text: &[u8]) -> Reply {
     answer(alloc, is_held)
 }
 
-/// A list with the weight as its only member, or an empty list if there is no weight.
-fn weight(alloc: Global, tag: &Tag) -> Reply {
-    let mut weights = Vec::new(alloc);
-    if let Some(weight) = tag.weight() {
-        weights.push(weight)?;
+/// A list with the cost as its only member, or an empty list if there is none.
+fn node_cost(alloc: Global, tag: &Tag) -> Reply {
+    let mut costs = Vec::new(alloc);
+    if let Some(cost) = tag.node_cost() {
+        costs.push(cost)?;
     }
-    answer(alloc, weights)
+    answer(alloc, costs)
 }
 
 /// Does the call with this name on the tag and the one that the second text is.

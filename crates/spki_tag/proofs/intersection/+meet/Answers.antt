@@ -164,3 +164,19 @@ push_row-loop-place-preserved g t c = (
       c.meet_tags.new.ticks _ c.loop-place-test.true c.requires.places c.index-others-place.is c.meet_tags.ensures.cost c.loop-place.invariant.1,
   omega (arith, c.loop-place.invariant.2, c.meet_tags.ensures.grows),
 )
+
+pub push_row-returns-in_err-member-clause-cost : goal.push_row-returns-in_err-member-clause-cost
+push_row-returns-in_err-member-clause-cost g t c =
+    omega (
+      arith,
+      place-step c.args.one.now c.args.others.now c.args.places.now c.loop-place.place-index c.index-others-place.result c.loop-place.ticks
+          c.meet_tags.new.ticks _ c.loop-place-test.true c.requires.places c.index-others-place.is c.meet_tags.ensures.cost c.loop-place.invariant.1,
+    )
+
+pub push_row-returns-in_err-push_kept-clause-cost : goal.push_row-returns-in_err-push_kept-clause-cost
+push_row-returns-in_err-push_kept-clause-cost g t c =
+    omega (
+      arith,
+      place-step c.args.one.now c.args.others.now c.args.places.now c.loop-place.place-index c.index-others-place.result c.loop-place.ticks
+          c.meet_tags.new.ticks _ c.loop-place-test.true c.requires.places c.index-others-place.is c.meet_tags.ensures.cost c.loop-place.invariant.1,
+    )
