@@ -118,7 +118,7 @@ def tags(engine, sent):
     if len(words) == 1 and is_one_string_of_words(words[0]) and any(it.get("contains") is False for it in done.values()):
         yield {"hint": ONE_STRING}
     if all("line" not in it for it in done.values()):
-        yield {"both": intersection(engine, octets, words)}
+        yield {"both": intersection(engine, octets.values(), words)}
 
 
 def containment(engine, tag, words):
@@ -145,11 +145,11 @@ def fault_of_tag(engine, tag, line):
     return {"line": line, "places": shown_places(tag, [(at, why) for at, why in found if 0 <= at <= len(tag)])}
 
 
-def intersection(engine, octets, words):
-    """The text of the intersection of two tags, whose texts are the values of `octets`, and whether it contains the request of these words. Or the
-    line of a refusal."""
+def intersection(engine, tags, words):
+    """The intersection of two tags, which are texts: the `text`, cut at MOST_LETTERS, `isWhole` if nothing is cut, and what `containment` says of it
+    and of the request of these words. If the library refuses them, only the `line` of the refusal."""
     try:
-        both = engine.command("intersect", b"(9:intersect" + b"".join(map(engine.canonical, octets.values())) + b")")
+        both = engine.command("intersect", b"(9:intersect" + b"".join(map(engine.canonical, tags)) + b")")
         return {"text": both.decode()[:MOST_LETTERS], "isWhole": len(both) <= MOST_LETTERS, **containment(engine, both, words)}
     except Refused as why:
         return {"line": why.line}

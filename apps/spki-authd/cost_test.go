@@ -46,8 +46,9 @@ func TestCostToStrangers(t *testing.T) {
 	}
 }
 
-// TestForgeryThatWouldBeGranted verifies one signature, the first that is false, and says which certificate has none.
-func TestForgeryThatWouldBeGranted(t *testing.T) {
+// TestFalseSignatureIsVerifiedEachTime asks twice with signatures that are all false, where valid ones would grant. Each time the first one is verified,
+// since a false one is not remembered. The line of the log names its certificate as the reason, and lists the certificates up to that one.
+func TestFalseSignatureIsVerifiedEachTime(t *testing.T) {
 	s := newSite(t, "")
 	calls := 0
 	s.verify = func(guard.Signature) bool { calls++; return false }

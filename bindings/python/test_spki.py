@@ -652,12 +652,12 @@ class Texts(unittest.TestCase):
 
     def test_signature_without_memory(self):
         opened = spki.Guard(LIST).ask(asked())
-        with mock.patch.object(_library, "signature", return_value=8), self.assertRaises(spki.Refused) as met:
+        with mock.patch.object(_library, "signature", return_value=_library.NO_MEMORY), self.assertRaises(spki.Refused) as met:
             opened.signatures()
         self.assertEqual(met.exception.fault, "Memory")
 
     def test_string_without_memory(self):
-        with mock.patch.object(spki.library, "spki_string", return_value=8), self.assertRaises(spki.Refused) as met:
+        with mock.patch.object(spki.library, "spki_string", return_value=_library.NO_MEMORY), self.assertRaises(spki.Refused) as met:
             spki.string_at(b"3:abc")
         self.assertEqual(met.exception.fault, "Memory")
 
@@ -684,8 +684,8 @@ class Words(unittest.TestCase):
 
 
 class Libraries(unittest.TestCase):
-    def test_another_version_is_refused_by_name(self):
-        """A library of another version, and one from before there were versions, is not used."""
+    def test_only_a_library_of_this_version_is_loaded(self):
+        """A library is loaded if the first two numbers of its version are those of this module. Otherwise the error says its version."""
         source = 'const char *spki_version(void) { return "%s"; }'
         for version, is_used in (("0.2.0", True), ("0.2.7", True), ("0.1.0", False), ("1.2.0", False), ("0.20.0", False)):
             with tempfile.TemporaryDirectory() as room:
@@ -701,6 +701,7 @@ class Libraries(unittest.TestCase):
                 with self.assertRaises(ImportError) as met:
                     _library.load(path)
                 self.assertIn(f"has version {version}, and this module needs 0.2", str(met.exception))
+        # (the library of mathematics says no version, like this one before it had versions)
         with self.assertRaises(ImportError):
             _library.load(ctypes.util.find_library("m"))
 

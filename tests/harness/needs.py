@@ -158,8 +158,9 @@ def required(*names: str) -> None:
         raise unittest.SkipTest(", ".join(gone))
 
 
-def is_honest(reason: str) -> bool:
-    """Whether each part of the reason of a skipped test is that of a need which this machine lacks."""
+def is_by_missing_needs(reason: str) -> bool:
+    """Whether a test was skipped only for needs that this machine lacks: the reason is those of such needs, joined as `needs` and `required` do. Each
+    other test that is skipped counts as failed."""
     gone = {need.reason for need in NEEDS if not need.is_there}
     return all(part in gone for part in reason.split(", "))
 

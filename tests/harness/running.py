@@ -74,7 +74,7 @@ class Result(unittest.TestResult):
         self.outcome.passed += short_name(test) not in self.outcome.failed
 
     def addSkip(self, test: unittest.TestCase, reason: str) -> None:
-        if needs.is_honest(reason):
+        if needs.is_by_missing_needs(reason):
             self.outcome.skipped.append((short_name(test), reason))
         else:
             self.add(test, f"it was skipped although tests/harness/needs.py says that nothing is missing: {reason}")

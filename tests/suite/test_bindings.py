@@ -247,8 +247,8 @@ class Words(unittest.TestCase):
 
 
 @functools.cache
-def asked_of(program):
-    """All questions, made once for the tests of several languages."""
+def all_questions(program):
+    """`questions(program)`, made once for the tests of all bindings. `program` is the path of `spki`."""
     return questions(program)
 
 
@@ -307,7 +307,7 @@ class InPython(Binding):
     def test_questions(self):
         sys.path.append(PYTHON)
         spki = importlib.import_module("spki")
-        asked = asked_of(self.program)
+        asked = all_questions(self.program)
         fault = faults_of_answers(asked, [answered_by_python(spki, each) for each in asked])
         self.assertEqual(fault, "", fault)
 
@@ -442,7 +442,7 @@ class InRust(Binding):
         self.does("fmt", "--check", "--manifest-path", os.path.join("spki-serde", "Cargo.toml"))
 
     def test_questions(self):
-        asked = asked_of(self.program)
+        asked = all_questions(self.program)
         lines = strings_in(self.does("run", "--quiet", "--example", "asked", given=b"".join(map(framed, asked))))
         fault = faults_of_answers(asked, [line + b"\n" for line in lines])
         self.assertEqual(fault, "", fault)

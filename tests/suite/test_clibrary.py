@@ -245,8 +245,9 @@ class OfC(built.OfLibrary):
         return to
 
     def check_answers(self, questions, library, *more, by=(), threads=2, refusals=0):
-        """`clibrary.c` must give the wanted answers to questions, in so many threads. For each question it refuses the first `refusals` requests for
-        memory in turn. `library` is `static` or `shared`, `more` are options of the compiler, and `by` is a command that runs the program."""
+        """`clibrary.c` must give the wanted answers to questions, in its own thread and then in so many others. For each question it refuses the
+        first `refusals` requests for memory in turn. `library` is `static` or `shared`, `more` are options of the compiler, and `by` is a command
+        that runs the program."""
         print(f"{len(questions)} questions")
         fault = faults_of_answers([*self.by, *by, self.compiled("clibrary.c", library, *more), str(threads), str(refusals)], questions)
         self.assertEqual(fault, "", fault)
@@ -323,7 +324,8 @@ class Answers(OfC):
 
 
 class UnderAddressSanitizer(OfC):
-    """The answers to short questions of each library, under AddressSanitizer."""
+    """The answers to short questions of each library, under AddressSanitizer, and in one thread alone: the others have small stacks, and its frames
+    are large."""
 
     def test_static(self):
         self.check_answers(short_of(self.program), "static", *SANITIZED, threads=0, refusals=REFUSALS)

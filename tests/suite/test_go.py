@@ -72,7 +72,7 @@ class InGo(OfGo):
         self.does(golang.MODULE, "test", "-race", "./...", GODEBUG="cgocheck=2")
 
     def test_questions(self) -> None:
-        asked = test_bindings.asked_of(self.program)
+        asked = test_bindings.all_questions(self.program)
         lines = self.does(golang.MODULE, "run", "./examples/asked", given=b"".join(map(test_bindings.framed, asked)))
         fault = test_bindings.faults_of_answers(asked, [line + b"\n" for line in test_bindings.strings_in(lines)])
         self.assertEqual(fault, "", fault)

@@ -85,7 +85,7 @@ class Counted(test_bindings.Binding):
         given = b"".join(map(test_bindings.framed, self.asked))
         done = golang.go(golang.MODULE, ["run", "./examples/asked"], self.archive, given, SPKI_COUNTED=self.counts)
         self.assertEqual(done.returncode, 0, done.stderr)
-        self.check_counts(self.asked, [line + b"\n" for line in test_bindings.strings_in(done.stdout)])
+        self.check_counts(self.asked, [answer + b"\n" for answer in test_bindings.strings_in(done.stdout)])
 
     @needs.needs("cargo")
     def test_in_rust(self):
@@ -93,7 +93,7 @@ class Counted(test_bindings.Binding):
         settings = {**self.settings, "SPKI_LIB_DIR": self.room, "CARGO_TARGET_DIR": target, "CARGO_NET_OFFLINE": "true"}
         done = subprocess.run(["cargo", "run", "--quiet", "--example", "asked"], cwd=test_bindings.RUST, input=given, stdout=subprocess.PIPE,
                               env=settings, check=True, timeout=SECONDS)
-        self.check_counts(self.asked, [line + b"\n" for line in test_bindings.strings_in(done.stdout)])
+        self.check_counts(self.asked, [answer + b"\n" for answer in test_bindings.strings_in(done.stdout)])
 
     @needs.needs("g++")
     def test_in_cpp(self):

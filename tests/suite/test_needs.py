@@ -19,8 +19,8 @@ class Needs(unittest.TestCase):
     def test_skips(self) -> None:
         """A skip is honest where what it names is on the list and not there."""
         gone = needs.Need("no-such-command", "no-such-package", "nothing")
-        self.assertFalse(needs.is_honest(gone.reason))
-        self.assertTrue(all(needs.is_honest(need.reason) != need.is_there for need in needs.NEEDS))
+        self.assertFalse(needs.is_by_missing_needs(gone.reason))
+        self.assertTrue(all(needs.is_by_missing_needs(need.reason) != need.is_there for need in needs.NEEDS))
 
     def test_skipped_module(self) -> None:
         """A module that is skipped as a whole has an outcome under its own name. This one is skipped for what is not on the list."""

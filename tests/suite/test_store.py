@@ -161,8 +161,9 @@ class Command(OfStore):
         self.assertEqual(self.does(0, "diff", path), "entries that differ: 0\n")
         self.assertIn("wrong 0", self.does(0, "check"))
 
-    def rows_of_0_1_0(self) -> tuple[list[bytes], list[tuple[int, bytes, bytes]]]:
-        """Entries, and the rows of a table of version 0.1.0 with them, each a number, a principal and a text. Its numbers have gaps."""
+    def rows_of_older_store(self) -> tuple[list[bytes], list[tuple[int, bytes, bytes]]]:
+        """Entries, one of them twice, and the rows that the table of `examples/database` in version 0.1.0 had for them: a number, a principal and a
+        text each. The numbers have gaps."""
         wanted = [key_entry(b"a\0\n'", b"(8:packages4:read)"), ZEROS, A, key_entry(bytes(range(256))), A]
         return wanted, [(2 * place + 1, texts.principal_of(text), text) for place, text in enumerate(wanted)]
 
@@ -174,7 +175,7 @@ class Command(OfStore):
 
     def test_older_store_in_sqlite(self) -> None:
         """The entries of the example of version 0.1.0 are taken over from SQLite, by the command of the page."""
-        wanted, rows = self.rows_of_0_1_0()
+        wanted, rows = self.rows_of_older_store()
         old, to = (os.path.join(self.room, name) for name in ("old", "list"))
         with contextlib.closing(sqlite3.connect(old)) as connection, connection:
             connection.execute("PRAGMA journal_mode = WAL")
@@ -187,7 +188,7 @@ class Command(OfStore):
 
     def test_older_store_in_postgresql(self) -> None:
         """The entries of the example of version 0.1.0 are taken over from PostgreSQL, by the statement of the page."""
-        wanted, rows = self.rows_of_0_1_0()
+        wanted, rows = self.rows_of_older_store()
         statement, = re.findall(r"`(INSERT INTO spki\.entries [^`]*)`", text_of("apps/spki-store/README.md"))
         old = f"{self.schema}_old"
         with self.store.connection.transaction():

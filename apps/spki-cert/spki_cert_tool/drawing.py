@@ -146,13 +146,17 @@ STYLE = f"""
 """
 
 
+# The height of a line of text in a box, and what a box has above and below its lines, in pixels.
+LINE, MARGINS = 18, 22
+
+
 def box(x: float, y: float, width: float, height: float, lines: list[str], kind: str = "box") -> Iterator[str]:
-    """A box with lines of text in its middle, of which the first is its title."""
+    """A box as SVG, of a class of CLASSES, with lines of text in its middle. The first line is its title."""
     yield f'<rect class="{kind}" x="{x}" y="{y}" width="{width}" height="{height}" rx="6"/>'
-    top = y + height / 2 - 18 * (len(lines) - 1) / 2 + 5
+    top = y + height / 2 - LINE * (len(lines) - 1) / 2 + 5
     for place, line in enumerate(lines):
         of_class = ' class="title"' if place == 0 else ' class="small"'
-        yield f'<text{of_class} x="{x + width / 2:g}" y="{top + 18 * place:g}">{escape(line)}</text>'
+        yield f'<text{of_class} x="{x + width / 2:g}" y="{top + LINE * place:g}">{escape(line)}</text>'
 
 
 def text(x: float | str, y: float, line: str, of_class: str = "small left") -> Iterator[str]:
@@ -189,8 +193,8 @@ def svg_of_drawing(drawing: Drawing, title: str, width: float = 620) -> Iterator
             parts.append(f'<path class="line {arrow.colour}" marker-end="url(#end)" d="M{x + 210} {y} L{x + 210} {top - 2}"/>')
             for place, line in enumerate(arrow.lines):
                 parts += text(x + 224, y + 24 + 16 * place, line, f"small left {arrow.colour}")
-        parts += box(x, top, 420, 22 + 18 * len(shape.lines), shape.lines, KINDS.get(shape.colour, "box"))
-        y, last = top + 22 + 18 * len(shape.lines), node
+        parts += box(x, top, 420, MARGINS + LINE * len(shape.lines), shape.lines, KINDS.get(shape.colour, "box"))
+        y, last = top + MARGINS + LINE * len(shape.lines), node
     return page(width, y + 20, title, parts)
 
 

@@ -19,6 +19,7 @@ from psycopg.pq.abc import PGconn
 from .texts import Wrong
 
 SCHEMA = os.path.join(os.path.dirname(os.path.abspath(__file__)), "schema.sql")
+# The name of a schema, which stands in statements without quotes, and alone before the words of its roles. `schemaName` of spki-authd is the same.
 NAME = re.compile(r"[a-z_][a-z0-9_]{0,40}\Z")
 VERSION = 2
 ROLES = ("reader", "writer", "adder", "keeper")

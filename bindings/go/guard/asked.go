@@ -186,7 +186,7 @@ func (a *Asked) Reduce() (string, error) {
 	return a.lines(toReduce)
 }
 
-// Close frees the memory of the question. Nothing else depends on it. It may be called at any time and more than once.
+// Close frees the memory of the question. Its guard and other questions stay open. It may be called at any time and more than once.
 func (a *Asked) Close() {
 	if a.held != nil {
 		a.held.close()

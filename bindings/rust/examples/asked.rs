@@ -1,7 +1,7 @@
 //! Answers the questions of a test, so that another program can compare the answers.
 //!
-//! Reads strings from standard input, each as LENGTH:OCTETS, and writes the lines of each answer as one string. A list of strings is its
-//! number of strings, and the strings. A question is these, in this order:
+//! Reads strings from standard input, each as LENGTH:OCTETS, and writes each answer as one string, without its last line feed.
+//! A list of strings is its number of strings, and the strings. A question is these, in this order:
 //!
 //! - the strings COMMAND, POLICY, LIMITS (`usual` or `highest`), ACL, SEQUENCE and KEY
 //! - `text` or `words`, and a list of strings
