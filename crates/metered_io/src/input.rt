@@ -7,16 +7,17 @@ use std::alloc::Global;
 use std::io::Read;
 use thiserror::Error;
 
-/// The largest number of calls of a reader.
+/// The count `asks` at which `read_whole` fails. Without it, a reader that is always interrupted would be called
+/// forever.
 const READER_ASKS: u64 = 2_097_152;
 
-/// How many octets one read may return at most.
+/// The size of the buffer of `read_whole`: how many octets one read may return at most.
 const PIECE_OCTETS: usize = 8192;
 
 /// Why no text is returned.
 #[derive(Clone, Copy, Debug, PartialEq, Eq, Error)]
 pub enum ReadFault {
-    /// The reader failed with an error other than `Interrupted`, or was called too often.
+    /// The reader failed with an error other than `Interrupted`, or its count `asks` was 2,097,152 before it ended.
     #[error("read fault")]
     Failed,
     /// The text has more octets than the limit.
@@ -54,10 +55,10 @@ fn ask<R: Read>(reader: &mut Metered<R>, buffer: &mut [u8]) -> Result<Option<usi
     }
 }
 
-/// Reads once, and appends the octets to `text`, which has at most `most` octets before. Reads no more than is needed
-/// to see that a text has over `most` octets, and no more than `buffer`, which is not empty, can hold. Returns whether
-/// the reader has ended; an interrupted read returns false. Err is `Failed` at any other error of the reader, `TooLong`
-/// if the text then has over `most` octets, or `Memory`.
+/// Reads once, and appends the octets to `text`, which has at most `most` octets before. They pass through `buffer`,
+/// which must not be empty. At most one octet more than `text` may still take is read: this octet shows that the text
+/// is too long. Returns true if the reader has ended, and otherwise false, also after an interrupted read. Err is
+/// `Failed` at any other error of the reader, `TooLong` if `text` then has over `most` octets, or `Memory`.
 fn read_piece<R: Read>(
     reader: &mut Metered<R>,
     buffer: &mut [u8],
@@ -92,8 +93,8 @@ fn read_piece<R: Read>(
     }
 }
 
-/// Appends octets to the text, which has at most `most` octets before, and at most one more with these. Err is
-/// `TooLong` if the text then has over `most` octets, or `Memory`.
+/// Appends octets to `text`. It has at most `most` octets before, and at most `most` plus one with these. Err is
+/// `TooLong` if it then has over `most`, or `Memory`.
 fn append(text: &mut Vec<u8>, octets: &[u8], most: usize) -> Result<(), ReadFault>
     requires short { vec_len text.old ≤ most }
     requires wanted { vec_len text.old + length octets.now ≤ most + 1 }
@@ -110,13 +111,14 @@ fn append(text: &mut Vec<u8>, octets: &[u8], most: usize) -> Result<(), ReadFaul
     Ok(())
 }
 
-/// Reads the whole text of a reader, of at most `most` octets. A read that fails with `Interrupted` is repeated. The reader
-/// is called until its count `asks` is 2,097,152. At most `most` octets and one more are taken from it.
+/// Reads the whole text of a reader, of at most `most` octets. A read that fails with `Interrupted` is repeated. The
+/// reader is called until its count `asks`, which includes calls before this one, is 2,097,152. At most `most` octets
+/// and one more are taken from it.
 ///
 /// # Errors
 ///
-/// `Failed` at another error, and at that count; `TooLong` if one octet more than `most` was read; `Memory` if memory ran
-/// out.
+/// `Failed` at another error, and at that count; `TooLong` if one octet more than `most` was read; `Memory` if memory
+/// ran out.
 pub fn read_whole<R: Read>(
     alloc: Global,
     reader: &mut Metered<R>,

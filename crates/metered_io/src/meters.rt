@@ -6,14 +6,19 @@ ghost use Rattle.metered_io.specs.MeteredCalls.{counted, inner_of, asks_of, faul
 use std::io;
 use std::io::{Error, ErrorKind, Read, Write};
 
-/// Passes calls on to a reader or a writer, and counts them: `asks` are all its reads, writes and flushes, and `faults` those that failed and were
-/// not only interrupted.
+/// Passes calls on to a reader or a writer, and counts them. `read_whole`, `write_octets` and `flush_writer` fail at a
+/// count of calls. The contracts of these functions and of their callers also name the other fields.
 #[derive(Drop)]
 pub struct Metered<T> {
+    /// How many reads, writes and flushes were passed on since `new` or `restart`.
     asks: u64,
+    /// How many of these calls failed and were not only interrupted, or wrote 0 octets of a buffer that is not empty.
     faults: u64,
+    /// Whether the last read into a buffer with room returned 0 octets.
     ended: bool,
+    /// Whether the last write or flush was a flush that succeeded.
     flushed: bool,
+    /// The reader or the writer.
     inner: T,
 }
 
@@ -35,7 +40,8 @@ impl<T> Metered<T> {
         }
     }
 
-    /// Resets the counts to 0 and the flags to false. The reader or writer inside does not change.
+    /// Resets the counts to 0, and `ended` and `flushed` to false. The reader or writer inside does not change. A
+    /// caller does this before each run, so that counts and limits are those of the run.
     pub fn restart(&mut self)
         ensures asks { asks_of self.new ≡ 0 }
         ensures faults { faults_of self.new ≡ 0 }
@@ -49,7 +55,8 @@ impl<T> Metered<T> {
         self.flushed = false;
     }
 
-    /// The number of calls that were passed on: reads, writes and flushes together. It stops at the greatest `u64`.
+    /// The number of calls that were passed on since `new` or `restart`: reads, writes and flushes together. The count
+    /// stops at the greatest `u64`.
     pub fn asks(&self) -> u64
         ensures { result ≡ asks_of self.now }
     {
@@ -57,7 +64,7 @@ impl<T> Metered<T> {
     }
 
     /// The number of these calls that failed with an error other than `Interrupted`, or wrote 0 octets of a buffer that
-    /// is not empty. It stops at the greatest `u64`.
+    /// is not empty. The count stops at the greatest `u64`.
     pub fn faults(&self) -> u64
         ensures { result ≡ faults_of self.now }
     {
@@ -94,8 +101,8 @@ pub(crate) fn is_interrupted(error: &Error) -> bool
     error.kind() == ErrorKind::Interrupted
 }
 
-/// The number of faults after one more error, up to the greatest `u64`. `Interrupted` is no fault: the number stays
-/// `faults`.
+/// The number of faults after one more error, where there were `faults` before. It is one more, up to the greatest
+/// `u64`, or the same for `Interrupted`, which is no fault.
 fn count_error(faults: u64, error: &Error) -> u64
     ensures { CountsIf (IsFault error.now) faults result }
 {
@@ -110,7 +117,8 @@ impl<R: Read> Read for Metered<R> {
     ghost remaining = { λ m. R.remaining (inner_of m) };
 
     /// Reads from the reader inside, and returns its answer. Counts the call, and as a fault an error other than
-    /// `Interrupted`. If the buffer has room, `ended` is then whether 0 octets were read. `flushed` does not change.
+    /// `Interrupted`. If the buffer has room, `ended` is then true if 0 octets were read, and false for more octets or
+    /// an error. `flushed` does not change.
     fn read(&mut self, buf: &mut [u8]) -> io::Result<usize>
         ensures bound { ReadsAtMost result buf.new }
         ensures bytes { ReadConsumes (R.remaining (inner_of self.old)) (R.remaining (inner_of self.new)) result buf.new }

@@ -6,7 +6,7 @@ use crate::meters::{Metered, is_interrupted};
 use std::io::Write;
 use thiserror::Error;
 
-/// The largest number of calls of a writer, in addition to one for each octet.
+/// How many calls of a writer `write_whole` allows, in addition to one for each octet.
 const WRITER_ASKS: u64 = 2_097_152;
 
 /// The writer failed with an error other than `Interrupted`, wrote 0 octets of a buffer that is not empty, or was called too
@@ -15,8 +15,8 @@ const WRITER_ASKS: u64 = 2_097_152;
 #[error("write fault")]
 pub struct WriteFault;
 
-/// Writes once. Returns how many of the octets were written, 0 if the write was interrupted and must be repeated. `octets` must not be empty. Err at
-/// any other error, and if the writer took no octet.
+/// Writes once. Returns how many of the octets were written, or 0 if the write was interrupted and must be repeated.
+/// `octets` must not be empty. Err at any other error, and if the writer accepted no octet.
 fn write_piece<W: Write>(writer: &mut Metered<W>, octets: &[u8]) -> Result<usize, WriteFault>
     requires some { 0 < length octets.now }
     ensures asks { asks_of writer.new ≡ counted (asks_of writer.old) }
@@ -60,13 +60,14 @@ fn flush_once<W: Write>(writer: &mut Metered<W>) -> Result<bool, WriteFault>
     }
 }
 
-/// Writes all the octets, and does not flush. A call that fails with `Interrupted` is repeated. `most` is the most calls: the writer is called until
-/// its count `asks`, which includes earlier calls, is `most`. For no octets it is not called.
+/// Writes all the octets, and does not flush. For an output in pieces a caller writes each with this function, and then
+/// calls `flush_writer` once. A call that fails with `Interrupted` is repeated. The writer is called only while its
+/// count `asks`, which includes earlier calls, is below `most`. If `octets` is empty, it is not called.
 ///
 /// # Errors
 ///
-/// `WriteFault` at another error, if 0 octets of a buffer that is not empty are written, and at that count if octets
-/// are left. A beginning of the octets has been written then, which may be empty.
+/// `WriteFault` at another error, if 0 octets of a buffer that is not empty are written, and if octets are left when
+/// the count is `most`. A beginning of the octets has been written then, which may be empty.
 pub fn write_octets<W: Write>(
     writer: &mut Metered<W>,
     octets: &[u8],
@@ -90,12 +91,12 @@ pub fn write_octets<W: Write>(
     Ok(())
 }
 
-/// Flushes the writer. A flush that fails with `Interrupted` is repeated. `most` is the most calls: the writer is called until its count `asks`,
-/// which includes earlier calls, is `most`.
+/// Flushes the writer. A flush that fails with `Interrupted` is repeated. The writer is called only while its count
+/// `asks`, which includes earlier calls, is below `most`.
 ///
 /// # Errors
 ///
-/// `WriteFault` at another error, and at that count.
+/// `WriteFault` at another error, and if no flush has succeeded when the count is `most`.
 pub fn flush_writer<W: Write>(writer: &mut Metered<W>, most: u64) -> Result<(), WriteFault>
     ensures octets { TakesNone W.contents writer.old writer.new }
     ensures flushed { OnOk result (IsTrue (flushed_of writer.new)) }
@@ -112,7 +113,7 @@ pub fn flush_writer<W: Write>(writer: &mut Metered<W>, most: u64) -> Result<(), 
 }
 
 /// Writes all the octets and flushes the writer. A call that fails with `Interrupted` is repeated. The writer is called
-/// until its count `asks` is 2,097,152 more than the number of the octets.
+/// until its count `asks`, which includes earlier calls, is 2,097,152 more than the number of the octets.
 ///
 /// # Errors
 ///

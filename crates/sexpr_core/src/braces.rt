@@ -24,7 +24,7 @@ pub struct Unpacked {
     pub end: usize,
 }
 
-/// The symbols of a text in base64, and the offset after the mark that ended it.
+/// The symbols of a text in base64, with their `=`, and the offset after the mark that ended them.
 struct Gathered {
     symbols: Vec<u8>,
     end: usize,
@@ -113,7 +113,8 @@ fn gather_symbols(alloc: Global, text: &[u8], at: usize, mark: u8) -> Result<Gat
     Err(FormFault::Short)
 }
 
-/// Appends `missing` octets `=` to the symbols. Err if memory ran out: then some may have been appended.
+/// Appends `missing` octets `=` to the symbols, to complete their padding. Err if memory ran out: then some may have
+/// been appended.
 fn pad(symbols: &mut Vec<u8>, missing: usize) -> Result<(), AllocError>
     ensures { OnOk result (symbols.new.items ≡ symbols.old.items ++ replicate missing 61) }
 {
@@ -123,8 +124,9 @@ fn pad(symbols: &mut Vec<u8>, missing: usize) -> Result<(), AllocError>
     Ok(())
 }
 
-/// Decodes base64 symbols. Their padding may be incomplete or missing. Err is `Bad` with the offset `at` if they are no base64 or an unused bit is
-/// not zero, or `Memory`.
+/// Decodes base64 symbols. Their padding may be incomplete or missing: it is completed first. Err is `Bad` if they are
+/// no base64 or an unused bit is not zero, or `Memory`. `Bad` has the offset `at`, which is that of the mark after
+/// them.
 fn unpack(alloc: Global, symbols: Vec<u8>, at: usize) -> Result<Vec<u8>, FormFault>
     ensures read { IfOk result (λ octets. IsBase64 symbols.items octets.items) }
     ensures only { (octets : List ℕ) → IsBase64 symbols.items octets → IsOkUnless result FormFault.Memory }
@@ -143,15 +145,16 @@ fn unpack(alloc: Global, symbols: Vec<u8>, at: usize) -> Result<Vec<u8>, FormFau
     }
 }
 
-/// Reads base64 from the offset `at` up to the closing octet `mark`, and returns its octets and the offset after the
-/// mark. Whitespace is allowed anywhere in it, and it may be empty. Some or all of the padding may be missing, and an
-/// unused bit must be zero (RFC 9804, section 4.5; RFC 4648, section 4). `at` is at most the length of the text. `mark`
-/// is no symbol of base64, no `=` and no whitespace.
+/// Reads base64 from the offset `at` up to the closing octet `mark`, and returns the decoded octets and the offset
+/// after the mark. Whitespace is allowed anywhere in it, and it may be empty. Some or all of the padding may be
+/// missing, and an unused bit must be zero (RFC 9804, section 4.5; RFC 4648, section 4). `at` is at most the length of
+/// the text. `mark` is no symbol of base64, no `=` and no whitespace.
 ///
 /// # Errors
 ///
-/// Short: the text ends before the mark. Bad: at the first octet that is not allowed there, or at the mark if the body is no base64. However a text
-/// continues after this octet, it has no base64 with the mark at `at`. Memory: memory ran out.
+/// Short: the text ends before the mark. Bad: at the first octet that is not allowed there, or at the mark if the body
+/// is no base64. No text that begins with the octets up to and including this one has base64 from `at` up to a `mark`.
+/// Memory: memory ran out.
 pub fn read_base64(alloc: Global, text: &[u8], at: usize, mark: u8) -> Result<Unpacked, FormFault>
     requires begins { at ≤ length text.now }
     requires apart { is_body_octet mark ≡ false }
@@ -166,8 +169,9 @@ pub fn read_base64(alloc: Global, text: &[u8], at: usize, mark: u8) -> Result<Un
     Ok(Unpacked { octets, end })
 }
 
-/// The fault to report for a text in braces if the octets decoded from it are no canonical form: `TooDeep` and `Memory` stay, and any other becomes
-/// `Bad` at the offset `at` of the closing brace.
+/// The fault to report for a text in braces if the octets decoded from it are no canonical form. `TooDeep` and `Memory`
+/// stay. Any other has an offset in the decoded octets, or means their end. It becomes `Bad` at `at`, the offset of the
+/// closing brace in the text.
 fn body_fault(fault: FormFault, at: usize) -> FormFault
     ensures { IsBodyFault fault at result }
 {
@@ -178,8 +182,9 @@ fn body_fault(fault: FormFault, at: usize) -> FormFault
     }
 }
 
-/// Checks that the octets decoded from a text in braces, at most `MOST_OCTETS`, are one value in canonical form, with at most `MOST_LISTS` lists open
-/// at once. Err is `TooDeep` if more are, and for any other fault `Bad` at the offset `at`, which is that of the closing brace.
+/// Checks that the octets decoded from a text in braces, at most `MOST_OCTETS`, are one value in canonical form, with
+/// at most `MOST_LISTS` lists open at once. Err is `TooDeep` if more are, and for any other fault `Bad` at the offset
+/// `at`, which is that of the closing brace.
 #[tactic(auto, using(crate::proofs::Refusals::body_refused))]
 fn check_body(octets: &[u8], at: usize) -> Result<(), FormFault>
     requires { length octets.now ≤ 1048576 }
@@ -193,8 +198,9 @@ fn check_body(octets: &[u8], at: usize) -> Result<(), FormFault>
     }
 }
 
-/// Reads the transport form (RFC 9804, section 6.3): braces around base64 of a canonical form. Whitespace is allowed
-/// around the braces and inside them. Some or all of the padding may be missing, and an unused bit must be zero.
+/// Reads a text in transport form (RFC 9804, section 6.3) as an owned tree. The text is base64 of a canonical form, in
+/// braces. Whitespace is allowed around the braces and inside them. Some or all of the padding may be missing, and an
+/// unused bit must be zero.
 ///
 /// # Errors
 ///
@@ -214,7 +220,8 @@ pub fn unwrap_braces(alloc: Global, text: &[u8]) -> Result<Sexp, FormFault>
     Ok(tree)
 }
 
-/// Returns the canonical form of the value in a text in transport form. The refusals are those of `unwrap_braces`.
+/// Returns the canonical form of the value in a text in transport form, without making a tree. The refusals are those
+/// listed at `unwrap_braces`, which calls this.
 pub fn octets_in_braces(alloc: Global, text: &[u8]) -> Result<Vec<u8>, FormFault>
     ensures read { IfOk result (λ octets. (v : Value) × IsBracedWithin text.now v × (octets.items ≡ canon v)) }
     ensures only { (v : Value) → IsBracedWithin text.now v → IsOkUnless result FormFault.Memory }

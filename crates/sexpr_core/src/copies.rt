@@ -35,7 +35,7 @@ impl Clone for Sexp {
     }
 }
 
-/// Copies each tree, in order. Err if memory ran out.
+/// Returns copies of the trees, in order, as a vector. Err if memory ran out.
 #[cycle(copy)]
 fn copies_of(alloc: Global, trees: &[Sexp]) -> Result<Vec<Sexp>, AllocError>
     ensures { IfOk result (λ copies. map sexp_value copies.items ≡ map sexp_value trees.now) }

@@ -18,7 +18,9 @@ pub struct NodeId(pub usize);
 /// A canonical text (RFC 9804, section 6.2) with a table of its nodes. In a contract a document is its value.
 #[derive(Debug, Drop)]
 pub struct Doc<'a> {
+    /// The canonical text.
     text: &'a [u8],
+    /// A record for each node, in the order of their numbers.
     table: Vec<Record>,
 }
 

@@ -56,14 +56,14 @@ fn same_hints(hint: &Option<Vec<u8>>, other: &Option<Vec<u8>>) -> bool
     }
 }
 
-/// Whether two strings have the same octets, and the same display hint or both none.
+/// Whether two strings have the same octets, and the same display hint or both none. `==` of strings returns this.
 fn same_atoms(atom: &Atom, other: &Atom) -> bool
     ensures { IsTrue result ↔ (atom_value atom.now ≡ atom_value other.now) }
 {
     same_hints(&atom.hint, &other.hint) && atom.body.as_slice() == other.body.as_slice()
 }
 
-/// Whether two trees have the same value. The recursion is as deep as the first tree.
+/// Whether two trees have the same value: `==` of trees returns this. The recursion is as deep as the first tree.
 #[cycle(same)]
 fn same_trees(tree: &Sexp, other: &Sexp) -> bool
     ensures { IsTrue result ↔ (sexp_value tree.now ≡ sexp_value other.now) }

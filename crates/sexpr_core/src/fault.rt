@@ -32,7 +32,7 @@ pub enum FormFault {
 impl From<AllocError> for FormFault {
     ghost from_gives = { λ _ fault. fault ≡ Memory };
 
-    /// An allocation that failed is the fault `Memory`.
+    /// An allocation that failed is the fault `Memory`. With this, `?` converts the error.
     fn from(_error: AllocError) -> FormFault {
         FormFault::Memory
     }
@@ -41,7 +41,8 @@ impl From<AllocError> for FormFault {
 impl<T: Drop> From<AllocFailed<T>> for FormFault {
     ghost from_gives = { λ _ fault. fault ≡ Memory };
 
-    /// An allocation that failed is the fault `Memory`.
+    /// An allocation that failed is the fault `Memory`, also in `Vec::push`. Its error contains the value that was not
+    /// appended, which is dropped.
     fn from(_error: AllocFailed<T>) -> FormFault {
         FormFault::Memory
     }

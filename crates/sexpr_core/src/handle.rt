@@ -9,7 +9,7 @@ use crate::layout::Shape;
 use crate::siblings::Members;
 use std::marker::Model;
 
-/// A node of a document. In a contract a node is its value.
+/// A node of a document: the document, and the number of the node in it, from 0. In a contract a node is its value.
 #[derive(Debug, Drop)]
 pub struct Node<'d, 'a> {
     document: &'d Doc<'a>,
@@ -44,8 +44,8 @@ pub enum NodeKind<'d, 'a> {
     List(Members<'d, 'a>),
 }
 
-/// The octets of a text from the offset `from` to before the offset `to`, which is at least `from` and at most the length of the text. It is a
-/// function so that these bounds are proved once, and not at each slice.
+/// The octets of a text from the offset `from` to before the offset `to`, which is at least `from` and at most the
+/// length of the text. It is a function so that these bounds are proved once, and not at each slice.
 fn piece(text: &[u8], from: usize, to: usize) -> &[u8]
     requires ordered { from ≤ to }
     requires within { to ≤ length text.now }
@@ -136,7 +136,8 @@ impl<'d, 'a> Node<'d, 'a> {
         }
     }
 
-    /// How many members the node has. None if it is a string.
+    /// How many members the node has. None if it is a string. The number is in the record of the list, while
+    /// `Members::len` takes a step for each member.
     pub(crate) fn part_count(&self) -> Option<usize>
         ensures { result ≡ part_count self.now }
     {

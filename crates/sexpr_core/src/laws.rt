@@ -1,5 +1,7 @@
 //! Laws of values, canonical form and trees.
-//! Each function is a law: its contract is the fact. It does nothing, except that `octets_are_below_256` walks its tree.
+//!
+//! Each function is a law: its contract is the fact. A function whose proof needs the fact calls the law. A law does
+//! nothing, except that `octets_are_below_256` walks its tree.
 
 ghost use Rattle.std.specs.Prelude.{◌≡◌, ◌≢◌, ◌↔◌, ℕ, List, ◌++◌, IsTrue};
 ghost use Rattle.sexpr_core.specs.declared.fault.FormFault.{FormFault};
@@ -25,8 +27,9 @@ pub fn one_refusal()
     ensures one { (text : List ℕ) (e f : FormFault) → IsOfForm e → IsOfForm f → Refused text e → Refused text f → e ≡ f }
 {}
 
-/// A text has at most one of the faults TooDeep, Short, Bad and Trailing of the transport form, with its offset. It has none if it braces a value
-/// within the limits, that is, if it is the value's transport form except for whitespace and missing padding.
+/// A text has at most one of the faults TooDeep, Short, Bad and Trailing of the transport form, with its offset. It has
+/// none if it braces a value within the limits, that is, if it is the value's transport form except for whitespace and
+/// missing padding.
 pub fn one_refusal_in_braces()
     ensures none { (text : List ℕ) (e : FormFault) (v : Value) → IsOfForm e → RefusesBraces text e → ¬ IsBracedWithin text v }
     ensures one { (text : List ℕ) (e f : FormFault) → IsOfForm e → IsOfForm f → RefusesBraces text e → RefusesBraces text f → e ≡ f }
@@ -39,8 +42,8 @@ pub fn equality_is_of_canonical_forms()
     ensures { (v w : Value) → IsTrue (is_same v w) ↔ (v ≡ w) }
 {}
 
-/// Each octet of a tree's value is below 256. The call walks the tree, with recursion as deep as the tree, and does nothing
-/// else.
+/// Each octet of a tree's value is below 256. The call does nothing but recurse, as deep as the tree: this is the proof
+/// by induction.
 #[tactic(auto, using(crate::proofs::TreeLaws::more_octets, crate::proofs::TreeLaws::list_octets))]
 pub fn octets_are_below_256(tree: &Sexp)
     ensures { HasOctets (sexp_value tree.now) }

@@ -1,4 +1,5 @@
-//! The properties of a document's nodes, by their numbers. For a number that the document does not have the result is None.
+//! The properties of a document's nodes, by their numbers. If the document does not have the number `n`, the result is
+//! None. These functions are for programs that keep a `NodeId`: the readers of other crates use `Node`.
 
 ghost use Rattle.std.specs.{Prelude.{◌≡◌, ◌<◌, ◌^◌, length, option_map, IfSome}, Option.{option_copied}};
 ghost use Rattle.sexpr_core.specs.Nodes.{node_at, start_of, LiesAt, of_node, part_count, part_number, part_at, member_number, members_of, body_of, hint_of};
@@ -23,9 +24,9 @@ impl<'a> Doc<'a> {
         node.part_count()
     }
 
-    /// The number of member i of a list, counted from 0. None for a string, for a list with i or fewer members, and if
-    /// the document has no such node. It takes a step for each member before this one: use `Node::members` to go over
-    /// all of them.
+    /// The number of member `i`, from 0, of the list with number `n`. None for a string, for a list with `i` or fewer
+    /// members, and if the document has no such node. It takes a step for each member before this one: use
+    /// `Node::members` to go over all of them.
     pub fn part(&self, n: NodeId, i: usize) -> Option<NodeId>
         ensures number { option_map (λ m. m.0) result ≡ of_node (part_number n.0 i) self.now n.0 }
         ensures member { IfSome result (λ m. node self.now m.0 ≡ of_node (part_at i) self.now n.0) }
@@ -37,7 +38,9 @@ impl<'a> Doc<'a> {
         Some(NodeId(self.member_number(n.0, i)))
     }
 
-    /// The number of member i, from 0, of the list with number n. The list must have this member. `prove!` gives the prover a fact and does nothing.
+    /// The number of member `i`, from 0, of the list with number `n`. The list must have this member. Member 0 has the
+    /// number after that of the list, and the next member the number after all nodes of the one before it. `prove!`
+    /// gives the prover a fact and does nothing.
     #[tactic(auto, using(crate::proofs::NodeLaws::member_of, crate::proofs::NodeLaws::member_is, crate::proofs::NodeLaws::size_is))]
     fn member_number(&self, n: usize, i: usize) -> usize
         requires known { n < size self.now }

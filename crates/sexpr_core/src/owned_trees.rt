@@ -39,7 +39,8 @@ fn atom_of(alloc: Global, hint: Option<&[u8]>, body: &[u8]) -> Result<Atom, Allo
     Ok(Atom { hint, body })
 }
 
-/// Copies a node of a document as an owned tree. Err if memory ran out.
+/// Copies a node of a document, with all nodes in it, as an owned tree. `Sexp::of_node` is its public name. The
+/// recursion is as deep as the node. Err if memory ran out.
 #[cycle(trees)]
 fn tree_of(alloc: Global, node: &Node) -> Result<Sexp, AllocError>
     ensures { IfOk result (λ tree. sexp_value tree ≡ node.now) }
@@ -50,7 +51,7 @@ fn tree_of(alloc: Global, node: &Node) -> Result<Sexp, AllocError>
     }
 }
 
-/// Copies each member as an owned tree, in order. Err if memory ran out.
+/// Copies each of the members that are still to be read as an owned tree, in order. Err if memory ran out.
 #[cycle(trees)]
 fn trees_of(alloc: Global, members: Members) -> Result<Vec<Sexp>, AllocError>
     ensures { IfOk result (λ trees. map sexp_value trees.items ≡ members.entry) }

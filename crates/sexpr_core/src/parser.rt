@@ -15,8 +15,8 @@ pub const MOST_OCTETS: usize = 1_048_576;
 /// The largest number of lists that may be open at once.
 pub const MOST_LISTS: usize = 64;
 
-/// A table of nodes begins with room for this many records, and one more for each 8 octets of the text. A node of a certificate has 6 to 12 octets. A
-/// key, an entry or a request has fewer nodes than this.
+/// A table of nodes begins with room for this many records, and one more for each 8 octets of the text. A node of a
+/// certificate has 6 to 12 octets. A key, an entry or a request has fewer nodes than this.
 const LEAST_ROOM: usize = 24;
 
 /// The most unused records for which a finished table of nodes keeps room: 28 KiB.
@@ -64,9 +64,9 @@ fn first_digit(text: &[u8], at: usize) -> Result<usize, FormFault>
     }
 }
 
-/// Reads the decimal length at the offset `at`, without leading zeros, and the colon after it. A length of any size is
-/// read, since a text may continue for as long. One over `MOST_OCTETS` is returned as `MOST_OCTETS` plus one. Err is
-/// `Bad` at the first octet that is not allowed there, or `Short` if the text ends before the colon.
+/// Reads the decimal length at the offset `at`, without leading zeros, and the colon after it. A length over
+/// `MOST_OCTETS` is returned as `MOST_OCTETS` plus one: no text has as many octets, so `read_verbatim` refuses it as
+/// `Short`. Err is `Bad` at the first octet that is not allowed there, or `Short` if the text ends before the colon.
 fn read_length(text: &[u8], at: usize) -> Result<Length, FormFault>
     requires { at ≤ length text.now }
     ensures { MatchResult result
@@ -182,9 +182,9 @@ pub(crate) fn read_string(text: &[u8], at: usize, octet: u8) -> Result<Record, F
 }
 
 /// Reads the value at the offset `at`, which may be the end of the text, and appends the records of its nodes to
-/// `nodes`. Returns the offset after it. The text has at most `MOST_OCTETS` octets. At most `room` lists may be open at
-/// once in the value. Err is the first fault, `TooDeep`, `Short` or `Bad`, or `Memory`. On an error some records may
-/// have been appended.
+/// `nodes`. Returns the offset after the value. The text has at most `MOST_OCTETS` octets. At most `room` lists may be
+/// open at once in the value. Err is the first fault, `TooDeep`, `Short` or `Bad`, or `Memory`. On an error some
+/// records may have been appended.
 #[cycle(reading)]
 fn read_value(
     text: &[u8],
@@ -209,9 +209,10 @@ fn read_value(
     Ok(read.end as usize)
 }
 
-/// Reads the list whose opening parenthesis is at `at`, and appends the records of its nodes to `nodes`. Returns the
-/// offset after it. The text has at most `MOST_OCTETS` octets. At most `room` lists may be open at once, this one
-/// included. Err is as for `read_value`.
+/// Reads the list whose opening parenthesis is at `at`, and appends the records of its nodes to `nodes`. The list's own
+/// record precedes those of its members, and is replaced when its end is known. Returns the offset after the list. The
+/// text has at most `MOST_OCTETS` octets. At most `room` lists may be open at once, this one included. Err is as for
+/// `read_value`.
 #[cycle(reading)]
 fn read_list(
     text: &[u8],
@@ -276,8 +277,9 @@ fn read_members(
     Err(FormFault::Short)
 }
 
-/// Reads a text that is one value in canonical form, and returns the records of its nodes in order. The refusals are
-/// those of `Doc::open`.
+/// Reads a text that is one value in canonical form, and returns the records of its nodes in order. Err is `TooLong`
+/// for over `MOST_OCTETS` octets, otherwise the first fault from the left, `TooDeep`, `Short`, `Bad` or `Trailing`, or
+/// `Memory`.
 #[tactic(auto, using(crate::proofs::Refusals::refused, crate::proofs::Refusals::trailing, crate::proofs::Refusals::only_memory))]
 pub(crate) fn parse(alloc: Global, text: &[u8]) -> Result<Vec<Record>, FormFault>
     ensures read { IfOk result (λ nodes.
@@ -297,8 +299,8 @@ pub(crate) fn parse(alloc: Global, text: &[u8]) -> Result<Vec<Record>, FormFault
     Ok(without_spare_room(nodes))
 }
 
-/// Returns the same records, and frees the unused room of their vector if it is more than `MOST_SPARE` records. A vector that grew may have twice the
-/// room that it needs. For less room, freeing costs more than it saves.
+/// Returns the same records, and frees the unused room of their vector if it is more than `MOST_SPARE` records. A
+/// vector that grew may have twice the room that it needs. For less room, freeing costs more than it saves.
 fn without_spare_room(nodes: Vec<Record>) -> Vec<Record>
     ensures { result.items ≡ nodes.items }
 {

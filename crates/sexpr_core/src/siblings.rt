@@ -7,8 +7,9 @@ use crate::document::Doc;
 use crate::handle::Node;
 use std::marker::Model;
 
-/// The members of a list that are still to be read, from the node with number `from` to before number `to`. The `size` of a record counts a node with
-/// all nodes in it, so it leads to the next member. In a contract it is the list of their values.
+/// The members of a list that are still to be read, from the node with number `from` to before number `to`. The `size`
+/// of a record counts a node with all nodes in it, so it leads to the next member. In a contract it is the list of
+/// their values.
 #[derive(Debug, Drop)]
 pub struct Members<'d, 'a> {
     document: &'d Doc<'a>,
@@ -47,7 +48,8 @@ impl<'d, 'a> Members<'d, 'a> {
         }
     }
 
-    /// How many members are still to be read. A step is taken for each.
+    /// How many members are still to be read. A step is taken for each, over a second handle, so `self` does not
+    /// change.
     pub fn len(&self) -> usize
         ensures { result ≡ length self.now }
     {

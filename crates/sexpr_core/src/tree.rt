@@ -10,7 +10,7 @@ use std::alloc::{AllocError, Global};
 pub enum Sexp {
     /// An octet string.
     Atom(Atom),
-    /// A list of its members.
+    /// A list: its members, in order.
     List(Vec<Sexp>),
 }
 
@@ -32,7 +32,8 @@ impl Sexp {
         Ok(Sexp::Atom(Atom { hint: None, body }))
     }
 
-    /// Returns the list with these members.
+    /// Returns the list with these members, in this order. It is the variant `List`, with a contract that states the
+    /// value.
     pub fn list(members: Vec<Sexp>) -> Sexp
         ensures { sexp_value result ≡ group (map sexp_value members.items) }
     {

@@ -16,7 +16,7 @@ pub fn encode(alloc: Global, tree: &Sexp) -> Result<Vec<u8>, AllocError>
     Ok(out)
 }
 
-/// Appends a number in decimal to the output. Err if memory ran out.
+/// Appends a number in decimal to the output. Err if memory ran out: then some of its digits may have been appended.
 #[tactic(auto, using(crate::proofs::TreeLaws::digit_written, crate::proofs::TreeLaws::digits_written))]
 fn append_decimal(number: usize, out: &mut Vec<u8>) -> Result<(), AllocError>
     ensures written { OnOk result (out.new.items ≡ out.old.items ++ decimal number) }
@@ -31,8 +31,9 @@ fn append_decimal(number: usize, out: &mut Vec<u8>) -> Result<(), AllocError>
     Ok(())
 }
 
-/// Appends the length of a string in decimal to the output. A length of one digit is appended without the recursive `append_decimal`. Err if memory
-/// ran out.
+/// Appends the length of a string, which is its number of `octets`, in decimal to the output. A length of one digit is
+/// appended without the recursive `append_decimal`. Err if memory ran out: then some of its digits may have been
+/// appended.
 #[tactic(auto, using(crate::proofs::TreeLaws::digit_written))]
 fn append_length(octets: usize, out: &mut Vec<u8>) -> Result<(), AllocError>
     ensures written { OnOk result (out.new.items ≡ out.old.items ++ decimal octets) }
@@ -45,8 +46,9 @@ fn append_length(octets: usize, out: &mut Vec<u8>) -> Result<(), AllocError>
     append_decimal(octets, out)
 }
 
-/// Appends a string's verbatim form (RFC 9804, section 4.1) to the output: its length in decimal, a colon, its octets. A string of one octet has a
-/// branch of its own only for speed. If memory runs out, a part may have been appended. The output before it does not change.
+/// Appends a string's verbatim form (RFC 9804, section 4.1) to the output: its length in decimal, a colon, its octets.
+/// A string of one octet has a branch of its own only for speed. Err if memory ran out: then a part may have been
+/// appended. The output before it does not change.
 pub fn append_verbatim(octets: &[u8], out: &mut Vec<u8>) -> Result<(), AllocError>
     ensures written { OnOk result (out.new.items ≡ out.old.items ++ verbatim octets.now) }
     ensures kept { take (length out.old.items) out.new.items ≡ out.old.items }

@@ -7,8 +7,8 @@ ghost use Rattle.sexpr_text.specs.AdvancedForm.{printed_string, adv};
 use crate::printer::{print_gap, print_hint, print_octets};
 use crate::sinks::Sink;
 
-/// Returns the octets of the string in verbatim form, such as `3:abc`, with which a text begins, and the text behind it. The text must begin with
-/// one, so the last line is not reached.
+/// Returns the octets of the string in verbatim form, such as `3:abc`, with which a text begins, and the text behind
+/// it. The text must begin with one, so the last line is not reached.
 fn split_verbatim<'t>(text: &'t [u8]) -> (&'t [u8], &'t [u8])
     requires { (octets behind : List ℕ) × (text.now ≡ verbatim octets ++ behind) }
     ensures { (octets behind : List ℕ) → text.now ≡ verbatim octets ++ behind
@@ -26,7 +26,7 @@ fn split_verbatim<'t>(text: &'t [u8]) -> (&'t [u8], &'t [u8])
     (rest, rest)
 }
 
-/// Prints the string in verbatim form with which a text begins. Returns the text behind it.
+/// Prints, in advanced form, the string in verbatim form with which a text begins. Returns the text behind it.
 fn print_verbatim<'t, S: Sink>(text: &'t [u8], sink: &mut S) -> &'t [u8]
     requires { (octets behind : List ℕ) × (text.now ≡ verbatim octets ++ behind) }
     ensures { (octets behind : List ℕ) → text.now ≡ verbatim octets ++ behind
@@ -37,8 +37,8 @@ fn print_verbatim<'t, S: Sink>(text: &'t [u8], sink: &mut S) -> &'t [u8]
     behind
 }
 
-/// Prints the string with a hint with which a text begins. The opening bracket is not part of the text. Returns the
-/// text behind the string.
+/// Prints, in advanced form, a string with a hint. `text` is what follows its opening bracket in a canonical text: the
+/// hint, the closing bracket and the string. Returns the text behind the string.
 fn print_hinted<'t, S: Sink>(text: &'t [u8], sink: &mut S) -> &'t [u8]
     requires { (hint octets behind : List ℕ) × (text.now ≡ verbatim hint ++ 93 ∷ (verbatim octets ++ behind)) }
     ensures { (hint octets behind : List ℕ) → text.now ≡ verbatim hint ++ 93 ∷ (verbatim octets ++ behind)
@@ -49,8 +49,8 @@ fn print_hinted<'t, S: Sink>(text: &'t [u8], sink: &mut S) -> &'t [u8]
     print_verbatim(&behind[1..], sink)
 }
 
-/// Prints the members of a list and its parentheses. The text must begin with the members and the closing parenthesis, so the last line is not
-/// reached. Returns the text behind the list.
+/// Prints a list in advanced form, with its parentheses. `text` is what follows the opening parenthesis in a canonical
+/// text. It contains the closing one too, so the last line is not reached. Returns the text behind the list.
 #[cycle(printing)]
 fn print_members<'t, S: Sink>(text: &'t [u8], sink: &mut S) -> &'t [u8]
     requires { (vs : Values) × (behind : List ℕ) × (text.now ≡ canons vs ++ 41 ∷ behind) }
@@ -73,7 +73,8 @@ fn print_members<'t, S: Sink>(text: &'t [u8], sink: &mut S) -> &'t [u8]
     rest
 }
 
-/// Prints, in advanced form, the value with which `text` begins, which must be in canonical form. Returns the text behind it.
+/// Prints, in advanced form, the value with which `text` begins, which must be in canonical form. The text is not empty
+/// then, so the first return is not reached. Returns the text behind the value.
 #[cycle(printing)]
 fn print_first<'t, S: Sink>(text: &'t [u8], sink: &mut S) -> &'t [u8]
     requires { (v : Value) × (behind : List ℕ) × (text.now ≡ canon v ++ behind) }
@@ -90,8 +91,8 @@ fn print_first<'t, S: Sink>(text: &'t [u8], sink: &mut S) -> &'t [u8]
     }
 }
 
-/// Prints the value of a canonical text in advanced form, as `print_advanced` does. The recursion is as deep as the value. A full sink ends it at
-/// once. Allocates nothing, unless the sink does.
+/// Prints the value of a canonical text in advanced form, as `print_advanced` does. The recursion is as deep as the
+/// value. Prints nothing to a sink that is full already. Allocates nothing, unless the sink does.
 pub fn print_canonical<S: Sink>(text: &[u8], sink: &mut S)
     requires { (v : Value) × (text.now ≡ canon v) }
     ensures { (v : Value) → text.now ≡ canon v → S.takes sink.old (adv v) sink.new }

@@ -17,12 +17,12 @@ pub struct CanonicalText<'t> {
     held: HeldText<'t>,
 }
 
-/// What a canonical text contains.
+/// How a canonical text is kept.
 #[derive(Drop)]
 enum HeldText<'t> {
     /// The document of the given text, which is canonical.
     Given(Doc<'t>),
-    /// Octets that were made of the value.
+    /// Canonical octets that were made of the value, since the given text was in another form, or there was none.
     Made(Vec<u8>),
     /// The given text has no value within the limits, for this fault.
     Malformed(FormFault),
@@ -71,7 +71,8 @@ impl<'t> CanonicalText<'t> {
         }
     }
 
-    /// Converts a text in any of the three forms to canonical form. Err if memory ran out.
+    /// Converts a text in any of the three forms to canonical form. A text without a value within the limits is Ok too:
+    /// its fault is kept for `document`. Err if memory ran out.
     fn converted(alloc: Global, text: &[u8]) -> Result<CanonicalText<'t>, AllocError>
         ensures read { IfOk result (IsReadAs (IsTextWithin text.now) (RefusesForm text.now)) }
         ensures too_long { 1048576 < length text.now → IsOkAnd result (λ read. read ≡ Err FormFault.TooLong) }
@@ -85,8 +86,9 @@ impl<'t> CanonicalText<'t> {
         }
     }
 
-    /// The text whose octets were made: the canonical form of a value in which at most `MOST_LISTS` lists are open at
-    /// once. Its fault is `TooLong` if there are more than 1,048,576 octets.
+    /// Returns the canonical text with these octets, for a caller that has written the value itself. The octets must be
+    /// the canonical form of a value in which at most `MOST_LISTS` lists are open at once. If there are more than
+    /// 1,048,576 of them, `document` returns `TooLong`.
     pub fn made(octets: Vec<u8>) -> CanonicalText<'t>
         requires { (v : Value) × IsShallow v × (octets.items ≡ canon v) }
         ensures made { length octets.items ≤ 1048576 → result ≡ Ok octets.items }
@@ -102,7 +104,8 @@ impl<'t> CanonicalText<'t> {
         }
     }
 
-    /// The document of the text. If the given text was canonical, it is not parsed again.
+    /// The document of the text. If the given text was canonical, it is not parsed again. Octets that were made are
+    /// parsed, which fails only if memory runs out.
     ///
     /// # Errors
     ///
@@ -149,7 +152,7 @@ fn octets_of(alloc: Global, document: Doc) -> Result<Vec<u8>, AllocError>
 }
 
 impl<'d> OpenText<'d> {
-    /// The node of the text's value.
+    /// The node of the text's whole value, which is number 0 of its document.
     pub fn top<'o>(&'o self) -> Node<'o, 'd>
         ensures { result ≡ opened_value self.now }
     {

@@ -26,8 +26,8 @@ pub enum Form {
     Advanced,
 }
 
-/// Reads a text in canonical, transport or advanced form, and writes its value in the form `form`. It is written while
-/// it is read, without a tree. The refusals are those of `read_any`.
+/// Reads a text in canonical, transport or advanced form, and returns its value in the form `form`. The value is
+/// written while it is read, without a tree. The refusals are those of `read_any`.
 pub fn convert(alloc: Global, form: Form, text: &[u8]) -> Result<Vec<u8>, FormFault>
     ensures read { IfOk result (λ out. (v : Value) × IsTextWithin text.now v × (out.items ≡ written form v)) }
     ensures only { (v : Value) → IsTextWithin text.now v → IsOkUnless result FormFault.Memory }
@@ -41,7 +41,8 @@ pub fn convert(alloc: Global, form: Form, text: &[u8]) -> Result<Vec<u8>, FormFa
     convert_advanced(alloc, form, text)
 }
 
-/// Writes the value of a text in transport form, which is base64 in braces. The refusals are those of `unwrap_braces`.
+/// Returns the value of a text in transport form, which is base64 in braces, in the form `form`. The refusals are those
+/// of `unwrap_braces`.
 fn convert_braces(alloc: Global, form: Form, text: &[u8]) -> Result<Vec<u8>, FormFault>
     ensures read { IfOk result (λ out. (v : Value) × IsBracedWithin text.now v × (out.items ≡ written form v)) }
     ensures only { (v : Value) → IsBracedWithin text.now v → IsOkUnless result FormFault.Memory }
@@ -55,8 +56,8 @@ fn convert_braces(alloc: Global, form: Form, text: &[u8]) -> Result<Vec<u8>, For
     }
 }
 
-/// Writes the value of a canonical text in advanced form. Canonical form is also advanced form, so the text is read as such. The refusals are those
-/// of `read_advanced`.
+/// Returns the value of a canonical text within the limits in advanced form. Canonical form is also advanced form, so
+/// the text is read as such. For such a text Err is only `Memory`.
 #[tactic(auto, using(crate::proofs::OneValue::one_value, crate::proofs::Converted::canonical_within))]
 fn advanced_of(alloc: Global, octets: &[u8]) -> Result<Vec<u8>, FormFault>
     ensures read { (v : Value) → IsWithinLimits v → octets.now ≡ canon v → IfOk result (λ out. out.items ≡ adv v) }
@@ -65,7 +66,7 @@ fn advanced_of(alloc: Global, octets: &[u8]) -> Result<Vec<u8>, FormFault>
     convert_advanced(alloc, Form::Advanced, octets)
 }
 
-/// Reads a text in advanced form, and writes its value in the form `form`. The refusals are those of `read_advanced`.
+/// Reads a text in advanced form, and returns its value in the form `form`. The refusals are those of `read_advanced`.
 fn convert_advanced(alloc: Global, form: Form, text: &[u8]) -> Result<Vec<u8>, FormFault>
     ensures read { IfOk result (λ out. (v : Value) × IsSpelledWithin text.now v × (out.items ≡ written form v)) }
     ensures only { (v : Value) → IsSpelledWithin text.now v → IsOkUnless result FormFault.Memory }
@@ -107,7 +108,8 @@ fn gap_between(form: Form) -> Option<u8>
     }
 }
 
-/// Appends the gap before a member to the output, or nothing for None. Err if memory ran out.
+/// Appends the gap before a member of a list to the output, or nothing for None, which is before the first member and
+/// in canonical form. Err if memory ran out.
 fn write_gap(gap: Option<u8>, out: &mut Vec<u8>) -> Result<(), AllocError>
     ensures { OnOk result (out.new.items ≡ out.old.items ++ option_to_list gap) }
 {
@@ -118,8 +120,9 @@ fn write_gap(gap: Option<u8>, out: &mut Vec<u8>) -> Result<(), AllocError>
 }
 
 /// Reads the string without a display hint at the offset `at`, whose first octet is `first`, and appends it to `out` in
-/// the form `form`. Returns the offset after it. The text has at most `MOST_OCTETS` octets. Err is the first fault,
-/// `Short` or `Bad`, or `Memory`. On an error a part of the string may have been appended.
+/// the form `form`. Returns the offset after it. A token has a way of its own only for speed. The text has at most
+/// `MOST_OCTETS` octets. Err is the first fault, `Short` or `Bad`, or `Memory`. On an error a part of the string may
+/// have been appended.
 #[inline(always)]
 fn convert_string(
     alloc: Global,
@@ -145,8 +148,9 @@ fn convert_string(
     Ok(string.end)
 }
 
-/// Reads the token at the offset `at`, and appends it to `out` in the form `form`. Its first octet is `first`, which is
-/// no digit. Returns the offset after it. Err if memory ran out: then a part of it may have been appended.
+/// Reads the token at the offset `at`, and appends it to `out` in the form `form`. Its first octet is `first`, which
+/// may occur in a token and is no digit. Returns the offset after it. Err if memory ran out: then a part of it may have
+/// been appended.
 #[inline(always)]
 fn convert_token(
     text: &[u8],
@@ -166,8 +170,9 @@ fn convert_token(
     Ok(end)
 }
 
-/// Appends the string of a token to the output: in canonical form its length, a colon and its octets, in advanced form
-/// the token itself. Err if memory ran out: then a part of it may have been appended.
+/// Appends a string that was read as a token to the output: in canonical form its length, a colon and its octets, in
+/// advanced form the token itself. `write_string` would test again whether it can be a token. Err if memory ran out:
+/// then a part of it may have been appended.
 #[tactic(auto, using(crate::proofs::Printed::token_printed))]
 fn write_token(form: Form, octets: &[u8], out: &mut Vec<u8>) -> Result<(), AllocError>
     requires { IsToken octets.now }

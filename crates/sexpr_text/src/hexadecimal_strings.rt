@@ -43,7 +43,8 @@ pub(crate) fn read_hexadecimal(
     }
 }
 
-/// The fault of a string whose digits cannot be decoded: `Bad` at the offset `at` of its closing mark, or `Memory`.
+/// The fault of a hexadecimal string whose digits cannot be decoded: `Memory`, and for any other error `Bad` at the
+/// offset `at` of its closing `#`. For digits of `gather_digits` this error is an odd number of them.
 fn digits_fault(error: FromHexError, at: usize) -> FormFault
     ensures fault { IsDigitsFault error at result }
     ensures there { IsFaultAt at result }
@@ -77,8 +78,8 @@ fn gather_digits(alloc: Global, text: &[u8], at: usize) -> Result<Digits, FormFa
     Err(FormFault::Short)
 }
 
-/// Appends the octet at the offset `at` to `digits`, if it is a hexadecimal digit. Whitespace is skipped. Err is `Bad`
-/// for any other octet, or `Memory`.
+/// Appends `octet` to `digits` if it is a hexadecimal digit, and skips it if it is whitespace. Err is `Memory`, or for
+/// any other octet `Bad` at its offset `at`.
 fn keep_digit(octet: u8, at: usize, digits: &mut Vec<u8>) -> Result<(), FormFault>
     ensures kept { OnOk result
         ((is_hexadecimal_octet octet ≡ true) × (digits.new.items ≡ digits.old.items ++ visible (octet ∷ []))) }

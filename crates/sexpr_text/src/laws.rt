@@ -1,5 +1,7 @@
 //! Laws of advanced form.
-//! Each function is a law: it does nothing, and its contract is the fact.
+//!
+//! Each function is a law: it does nothing, and its contract is the fact. A function whose proof needs the fact calls
+//! the law.
 
 ghost use Rattle.std.specs.Prelude.{◌≡◌, ℕ, List, ◌+◌, ◌<◌, length, take};
 ghost use Rattle.sexpr_core.specs.{declared.fault.FormFault.{FormFault, TheVariants.{Bad}}, Reading.{IsOfForm, Begins}};
@@ -18,7 +20,8 @@ pub fn canonical_is_advanced()
     ensures { (v : Value) → Spells (canon v) v }
 {}
 
-/// The printed text of a value spells it (RFC 9804, section 6.4), if the value's octets are below 256.
+/// The text of a value as `print_advanced` writes it spells the value (RFC 9804, section 6.4), if the value's octets
+/// are below 256.
 #[tactic(auto, using(crate::proofs::Printed::printed_spelled))]
 pub fn printed_is_advanced()
     ensures { (v : Value) → HasOctets v → Spells (adv v) v }
@@ -32,14 +35,15 @@ pub fn one_refusal()
     ensures one { (text : List ℕ) (e f : FormFault) → IsOfForm e → IsOfForm f → RefusesSpelling text e → RefusesSpelling text f → e ≡ f }
 {}
 
-/// The same as `one_refusal` for texts in any form. Each is read as transport form or as advanced form.
+/// The same as `one_refusal` for texts in any form, which are read as transport form or as advanced form: a text has at
+/// most one of these faults, and none if it has a value within the limits.
 pub fn one_refusal_in_any_form()
     ensures none { (text : List ℕ) (e : FormFault) (v : Value) → IsOfForm e → RefusesText text e → ¬ IsTextWithin text v }
     ensures one { (text : List ℕ) (e f : FormFault) → IsOfForm e → IsOfForm f → RefusesText text e → RefusesText text f → e ≡ f }
 {}
 
-/// At an octet that is refused as Bad, in any form, no text of a value continues. That is, no text that spells or
-/// braces a value begins with the octets up to and including this one.
+/// If a text is refused as Bad at an octet, in any form, this octet is at fault: no text that spells or braces a value
+/// begins with the octets up to and including it.
 #[tactic(auto, using(crate::proofs::OneRefusal::bad_is_bad))]
 pub fn bad_is_bad()
     ensures { (text : List ℕ) (at : ℕ) → RefusesText text (Bad at) → (at < length text) × ¬ Begins IsSomeText (take (at + 1) text) }

@@ -10,10 +10,10 @@ use base64::engine::general_purpose::STANDARD;
 use sexpr_core::{Atom, Sexp};
 use std::alloc::{AllocError, Global};
 
-/// How many octets are printed in base64 at once: a multiple of 3, so that only the last of them are padded.
+/// How many octets are encoded in base64 at once: a multiple of 3, so that only the last piece of a string is padded.
 const PACKED_OCTETS: usize = 384;
 
-/// How many symbols these octets have.
+/// How many symbols of base64 `PACKED_OCTETS` octets have.
 const PACKED_SYMBOLS: usize = 512;
 
 /// Returns the printed text of a tree in advanced form. Each string is a token if it can be one; otherwise quoted, if
@@ -32,8 +32,9 @@ pub fn print_advanced(alloc: Global, tree: &Sexp) -> Result<Vec<u8>, AllocError>
     Ok(out)
 }
 
-/// Whether an octet may occur in a token: a letter, a digit, or one of `- . / _ : * + =`. Letters are the most frequent, so they take the fewest
-/// comparisons. The octets from `*` to `:` are the digits, `,` and these marks, except `_` and `=`.
+/// Whether an octet may occur in a token: a letter, a digit, or one of `- . / _ : * + =`. Letters are the most
+/// frequent, so they take the fewest comparisons. The octets from `*` to `:` are the digits, `,` and these marks,
+/// except `_` and `=`.
 pub fn is_token_octet(octet: u8) -> bool
     ensures { result ≡ is_token_octet octet }
 {
@@ -110,7 +111,8 @@ fn print_quoted<S: Sink>(octets: &[u8], sink: &mut S)
     sink.put_octet(b'"');
 }
 
-/// Prints octets in padded base64, without the `|` around them. There must be at most 384: then the symbols fit and encoding cannot fail.
+/// Prints octets in padded base64, without the `|` around them. There must be at most 384, which is `PACKED_OCTETS`:
+/// then the symbols fit the buffer and encoding cannot fail.
 fn print_piece<S: Sink>(octets: &[u8], sink: &mut S)
     requires { length octets.now ≤ 384 }
     ensures { S.takes sink.old (encode_of standard octets.now) sink.new }
@@ -121,7 +123,8 @@ fn print_piece<S: Sink>(octets: &[u8], sink: &mut S)
     }
 }
 
-/// Prints a string in padded base64 between `|` and `|`.
+/// Prints a string in padded base64 between `|` and `|`. It is encoded in pieces, so that a string of any length needs
+/// no allocation.
 fn print_packed<S: Sink>(octets: &[u8], sink: &mut S)
     ensures { S.takes sink.old (124 ∷ (encode_of standard octets.now ++ 124 ∷ [])) sink.new }
 {
@@ -155,7 +158,7 @@ pub fn print_octets<S: Sink>(octets: &[u8], sink: &mut S)
     }
 }
 
-/// Prints a display hint in brackets, in the spelling of `print_octets`.
+/// Prints a display hint in brackets. The hint itself is printed as a string by `print_octets`.
 pub(crate) fn print_hint<S: Sink>(hint: &[u8], sink: &mut S)
     ensures printed { S.takes sink.old (91 ∷ (printed_string hint.now ++ 93 ∷ [])) sink.new }
     ensures octets { IsBytes hint.now }
@@ -165,7 +168,7 @@ pub(crate) fn print_hint<S: Sink>(hint: &[u8], sink: &mut S)
     sink.put_octet(b']');
 }
 
-/// Prints a string, after its display hint if it has one.
+/// Prints a string in advanced form, with its display hint in brackets before it if it has one.
 fn print_atom<S: Sink>(atom: &Atom, sink: &mut S)
     ensures printed { S.takes sink.old (adv (atom_value atom.now)) sink.new }
     ensures octets { HasOctets (atom_value atom.now) }
@@ -179,7 +182,7 @@ fn print_atom<S: Sink>(atom: &Atom, sink: &mut S)
     }
 }
 
-/// Prints the space before a member, unless it is the first. `member` is its place, from 0.
+/// Prints the space before a member of a list, unless it is the first. `member` is the place of the member, from 0.
 pub(crate) fn print_gap<S: Sink>(member: usize, sink: &mut S)
     ensures { S.takes sink.old (gap member) sink.new }
 {

@@ -14,7 +14,8 @@ use sexpr_core::syntax::octet_at;
 use std::alloc::Global;
 use std::borrow::CowSlice;
 
-/// The octet that an escape means, None for the end of a line, which means no octet, and the offset after the escape.
+/// The octet that an escape means, and the offset after the escape. The octet is None for an escaped line end, which
+/// means no octet.
 #[derive(Clone, Copy)]
 struct Escape {
     octet: Option<u8>,
@@ -38,7 +39,7 @@ fn plain_end(text: &[u8], at: usize) -> usize
 }
 
 /// Reads the quoted string whose opening quote is at `at`, and borrows its octets from the text. None if it has a
-/// backslash or does not end: then `read_quoted` is called.
+/// backslash or does not end: `read_quoted` then reads it, and reports its fault if it has one.
 #[tactic(auto, using(sexpr_core::proofs::Steps::slice_read, crate::proofs::StringLaws::plain_quoted))]
 pub(crate) fn lend_quoted<'t>(text: &'t [u8], at: usize) -> Option<ReadString<'t>>
     requires { StandsAt text.now at 34 }
@@ -55,8 +56,8 @@ pub(crate) fn lend_quoted<'t>(text: &'t [u8], at: usize) -> Option<ReadString<'t
     }
 }
 
-/// Reads the quoted string whose opening quote is at `at`. Err is the first fault, `Short` if it does not end or `Bad`
-/// in an unknown escape, or `Memory`.
+/// Reads the quoted string whose opening quote is at `at`, and copies its octets, with what each escape means in its
+/// place. Err is the first fault, `Short` if it does not end or `Bad` in an unknown escape, or `Memory`.
 pub(crate) fn read_quoted(alloc: Global, text: &[u8], at: usize) -> Result<MarkedString, FormFault>
     requires { StandsAt text.now at 34 }
     ensures read { IfOk result (λ read. Reads IsQuoted text.now at read.octets.items read.end) }
@@ -76,7 +77,8 @@ pub(crate) fn read_quoted(alloc: Global, text: &[u8], at: usize) -> Result<Marke
 }
 
 /// Reads the octet at `at`, which is `octet` and no quote, or the escape that begins there, and appends what it means
-/// to `octets`. Returns the offset after it. Err is the fault of the escape, or `Memory`.
+/// to `octets`. For an escaped line end nothing is appended. Returns the offset after the octet or the escape. Err is
+/// the fault of the escape, or `Memory`.
 #[tactic(auto, using(crate::proofs::StringLaws::raw_piece))]
 fn read_piece(text: &[u8], at: usize, octet: u8, octets: &mut Vec<u8>) -> Result<usize, FormFault>
     requires begins { StandsAt text.now at octet }
@@ -100,8 +102,9 @@ fn read_piece(text: &[u8], at: usize, octet: u8, octets: &mut Vec<u8>) -> Result
     }
 }
 
-/// Reads the part of an escape after the backslash, from the offset `at` on, which may be the end of the text. Err is
-/// `Bad` at the first octet that continues no escape, or `Short` if the text ends before the escape is complete.
+/// Reads the part of an escape after the backslash, from the offset `at` on, which may be the end of the text: a line
+/// end, `x` and two hexadecimal digits, three octal digits up to 377, or one other octet such as `n`. Err is `Bad` at
+/// the first octet that continues no escape, or `Short` if the text ends before the escape is complete.
 fn read_escape(text: &[u8], at: usize) -> Result<Escape, FormFault>
     requires { at ≤ length text.now }
     ensures read { IfOk result (λ read. ReadsEscape (92 ∷ []) text.now at read.octet read.end) }
@@ -121,8 +124,8 @@ fn read_escape(text: &[u8], at: usize) -> Result<Escape, FormFault>
     }
 }
 
-/// Reads the line end at the offset `at` after a backslash: a CR with the LF as `second`, or an LF with the CR as
-/// `second`. It is one octet, or two if the next is `second`. It means no octet.
+/// Reads the line end at the offset `at` after a backslash, which means no octet. It is a CR or an LF, or both in any
+/// order. `second` is the one that is not at `at`: the line end is two octets if `second` follows, and otherwise one.
 fn line_end(text: &[u8], at: usize, second: u8) -> Escape
     requires { IsLineEnd text.now at second }
     ensures { ReadsEscape (92 ∷ []) text.now at result.octet result.end }
@@ -158,8 +161,8 @@ fn meant_by(octet: u8) -> Option<u8>
     }
 }
 
-/// Reads an escape that is a backslash and one octet: a letter such as `n`, a quote, `?` or a backslash. `octet` is that octet, at the offset `at`.
-/// Err is `Bad` at it if the two are no escape. Only the contract uses `text`.
+/// Reads an escape that is a backslash and one octet: a letter such as `n`, a quote, `?` or a backslash. `octet` is
+/// that octet, at the offset `at`. Err is `Bad` at it if the two are no escape. Only the contract uses `text`.
 #[tactic(auto, using(crate::proofs::StringLaws::letter_escape, crate::proofs::StringEnds::nothing_begun, crate::proofs::StringEnds::letter_goes))]
 fn read_letter(text: &[u8], at: usize, octet: u8) -> Result<Escape, FormFault>
     requires { StandsAt text.now at octet }
@@ -241,8 +244,8 @@ fn read_octal_digit(text: &[u8], at: usize) -> Result<u8, FormFault>
     Ok(octet - b'0')
 }
 
-/// Reads the three octal digits of an escape, from the offset `at` on. `first` is the value of the first digit, at most 3, which was read before. Err
-/// is `Bad` at the first other octet, or `Short` if the text ends before all three.
+/// Reads the three octal digits of an escape, from the offset `at` on. `first` is the value of the first digit, at most
+/// 3, which was read before. Err is `Bad` at the first other octet, or `Short` if the text ends before all three.
 fn read_octal_escape(text: &[u8], at: usize, first: u8) -> Result<Escape, FormFault>
     requires begins { StandsAt text.now at (48 + first) }
     requires low { first < 4 }

@@ -5,8 +5,8 @@ ghost use Rattle.sexpr_text.specs.Sinks.{VectorTakes, IsCounted, lender_of, text
 
 use std::alloc::AllocError;
 
-/// Takes octets, one piece after another. A sink that fails reports the fault at its end, whatever is put after it, so a
-/// printer has no errors.
+/// Takes octets, one piece after another. Printing returns no error: a sink that can fail keeps the failure, and
+/// reports it in a method of its own, such as `VectorSink::end`, whatever is put after it.
 pub trait Sink {
     // What it means that a sink takes octets: the sink before, the octets, and the sink after.
     ghost takes: { Self → List ℕ → Self → Type 0 };
@@ -22,7 +22,7 @@ pub trait Sink {
     fn put_octet(&mut self, octet: u8)
         ensures { takes self.old (octet ∷ []) self.new };
 
-    /// Whether whatever is put from now on leaves the sink as it is. Then a printer may stop early.
+    /// Whether the sink stays as it is, whatever is put from now on. Then a printer may stop early.
     fn is_full(&self) -> bool
         ensures { result ≡ full self.now };
 
@@ -36,7 +36,9 @@ pub trait Sink {
 
 /// Appends octets to a vector. If no allocation failed, exactly what was put is behind the octets that the vector had.
 pub struct VectorSink<'v> {
+    /// The vector to which octets are appended.
     octets: &'v mut Vec<u8>,
+    /// Whether memory ran out for some octets.
     failed: bool,
 }
 
@@ -53,7 +55,7 @@ impl<'v> VectorSink<'v> {
         }
     }
 
-    /// Ends the sink, and says whether the vector has all octets that were put.
+    /// Ends the sink. Ok if the vector has all octets that were put.
     ///
     /// # Errors
     ///
@@ -91,7 +93,7 @@ impl<'v> Sink for VectorSink<'v> {
         }
     }
 
-    /// Whether memory ran out.
+    /// Whether memory ran out: the vector lacks some octets, so that printing more is of no use.
     fn is_full(&self) -> bool {
         self.failed
     }
@@ -103,7 +105,7 @@ impl<'v> Sink for VectorSink<'v> {
     ghost stays = { vector_stays };
 }
 
-/// Counts octets.
+/// Counts the octets that are put, and keeps none of them: a printer with this sink measures a text without writing it.
 #[derive(Clone, Copy, Debug)]
 pub struct Counter {
     count: u64,
@@ -117,7 +119,7 @@ impl Counter {
         Counter { count: 0 }
     }
 
-    /// How many octets were put. It stops at the greatest `u64`.
+    /// How many octets were put. The count stops at the greatest `u64`.
     pub fn count(&self) -> u64
         ensures { result ≡ count_of self.now }
     {
@@ -135,12 +137,12 @@ impl Sink for Counter {
         self.count = self.count.saturating_add(octets.len() as u64);
     }
 
-    /// Adds one to the count, up to the greatest `u64`.
+    /// Adds one to the count, up to the greatest `u64`. Which octet was put does not matter.
     fn put_octet(&mut self, _octet: u8) {
         self.count = self.count.saturating_add(1);
     }
 
-    /// Whether the count is the greatest `u64`.
+    /// Whether the count is the greatest `u64`, where it stops.
     fn is_full(&self) -> bool {
         self.count == u64::MAX
     }

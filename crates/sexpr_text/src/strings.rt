@@ -23,7 +23,7 @@ pub(crate) struct ReadString<'t> {
     pub(crate) end: usize,
 }
 
-/// The octets of a string between marks, and the offset after its text.
+/// The octets of a string between marks, which are `"`, `#` or `|`, and the offset after its closing mark.
 #[derive(Drop)]
 pub(crate) struct MarkedString {
     pub(crate) octets: Vec<u8>,
@@ -38,8 +38,9 @@ struct Count {
 }
 
 /// Reads the string without a display hint at the offset `at`, which may be the end of the text: a token, a string in
-/// verbatim form, or one between marks with or without a length in front. The text has at most `MOST_OCTETS` octets.
-/// Err is the first fault, `Short` or `Bad`, or `Memory`.
+/// verbatim form, or one between the marks `"`, `#` or `|`, with or without a length in front. A token, a string in
+/// verbatim form and a quoted string without an escape or a length are borrowed from the text. The text has at most
+/// `MOST_OCTETS` octets. Err is the first fault, `Short` or `Bad`, or `Memory`.
 pub(crate) fn read_string<'t>(
     alloc: Global,
     text: &'t [u8],
@@ -73,7 +74,8 @@ pub(crate) fn read_string<'t>(
     })
 }
 
-/// Returns the octets of a string as a vector. They are copied if they are borrowed. Err if memory ran out.
+/// Returns the octets of a string as a vector, as a tree needs them. They are copied if they are borrowed. Err if
+/// memory ran out.
 pub(crate) fn own(alloc: Global, octets: CowSlice<'_, u8, Global>) -> Result<Vec<u8>, AllocError>
     ensures { IfOk result (λ own. own.items ≡ cow_slice_items octets.entry) }
 {
@@ -98,8 +100,8 @@ fn read_token<'t>(text: &'t [u8], at: usize, first: u8) -> ReadString<'t>
     }
 }
 
-/// Returns the offset after the token at the offset `at`. Its first octet is `first`, which may occur in a token and is
-/// no digit.
+/// Returns the offset after the token at the offset `at`: that of the next octet that may not occur in one, or the
+/// length of the text. Its first octet is `first`, which may occur in a token and is no digit.
 pub(crate) fn token_end(text: &[u8], at: usize, first: u8) -> usize
     requires begins { StandsAt text.now at first }
     requires other { is_digit first ≡ false }
@@ -137,8 +139,8 @@ fn read_marked(alloc: Global, text: &[u8], at: usize) -> Result<MarkedString, Fo
     }
 }
 
-/// Reads the length at the offset `at`, of any size. `first` is its first digit; if this is `0`, it is the whole
-/// length. A length over `MOST_OCTETS` is returned as `MOST_OCTETS` plus one.
+/// Reads the decimal length at the offset `at`, of any size. `first` is its first digit; if this is `0`, it is the
+/// whole length. A length over `MOST_OCTETS` is returned as `MOST_OCTETS` plus one.
 #[tactic(auto, using(crate::proofs::StringLaws::count_first, crate::proofs::StringLaws::count_more))]
 fn read_count(text: &[u8], at: usize, first: u8) -> Count
     requires begins { StandsAt text.now at first }
@@ -195,8 +197,9 @@ fn read_counted<'t>(
     })
 }
 
-/// Reads `number` octets as they are, from the offset `at` on, which may be the end of the text. The text has at most
-/// `MOST_OCTETS` octets. Err is `Short` if fewer follow.
+/// Reads the `number` octets after the colon of a string in verbatim form, from the offset `at` on, which may be the
+/// end of the text. They are borrowed as they are. The text has at most `MOST_OCTETS` octets. Err is `Short` if fewer
+/// follow.
 fn read_verbatim<'t>(text: &'t [u8], at: usize, number: usize) -> Result<ReadString<'t>, FormFault>
     requires short { length text.now ≤ 1048576 }
     requires begins { at ≤ length text.now }
