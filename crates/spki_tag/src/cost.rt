@@ -1,4 +1,4 @@
-//! What the intersection of a tag with another costs.
+//! What the intersection of a tag with another costs, from the sizes of the tag alone. `spki_reduce` limits the work of a chain by it.
 
 ghost use Rattle.std.specs.{Prelude.{◌≡◌, ◌^◌, ◌<◌}, Option.{SomeIff}};
 ghost use Rattle.spki_tag.specs.{Cost.{limit_octets, node_cost, node_costs}, Leaves.{leaf_tag}, Limits.{limit_of}, Tag.{tags}};
@@ -16,8 +16,9 @@ const LIST: usize = 31;
 const RANGE: usize = 64;
 
 impl Tag {
-    /// What it costs to intersect a node with the tag: 15 for each node of the tag, one for each of its tags, one for each octet of their
-    /// strings, and 48 for each prefix and range. None if it is 2^64 or more. Allocates nothing.
+    /// What it costs to intersect one node of another tag with this tag: 15 for each node of this tag, one for each tag in it (the head of
+    /// a list is a node and no tag), one for each octet of its strings, and 48 for each prefix and range. The cost of an intersection is
+    /// this for each node of the other tag. None if it is 2^64 or more. Allocates nothing.
     #[cycle(cost)]
     pub fn node_cost(&self) -> Option<usize>
         ensures { SomeIff result (node_cost self.now < 2 ^ 64) (node_cost self.now) }
@@ -34,7 +35,7 @@ impl Tag {
     }
 }
 
-/// What it costs to intersect a node with each of these tags, together. None if it is 2^64 or more.
+/// The sum of the `Tag::node_cost` of these tags, without a cost of the list or set that has them. None if it is 2^64 or more.
 #[cycle(cost)]
 fn costs_of(members: &[Tag]) -> Option<usize>
     ensures { SomeIff result (node_costs (tags members.now) < 2 ^ 64) (node_costs (tags members.now)) }
@@ -48,7 +49,7 @@ fn costs_of(members: &[Tag]) -> Option<usize>
 }
 
 impl Leaf {
-    /// What it costs to intersect a node with the tag. None if it is 2^64 or more.
+    /// `Tag::node_cost` of a tag without members. None if it is 2^64 or more.
     fn node_cost(&self) -> Option<usize>
         ensures { SomeIff result (node_cost (leaf_tag self.now) < 2 ^ 64) (node_cost (leaf_tag self.now)) }
     {
@@ -64,7 +65,7 @@ impl Leaf {
     }
 }
 
-/// The octets of a limit. None has none.
+/// How many octets the string of a limit has. 0 if the range has no such limit.
 fn octets_of(limit: &Option<Limit>) -> usize
     ensures { result ≡ limit_octets (limit_of limit.now) }
 {

@@ -47,7 +47,7 @@ fn all_same(ones: &[Tag], others: &[Tag]) -> bool
     true
 }
 
-/// Whether a node is the same as this tag without members.
+/// Whether `node` is the same tag as `leaf`, which is a tag without members.
 fn same_as_leaf(leaf: &Leaf, node: &Node) -> bool
     ensures { IsTrue result ↔ (leaf_tag leaf.now ≡ node_tag node.now) }
 {
@@ -96,7 +96,7 @@ impl Leaf {
     }
 }
 
-/// Whether two orderings are the same.
+/// Whether two orderings are the same. A function of its own, so that its contract can say it of the orderings in the specs.
 fn same_ordering(one: RangeOrdering, other: RangeOrdering) -> bool
     ensures { IsTrue result ↔ (ordering_of one ≡ ordering_of other) }
 {

@@ -51,7 +51,7 @@ impl From<AllocError> for TagFault {
 impl<T: Drop> From<AllocFailed<T>> for TagFault {
     ghost from_gives = { λ _ e. e ≡ Memory };
 
-    /// An allocation that failed is the fault `Memory`.
+    /// An allocation that failed is the fault `Memory`. The value for which there was no memory is dropped.
     fn from(_e: AllocFailed<T>) -> TagFault {
         TagFault::Memory
     }
@@ -80,7 +80,7 @@ impl From<AllocError> for MeetFault {
 impl<T: Drop> From<AllocFailed<T>> for MeetFault {
     ghost from_gives = { λ _ e. e ≡ meet.Memory };
 
-    /// An allocation that failed is the fault `Memory`.
+    /// An allocation that failed is the fault `Memory`. The value for which there was no memory is dropped.
     fn from(_e: AllocFailed<T>) -> MeetFault {
         MeetFault::Memory
     }

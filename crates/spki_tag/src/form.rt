@@ -131,21 +131,21 @@ fn is_set(tag: &Tag) -> bool
     }
 }
 
-/// Whether at least one of two tags is a set.
+/// Whether at least one of two tags has the form `(* set ..)`. Sets further inside do not matter.
 pub(crate) fn has_set(one: &Tag, other: &Tag) -> bool
     ensures { result ≡ (spec.is_set one.now || spec.is_set other.now) }
 {
     is_set(one) || is_set(other)
 }
 
-/// Whether `(*)` is among some tags.
+/// Whether one of these tags is `(*)`, so that the set of them is `(*)`. Members of these tags are not looked at.
 pub(crate) fn has_everything(members: &[Tag]) -> bool
     ensures { result ≡ list_any spec.is_star members.now }
 {
     members.iter().any(|member| member.is_everything())
 }
 
-/// Whether `(* set)` is among some tags.
+/// Whether one of these tags is `(* set)`, so that a list of them contains no request. Members of these tags are not looked at.
 pub(crate) fn has_nothing(members: &[Tag]) -> bool
     ensures { result ≡ list_any spec.is_nothing members.now }
 {

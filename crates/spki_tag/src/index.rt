@@ -13,7 +13,7 @@ use std::marker::Model;
 use std::slice;
 
 impl Tag {
-    /// The members of a set, in order. A tag that is no set is its own only member.
+    /// The members of a set, in order. A tag that is no set, also a list, is its own only member: so every tag is treated as a set.
     #[tactic(auto, using(crate::proofs::Exact::items_tags))]
     pub(crate) fn members(&self) -> &[Tag]
         ensures { result.now ≡ members self.now }
@@ -57,10 +57,11 @@ impl<'a> Kind<'a> {
     }
 }
 
-/// The places of tags by string, in increasing order.
+/// For a string, the places of the tags with that string, counted from 1, in increasing order.
 type PlacesByString<'a> = BTreeMap<&'a [u8], Vec<usize>>;
 
-/// Appends a place to those that the map has for a string. Err if memory ran out.
+/// Appends the place of one more tag to those that the map has for a string: the tag itself, or the head of a list. A string that the map
+/// has not yet is added. Err if memory ran out.
 fn put<'a>(map: &mut PlacesByString<'a>, string: &'a [u8], place: usize) -> Result<(), AllocError>
     ensures { OnOk result ((q : List ℕ) → found_at map.new q ≡ found_at map.old q ++ place_if (bytes_eq q string.now) place) }
 {
@@ -87,7 +88,7 @@ struct PlacesByKind<'a> {
     lists: PlacesByString<'a>,
     /// Those of prefixes, ranges, sets and `(*)`.
     with_many_strings: Vec<usize>,
-    /// Those of all tags that may contain strings.
+    /// Those of all tags that may contain strings: all but lists.
     with_strings: Vec<usize>,
     /// Those of sets and `(*)`.
     any: Vec<usize>,
@@ -110,8 +111,8 @@ impl<'a> PlacesByKind<'a> {
         }
     }
 
-    /// Adds the place of one more tag, which is of this kind. The place must be greater than all others. Err if memory
-    /// ran out.
+    /// Adds the place of one more tag, which is of this kind, to each field that the kind belongs to. The place must be greater than all
+    /// others, since the fields increase. Err if memory ran out; then only some of the fields may have it.
     fn add(&mut self, kind: Kind<'a>, place: usize) -> Result<(), AllocError>
         ensures { OnOk result (IsAdded self.old self.new (kind_of kind.entry) place) }
     {
@@ -151,7 +152,9 @@ impl<'a> PlacesByKind<'a> {
 /// In a contract an index is the list of the members.
 #[derive(Debug, Drop)]
 pub struct Index<'a> {
+    /// The members that are indexed, in order.
     members: &'a [Tag],
+    /// The places of `members`, by kind and string.
     places: PlacesByKind<'a>,
 }
 
@@ -182,7 +185,7 @@ impl<'a> Index<'a> {
         Index::over(alloc, tag.members())
     }
 
-    /// Makes the index of these members, whose places count from 1. Err if memory ran out.
+    /// Makes the index of these tags, for a caller that has the members and no set. Their places count from 1. Err if memory ran out.
     pub(crate) fn over(alloc: Global, members: &'a [Tag]) -> Result<Index<'a>, AllocError>
         ensures { IfOk result (λ index. index ≡ members.now) }
     {
@@ -197,10 +200,10 @@ impl<'a> Index<'a> {
         self.members
     }
 
-    /// The places, from 1, of the members that can have a request in common with a tag, by their kinds and strings, in
-    /// increasing order. For a string these are the members of the same string, prefixes and ranges. For a list they
+    /// The places, from 1, of the members that can have a request in common with `tag`, as far as their kinds and strings show, in
+    /// increasing order. For a string these are the members that are the same string, and all prefixes and ranges. For a list they
     /// are the lists with the same head. For a prefix or a range they are all strings, prefixes and ranges, and for a
-    /// set or `(*)` all members. If the index is that of `(*)`, its place is always included.
+    /// set or `(*)` all members. Members that are `(*)` or sets are always included.
     ///
     /// # Errors
     ///

@@ -1,4 +1,5 @@
-//! The intersection of tags (RFC 2693, section 6.3.1).
+//! The intersection of tags (RFC 2693, section 6.3.1). `ticks` counts the work, and exists only in contracts. A tick is a pair of tags that
+//! is looked at, a tag that is copied, or an octet of the second tag's strings that is compared.
 
 ghost use Rattle.std.specs.Prelude.{◌≡◌, ◌+◌, ◌*◌, ◌<◌, ◌≤◌, ◌↔◌, ◌++◌, ◌&&◌, [], max, true, false, IfOk, OnOk, IsErrOf, MatchOption, All, length};
 ghost use Rattle.std.specs.Arc.{arc_slice_items};
@@ -20,8 +21,7 @@ use std::sync::ledger::{Blank, Ledger};
 /// The greatest product of the numbers of nodes of two tags that are intersected.
 const MOST_NODES: usize = 1_000_000;
 
-/// Returns the intersection of two tags, whose numbers of nodes have a product of at most 1,000,000. A tick is a pair of
-/// tags that is looked at, a tag that is copied, or an octet that is compared. Err if memory ran out.
+/// Returns the intersection of two tags of any forms, whose numbers of nodes have a product of at most 1,000,000. Err if memory ran out.
 #[cycle(meet)]
 fn meet_tags<L: Ledger>(
     alloc: Global,
@@ -46,8 +46,8 @@ fn meet_tags<L: Ledger>(
     }
 }
 
-/// Returns the intersection of two tags that are neither sets nor `(*)`. It is `(* set)` for a list and a tag without
-/// members. Err if memory ran out.
+/// Returns the intersection of two tags that are neither sets nor `(*)`, so no `unreachable!()` is reached. It is `(* set)` for a list and
+/// a tag without members. Err if memory ran out.
 #[cycle(meet)]
 fn meet_single<L: Ledger>(
     alloc: Global,
@@ -81,8 +81,9 @@ fn meet_single<L: Ledger>(
     }
 }
 
-/// Returns the intersection of two lists: one of `head` and `further`, and one of `other` and `others`. It is `(* set)`
-/// if their heads differ or the intersection of some members is. Err if memory ran out.
+/// Returns the intersection of two lists. The first has the head `head` and then the members `further`, the second the head `other` and
+/// then the members `others`. It is `(* set)` if the heads differ, or if the intersection of two members at one place is `(* set)`. Err
+/// if memory ran out.
 #[cycle(meet)]
 fn meet_lists<L: Ledger>(
     alloc: Global,
@@ -111,8 +112,8 @@ fn meet_lists<L: Ledger>(
     }
 }
 
-/// Returns the intersections of the members of two lists, place by place. Where only the longer list has a member, that
-/// member is copied. None if some intersection is `(* set)`. Err if memory ran out.
+/// Returns the intersections of the members of two lists with the same head, place by place. Where only the longer list has a member,
+/// that member is copied. None if some intersection is `(* set)`: then that of the lists is too. Err if memory ran out.
 #[cycle(meet)]
 fn meet_each<L: Ledger>(
     alloc: Global,
@@ -147,7 +148,8 @@ fn meet_each<L: Ledger>(
 }
 
 /// Returns the set of the intersections of each tag of `ones` with each of `others`, without those that are `(* set)`.
-/// The order is that of `ones`, and for each of them that of `others`. Err if memory ran out.
+/// The order is that of `ones`, and for each of them that of `others`. If only one is left, it is returned itself. An index of
+/// `others` spares the pairs whose intersection is `(* set)` by kind and string alone. Err if memory ran out.
 #[cycle(meet)]
 fn meet_members<L: Ledger>(
     alloc: Global,
@@ -173,8 +175,8 @@ fn meet_members<L: Ledger>(
     Ok(Tag::gathered(met))
 }
 
-/// Appends to `met` the intersections of a tag with those of `others` at these places, counted from 1, except `(*
-/// set)`. Err if memory ran out.
+/// Appends to `met` the intersections of `one` with those of `others` at these places, counted from 1, which the index of `others` has
+/// found for `one`. Intersections that are `(* set)` are left out. Err if memory ran out.
 #[cycle(meet)]
 fn push_row<L: Ledger>(
     alloc: Global,
@@ -233,7 +235,8 @@ impl Tag {
         self.meet_with_new_count::<Brand>(alloc, other, most, Blank::new(1))
     }
 
-    /// Calls `meet_counted` with a new count, which `blank` opens. The count exists only in contracts, and is dropped afterwards.
+    /// Does what `meet_within` does. It makes the count of ticks that `meet_counted` needs, and is generic since only a call of a generic
+    /// function can pick the type `L` of a count. `blank` opens the count, which exists only in contracts.
     fn meet_with_new_count<L: Ledger>(
         &self,
         alloc: Global,
@@ -255,8 +258,7 @@ impl Tag {
         self.meet_counted(alloc, other, most, &mut Ticks::<L>::new(blank))
     }
 
-    /// Like `meet_within`. A tick is a pair of tags that is looked at, a tag that is copied, or an octet of the other tag's strings that is
-    /// compared. So many ticks as `into_meet_counted` says.
+    /// Does what `meet_within` does, and adds its work to `ticks`: at most three times the nodes of this tag times the other's `node_cost`.
     #[tactic(auto, using(crate::proofs::Exact::meet_exact, crate::proofs::MeetSizes::meet_le, crate::proofs::NormalForms::meet_ldepth))]
     fn meet_counted<L: Ledger>(
         &self,
@@ -281,7 +283,7 @@ impl Tag {
         Ok(meet_tags(alloc, self, other, ticks)?)
     }
 
-    /// Like `meet_within`, but consumes `self`: if `other` is `(*)`, it is returned, and nothing is copied.
+    /// Like `meet_within`, but consumes `self`: if `other` is `(*)`, `self` is returned, and nothing is copied.
     ///
     /// # Errors
     ///
@@ -298,7 +300,8 @@ impl Tag {
         self.into_meet_with_new_count::<Brand>(alloc, other, most, Blank::new(1))
     }
 
-    /// Calls `into_meet_counted` with a new count, which `blank` opens. The count exists only in contracts, and is dropped afterwards.
+    /// Does what `into_meet` does. It makes the count of ticks that `into_meet_counted` needs, and is generic since only a call of a
+    /// generic function can pick the type `L` of a count. `blank` opens the count, which exists only in contracts.
     fn into_meet_with_new_count<L: Ledger>(
         self,
         alloc: Global,
@@ -320,8 +323,9 @@ impl Tag {
         self.into_meet_counted(alloc, other, most, &mut Ticks::<L>::new(blank))
     }
 
-    /// Does what `into_meet` does. A tick is a pair of tags that is looked at, a tag that is copied, or an octet of the other tag's strings
-    /// that is compared. For each node of this tag there are at most three times as many as the other's `node_cost`.
+    /// Does what `into_meet` does, and adds its work to `ticks`, which exists only in contracts: one for each pair of tags that is looked
+    /// at, each tag that is copied, and each octet of the other tag's strings that is compared. It adds at most three times the nodes of
+    /// this tag times the other's `node_cost`.
     ///
     /// # Errors
     ///

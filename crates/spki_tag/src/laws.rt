@@ -1,5 +1,6 @@
 //! Laws of tags and requests: how they are written, their intersection, and what tags can have in common.
-//! Each function is a law: it does nothing, and its contract is the fact. A reading of a value is the tag or request that it is read as.
+//! Each function is a law: it does nothing, and its contract is the fact, for the proof of a function that calls it. A reading of a value
+//! is the tag or request that it is read as.
 
 ghost use Rattle.std.specs.{Prelude.{◌≡◌, ◌*◌, ◌≤◌, ◌↔◌, ◌&&◌, ℕ, List, None, Some, true, false, length, nat_eq}, List.{starts_with}};
 ghost use Rattle.sexpr_core.specs.Value.{HasOctets, Value, canon};
@@ -8,7 +9,7 @@ ghost use Rattle.spki_tag.specs.{Cost.{weight}, Faults.{request_fault, tag_fault
 ghost use Rattle.spki_tag.specs.{Reading.{normal, IsNormalOf, ReadsAs}, Request.{AreOctets, Request, IsRequest, request_value}};
 ghost use Rattle.spki_tag.specs.Tag.{Tag, IsTag, tag_value, tags, contains, is_above, is_below, is_normal, nodes};
 
-/// A value is the written form of at most one tag.
+/// A value is the written form of at most one tag, whether that is in normal form or not.
 #[tactic(auto, using(crate::proofs::TagReading::tag_only))]
 pub fn one_tag()
     ensures { (t w : Tag) → IsTag t → IsTag w → tag_value w ≡ tag_value t → w ≡ t }
@@ -31,31 +32,35 @@ pub fn tag_fault_none()
     ensures { (v : Value) → (tag_fault v ≡ None) ↔ ((w : Tag) × IsTag w × (tag_value w ≡ v) × (nodes w ≤ 1024)) }
 {}
 
-/// A value of octets is read as a request without fault exactly if it is a written request.
+/// A value whose strings and display hints have only octets, numbers below 256, is read as a request without fault exactly if it is a
+/// written request.
 #[tactic(auto, using(crate::proofs::Faultless::request_none_exactly))]
 pub fn request_fault_none()
     ensures { (v : Value) → HasOctets v
         → (request_fault v ≡ None) ↔ ((g : Request) × IsRequest g × (request_value g ≡ v)) }
 {}
 
-/// A tag has as many nodes as its written value contains tags, itself and those in it.
+/// The number of nodes of a tag is the number of tags that its written value contains: itself, and the heads of lists and the members at
+/// any depth.
 #[tactic(auto, using(crate::proofs::FaultWalk::tags_count))]
 pub fn tags_counted()
     ensures { (t : Tag) → IsTag t → length (tags_in (tag_value t)) ≡ nodes t }
 {}
 
-/// The weight of a tag that was read is at most the octets of its canonical text.
+/// The weight of a tag is the number of tags in it and of the octets of their strings, and so the most ticks of `Tag::holds_counted`. For a
+/// tag that was read it is at most the number of octets of the canonical text.
 #[tactic(auto, using(crate::proofs::Weights::read_weight))]
 pub fn read_weight()
     ensures { (w : Tag) → weight (normal w) ≤ length (canon (tag_value w)) }
 {}
 
-/// A written tag and its normal form contain the same requests, and the normal form has no more nodes. It is in normal form.
+/// The function `normal` returns the normal form of a written tag: a tag in normal form, with the same requests and no more nodes.
 pub fn normal_form()
     ensures { (t : Tag) → IsTag t → IsNormalOf t (normal t) }
 {}
 
-/// A prefix contains the strings from itself to below the least string above all strings that start with it.
+/// In the order of octets, the strings that start with a prefix are those from the prefix itself up to, but without, the least string that
+/// is above them all. There is no such string, and no upper limit, if the prefix is empty or has only octets 255.
 #[tactic(auto, using(crate::proofs::Limits::least_above_exact))]
 pub fn prefix_is_range()
     ensures { (p x : List ℕ) → AreOctets x
@@ -78,7 +83,7 @@ pub fn meet_rules()
     ensures lists_and_strings { ListsAndStrings }
 {}
 
-/// The intersection of two tags contains a request exactly if both tags do.
+/// The intersection of two tags in normal form contains a request exactly if both tags do.
 #[tactic(auto, using(crate::proofs::Exact::meet_exact))]
 pub fn meet_exact()
     ensures { (a b : Tag) (g : Request) → IsRequest g → is_normal a ≡ true → is_normal b ≡ true
@@ -91,7 +96,8 @@ pub fn meet_bounded()
     ensures { (a b : Tag) → nodes (meet a b) ≤ nodes a * nodes b }
 {}
 
-/// If two tags can have no request in common by their kinds and strings, their intersection is `(* set)`.
+/// If the kinds and strings of two tags show that they have no request in common, their intersection is `(* set)`. Examples are two strings
+/// that differ, and a list and a prefix.
 #[tactic(auto, using(crate::proofs::Places::meet_apart))]
 pub fn meet_apart()
     ensures { (t u : Tag) → may_share t u ≡ false → meet t u ≡ nothing }

@@ -30,7 +30,9 @@ pub enum RangeOrdering {
 /// A limit of a range. The range excludes its string if the limit is strict.
 #[derive(Debug, Drop)]
 pub(crate) struct Limit {
+    /// Whether the range excludes the string.
     pub(crate) strict: bool,
+    /// The string.
     pub(crate) octets: SharedOctets,
 }
 
@@ -101,7 +103,7 @@ pub(crate) fn copied_limit(limit: &Option<Limit>) -> Result<Option<Limit>, Alloc
     }
 }
 
-/// Counts the octets of a limit as read.
+/// Adds a tick for each octet of the limit's string, and none for a missing limit. It only counts: `holds` and `meet` compare the octets.
 fn read_limit<L: Ledger>(limit: &Option<Limit>, ticks: &mut Ticks<L>)
     ensures { ticks.new ≡ ticks.old + limit_octets (limit_of limit.now) }
 {
@@ -128,7 +130,7 @@ impl Leaf {
         }
     }
 
-    /// Whether the tag contains the request that is this string. Each octet of its strings is a tick.
+    /// Like `holds`, and adds a tick for each octet of the tag's strings. The caller counts the tag itself, which is the 1 in the contract.
     pub(crate) fn holds_counted<L: Ledger>(&self, octets: &[u8], ticks: &mut Ticks<L>) -> bool
         ensures answer { result ≡ contains (leaf_tag self.now) (string octets.now) }
         ensures cost { ticks.new + 1 ≡ ticks.old + weight (leaf_tag self.now) }
@@ -137,7 +139,8 @@ impl Leaf {
         self.holds(octets)
     }
 
-    /// Counts the octets of the tag's strings as read.
+    /// Adds a tick for each octet of the tag's strings: those of a string, a prefix, or the limits of a range. It only counts, for callers
+    /// that compare them. The caller counts the tag itself, which is the 1 in the contract.
     pub(crate) fn read_strings<L: Ledger>(&self, ticks: &mut Ticks<L>)
         ensures { ticks.new + 1 ≡ ticks.old + weight (leaf_tag self.now) }
     {

@@ -12,7 +12,8 @@ use std::alloc::{AllocError, Global};
 use std::sync::Arc;
 use std::sync::ledger::Ledger;
 
-/// Returns the string as a tag if `other` contains it. None if not. Err if there are too many copies to count.
+/// Returns the intersection of a string and `other`: the string if `other` contains it. None if not, for `(* set)`. Err if there are too
+/// many copies to count.
 fn meet_string(octets: &StringOctets, other: &Leaf) -> Result<Option<Leaf>, AllocError>
     ensures { IfOk result (λ r. leaf_or_nothing r ≡ string_meet octets.now (leaf_tag other.now)) }
 {
@@ -23,8 +24,8 @@ fn meet_string(octets: &StringOctets, other: &Leaf) -> Result<Option<Leaf>, Allo
     }
 }
 
-/// Returns the longer of two prefixes if it starts with the shorter. None if not. Err if there are too many copies to
-/// count.
+/// Returns the intersection of two prefixes: the longer if it starts with the shorter. None if not, for `(* set)`. Err if there are too
+/// many copies to count.
 fn meet_prefixes(one: &Prefix, other: &Prefix) -> Result<Option<Leaf>, AllocError>
     ensures { IfOk result (λ r. leaf_or_nothing r ≡ prefixes_meet one.now other.now) }
 {
@@ -48,8 +49,8 @@ fn meet_ranges(alloc: Global, one: &Range, other: &Range) -> Result<Option<Leaf>
 }
 
 impl Leaf {
-    /// Does what `meet` does. Each octet of the other tag's strings is three ticks: a prefix is compared with two limits, and then one of its
-    /// own limits with a limit again. Nothing else is compared more often.
+    /// Does what `meet` does, and adds three ticks for each octet of the other tag's strings, since none is compared more often. A prefix
+    /// is compared most often: as a lower and an upper limit, and one of them once more to see whether the limits exclude each other.
     pub(crate) fn meet_counted<L: Ledger>(
         &self,
         alloc: Global,
@@ -65,9 +66,9 @@ impl Leaf {
         self.meet(alloc, other)
     }
 
-    /// Returns the intersection of two tags without members. None if it is `(* set)`. With a range, a prefix is treated
-    /// as the range of any strings from itself to below the least string above all that start with it. At most three times the octets of
-    /// either tag's strings are compared. Err if memory ran out.
+    /// Returns the intersection of two tags without members. None if it is `(* set)`. A prefix and a range are intersected as two ranges:
+    /// the prefix is the range of the strings that start with it. Each octet of either tag's strings is compared at most three times. Err
+    /// if memory ran out.
     fn meet(&self, alloc: Global, other: &Leaf) -> Result<Option<Leaf>, AllocError>
         ensures { IfOk result (λ r. leaf_or_nothing r ≡ meet (leaf_tag self.now) (leaf_tag other.now)) }
     {

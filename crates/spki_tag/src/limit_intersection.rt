@@ -6,7 +6,7 @@ ghost use Rattle.spki_tag.specs.{Limits.{limit_of}, Meet.{greater_low, lesser_up
 use crate::leaf::{Limit, is_within};
 
 /// Whether the greater of two lower limits is the first. For equal strings a strict limit is greater. If one limit is
-/// missing, the greater is the other.
+/// missing, the greater is the other. For two equal limits, or two missing ones, either answer is right.
 pub(crate) fn is_greater_low(one: &Option<Limit>, other: &Option<Limit>) -> bool
     ensures { let greater = greater_low (limit_of one.now) (limit_of other.now) in
         MatchBool result (greater ≡ limit_of one.now) (greater ≡ limit_of other.now) }
@@ -23,7 +23,7 @@ pub(crate) fn is_greater_low(one: &Option<Limit>, other: &Option<Limit>) -> bool
 }
 
 /// Whether the lesser of two upper limits is the first. For equal strings a strict limit is lesser. If one limit is
-/// missing, the lesser is the other.
+/// missing, the lesser is the other. For two equal limits, or two missing ones, either answer is right.
 pub(crate) fn is_lesser_up(one: &Option<Limit>, other: &Option<Limit>) -> bool
     ensures { let lesser = lesser_up (limit_of one.now) (limit_of other.now) in
         MatchBool result (lesser ≡ limit_of one.now) (lesser ≡ limit_of other.now) }

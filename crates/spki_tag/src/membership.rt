@@ -1,4 +1,4 @@
-//! Whether a tag contains a request.
+//! Whether a tag contains a request. `ticks` counts the work, and exists only in contracts.
 
 ghost use Rattle.std.specs.Prelude.{◌≡◌, ◌≤◌, ◌+◌, ◌<◌, IsTrue, false, length};
 ghost use Rattle.spki_tag.specs.{Tag.{tags, contains, contain_each, some_contains}, Cost.{weight, weight_all}};
@@ -19,7 +19,8 @@ impl Tag {
         self.holds_with_new_count::<Brand>(request, Blank::new(1))
     }
 
-    /// Calls `holds_counted` with a new count, which `blank` opens. The count exists only in contracts, and is dropped afterwards.
+    /// Does what `holds` does. It makes the count of ticks that `holds_counted` needs, and is generic since only a call of a generic
+    /// function can pick the type `L` of a count. `blank` opens the count, which exists only in contracts.
     fn holds_with_new_count<L: Ledger>(&self, request: &Ground, blank: Blank) -> bool
         requires name { blank.name ≡ L.name }
         requires parts { blank.parts ≡ L.parts }
@@ -30,9 +31,9 @@ impl Tag {
         self.holds_counted(request, &mut ticks)
     }
 
-    /// Whether the tag contains a request, as `holds`. A tick is a tag that is looked at, or an octet of its strings that is
-    /// compared. There are at most as many as the weight of the tag, whatever the request is: by the law `read_weight` at most the octets
-    /// of the text that it was read from.
+    /// Whether the tag contains a request, as `holds`, with its work added to `ticks`: one for each tag that is looked at, and each octet
+    /// of its strings that is compared. It adds at most the weight of the tag, whatever the request is. The weight is the number of tags
+    /// and of octets in the tag: by the law `read_weight` at most the octets of the canonical text of the value that was read.
     #[cycle(holds)]
     pub fn holds_counted<L: Ledger>(&self, request: &Ground, ticks: &mut Ticks<L>) -> bool
         ensures answer { result ≡ contains self.now request.now }
@@ -57,8 +58,8 @@ impl Tag {
     }
 }
 
-/// Whether each tag contains the request at the same place. False if there are fewer requests than tags. Further
-/// requests may be anything.
+/// Whether each tag contains the request at the same place: `members` are those of a list that is a tag, `requests` those of a list that
+/// is a request. False if there are fewer requests than tags. Further requests may be anything.
 #[cycle(holds)]
 fn each_holds<L: Ledger>(members: &[Tag], requests: &[Ground], ticks: &mut Ticks<L>) -> bool
     ensures answer { result ≡ contain_each (tags members.now) (spec.requests requests.now) }
@@ -77,7 +78,7 @@ fn each_holds<L: Ledger>(members: &[Tag], requests: &[Ground], ticks: &mut Ticks
     true
 }
 
-/// Whether at least one of the tags contains the request.
+/// Whether at least one of the tags, the members of a set, contains the request.
 #[cycle(holds)]
 fn some_holds<L: Ledger>(members: &[Tag], request: &Ground, ticks: &mut Ticks<L>) -> bool
     ensures answer { result ≡ some_contains (tags members.now) request.now }

@@ -1,4 +1,4 @@
-//! Lists of places, in increasing order.
+//! Merges two lists of places in an index, in increasing order.
 
 ghost use Rattle.std.specs.Prelude.{◌≡◌, IfOk};
 ghost use Rattle.spki_tag.specs.Places.{merge};

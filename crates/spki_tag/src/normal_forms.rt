@@ -1,4 +1,5 @@
-//! Makes tags in normal form, from the inside out.
+//! Makes tags in normal form, from the inside out. In normal form no set has a member that is a set or `(*)`, or only one member, and no
+//! list has a member `(* set)`. A tag and its normal form contain the same requests.
 
 ghost use Rattle.std.specs.{Prelude.{◌≡◌, ◌≤◌, ◌++◌, OnOk}, Arc.{arc_slice_items}};
 ghost use Rattle.spki_tag.specs.{Request.{IsHead}, Tag.{IsNormalTag, tags, list, nodes, most_nodes}, Reading.{AreNormal, set_of}};
@@ -9,8 +10,8 @@ use crate::leaf::SharedOctets;
 use crate::tag::{Node, Tag};
 use std::alloc::AllocError;
 
-/// Appends a tag to the members of a set. If the tag is a set itself, its members are appended instead. Err if memory
-/// ran out.
+/// Appends a tag in normal form to the members of a set. If the tag is a set itself, its members are appended instead, so that no set is a
+/// member of a set. Err if memory ran out.
 #[tactic(auto, using(crate::proofs::Exact::items_tags))]
 pub(crate) fn push_member(members: &mut Vec<Tag>, tag: Tag) -> Result<(), AllocError>
     ensures { OnOk result (members.new.items ≡ members.old.items ++ in_place tag) }
@@ -29,8 +30,8 @@ pub(crate) fn push_member(members: &mut Vec<Tag>, tag: Tag) -> Result<(), AllocE
 }
 
 impl Tag {
-    /// The set of these members, none of which is a set, in normal form. With a member `(*)` it is `(*)`, and a set with one member is
-    /// that member.
+    /// The set of these members, none of which is a set, in normal form. With a member `(*)` it is `(*)`, with one member it is that
+    /// member, and without members it is `(* set)`.
     pub(crate) fn set_of(members: Vec<Tag>) -> Tag
         requires { IsNormalTag (set_of members.items) }
         ensures { result ≡ set_of members.items }
@@ -41,7 +42,8 @@ impl Tag {
         Tag::gathered(members)
     }
 
-    /// The list of a head and these tags, in normal form. If one of the tags is `(* set)`, so is the list.
+    /// The list of a head and these tags, in normal form. If one of the tags is `(* set)`, which `Tag::list` does not allow, the list is
+    /// `(* set)` too.
     #[tactic(auto, using(crate::proofs::NormalForms::any_nothing))]
     pub(crate) fn list_of(head: SharedOctets, further: Vec<Tag>) -> Tag
         requires head { IsHead (arc_slice_items head) }

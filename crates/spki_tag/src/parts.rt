@@ -1,4 +1,4 @@
-//! The parts of an intersection.
+//! Helpers that make an intersection of two tags from its parts.
 
 ghost use Rattle.std.specs.Prelude.{◌≡◌, ◌+◌, ◌≤◌, ◌++◌, [], length, OnOk};
 ghost use Rattle.spki_tag.specs.{Leaves.{leaf_or_nothing}, Meet.{kept}, Tag.{tags, nodes_all}};
@@ -19,7 +19,8 @@ pub(crate) fn leaf_or_nothing(alloc: Global, leaf: Option<Leaf>) -> Tag
     }
 }
 
-/// Appends a tag to `met`, unless the tag is `(* set)`. Err if memory ran out.
+/// Appends `tag`, the intersection of a member of one set with a member of another, to `met`, those made before. If it is `(* set)`, it is
+/// left out. Err if memory ran out.
 pub(crate) fn push_kept(met: &mut Vec<Tag>, tag: Tag) -> Result<(), AllocError>
     ensures { OnOk result (met.new.items ≡ met.old.items ++ kept tag []) }
 {
@@ -29,7 +30,8 @@ pub(crate) fn push_kept(met: &mut Vec<Tag>, tag: Tag) -> Result<(), AllocError>
     Ok(())
 }
 
-/// Appends a copy of each member to `met`, in order. A tick is a tag that is copied. Err if memory ran out.
+/// Appends a copy of each of `members`, which only the longer of two lists has, to `met`, the members of their intersection so far. A tick
+/// is a tag that is copied, also inside of a member. Err if memory ran out.
 pub(crate) fn push_copies<L: Ledger>(
     met: &mut Vec<Tag>,
     members: &[Tag],

@@ -9,10 +9,12 @@ use std::alloc::{AllocError, Global};
 use std::marker::Model;
 use std::sync::ArcSlice;
 
-/// A prefix, with the least string above all that start with it. Ranges that are made of the prefix share that string.
+/// A prefix, with the least string above all that start with it. Ranges that are made of the prefix share both.
 #[derive(Debug, Drop)]
 pub(crate) struct Prefix {
+    /// The prefix itself.
     octets: SharedOctets,
+    /// The least string above all that start with the prefix. None if it is empty or has only octets `FF`.
     above: Option<SharedOctets>,
 }
 
@@ -45,8 +47,8 @@ impl Prefix {
         self.octets.as_slice()
     }
 
-    /// The lower limit of the strings that start with the prefix: the prefix itself, included. Never None. Err if there
-    /// are too many copies to count.
+    /// The lower limit of the strings that start with the prefix: the prefix itself, included. Never None, but an Option as a `Range` has
+    /// it. Err if there are too many copies to count.
     fn lower_limit(&self) -> Result<Option<Limit>, AllocError>
         ensures { IfOk result (λ low. limit_of low ≡ from self.now) }
     {
@@ -70,8 +72,8 @@ impl Prefix {
         }
     }
 
-    /// The range of the strings that start with the prefix. Its limits never exclude each other. Err if there are too many copies to
-    /// count.
+    /// The range of the strings that start with the prefix, to intersect the prefix with a range. Its limits never exclude each other. Err
+    /// if there are too many copies to count.
     #[tactic(auto, using(crate::proofs::Limits::least_above_apart))]
     pub(crate) fn range(&self) -> Result<Range, AllocError>
         ensures { IfOk result (λ r. range_tag r ≡ range alpha (from self.now) (strict_limit (least_above self.now))) }
@@ -102,7 +104,7 @@ impl Clone for Prefix {
 }
 
 /// The least string above all that start with `octets`: these without their last octets `FF`, with the last octet then
-/// increased by one. None if no octet is left. Err if memory ran out.
+/// increased by one, such as `62` for `61 FF`. None if no octet is left: then no string is above all. Err if memory ran out.
 #[tactic(auto, using(crate::proofs::Limits::least_above_less, crate::proofs::Limits::least_above_most))]
 fn above_all(alloc: Global, octets: &[u8]) -> Result<Option<SharedOctets>, AllocError>
     ensures { IfOk result (λ above. option_map arc_slice_items above ≡ least_above octets.now) }

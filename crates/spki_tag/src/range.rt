@@ -7,13 +7,16 @@ use crate::leaf::{Limit, RangeOrdering, copied_limit};
 use crate::limit_intersection::{exclude, is_greater_low, is_lesser_up};
 use std::alloc::AllocError;
 
-/// A range: an ordering and at most two limits. Limits exclude each other if no string is within both. `excluded` says whether these do. It is set
-/// when the range is made, so that no intersection compares them again.
+/// A range: an ordering and at most two limits. Limits exclude each other if the lower one is above the upper one, or if they are equal and
+/// one of them is strict.
 #[derive(Debug, Drop)]
 pub(crate) struct Range {
     pub(crate) ordering: RangeOrdering,
+    /// Whether the limits exclude each other. It is set when the range is made, so that no intersection compares them again.
     excluded: bool,
+    /// The lower limit. None if there is none.
     pub(crate) low: Option<Limit>,
+    /// The upper limit. None if there is none.
     pub(crate) up: Option<Limit>,
     ghost known: { excluded ≡ exclude (limit_of low) (limit_of up) },
 }
@@ -41,7 +44,7 @@ impl Range {
     ghost use Rattle.std.specs.Prelude.{false, IfOk, Some};
     ghost use Rattle.spki_tag.specs.{Leaves.{range_tag, range_or_nothing}, Meet.{greater_low, lesser_up, ranged}, Tag.{range}};
 
-    /// The range of an ordering with these limits.
+    /// The range of an ordering with these limits, which it compares to know whether they exclude each other.
     pub(crate) fn of(ordering: RangeOrdering, low: Option<Limit>, up: Option<Limit>) -> Range
         ensures { range_tag result ≡ range (ordering_of ordering) (limit_of low) (limit_of up) }
     {
@@ -53,7 +56,7 @@ impl Range {
         }
     }
 
-    /// The range of an ordering with these limits, which do not exclude each other.
+    /// The range of an ordering with these limits, for a caller that knows that they do not exclude each other. So they are not compared.
     pub(crate) fn between(ordering: RangeOrdering, low: Option<Limit>, up: Option<Limit>) -> Range
         requires { exclude (limit_of low) (limit_of up) ≡ false }
         ensures { range_tag result ≡ range (ordering_of ordering) (limit_of low) (limit_of up) }
@@ -66,8 +69,8 @@ impl Range {
         }
     }
 
-    /// The range of an ordering with copies of these limits, unless they exclude each other, as `excluded` says: then None. Err if there are too many
-    /// copies to count.
+    /// Returns the range of an ordering with copies of these limits. None if `excluded`: the caller says whether the limits exclude each
+    /// other. Err if there are too many copies to count.
     fn unless(
         excluded: bool,
         ordering: RangeOrdering,
@@ -84,10 +87,10 @@ impl Range {
         Ok(Some(Range::between(ordering, copied_limit(low)?, copied_limit(up)?)))
     }
 
-    /// Returns the intersection of two ranges: the range with the greater lower limit and the lesser upper limit. None if one ordering is of times
-    /// and the other of dates, or if these limits exclude each other; if both are of one range, its `excluded` says it. A limit is compared only with
-    /// limits of the other range, and each comparison reads at most the octets of the shorter one: so at most twice the octets of the limits of
-    /// either range. Err if there are too many copies to count.
+    /// Returns the intersection of two ranges: the range with the greater lower limit and the lesser upper limit. None if one ordering is
+    /// of times and the other of dates, or if these two limits exclude each other; if both are of one range, its `excluded` says it. A
+    /// limit is compared only with limits of the other range, and each comparison reads at most the octets of the shorter one: so at most
+    /// twice the octets of the limits of either range. Err if there are too many copies to count.
     pub(crate) fn meet(&self, other: &Range) -> Result<Option<Range>, AllocError>
         ensures { IfOk result (λ r. range_or_nothing r
             ≡ ranged (ordering_meet (ordering_of self.now.ordering) (ordering_of other.now.ordering))
@@ -97,6 +100,7 @@ impl Range {
         let Some(ordering) = common_ordering(self.ordering, other.ordering) else {
             return Ok(None);
         };
+        // Whether the greater lower limit is that of `self`.
         let own_low = is_greater_low(&self.low, &other.low);
         if is_lesser_up(&self.up, &other.up) {
             if own_low {

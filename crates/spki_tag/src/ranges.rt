@@ -46,7 +46,7 @@ fn ordering_named(name: &[u8]) -> Option<RangeOrdering>
     }
 }
 
-/// Reads the name of an ordering. Err is `Hint` for a string with a display hint, otherwise `RangeOrdering`.
+/// Reads the name of an ordering. Err is `Hint` for a string with a display hint, and `RangeOrdering` for a list or any other name.
 fn read_ordering(name: &Node<'_, '_>) -> Result<RangeOrdering, TagFault>
     ensures read { IfOk result (λ ordering. name.now ≡ plain (ordering_name (ordering_of ordering))) }
     ensures named { IfErr result (λ fault. (vs : List Value) → range_fault (name.now ∷ vs) ≡ Some fault) }
@@ -61,8 +61,9 @@ fn read_ordering(name: &Node<'_, '_>) -> Result<RangeOrdering, TagFault>
     }
 }
 
-/// Reads two values, a word and a string, as a limit. The word must be one of two: `strict`, such as `g`, with which the range excludes the string,
-/// or `inclusive`, such as `ge`. None if the two values are no such limit. Err if memory ran out.
+/// Reads two values, `word` and the string `limit`, as a limit. The word must be one of two: `strict`, such as `g` or `l`, with which the
+/// range excludes the string, or `inclusive`, such as `ge` or `le`. `Ok(None)` if they are no such limit: another word, a list, or a string
+/// with a display hint. Err if memory ran out.
 fn read_limit(
     alloc: Global,
     word: &Node<'_, '_>,
@@ -97,8 +98,8 @@ fn read_limit(
 /// The lower limit and the upper limit of a range. None for one that is missing.
 type Limits = (Option<Limit>, Option<Limit>);
 
-/// Reads two values as the only limit of a range: lower after the word `g` or `ge`, upper after `l` or `le`. Returns it, and None for the other one.
-/// None instead of a pair if they are no limit. Err if memory ran out.
+/// Reads two values as the only limit of a range: lower after the word `g` or `ge`, upper after `l` or `le`. Returns both limits, of which
+/// the other one is missing. `Ok(None)` if the two values are no limit. Err if memory ran out.
 fn read_one_limit(
     alloc: Global,
     word: &Node<'_, '_>,
@@ -118,8 +119,8 @@ fn read_one_limit(
     Ok(Some((None, up)))
 }
 
-/// Reads four values as a lower limit, with the word `g` or `ge`, and an upper limit, with `l` or `le`. Returns both. None if they are no such
-/// limits. Err if memory ran out.
+/// Reads four values as a lower limit, with the word `g` or `ge`, and then an upper limit, with `l` or `le`. Returns both. `Ok(None)` if
+/// they are no such limits, also in the other order. Err if memory ran out.
 fn read_two_limits(
     alloc: Global,
     low_word: &Node<'_, '_>,
@@ -142,8 +143,9 @@ fn read_two_limits(
     Ok(Some((low, up)))
 }
 
-/// Reads the limits of a range. In `values` words and strings alternate: `g` or `ge` and the lower limit, then `l` or `le` and the upper one. Returns
-/// the lower and the upper limit, each None if it is absent. None instead of a pair if the values are no limits. Err if memory ran out.
+/// Reads the limits of a range from the members after its ordering. Words and strings alternate: `g` or `ge` and the lower limit, then `l`
+/// or `le` and the upper one. Each limit may be missing. `Ok(None)` if the values are no limits, such as one, three or more than four. Err
+/// if memory ran out.
 fn limits_of(alloc: Global, values: &[Node<'_, '_>]) -> Result<Option<Limits>, AllocError>
     ensures { IfOk result (λ found. MatchOption found (AreNoLimits values.now)
         (λ p. AreLimits (limit_of p.0) (limit_of p.1) values.now)) }
@@ -158,7 +160,7 @@ fn limits_of(alloc: Global, values: &[Node<'_, '_>]) -> Result<Option<Limits>, A
     }
 }
 
-/// Returns the members as a vector, in order. Err if memory ran out.
+/// Returns the members as a vector, in order, so that `limits_of` can match how many there are. Err if memory ran out.
 fn values_of<'d, 'a>(
     alloc: Global,
     members: Members<'d, 'a>,
@@ -172,7 +174,7 @@ fn values_of<'d, 'a>(
     Ok(values)
 }
 
-/// Reads the limits of a range from the members after its ordering. Err is `Hint` if a member has a display hint,
+/// Reads the limits of a range from the members after its ordering. Err is `Hint` if any member has a display hint, otherwise
 /// `RangeLimit` if they are no limits, or `Memory`.
 #[tactic(auto, using(crate::proofs::Named::limits_read))]
 fn read_limits(alloc: Global, rest: Members<'_, '_>) -> Result<Limits, TagFault>
@@ -190,8 +192,8 @@ fn read_limits(alloc: Global, rest: Members<'_, '_>) -> Result<Limits, TagFault>
 }
 
 /// Reads a range from the members after `*` and `range`: an ordering and limits. The limits may be any strings,
-/// whatever the ordering. Err is `RangeOrdering` without members, the fault of the ordering or of the limits, or
-/// `Memory`.
+/// whatever the ordering. Err is `RangeOrdering` without members or for an unknown ordering, otherwise `Hint` if a member has a display
+/// hint, otherwise `RangeLimit` if those after the ordering are no limits, or `Memory`.
 #[tactic(auto, using(crate::proofs::Named::named_first, crate::proofs::Named::passed))]
 pub(crate) fn read_range(alloc: Global, further: Members<'_, '_>) -> Result<Leaf, TagFault>
     ensures read { IfOk result (λ leaf. tag_value (leaf_tag leaf) ≡ starred (codes "range") (values further.entry)) }

@@ -1,4 +1,5 @@
-//! Reads tags.
+//! Reads tags. A tag may have at most 1,024 nodes as written, so each reader counts them: `used` is how many nodes of the whole tag come
+//! before what it reads, and the number that it returns is `used` plus the nodes that it has read.
 #![tactic(auto)]
 
 ghost use Rattle.std.specs.Prelude.{◌≡◌, ◌+◌, ◌≤◌, ◌<◌, ◌∷◌, List, Some, None, IfOk, IfErr, IfSome, IsSome, IsOkUnless, codes};
@@ -19,10 +20,10 @@ use sexpr_core::{Doc, NodeId};
 use std::alloc::Global;
 use std::sync::ArcSlice;
 
-/// The most nodes that a tag may have when it is read.
+/// The most nodes that a tag may have as it is written.
 const MOST_READ: usize = 1024;
 
-/// The octets of the first member of a list. Err is `ListHead` if the member is a list, and `Hint` if it has a display
+/// The octets of the first member of a list, a tag or a request. Err is `ListHead` if the member is a list, and `Hint` if it has a display
 /// hint.
 #[tactic(auto, using(crate::proofs::Named::tags_read))]
 pub(crate) fn head_of<'a>(first: &Node<'_, 'a>) -> Result<&'a [u8], TagFault>
@@ -61,8 +62,8 @@ fn read_prefix(alloc: Global, further: Members<'_, '_>) -> Result<Leaf, TagFault
     }
 }
 
-/// Reads a value as a tag. `used` is how many nodes of the whole tag were counted before it. Also returns how many are
-/// counted after it. Err is the first fault, as for `Tag::of`.
+/// Reads a value as a tag in normal form. `used` is how many nodes of the whole tag come before it. Returns the tag, and `used` plus its
+/// nodes as written. Err is the first fault of those that `Tag::of` lists.
 #[cycle(read)]
 fn read_tag(alloc: Global, value: &Node<'_, '_>, used: usize) -> Result<(Tag, usize), TagFault>
     ensures read { IfOk result (λ p. IsRead used value.now p.0 p.1) }
@@ -81,7 +82,8 @@ fn read_tag(alloc: Global, value: &Node<'_, '_>, used: usize) -> Result<(Tag, us
     }
 }
 
-/// Reads a list of these members as a tag. `used`, which must be below 1,024, and the result are as for `read_tag`.
+/// Reads a list of these members, the head included, as a tag of any form. Returns the tag, and `used` plus its nodes. `used`, the count
+/// before the list, must be below 1,024. Err is the first fault.
 #[cycle(read)]
 fn read_list(alloc: Global, members: Members<'_, '_>, used: usize) -> Result<(Tag, usize), TagFault>
     requires { used < most_read }
@@ -101,8 +103,8 @@ fn read_list(alloc: Global, members: Members<'_, '_>, used: usize) -> Result<(Ta
     }
 }
 
-/// Reads a tag from the members after the head `*` of a list. `used`, which must be below 1,024, and the result are as
-/// for `read_tag`.
+/// Reads a tag from the members after the head `*` of a list: `(*)` without members, otherwise a set, a prefix or a range. Returns the tag,
+/// and `used` plus its nodes. `used`, the count before the list, must be below 1,024. Err is the first fault.
 #[cycle(read)]
 fn read_starred(
     alloc: Global,
@@ -123,8 +125,9 @@ fn read_starred(
     }
 }
 
-/// Reads a tag from the members after `*` and `word`. Err is `UnknownStar` if the word is not `set`, `prefix` or
-/// `range`. `used`, which must be below 1,024, and the result are otherwise as for `read_tag`.
+/// Reads a tag from the members after `*` and `word`, which is `set`, `prefix` or `range`. Returns the tag, and `used` plus its nodes: one
+/// for a prefix or a range. `used`, the count before the list, must be below 1,024. Err is `UnknownStar` for any other word, otherwise the
+/// first fault.
 #[cycle(read)]
 fn read_form(
     alloc: Global,
@@ -147,8 +150,8 @@ fn read_form(
     }
 }
 
-/// Reads a set from the members after `*` and `set`. `used`, which must be below 1,024, and the result are as for
-/// `read_tag`.
+/// Reads a set from the members after `*` and `set`. Returns its normal form, and `used` plus one node for the set and those of its
+/// members. `used`, the count before the set, must be below 1,024. Err is the first fault.
 #[cycle(read)]
 fn read_set(alloc: Global, further: Members<'_, '_>, used: usize) -> Result<(Tag, usize), TagFault>
     requires { used < most_read }
@@ -162,7 +165,7 @@ fn read_set(alloc: Global, further: Members<'_, '_>, used: usize) -> Result<(Tag
     Ok((Tag::set_of(members), after))
 }
 
-/// The members of a value that is written as a set. None for every other value.
+/// The members after `*` and `set` of a value that is written as a set. None for every other value.
 fn set_members<'d, 'a>(value: &Node<'d, 'a>) -> Option<Members<'d, 'a>>
     ensures { IfSome result (λ vs. value.now ≡ starred (codes "set") (values vs)) }
 {
@@ -175,8 +178,9 @@ fn set_members<'d, 'a>(value: &Node<'d, 'a>) -> Option<Members<'d, 'a>>
     }
 }
 
-/// Reads each of the values as a tag, and appends it to the members of a set. `used`, which must be at most 1,024, and the result are
-/// as for `read_tag`.
+/// Reads each of the values, members of a set as written, as a tag, and appends it to `members`. In place of a tag that is a set, its
+/// members are appended. Returns `used` plus the nodes of all values. `used`, the count before them, must be at most 1,024. Err is the
+/// first fault. Then `members` may have a part of the set, and `read_set` drops it.
 #[cycle(read)]
 fn put_members(
     alloc: Global,
@@ -197,8 +201,10 @@ fn put_members(
     Ok(counted)
 }
 
-/// Reads a value as a tag, and appends it to the members of a set. The members of a set are read in its place, so that each is moved
-/// only once, however many sets are nested. `used` and the result are as for `read_tag`.
+/// Reads a value, a member of a set as written, as a tag, and appends it to `members`. In place of a tag that is a set, its members are
+/// appended. A set is read straight into `members`, so that each tag is moved only once, however many sets are nested. Returns `used` plus
+/// the nodes of the value. `used`, the count before it, must be at most 1,024. Err is the first fault. Then `members` may have a part of
+/// the value.
 #[cycle(read)]
 fn put_member(
     alloc: Global,
@@ -226,8 +232,8 @@ fn put_member(
     }
 }
 
-/// Reads a list with this head, which is not `*`, and these members after it as a tag. `used`, which must be below
-/// 1,024, and the result are as for `read_tag`.
+/// Reads a list with this head, which is not `*`, and these members after it as a tag. Returns the tag, and `used` plus two nodes, for the
+/// list and its head, and those of the members. `used`, the count before the list, must be below 1,024. Err is the first fault.
 #[cycle(read)]
 fn read_plain_list(
     alloc: Global,
@@ -248,7 +254,8 @@ fn read_plain_list(
     Ok((Tag::list_of(octets, members), after))
 }
 
-/// Reads each of the members as a tag. `used`, which must be at most 1,024, and the result are as for `read_tag`.
+/// Reads each of the members of a list as a tag. Returns the tags, in order, and `used` plus their nodes. `used`, the count before them,
+/// must be at most 1,024. Err is the first fault.
 #[cycle(read)]
 fn read_members(
     alloc: Global,
@@ -295,7 +302,7 @@ impl Tag {
         Ok(tag)
     }
 
-    /// Reads node n of a document as a tag in normal form. The node must exist.
+    /// Like `of`, for node `n` of a document, which must exist.
     ///
     /// # Errors
     ///

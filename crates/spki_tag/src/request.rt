@@ -25,7 +25,9 @@ pub struct Ground {
 #[cycle(ground)]
 #[derive(Debug, Drop)]
 pub(crate) enum GroundNode {
+    /// A string.
     String(Vec<u8>),
+    /// The head of a list, which is not `*`, and the requests after it.
     List(Vec<u8>, Vec<Ground>),
 }
 
@@ -71,7 +73,8 @@ impl Ground {
     }
 }
 
-/// Reads a value as a request. Err is the first fault, as for `Ground::of`.
+/// Reads a value as a request, for `Ground::of`, and for the members of lists. Err is the first fault, depth first from the left: `Hint`,
+/// `EmptyList`, `ListHead`, `StarInRequest`, or `Memory`.
 #[cycle(read_request)]
 fn read_request(alloc: Global, value: &Node<'_, '_>) -> Result<Ground, TagFault>
     ensures request { IfOk result (λ g. IsRequest g) }
@@ -85,7 +88,8 @@ fn read_request(alloc: Global, value: &Node<'_, '_>) -> Result<Ground, TagFault>
     }
 }
 
-/// Reads a list of these members as a request. Err is the first fault, as for `Ground::of`.
+/// Reads a list of these members, the head included, as a request. Err is the first fault: that of the list or its head, otherwise that
+/// of a member after it, or `Memory`.
 #[cycle(read_request)]
 fn read_request_list(alloc: Global, members: Members<'_, '_>) -> Result<Ground, TagFault>
     ensures request { IfOk result (λ g. IsRequest g) }
@@ -105,8 +109,8 @@ fn read_request_list(alloc: Global, members: Members<'_, '_>) -> Result<Ground, 
     }
 }
 
-/// Reads a list with this head, which is not `*`, and these members after it as a request. Err is the first fault, as
-/// for `Ground::of`.
+/// Reads a list with this head, which is not `*`, and these members after it as a request. Err is the first fault of a member, or
+/// `Memory`.
 #[cycle(read_request)]
 fn read_headed(alloc: Global, head: &[u8], further: Members<'_, '_>) -> Result<Ground, TagFault>
     requires { IsHead head.now }
@@ -119,7 +123,7 @@ fn read_headed(alloc: Global, head: &[u8], further: Members<'_, '_>) -> Result<G
     Ok(Ground::list(octets, members))
 }
 
-/// Reads each of the members as a request. Err is the first fault, as for `Ground::of`.
+/// Reads each of the members of a list after its head as a request. Returns them in order. Err is the first fault of a member, or `Memory`.
 #[cycle(read_request)]
 fn read_request_members(alloc: Global, members: Members<'_, '_>) -> Result<Vec<Ground>, TagFault>
     ensures read { IfOk result (λ gs. AreReadRequests members.entry gs.items) }
@@ -153,7 +157,7 @@ impl Ground {
         read_request(alloc, value)
     }
 
-    /// Reads node n of a document as a request. The node must exist.
+    /// Like `of`, for node `n` of a document, which must exist.
     ///
     /// # Errors
     ///
@@ -169,7 +173,8 @@ impl Ground {
         Ground::of(alloc, &document.node(n).unwrap())
     }
 
-    /// A fact for the prover: a request is always well-formed, however it was made. Does nothing.
+    /// A fact for the prover: a request is always well-formed, however it was made. It does nothing at run time. A function whose proof
+    /// needs the fact calls it.
     pub fn prove_well_formed(&self)
         ensures { spec.IsRequest self.now }
     {

@@ -1,4 +1,4 @@
-//! Whether a tag has a set.
+//! Whether a tag has a set somewhere in it.
 
 ghost use Rattle.std.specs.Prelude.{◌≡◌};
 ghost use Rattle.spki_tag.specs.Tag.{tags, nests_set, some_nests_set};
@@ -6,7 +6,8 @@ ghost use Rattle.spki_tag.specs.Tag.{tags, nests_set, some_nests_set};
 use crate::tag::{Node, Tag};
 
 impl Tag {
-    /// Whether the tag is a set, or has a set as a member at any depth. Allocates nothing.
+    /// Whether the tag is a set, also `(* set)`, or has a set as a member at any depth. `spki_decision` asks it to know how large
+    /// intersections can become. Allocates nothing.
     #[cycle(nests_set)]
     pub fn nests_set(&self) -> bool
         ensures { result ≡ nests_set self.now }

@@ -14,13 +14,14 @@ pub(crate) struct StringOctets {
     held: Held,
 }
 
+/// Where the octets lie.
 #[derive(Debug, Drop)]
 enum Held {
     /// No octet.
     Nothing,
     /// One octet.
     One(u8),
-    /// More octets.
+    /// Two octets or more.
     Shared(ArcSlice<u8>),
 }
 

@@ -1,4 +1,4 @@
-//! Tags.
+//! Tags: how they are represented, made and copied.
 
 ghost use Rattle.std.specs.{Prelude.{◌≡◌, ◌+◌, ◌<◌, ◌≤◌, length, IfOk}, Arc.{arc_slice_items}};
 ghost use Rattle.spki_tag.specs.{Leaves.{leaf_tag}, Meet.{gather}};
@@ -23,9 +23,9 @@ pub struct Tag {
 pub(crate) enum Node {
     /// A tag without members.
     Leaf(Leaf),
-    /// A head and further members, and the number of nodes of the list.
+    /// A head and further members, and the number of nodes of the list: 2, for itself and the head, and those of the members.
     List(SharedOctets, Vec<Tag>, usize),
-    /// Members, and the number of nodes of the set.
+    /// Members, and the number of nodes of the set: 1 and those of the members.
     Set(Vec<Tag>, usize),
 }
 
@@ -86,7 +86,7 @@ impl Tag {
         }
     }
 
-    /// The tag that is a list of a head and further tags, in normal form: none of them is `(* set)`.
+    /// The list of a head and further tags, none of which is `(* set)`. So it is in normal form. `Tag::list_of` allows any tags.
     pub(crate) fn list(head: SharedOctets, further: Vec<Tag>) -> Tag
         requires { spec.IsNormalTag (spec.list (arc_slice_items head) (spec.tags further.items)) }
         ensures { result ≡ spec.list (arc_slice_items head) (spec.tags further.items) }
@@ -97,7 +97,8 @@ impl Tag {
         }
     }
 
-    /// The set of these tags, none of which is a set or `(*)`. If there is only one, the result is that tag.
+    /// The set of these tags, none of which is a set or `(*)`, in normal form. If there is only one, it is that tag; if there is none,
+    /// `(* set)`. `Tag::set_of` allows `(*)`.
     pub(crate) fn gathered(members: Vec<Tag>) -> Tag
         requires { spec.IsNormalTag (gather members.items) }
         ensures { result ≡ gather members.items }
@@ -151,7 +152,8 @@ impl Clone for Tag {
 }
 
 impl Tag {
-    /// Calls `copy_counted` with a new count, which `blank` opens. The count exists only in contracts, and is dropped afterwards.
+    /// Does what `clone` does. It makes the count of ticks that `copy_counted` needs, and is generic since only a call of a generic
+    /// function can pick the type `L` of a count. `blank` opens the count, which exists only in contracts.
     fn copy_with_new_count<L: Ledger>(&self, blank: Blank) -> Result<Tag, AllocError>
         requires name { blank.name ≡ L.name }
         requires parts { blank.parts ≡ L.parts }
@@ -161,8 +163,8 @@ impl Tag {
         self.copy_counted(&mut Ticks::<L>::new(blank))
     }
 
-    /// Returns a copy, as `clone`. A tick is a tag that is copied: a list or a set, and each of its members. There are at most as many as
-    /// the tag has nodes. Err if memory ran out.
+    /// Returns a copy, as `clone`, and adds to `ticks`, which exists only in contracts, one for each tag that is copied: the tag itself,
+    /// and its members at any depth. These are at most as many as the tag has nodes. Err if memory ran out.
     #[cycle(copy)]
     pub(crate) fn copy_counted<L: Ledger>(&self, ticks: &mut Ticks<L>) -> Result<Tag, AllocError>
         ensures value { IfOk result (λ copy. copy ≡ self.now) }
@@ -188,7 +190,8 @@ impl Tag {
     }
 }
 
-/// A copy of each tag, in order. A tick is a tag that is copied. Err if memory ran out.
+/// Returns a copy of each of the members of a list or a set, in order. A tick is a tag that is copied, also inside of a member. Err if
+/// memory ran out.
 #[cycle(copy)]
 fn copies_of<L: Ledger>(
     alloc: Global,

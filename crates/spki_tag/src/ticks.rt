@@ -38,14 +38,14 @@ impl<L: Ledger> Ticks<L> {
         Ticks { book, share }
     }
 
-    /// Counts one value that is looked at.
+    /// Adds 1, for a tag or another value that is looked at or copied.
     pub fn tick(&mut self)
         ensures { self.new ≡ self.old + 1 }
     {
         self.book.add(&mut self.share, 1);
     }
 
-    /// Counts octets that are read or compared.
+    /// Adds this number of octets, which are read or compared.
     pub fn read(&mut self, octets: usize)
         ensures { self.new ≡ self.old + octets }
     {

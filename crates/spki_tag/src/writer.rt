@@ -31,8 +31,8 @@ fn ordering_name(ordering: RangeOrdering) -> &'static [u8]
     }
 }
 
-/// Appends a word and the limit's string. The word is `strict` for a strict limit, otherwise `inclusive`. Appends
-/// nothing for None. Err if memory ran out.
+/// Appends a word and the limit's string to `out`, the members of a range so far. The word is `strict`, `g` or `l`, for a strict limit,
+/// otherwise `inclusive`, `ge` or `le`. Appends nothing if the limit is missing. Err if memory ran out.
 fn push_limit(
     alloc: Global,
     out: &mut Vec<Sexp>,
@@ -113,7 +113,7 @@ impl Tag {
     }
 }
 
-/// Writes each tag, and appends it to `out`. Err if memory ran out.
+/// Writes each tag, and appends it to `out`, the members of a list or a set so far. Err if memory ran out.
 #[cycle(write)]
 fn push_each(alloc: Global, out: &mut Vec<Sexp>, members: &[Tag]) -> Result<(), AllocError>
     ensures { OnOk result (map sexp_value out.new.items

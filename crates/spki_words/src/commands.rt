@@ -1,16 +1,16 @@
-//! The commands.
+//! The commands of the program `spki`.
 
 ghost use Rattle.std.specs.Prelude.{◌≡◌, ◌≢◌, MatchOption};
 ghost use Rattle.spki_words.specs.Words.{word_of};
 
-/// What is done with the value that is read.
+/// A command of `spki`: what is done with the value that is read on standard input.
 #[derive(Clone, Copy, Debug, PartialEq, Eq)]
 pub enum Command {
-    /// Writes its canonical form.
+    /// Writes the value in canonical form.
     Canonical,
-    /// Writes it in advanced form, on one line.
+    /// Writes the value in advanced form, on one line.
     Advanced,
-    /// Writes it in the transport form, on one line.
+    /// Writes the value in transport form, on one line.
     Transport,
     /// Writes the intersection of two tags, in advanced form, on one line.
     Intersect,

@@ -123,7 +123,7 @@ Example, which writes entry 1 grants:
     (key (public-key (test a))) (request (ftp)) (at \"2024-01-01_00:00:00\"))' | spki explain
 ";
 
-/// What a command does, in one line for the list of commands in the help.
+/// What a command does, in one line: for the list of commands in the help of `spki`, and the first line of the command's own help.
 pub(crate) fn about(command: Command) -> &'static str {
     match command {
         Command::Canonical => "Writes a value in canonical form",
@@ -136,7 +136,7 @@ pub(crate) fn about(command: Command) -> &'static str {
     }
 }
 
-/// The text of the help of a command after its usage: what is read and written, the exit statuses, an example.
+/// The text at the end of a command's own help, such as `spki check --help`: what is read and written, the exit statuses, an example.
 pub(crate) fn details(command: Command) -> &'static str {
     match command {
         Command::Canonical => CANONICAL,

@@ -25,7 +25,7 @@ pub enum WordsFault {
 }
 
 impl WordsFault {
-    /// The exit status: 0 if help was asked for, otherwise 2.
+    /// The exit status of `spki`: 0 if the words ask for help, otherwise 2, also if memory ran out.
     pub fn code(&self) -> u8
         ensures { result ≡ code_of self.now }
     {
@@ -65,7 +65,8 @@ pub fn command_of(alloc: Global, words: &[String]) -> Result<Command, WordsFault
     }
 }
 
-/// `spki` as a command of `clap`: the commands are its subcommands, and one must be given. Err if memory ran out.
+/// The parser of the words: `spki` as a command of `clap`, with its commands as subcommands, of which one must be given. Err if memory ran
+/// out.
 fn program<'a>(alloc: Global) -> Result<clap::Command<'a>, AllocError>
     ensures { IfOk result (λ program. IsProgram spki program) }
 {
@@ -76,7 +77,7 @@ fn program<'a>(alloc: Global) -> Result<clap::Command<'a>, AllocError>
     Ok(program)
 }
 
-/// `spki` as a command of `clap`, before its subcommands are added.
+/// `spki` as a command of `clap`, before its subcommands are added. Help is the flag `--help`, and no subcommand.
 fn bare<'a>(alloc: Global) -> clap::Command<'a>
     ensures { IsProgram bare result }
 {
@@ -87,7 +88,7 @@ fn bare<'a>(alloc: Global) -> clap::Command<'a>
         .disable_help_subcommand(true)
 }
 
-/// The command as a subcommand of `clap`, with its word and its help.
+/// The command as a subcommand of `clap`, with its word and its help. It takes no arguments.
 fn subcommand<'a>(alloc: Global, command: Command) -> clap::Command<'a>
     ensures { IsProgram (leaf command) result }
 {
@@ -99,7 +100,8 @@ fn subcommand<'a>(alloc: Global, command: Command) -> clap::Command<'a>
         .after_help(details)
 }
 
-/// The command that `clap` found in the words. They must contain one, so neither `unreachable!()` is reached.
+/// The command for the subcommand that `clap` found in the words. There must be one, and it is the word of a command, so neither
+/// `unreachable!()` is reached.
 fn met(matches: &clap::ArgMatches<'_>) -> Command
     requires { (c : Command) × (subcommand_name_of matches.now ≡ Some (word_of c)) }
     ensures { subcommand_name_of matches.now ≡ Some (word_of result) }
@@ -113,8 +115,8 @@ fn met(matches: &clap::ArgMatches<'_>) -> Command
     command
 }
 
-/// The fault for an error of `clap`: `Help` with its text if it shows the help, otherwise `Refused` with its text.
-/// `Memory` if memory ran out, also for the text.
+/// The fault for an error of `clap`: `Help` with the error's text if the words ask for help, otherwise `Refused` with that text.
+/// `Memory` if memory ran out, in `clap` or for the text.
 fn fault(alloc: Global, error: &clap::Error) -> WordsFault
     ensures { IsFault (kind_of error.now) result }
 {
