@@ -23,8 +23,8 @@ pub enum CaseFault {
     /// The text is no canonical form within the limits.
     #[error("form: {0}")]
     Form(FormFault),
-    /// The value does not have the outer structure of a case. This is the number of its members, their heads, the one
-    /// member after `key`, `request` and `at`, and the word `strict` after `policy`.
+    /// The value does not have the outer structure of a case. The outer structure is the number of its members, their heads, the one member
+    /// after each of `key`, `request` and `at`, and the word `strict` after `policy`.
     #[error("not built as a case")]
     Shape,
     /// The fault of the access list. Its item is the number of the entry, from 1.
@@ -71,8 +71,9 @@ pub struct Case<'a> {
     pub most_nodes: usize,
     /// The most work of all entries together that are joined with the certificates, as `spki_reduce::Work` counts it.
     pub most_work: usize,
-    /// A chain, an entry with all certificates, does not count as work if it is small by this limit: if the product of the numbers of nodes of its
-    /// tags is at most this; or if no tag has a set, and the nodes of all its tags, times those of the largest certificate's tag, are.
+    /// A chain, an entry with all certificates, does not count as work if it is small by this limit. It is small if the product of the
+    /// numbers of nodes of its tags is at most this. If no tag has a set, it is also small if the number of nodes of all its tags together,
+    /// times that of the largest tag of a certificate, is at most this.
     pub uncounted: usize,
     /// Each certificate is followed by its signature.
     ghost signed: { AreSigned sequence.items },
@@ -91,7 +92,8 @@ const MOST_WORK: usize = 2_300_000_000;
 impl<'a> Case<'a> {
     ghost use Rattle.spki_case.specs.View.{model};
 
-    /// Reads a case in canonical form. Its `most_nodes` and `uncounted` are 1,000,000, and its `most_work` 2,300,000,000.
+    /// Reads a case from its canonical text. Its `most_nodes` and `uncounted` are 1,000,000 (`MOST_NODES`), and its `most_work`
+    /// 2,300,000,000 (`MOST_WORK`). A caller who has opened the text as a document takes `of`.
     ///
     /// # Errors
     ///
@@ -109,7 +111,9 @@ impl<'a> Case<'a> {
         }
     }
 
-    /// Reads a case from its node. Its limits are those of `read`.
+    /// Reads a case from its node: `(case (acl ..) (accepted ..) (sequence ..) (key K) (request G) (at DATE))`, with or without
+    /// `(policy strict)` behind the moment. Its limits are those of `read`: `MOST_NODES` and `MOST_WORK`. Its keys get the digests by which
+    /// they may be compared with hashes (module `digests`); this saves time and changes no answer.
     ///
     /// # Errors
     ///
@@ -163,11 +167,11 @@ impl<'a> Case<'a> {
         })
     }
 
-    /// Makes a case with empty access and accepted lists, for a question to a separate access list. Each certificate in
-    /// `sequence` must be followed by its signature. `most_nodes`, which must be at most 1,000,000, and `most_work`
-    /// limit intersections, as the fields of a case do; all chains count as work. `algorithms` are those of the hashes in the separate list. The
-    /// keys carry their digests by these and by those of the hashes in the sequence; this saves time and changes no
-    /// answer.
+    /// Makes a case with an empty access list and an empty accepted list, for a question to a separate access list, such as that of a
+    /// guard. Each certificate in `sequence` must be followed by its signature. `most_nodes`, which must be at most 1,000,000, and
+    /// `most_work` become the fields of these names. `uncounted` is 0, so all chains count as work. `algorithms` are those of the hashes in
+    /// the separate list that may name keys under the policy. The keys get the digests by which they may be compared with these hashes and
+    /// with those in the sequence; this saves time and changes no answer.
     ///
     /// # Errors
     ///
@@ -213,7 +217,7 @@ impl<'a> Case<'a> {
         })
     }
 
-    /// The signatures that the service has verified. They serve as a verifier.
+    /// The signatures that the service has verified, for a call that takes a verifier of signatures: the table accepts these and no others.
     pub fn accepted(&self) -> &AcceptedTable<'a>
         ensures { result.now ≡ self.now.accepted }
     {
@@ -221,7 +225,7 @@ impl<'a> Case<'a> {
     }
 }
 
-/// A fault of a part that has no items, such as the key: its item is 0.
+/// The fault of a part that has no items, the key or the moment: `kind`, with the item 0.
 fn fault_of_part(kind: CertFaultKind) -> CertFault
     ensures { result ≡ record { item = 0; kind = kind } }
 {
@@ -239,7 +243,7 @@ fn outer_fault(kind: CertFaultKind, named: CaseFault) -> CaseFault
     }
 }
 
-/// The fault of a case: `Request` with this fault, or `Memory` if memory ran out.
+/// The fault of a case for a fault of its request: `Memory` if memory ran out, otherwise `Request` with the fault.
 fn fault_of_request(fault: TagFault) -> CaseFault
     ensures { IsOuter (fault ≡ TagFault.Memory) CaseFault.Memory (CaseFault.Request fault) result }
 {

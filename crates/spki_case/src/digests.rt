@@ -1,14 +1,14 @@
 //! Which keys of a case are digested when it is read, and by which algorithms. A key carries its digests, so it is digested
 //! once for each algorithm, however often it is compared with hashes. A digest that is missing here costs time and changes
-//! no answer.
+//! no answer. A contract sees a key as its canonical octets, without digests, so by the contracts nothing changes here.
 
 ghost use Rattle.std.specs.Prelude.{◌≡◌};
 
 use spki_cert::{Algorithms, Entry, Key, Policy, Principal, SeqItem};
 
-/// The items of a sequence, with keys that carry their digests (RFC 2693, section 2.5). The digests are by the algorithms
-/// of the hashes that the keys may be compared with. These are `algorithms`, which are those of the access list, and those
-/// of the sequence. Allocates nothing.
+/// The same items of a sequence, with keys that carry their digests (RFC 2693, section 2.5). The digests are by the algorithms of the
+/// hashes that the keys may be compared with. These are `algorithms`, which are those of the subjects in the access list, and those of the
+/// sequence. Allocates nothing.
 pub(crate) fn digested_items<'a>(
     items: Vec<SeqItem<'a>>,
     algorithms: Algorithms,
@@ -24,9 +24,9 @@ pub(crate) fn digested_items<'a>(
     items
 }
 
-/// The client's key, with its digests by the algorithms of the hashes that it may be compared with. These are those of the last certificate's
-/// subject: the loop keeps the last. If there is no certificate, they are `algorithms`, which are those of the access list's subjects. Allocates
-/// nothing.
+/// The client's key, with its digest by the algorithm of the hash that it may be compared with. A chain ends at the client, so that is the
+/// subject of the last certificate in `items`: the loop keeps the last. If there is no certificate, the subjects of the access list
+/// are compared with the key. Then the digests are by `algorithms`, which are those of these subjects. Allocates nothing.
 pub(crate) fn client_key<'a>(
     key: &Key<'a>,
     algorithms: Algorithms,
@@ -44,7 +44,8 @@ pub(crate) fn client_key<'a>(
     key.digested(algorithms)
 }
 
-/// Gives the key of an item, or of the issuer of a certificate, its digests by these algorithms. Any other item does not change.
+/// Gives a key in a sequence, or the key of a certificate's issuer, its digests by these algorithms. An operation or a signature does not
+/// change.
 fn digest_item(item: &mut SeqItem, algorithms: Algorithms)
     ensures { item.new ≡ item.old }
 {
@@ -85,7 +86,8 @@ pub(crate) fn entry_algorithms(acl: &[Entry], policy: Policy) -> Algorithms {
     algorithms
 }
 
-/// Returns `algorithms`, and those of the hashes in an item that may name keys under the policy.
+/// Returns `algorithms`, and those of the hashes in an item that may name keys under the policy: the issuer and the subject of a
+/// certificate, and the signer of a signature.
 fn item_algorithms(algorithms: Algorithms, item: &SeqItem, policy: Policy) -> Algorithms {
     match item {
         SeqItem::Auth(cert) => algorithms

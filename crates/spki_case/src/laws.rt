@@ -37,8 +37,8 @@ pub fn one_fault()
     ensures rows { (v : Value) (f g : RowsFault) → NoRows v f → NoRows v g → f ≡ g }
 {}
 
-/// A value has no fault as a row of an accepted list exactly if it has a reading as one. The same holds for values as
-/// its rows, and for the parts of a case. The octets of the request are below 256, as in every text.
+/// A value has no fault as a row of an accepted list exactly if it has a reading as one. The same holds for a list of values as the rows,
+/// and for the parts of a case if the octets of its request are below 256, as they are in every text.
 pub fn no_case_fault()
     ensures row { (v : Value) → (row_fault v ≡ None) ↔ ((row : Row) × RowOf v row) }
     ensures rows { (vs : List Value) → (rows_fault vs ≡ None) ↔ ((rows : List Row) × AllZip RowOf vs rows) }

@@ -9,28 +9,37 @@ ghost use Rattle.spki_case.specs.Case as spec;
 use sexpr_core::syntax::{Members, Node};
 use spki_cert::Policy;
 
-/// The parts of a case, after their heads. The access list and the sequence have their heads.
+/// The parts of a case. Only the policy is read; the others are nodes that are read later.
 #[derive(Drop)]
 pub(crate) struct Parts<'d, 'a> {
+    /// The whole list `(acl ..)`.
     pub acl: Node<'d, 'a>,
+    /// The members of `(accepted ..)` after the head.
     pub rows: Members<'d, 'a>,
+    /// The whole list `(sequence ..)`.
     pub sequence: Node<'d, 'a>,
+    /// K of `(key K)`.
     pub key: Node<'d, 'a>,
+    /// G of `(request G)`.
     pub request: Node<'d, 'a>,
+    /// DATE of `(at DATE)`.
     pub at: Node<'d, 'a>,
     pub policy: Policy,
 }
 
-/// A member that is a list with this head: the member, the members after its head, and the members after the list.
+/// A part that `take_part` took from the members of a case.
 #[derive(Drop)]
 struct TakenPart<'d, 'a> {
+    /// The whole part.
     node: Node<'d, 'a>,
+    /// The members of the part after its head.
     members: Members<'d, 'a>,
+    /// The members of the case after the part.
     rest: Members<'d, 'a>,
 }
 
-/// Takes the first of the members, if it is a list with the head `word`. Returns it, its members after the head, and the members after it. None if
-/// there is no such first member.
+/// Takes the next part from the members of a case: the first of `members`, if it is a list with the head `word`. None if there is no
+/// member, or the first is anything else.
 fn take_part<'d, 'a>(members: Members<'d, 'a>, word: &[u8]) -> Option<TakenPart<'d, 'a>>
     ensures { MatchOption result (IsNoPart members.entry word.now) (IsPart members.entry word.now) }
 {
@@ -43,7 +52,7 @@ fn take_part<'d, 'a>(members: Members<'d, 'a>, word: &[u8]) -> Option<TakenPart<
     })
 }
 
-/// The only one of the members. None if there is none, or more than one.
+/// The only one of the members, such as K of `(key K)` after the head. None if there is no member, or more than one.
 fn sole<'d, 'a>(members: Members<'d, 'a>) -> Option<Node<'d, 'a>>
     ensures { MatchOption result ((v : Value) → members.entry ≢ v ∷ []) (λ v. members.entry ≡ v ∷ []) }
 {
@@ -51,7 +60,7 @@ fn sole<'d, 'a>(members: Members<'d, 'a>) -> Option<Node<'d, 'a>>
     if rest.is_empty() { Some(only) } else { None }
 }
 
-/// Whether there is exactly one member, and it is the string `word` without a hint.
+/// Whether there is exactly one member, and it is the string `word` without a display hint.
 fn is_word(members: Members, word: &[u8]) -> bool
     ensures { MatchBool result (members.entry ≡ plain word.now ∷ []) (members.entry ≢ plain word.now ∷ []) }
 {
@@ -64,8 +73,8 @@ fn is_word(members: Members, word: &[u8]) -> bool
     }
 }
 
-/// The policy in the members of a case after the moment: strict for `(policy strict)`, open for no member. None for
-/// anything else.
+/// The policy in the members of a case after `(at DATE)`: `Strict` for `(policy strict)`, `Open` if there is no member. None for anything
+/// else: then the value is no case.
 fn policy_in(members: Members) -> Option<Policy>
     ensures { MatchOption result ((policy : Policy) → members.entry ≢ policy_values policy)
         (λ policy. members.entry ≡ policy_values policy) }
@@ -82,8 +91,8 @@ fn policy_in(members: Members) -> Option<Policy>
     }
 }
 
-/// The parts of a case in this value. None if the value does not have the outer structure of a case. Of the parts only
-/// the policy is read.
+/// The parts of a case in this value, which is a list headed `case`. None if the value does not have the outer structure of a case
+/// (`CaseFault::Shape`). Of the parts only the policy is read.
 pub(crate) fn parts_of<'d, 'a>(node: &Node<'d, 'a>) -> Option<Parts<'d, 'a>>
     ensures { MatchOption result ((p : spec.Parts) → node.now ≢ case_value p)
         (λ p. (parts : spec.Parts) × (node.now ≡ case_value parts) × ArePartsOf (part_values parts) p parts) }

@@ -30,7 +30,8 @@ pub enum RowsFault {
 }
 
 impl<'a> AcceptedTable<'a> {
-    /// Reads a separate accepted list in canonical form: `(accepted row ..)`.
+    /// Reads an accepted list from a canonical text of its own, outside of a case: `(accepted row ..)`. A caller who has opened the text as
+    /// a document takes `of`.
     ///
     /// # Errors
     ///
@@ -48,7 +49,7 @@ impl<'a> AcceptedTable<'a> {
         }
     }
 
-    /// Reads a separate accepted list from its node.
+    /// Reads an accepted list that is not part of a case from its node: `(accepted row ..)`.
     ///
     /// # Errors
     ///
@@ -68,7 +69,7 @@ impl<'a> AcceptedTable<'a> {
     }
 }
 
-/// The fault of an accepted list: `Row` with this fault, or `Memory` if memory ran out.
+/// The fault of an accepted list for a fault of its rows: `Memory` if memory ran out, otherwise `Row` with the fault.
 fn fault_of_row(fault: CertFault) -> RowsFault
     ensures { IsOuter (fault.kind ≡ CertFaultKind.Memory) RowsFault.Memory (RowsFault.Row fault) result }
 {
@@ -78,8 +79,9 @@ fn fault_of_row(fault: CertFault) -> RowsFault
     }
 }
 
-/// Reads a row from its node: `(by KEY HASH VALUE)`. HASH must be by SHA-256, and VALUE is any value. Err is the fault
-/// of KEY or of HASH, or `Shape`, the first from the left. Allocates nothing.
+/// Reads a row from its node: `(by KEY HASH VALUE)`. It says that VALUE is a signature of KEY over the message with this HASH. HASH must be
+/// by SHA-256. VALUE is any value: only its canonical octets are kept. Err is the first fault from the left: that of KEY or of HASH, or
+/// `Shape`. Allocates nothing.
 fn row_at<'a>(node: &Node<'_, 'a>) -> Result<Row<'a>, CertFaultKind>
     ensures row { IfOk result (λ row. RowOf node.now (row_of row)) }
     ensures named { IfErr result (λ kind. row_fault node.now ≡ Some kind) }
@@ -108,7 +110,7 @@ fn row_at<'a>(node: &Node<'_, 'a>) -> Result<Row<'a>, CertFaultKind>
     })
 }
 
-/// Reads the digest from the node of a hash by SHA-256. Err is the first fault of the hash, or `HashAlg` if it is a
+/// Reads the digest from the node of a hash by SHA-256: `(hash sha256 DIGEST)`. Err is the first fault of the hash, or `HashAlg` if it is a
 /// hash by SHA-1 or SHA-512.
 fn sha256_of<'a>(node: &Node<'_, 'a>) -> Result<Octets<'a>, CertFaultKind>
     ensures digest { IfOk result (λ digest. HashOf node.now HashAlg.Sha256 digest) }
@@ -148,8 +150,8 @@ fn read_rows<'a>(alloc: Global, members: Members<'_, 'a>) -> Result<Vec<Row<'a>>
     Ok(rows)
 }
 
-/// Reads an accepted list from its members after the head. Err is the first fault, with the number of its row, from 1,
-/// or `Memory`, whose number may be 0.
+/// Reads an accepted list, of a case or a separate one, from its members after the head. Err is the first fault, with the number of its
+/// row, from 1. It is `Memory` if memory ran out, with the number 0 if that was after all rows were read.
 pub(crate) fn table_of<'a>(
     alloc: Global,
     members: Members<'_, 'a>,

@@ -25,6 +25,7 @@ pub(crate) type SortedRow<'a> = (&'a [u8], &'a [u8], &'a [u8]);
 pub struct AcceptedTable<'a> {
     /// The signatures, in any order.
     pub rows: Vec<Row<'a>>,
+    /// The digest, value and key of each of these rows, sorted, for the binary search of the verifier.
     pub(crate) sorted: Vec<SortedRow<'a>>,
     /// The same signatures, in order.
     ghost found: { AreSorted rows.items sorted.items },

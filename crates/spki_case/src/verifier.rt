@@ -30,8 +30,9 @@ pub trait Verifier {
     ) -> Result<bool, AllocError>
         ensures { IfOk result (λ yes. IsTrue yes ↔ accepted self.now key.now message.now value.now) };
 
-    /// Like `accepts`. `digest` must be the SHA-256 digest of the message, so that a verifier that looks for it does
-    /// not digest the message again. A verifier that does not use the digest keeps this body, which ignores it.
+    /// Whether the value is a signature of the key over the message, like `accepts`. `digest` must be the SHA-256 digest of the message,
+    /// which a caller may have already. So a verifier that looks for the digest does not digest the message again. One that does not use it
+    /// keeps this body, which ignores `digest`.
     ///
     /// # Errors
     ///
@@ -54,7 +55,7 @@ pub trait Verifier {
 impl<'a> Verifier for AcceptedTable<'a> {
     ghost accepted = { verified_by };
 
-    /// Whether some row of the table is of this key and value, and of the message's SHA-256 digest. Always Ok.
+    /// Whether some row of the table is of this key and value, and of the message's SHA-256 digest. Always Ok: nothing is allocated.
     fn accepts(
         &self,
         _alloc: Global,
@@ -69,7 +70,8 @@ impl<'a> Verifier for AcceptedTable<'a> {
         Ok(some_accepts(self, key, digest.as_slice(), value))
     }
 
-    /// As `accepts`, but `digest`, which must be the SHA-256 digest of the message, is not computed again. Always Ok.
+    /// Whether some row of the table is of this key and value, and of `digest`, which must be the SHA-256 digest of the message. The
+    /// message is not digested again. Always Ok: nothing is allocated.
     fn accepts_digested(
         &self,
         _alloc: Global,
@@ -86,7 +88,7 @@ impl<'a> Verifier for AcceptedTable<'a> {
     }
 }
 
-/// Whether some row of the table is of this key, of a message with this SHA-256 digest, and of this value.
+/// Whether some row of the table is of this key, of a message with this SHA-256 digest, and of this value. The sorted rows are searched.
 fn some_accepts(table: &AcceptedTable, key: &Key, digest: &[u8], value: &[u8]) -> bool
     ensures { (message : List ℕ) → sha256 message ≡ digest.now
         → IsTrue result ↔ verified_by table.now key.now message value.now }

@@ -22,8 +22,8 @@ use sexpr_core::syntax::{Members, Node};
 use sexpr_core::{Doc, NodeId};
 use std::alloc::Global;
 
-/// Reads the subject of an entry from its node: a principal, or a name that begins with one. Err says why it is none:
-/// `RelativeInEntry` for a name without a principal.
+/// Reads the subject of an entry from its node: a principal, or a name that begins with one. Err is the first fault. It is
+/// `RelativeInEntry` for a name without a principal: an entry has no issuer to which the name could be relative.
 #[tactic(auto, using(crate::proofs::Heads::heads), unfolding(crate::specs::FieldFaults::entry_subject_fault))]
 fn entry_subject<'a>(alloc: Global, node: &Node<'_, 'a>) -> Result<Subject<'a>, CertFaultKind>
     ensures found { IfOk result (λ subject. SubjectOf node.now subject) }
@@ -39,12 +39,13 @@ fn entry_subject<'a>(alloc: Global, node: &Node<'_, 'a>) -> Result<Subject<'a>, 
     }
 }
 
-/// Reads an entry from its node, `(entry subject ..)`, like the entries of an access list in `read_acl` (RFC 2693, section 3.4). The fields of an
-/// entry have no issuer and no other subject, so both are None here.
+/// Reads an entry from its node: `(entry SUBJECT FIELD ..)` (RFC 2693, section 3.4). `Place::Entry` admits no field `issuer` or `subject`,
+/// so both are None in the contents of the fields.
 ///
 /// # Errors
 ///
-/// The first fault from the left. `Memory` if memory ran out.
+/// The first fault from the left. After all others it is `Shape`, if limits are both in `(valid ..)` and outside of it, or if there is no
+/// tag. `Memory` if memory ran out.
 pub fn entry_of<'a>(alloc: Global, node: &Node<'_, 'a>) -> Result<Entry<'a>, CertFaultKind>
     ensures entry { IfOk result (λ entry. EntryOf node.now entry) }
     ensures refused { IfErr result (λ kind. kind ≢ CertFaultKind.Memory → (e : spec.Entry) → EntryOf node.now e → ⊥) }
@@ -125,7 +126,11 @@ fn behind_version<'d, 'a>(node: &Node<'d, 'a>) -> Result<Members<'d, 'a>, CertFa
     Ok(others)
 }
 
-/// Reads an access list from its node, like `read_acl`, with the same errors.
+/// Reads an access list from its node: `(acl entry ..)`, with or without `(version 0)` in front of the entries.
+///
+/// # Errors
+///
+/// Those of `read_acl`: the first fault from the left, with the number of its entry, from 1. The number is 0 for the head and the version.
 #[tactic(auto, using(crate::proofs::Heads::heads), unfolding(crate::specs::StructureFaults::acl_fault))]
 pub fn acl_of<'a>(alloc: Global, node: &Node<'_, 'a>) -> Result<Vec<Entry<'a>>, CertFault>
     ensures acl { IfOk result (λ entries. AclOf node.now entries.items) }
@@ -139,8 +144,8 @@ pub fn acl_of<'a>(alloc: Global, node: &Node<'_, 'a>) -> Result<Vec<Entry<'a>>, 
     }
 }
 
-/// Reads the entries of an access list like `entries_of`, with the same errors, but returns only the principals of their subjects, in order. Only one
-/// entry is in memory at a time.
+/// Reads the entries of an access list like `entries_of`, but returns only the principals of their subjects, in order. Only one entry is in
+/// memory at a time. Err is the first fault, with the number of its entry, from 1.
 #[tactic(auto, using(crate::proofs::Heads::heads), unfolding(crate::specs::StructureFaults::entries_fault))]
 fn principals_in<'a>(
     alloc: Global,
@@ -168,8 +173,12 @@ fn principals_in<'a>(
     Ok(principals)
 }
 
-/// The principals of the subjects of an access list's entries, in order. The list is read like `acl_of`, with the same errors, and in
-/// less memory: no entry is kept.
+/// The principals of the subjects of an access list's entries, in order: for a caller who keeps the texts of the entries, and needs an
+/// index of them. Each entry is read, so this also checks the list. It takes less memory than `acl_of`, because no entry is kept.
+///
+/// # Errors
+///
+/// Those of `acl_of`: the first fault from the left, with the number of its entry, from 1. The number is 0 for the head and the version.
 #[tactic(auto, using(crate::proofs::Heads::heads), unfolding(crate::specs::StructureFaults::acl_fault))]
 pub fn acl_principals<'a>(
     alloc: Global,

@@ -18,18 +18,21 @@ use sexpr_core::syntax::{Members, Node};
 use spki_tag::Tag;
 use std::alloc::Global;
 
-/// The contents of the fields of a certificate.
+/// The contents of the fields of a certificate, before it is known which kind of certificate they make.
 #[derive(Drop)]
 pub(crate) struct CertParts<'a> {
+    /// The issuer, with the name that the certificate defines if it is a name certificate.
     pub issuer: Issuer<'a>,
     pub subject: Subject<'a>,
+    /// Whether there is a field `(propagate)`.
     pub propagate: bool,
+    /// None if there is no field `tag`.
     pub tag: Option<Tag>,
     pub window: Window,
 }
 
-/// The subject of a certificate. If it was written as a name without a principal, the principal is the certificate's
-/// issuer.
+/// The subject of a certificate from `who`, the subject as it is written. If `who` is a name without a principal, the name is relative to
+/// the issuer: the principal is the certificate's issuer.
 fn issued_to<'a>(who: WrittenSubject<'a>, issuer: &Principal<'a>) -> Subject<'a>
     ensures { IsSubjectOf issuer.now who.entry.principal who.entry.names.items result }
 {
@@ -80,9 +83,9 @@ fn parts_of<'a>(alloc: Global, members: Members<'_, 'a>) -> Result<CertParts<'a>
     })
 }
 
-/// Reads a certificate from its node: an authorization certificate if the issuer is a principal, otherwise a name
-/// certificate. Err is the first fault. It is `Shape` for an authorization without a tag, and for a name certificate
-/// with a tag or `(propagate)`.
+/// Reads a certificate from its node: an authorization certificate, `SeqItem::Auth`, if the issuer is a principal. If it is a principal
+/// with a name, it is a name certificate, `SeqItem::Name`. Err is the first fault. After all others it is `Shape`, for an authorization
+/// certificate without a tag, and for a name certificate with a tag or `(propagate)`.
 pub(crate) fn cert_of<'a>(alloc: Global, node: &Node<'_, 'a>) -> Result<SeqItem<'a>, CertFaultKind>
     ensures found { IfOk result (λ item. CertOf node.now item) }
     ensures named { IfErr result (λ kind. kind ≢ CertFaultKind.Memory → cert_fault node.now ≡ Some kind) }

@@ -29,7 +29,8 @@ impl Model for Date {
 impl Date {
     ghost use Rattle.spki_cert.specs.Time.{upto};
 
-    /// The date with these 19 octets. None if they are no date. Allocates nothing.
+    /// The date with these 19 octets. None if they are no date. `is_date` also checks that there are 19, so the conversion to an array does
+    /// not fail. Allocates nothing.
     #[tactic(auto, unfolding(spki_tag::specs::Tag::is_date))]
     pub fn of(octets: &[u8]) -> Option<Date>
         ensures { MatchOption result (is_date octets.now ≡ false)
@@ -51,7 +52,8 @@ impl Date {
         &self.octets
     }
 
-    /// Whether this moment is not after the other, by the order of their octets.
+    /// Whether this moment is not after the other. The octets are compared from the left: the fields have fixed widths, and the year comes
+    /// first.
     pub fn upto(&self, other: &Date) -> bool
         ensures { result ≡ upto self.now other.now }
     {

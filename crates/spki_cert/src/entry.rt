@@ -21,7 +21,7 @@ pub struct Subject<'a> {
 impl<'a> Clone for Subject<'a> {
     ghost is_clone = { λ subject copy. copy ≡ subject };
 
-    /// Returns a copy. Err if memory ran out.
+    /// Returns a copy. Only the vector of names is allocated: the octets are borrowed by both. Err if memory ran out.
     fn clone(&self) -> Result<Subject<'a>, AllocError> {
         Ok(Subject {
             principal: self.principal.share(),

@@ -60,7 +60,7 @@ pub enum CertFaultKind {
 impl From<AllocError> for CertFaultKind {
     ghost from_gives = { λ _ kind. kind ≡ Memory };
 
-    /// An allocation that failed is the fault `Memory`.
+    /// An allocation that failed is the fault `Memory`. So `?` converts the error.
     fn from(_e: AllocError) -> CertFaultKind {
         CertFaultKind::Memory
     }
@@ -69,7 +69,8 @@ impl From<AllocError> for CertFaultKind {
 impl<T: Drop> From<AllocFailed<T>> for CertFaultKind {
     ghost from_gives = { λ _ kind. kind ≡ Memory };
 
-    /// An allocation that failed is the fault `Memory`.
+    /// An allocation that failed is the fault `Memory`. So `?` converts the error of `Vec::push`, whose value that was not stored is
+    /// dropped.
     fn from(_e: AllocFailed<T>) -> CertFaultKind {
         CertFaultKind::Memory
     }
@@ -79,7 +80,7 @@ impl<T: Drop> From<AllocFailed<T>> for CertFaultKind {
 #[derive(Clone, Copy, Debug, PartialEq, Eq, Error)]
 #[error("item {item}: {kind}")]
 pub struct CertFault {
-    /// The number of the entry or item, from 1. It is 0 for the outer list, and if there are no items.
+    /// The number of the entry, item or row in its list, from 1. It is 0 for the outer list, and for a value without items, such as a key.
     pub item: usize,
     /// The fault.
     pub kind: CertFaultKind,

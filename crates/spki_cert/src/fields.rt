@@ -21,7 +21,7 @@ use sexpr_core::syntax::{Members, Node};
 use spki_tag::{Tag, TagFault};
 use std::alloc::Global;
 
-/// Whether the fields are those of an entry or of a certificate.
+/// Where the fields are: in an entry or in a certificate. A certificate may have all fields of an entry, and more.
 #[derive(Clone, Copy)]
 pub(crate) enum Place {
     Entry,
@@ -38,10 +38,11 @@ pub(crate) enum FieldValue<'a> {
     Tag(Tag),
     NotBefore(Date),
     NotAfter(Date),
+    /// The limits in `(valid ..)`.
     Valid(Window),
 }
 
-/// The contents of some fields.
+/// The contents of the fields that were read so far. None: there was no such field.
 #[derive(Drop)]
 pub(crate) struct FieldValues<'a> {
     pub issuer: Option<Issuer<'a>>,
@@ -56,11 +57,13 @@ pub(crate) struct FieldValues<'a> {
 /// The contents of all fields.
 #[derive(Drop)]
 pub(crate) struct Fields<'a> {
+    /// Whether there is a field `(propagate)`.
     pub propagate: bool,
+    /// The contents of the other fields.
     pub known: FieldValues<'a>,
 }
 
-/// The fault of the field `tag`: `Tag` with this fault, or `Memory` if memory ran out.
+/// The fault of the field `tag` for a fault of its tag: `Memory` if memory ran out, otherwise `Tag` with the fault.
 fn from_tag_fault(fault: TagFault) -> CertFaultKind
     ensures { IsTagKind fault result }
 {
@@ -129,8 +132,9 @@ fn subject_in<'a>(
     }
 }
 
-/// Reads a field that both an entry and a certificate may have: `tag`, `propagate`, `comment` or a field of validity. `(propagate)` has no content,
-/// so it is `Nothing` here; `read_fields` notes by its head that it is there. Err is its fault, `Shape` for any other field.
+/// Reads a field that both an entry and a certificate may have: `tag`, `propagate`, `comment` or a field of validity. `(propagate)` has no
+/// content, so it is `Nothing` here; `read_fields` notes by its head that it is there. A `comment` is ignored. Err is the fault of the
+/// field, which is `Shape` for a field with any other head.
 #[tactic(auto, using(crate::proofs::Heads::heads), unfolding(crate::specs::FieldFaults::entry_field_fault))]
 fn read_common_field<'a>(alloc: Global, field: &Node) -> Result<FieldValue<'a>, CertFaultKind>
     ensures says { IfOk result (λ said. FieldValueOf field.now said) }
@@ -177,7 +181,8 @@ fn read_validity_field<'a>(field: &Node) -> Result<FieldValue<'a>, CertFaultKind
     }
 }
 
-/// Reads any field that a certificate may have. Err is its fault, `Shape` if a certificate has no such field.
+/// Reads any field that a certificate may have: `issuer`, `subject`, `version`, one that is ignored, or one that an entry may have too. Err
+/// is the fault of the field, which is `Shape` for a field with any other head.
 #[tactic(auto, using(crate::proofs::Heads::heads), unfolding(crate::specs::FieldFaults::cert_field_fault))]
 fn read_certificate_field<'a>(
     alloc: Global,
@@ -219,7 +224,8 @@ fn is_unread(field: &Node) -> bool
     }
 }
 
-/// Reads a field of an entry or of a certificate, as `place` says. Err is its fault.
+/// Reads a field of an entry or of a certificate, as `place` says. Err is the fault of the field, which is `Shape` for a head that has no
+/// place there.
 fn field_value<'a>(
     alloc: Global,
     place: Place,
@@ -236,7 +242,7 @@ fn field_value<'a>(
 }
 
 impl<'a> FieldValues<'a> {
-    /// The contents before any field is read: all of them are missing.
+    /// The contents before the first field is read: all are None, and so are both limits.
     fn none() -> FieldValues<'a>
         ensures { FieldValuesOf [] result }
     {
@@ -252,7 +258,8 @@ impl<'a> FieldValues<'a> {
         }
     }
 
-    /// Keeps `said`, the content of one more field, in the place of an earlier content of the same kind.
+    /// Keeps `said`, the content of one more field, in place of an earlier content of the same kind. `read_fields` refuses a field whose
+    /// head comes twice, so there is none. `Nothing` changes nothing.
     fn add(&mut self, said: FieldValue<'a>)
         ensures { self.new ≡ gather self.old said.entry }
     {
@@ -268,15 +275,15 @@ impl<'a> FieldValues<'a> {
     }
 }
 
-/// Whether `word` is one of `words`.
+/// Whether `word` is one of `words`, which are heads of fields here.
 fn is_word_among(words: &[Octets], word: &[u8]) -> bool
     ensures { result ≡ is_word_among words.now word.now }
 {
     words.iter().any(|w| w.as_slice() == word)
 }
 
-/// The head of a field. None if the field is no list that begins with a string without a hint, or if its head is one of `heads`, those of the fields
-/// before it.
+/// The head of a field. None if the field is no list that begins with a string without a display hint, or if its head is one of `heads`,
+/// those of the fields before it.
 fn new_head<'a>(field: &Node<'_, 'a>, heads: &[Octets]) -> Option<&'a [u8]>
     ensures { MatchOption result ((head : List ℕ) → IsNew field.now heads.now head → ⊥) (λ head. IsNew field.now heads.now head.now) }
 {
@@ -292,8 +299,9 @@ fn new_head<'a>(field: &Node<'_, 'a>, heads: &[Octets]) -> Option<&'a [u8]>
     }
 }
 
-/// Reads the fields of an entry or of a certificate, as `place` says, and puts their contents into `known`, which must be empty. Returns whether one
-/// of them is `(propagate)`. Err is the first fault: `Shape` if a head comes twice, or is none of theirs.
+/// Reads the fields of an entry or of a certificate, as `place` says, and puts their contents into `known`, which must be empty. Returns
+/// whether one of them is `(propagate)`. Err is the first fault: `Shape` for a head that comes twice, or has no place there. Then `known`
+/// keeps what was read before the fault, and the caller frees it.
 fn read_fields<'a>(
     alloc: Global,
     place: Place,
@@ -319,7 +327,8 @@ fn read_fields<'a>(
     Ok(is_word_among(&heads, b"propagate"))
 }
 
-/// Reads all fields of an entry or of a certificate, as `place` says. Err is the first fault: `Shape` if a head comes twice, or is none of theirs.
+/// Reads all fields of an entry or of a certificate, as `place` says. Fields may be in any order. A missing field is no fault here; its
+/// content is None. Err is the first fault: `Shape` for a head that comes twice, or has no place there.
 pub(crate) fn fields_of<'a>(
     alloc: Global,
     place: Place,

@@ -4,8 +4,8 @@ ghost use Rattle.std.specs.Prelude.{◌≡◌, ◌≢◌, ◌∷◌, ◌++◌, �
 
 use crate::fault::{CertFault, CertFaultKind};
 
-/// Appends `read`, the item that was read after those of `items`. If it is a fault, or memory ran out, Err is the fault with the number of the item,
-/// from 1.
+/// Appends `read`, the item that was read after those of `items`. If it could not be read, or memory runs out now, Err is the fault with
+/// the number of the item, from 1, and nothing is appended.
 pub(crate) fn push_read<T: Drop>(
     items: &mut Vec<T>,
     read: Result<T, CertFaultKind>,

@@ -9,7 +9,7 @@ use sha1::Sha1;
 use sha2::{Digest, Sha256, Sha512};
 use std::marker::Model;
 
-/// Digests of a key's canonical octets, as far as they were made.
+/// Digests of a key's canonical octets, as far as they were made. None: not made yet.
 #[derive(Clone, Copy, Debug)]
 struct Digests {
     sha1: Option<[u8; 20]>,
@@ -47,7 +47,7 @@ impl<'a> Key<'a> {
     ghost use Rattle.sha1.specs.Sha1.{sha1};
     ghost use Rattle.sha2.specs.{Sha256.{sha256}, Sha512.{sha512}};
 
-    /// The key with these canonical octets, without digests. They must be those of a key.
+    /// The key with these canonical octets, which must be those of a key. It carries no digests yet.
     pub(crate) fn new(octets: &'a [u8]) -> Key<'a>
         requires { IsKey octets.now }
         ensures { result ≡ octets.now }
@@ -62,7 +62,8 @@ impl<'a> Key<'a> {
         }
     }
 
-    /// A fact for the prover: a key is the canonical form of a value that reads as a key, however it was made. Does nothing.
+    /// A fact for the prover, from the invariant of `Key`: a key is the canonical form of a value that reads as a key, however it was made.
+    /// Does nothing.
     pub fn prove_well_formed(&self)
         ensures { IsKey self.now }
     {
@@ -76,7 +77,7 @@ impl<'a> Key<'a> {
         self.canonical.as_slice()
     }
 
-    /// Returns the same key again, and allocates nothing.
+    /// Returns the same key again, with the digests that it carries: the octets are borrowed by both. Allocates nothing.
     pub fn share(&self) -> Key<'a>
         ensures { result ≡ self.now }
     {

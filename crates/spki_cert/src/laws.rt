@@ -1,5 +1,6 @@
 //! Laws of keys, hashes, dates, access lists and sequences.
-//! Each function is a law: it does nothing, and its contract is the fact. A reading of a value is the key, hash or other thing that it is read as.
+//! Each function is a law: it does nothing, and its contract is the fact, which other proofs may use. A reading of a value is the key,
+//! hash or other thing that it is read as. A fault of a value is the reason for which its reader refuses it.
 #![tactic(auto, using(crate::proofs::LawRules::laws))]
 
 ghost use Rattle.std.specs.Prelude.{◌≡◌, ◌↔◌, ◌⊎◌, ◌<◌, ◌≤◌, ◌*◌, ℕ, false, codes, length, List, Option, Some, None};
@@ -89,18 +90,18 @@ pub fn refused_entry()
         → (v : Value) × IsRefusedAt EntryOf vs fault.item v × (entry_fault v ≡ Some fault.kind) }
 {}
 
-/// If a value has a fault as an access list, its item says what is wrong. With an item above 0 the value is an access list up to
-/// the entry with this number, the first that cannot be read, and the fault is that of this entry. With item 0 it has not the head
-/// `acl`, or another version than 0.
+/// If a value has a fault as an access list, the item of the fault says what is wrong. With an item above 0 the value is an access list up
+/// to the entry with this number, the first that cannot be read, and the fault is that of this entry. With item 0 the value does not have
+/// the head `acl`, or its version is not 0.
 #[tactic(auto, using(crate::proofs::RefusedWholes::wholes))]
 pub fn refused_list()
     ensures entry { (v : Value) (fault : CertFault) → acl_fault v ≡ Some fault → 0 < fault.item → HasRefusedEntry v fault }
     ensures outer { (v : Value) (fault : CertFault) → acl_fault v ≡ Some fault → fault.item ≡ 0 → IsNoListOfEntries v fault }
 {}
 
-/// If a value has a fault as a sequence, its item says what is wrong. With an item above 0 the value is a sequence up to the item
-/// with this number. That is no item, and the fault is its own; or it is a signature without a certificate, or a certificate
-/// without its signature. With item 0 the value has not the head `sequence`.
+/// If a value has a fault as a sequence, the item of the fault says what is wrong. With an item above 0 the value is a sequence up to the
+/// member with this number. This member cannot be read, and the fault is its own; or it is a signature without a certificate, or a
+/// certificate without its signature. With item 0 the value does not have the head `sequence`.
 #[tactic(auto, using(crate::proofs::RefusedWholes::wholes))]
 pub fn refused_sequence()
     ensures item { (v : Value) (fault : CertFault) → sequence_fault v ≡ Some fault → 0 < fault.item → HasWrongItem v fault }

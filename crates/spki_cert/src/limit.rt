@@ -1,11 +1,11 @@
-//! The limits of a window.
+//! The limits of a window: its first moment, `not_before`, and its last, `not_after`. None: the window has no such limit.
 
 ghost use Rattle.std.specs.Prelude.{◌≡◌};
 ghost use Rattle.spki_cert.specs.Time.{is_from, is_until, later, earlier, in_order, IsLimit};
 
 use crate::date::Date;
 
-/// A fact for the prover: a limit is a date. Does nothing.
+/// A fact for the prover: a limit, if there is one, is a date. Does nothing.
 pub fn prove_limit(limit: Option<Date>)
     ensures { IsLimit limit }
 {
@@ -14,7 +14,7 @@ pub fn prove_limit(limit: Option<Date>)
     }
 }
 
-/// Whether a moment is not before the limit. True if there is no limit.
+/// Whether a moment is not before the limit, the `not_before` of a window. True if there is no limit.
 pub fn is_from(limit: Option<Date>, moment: &Date) -> bool
     ensures { result ≡ is_from limit moment.now }
 {
@@ -24,7 +24,7 @@ pub fn is_from(limit: Option<Date>, moment: &Date) -> bool
     }
 }
 
-/// Whether a moment is not after the limit. True if there is no limit.
+/// Whether a moment is not after the limit, the `not_after` of a window. True if there is no limit.
 pub fn is_until(limit: Option<Date>, moment: &Date) -> bool
     ensures { result ≡ is_until limit moment.now }
 {
@@ -34,7 +34,7 @@ pub fn is_until(limit: Option<Date>, moment: &Date) -> bool
     }
 }
 
-/// The later of two limits. None counts as no limit, so the other one is returned.
+/// The later of two limits `not_before`, for the window of the moments in two windows. If one is None, the other is returned.
 pub fn later(one: Option<Date>, other: Option<Date>) -> Option<Date>
     ensures chosen { result ≡ later one other }
     ensures limit { IsLimit result }
@@ -46,7 +46,7 @@ pub fn later(one: Option<Date>, other: Option<Date>) -> Option<Date>
     }
 }
 
-/// The earlier of two limits. None counts as no limit, so the other one is returned.
+/// The earlier of two limits `not_after`, for the window of the moments in two windows. If one is None, the other is returned.
 pub fn earlier(one: Option<Date>, other: Option<Date>) -> Option<Date>
     ensures chosen { result ≡ earlier one other }
     ensures limit { IsLimit result }
@@ -58,7 +58,8 @@ pub fn earlier(one: Option<Date>, other: Option<Date>) -> Option<Date>
     }
 }
 
-/// Whether the first limit is not after the last. True if one of them is missing.
+/// Whether `first`, a limit `not_before`, is not after `last`, a limit `not_after`, so that some moment is within both. True if one of
+/// them is None.
 pub fn is_in_order(first: &Option<Date>, last: &Option<Date>) -> bool
     ensures { result ≡ in_order first.now last.now }
 {

@@ -60,7 +60,7 @@ impl<'a> Names<'a> {
         &self.from_last[self.from_last.len() - 1 - place]
     }
 
-    /// All names but the first. Without names the result has none.
+    /// All names but the first, which the caller has compared or replaced. Without names the result has no names either.
     pub fn behind_first(self) -> Names<'a>
         ensures { result ≡ drop 1 self.entry }
     {
@@ -69,7 +69,8 @@ impl<'a> Names<'a> {
         Names { from_last }
     }
 
-    /// The names of `others`, and after them these names.
+    /// Returns the names of `others`, and after them these names. So the names of a definition's subject are put in front of those that
+    /// come after the defined name.
     ///
     /// # Errors
     ///
@@ -89,7 +90,7 @@ impl<'a> Names<'a> {
 impl<'a> Clone for Names<'a> {
     ghost is_clone = { λ names copy. copy ≡ names };
 
-    /// Returns a copy. Err if memory ran out.
+    /// Returns a copy, with a vector of its own. Err if memory ran out.
     fn clone(&self) -> Result<Names<'a>, AllocError> {
         Ok(Names {
             from_last: self.from_last.clone()?,

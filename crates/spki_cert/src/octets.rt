@@ -33,7 +33,7 @@ impl<'a> Octets<'a> {
         self.octets
     }
 
-    /// Returns the same octets again, and allocates nothing.
+    /// Returns the same octets again, borrowed from the same text. Allocates nothing.
     pub fn share(&self) -> Octets<'a>
         ensures { result ≡ self.now }
     {
@@ -54,7 +54,7 @@ impl<'a> Octets<'a> {
 impl<'a> Clone for Octets<'a> {
     ghost is_clone = { λ octets copy. copy ≡ octets };
 
-    /// Returns the same octets again. Never fails.
+    /// Returns the same octets again. Never fails. A vector of octets is copied by it.
     fn clone(&self) -> Result<Octets<'a>, AllocError> {
         Ok(self.share())
     }

@@ -32,7 +32,7 @@ pub enum Principal<'a> {
 impl<'a> Principal<'a> {
     ghost use Rattle.spki_cert.specs.Naming.{names};
 
-    /// Returns the same principal again, and allocates nothing.
+    /// Returns the same principal again, with the digests that its key carries. Allocates nothing.
     pub fn share(&self) -> Principal<'a>
         ensures { result ≡ self.now }
     {

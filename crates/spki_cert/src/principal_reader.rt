@@ -14,10 +14,12 @@ use crate::value_readers::{hash_of, key_of};
 use sexpr_core::syntax::{Members, Node};
 use std::alloc::Global;
 
-/// A subject as it is written. Without a principal the name is relative to one that is not written.
+/// A subject as it is written.
 #[derive(Drop)]
 pub(crate) struct WrittenSubject<'a> {
+    /// None if the subject is a relative name: a name without a principal, which is relative to the certificate's issuer.
     pub principal: Option<Principal<'a>>,
+    /// The names after the principal, in order. There are none if the principal itself is the subject.
     pub names: Vec<Octets<'a>>,
 }
 
@@ -25,6 +27,7 @@ pub(crate) struct WrittenSubject<'a> {
 #[derive(Drop)]
 pub(crate) struct Issuer<'a> {
     pub principal: Principal<'a>,
+    /// The name that is defined. None in an authorization certificate.
     pub name: Option<Octets<'a>>,
 }
 
@@ -54,7 +57,8 @@ pub fn principal_of<'a>(node: &Node<'_, 'a>) -> Result<Principal<'a>, CertFaultK
     }
 }
 
-/// Appends the names in `members` to `names`. Err is `Shape` if a member is no string without a hint, or `Memory`.
+/// Returns `names`, and after them those in `members`, each a string without a display hint. Err is `Shape` if some member is anything
+/// else, or `Memory`.
 fn names_behind<'a>(
     names: Vec<Octets<'a>>,
     members: Members<'_, 'a>,
@@ -76,8 +80,9 @@ fn names_behind<'a>(
     Ok(all)
 }
 
-/// Reads the members after the head `name`: a principal and its names, or names alone, which are relative. Err says why
-/// they are none: `Shape` if there is no name.
+/// Reads the members of a name after the head `name`: a principal and its names, or names alone, which are a relative name. A first member
+/// that is a string without a display hint is a name, anything else is read as a principal. Err is the first fault. It is `Shape` if there
+/// is no name.
 #[tactic(auto, using(crate::proofs::Heads::heads), unfolding(crate::specs::FieldFaults::names_fault))]
 fn read_name_members<'a>(
     alloc: Global,
@@ -109,8 +114,8 @@ fn read_name_members<'a>(
     })
 }
 
-/// Reads a subject from its node, as it is written: a principal, a name `(name principal n n*)`, or a relative name
-/// `(name n n*)`. Err is its fault: `Threshold` for a list headed `k-of-n`, and `Keyholder` for one headed `keyholder`.
+/// Reads a subject from its node, as it is written: a principal, a name `(name PRINCIPAL N N ..)`, or a relative name `(name N N ..)`. Err
+/// is its first fault. It is `Threshold` for a list headed `k-of-n`, and `Keyholder` for one headed `keyholder`.
 #[tactic(auto, using(crate::proofs::Heads::heads), unfolding(crate::specs::FieldFaults::subject_fault))]
 pub(crate) fn written_subject_of<'a>(
     alloc: Global,
@@ -135,7 +140,8 @@ pub(crate) fn written_subject_of<'a>(
     read_name_members(alloc, members)
 }
 
-/// Reads an issuer from its node: a principal, or `(name PRINCIPAL N)` with exactly one name. Err is its fault.
+/// Reads the issuer of a certificate from its node: a principal, or, in a name certificate, `(name PRINCIPAL N)` with exactly one name. Err
+/// is its first fault. It is `Shape` if the name N is missing, is no string without a display hint, or is followed by anything.
 #[tactic(auto, using(crate::proofs::Heads::heads), unfolding(crate::specs::FieldFaults::issuer_fault))]
 pub(crate) fn issuer_of<'a>(node: &Node<'_, 'a>) -> Result<Issuer<'a>, CertFaultKind>
     ensures found { IfOk result (λ issuer. IssuerOf node.now issuer.principal issuer.name) }

@@ -27,8 +27,8 @@ fn is_headed(node: &Node, word: &[u8]) -> bool
     }
 }
 
-/// Reads an item of a sequence from its node: a certificate, a signature, an operation, or otherwise a key. Err is its
-/// fault.
+/// Reads an item of a sequence from its node by its head: a certificate, a signature or an operation. A value with any other head is read
+/// as a key. Err is the fault of the item.
 #[tactic(auto, using(crate::proofs::Heads::heads), unfolding(crate::specs::StructureFaults::item_fault))]
 fn item_of<'a>(alloc: Global, node: &Node<'_, 'a>) -> Result<SeqItem<'a>, CertFaultKind>
     ensures found { IfOk result (λ item. ItemOf node.now item) }
@@ -46,9 +46,9 @@ fn item_of<'a>(alloc: Global, node: &Node<'_, 'a>) -> Result<SeqItem<'a>, CertFa
     Ok(SeqItem::Key(key_of(node)?))
 }
 
-/// Checks that the item with this number may come here. `waits` is the number of the certificate before it that is still without its signature, or
-/// None. Err is `StraySignature` for a signature if there is none, or `UnsignedCert` if anything but a signature or an operation follows that
-/// certificate.
+/// Checks that the item with this number may come here. `waits` is the number of the certificate before it that is still without its
+/// signature, or None if there is no such certificate. Err is `StraySignature`, with the number of the item, for a signature if `waits` is
+/// None. It is `UnsignedCert`, with the number of the certificate, if the item is neither a signature nor an operation and `waits` is Some.
 fn check_place(node: &Node, waits: Option<usize>, number: usize) -> Result<(), CertFault>
     ensures faultless { IfOk result (λ _. place_fault waits number node.now ≡ None) }
     ensures named { IfErr result (λ fault. place_fault waits number node.now ≡ Some fault) }
@@ -89,7 +89,8 @@ fn waiting(node: &Node, before: Option<usize>, number: usize) -> Option<usize>
     }
 }
 
-/// Reads the items from the members of a sequence after its head. Err is the first fault, as for `read_sequence`.
+/// Reads the items from the members of a sequence after its head. Err is the first fault, with the number of its item, from 1. It is also
+/// `UnsignedCert` if the sequence ends without the signature of its last certificate.
 #[tactic(auto, using(crate::proofs::Heads::heads), unfolding(crate::specs::StructureFaults::items_fault))]
 fn items_of<'a>(alloc: Global, members: Members<'_, 'a>) -> Result<Vec<SeqItem<'a>>, CertFault>
     ensures items { IfOk result (λ items. AllZip ItemOf members.entry items.items) }
@@ -116,7 +117,11 @@ fn items_of<'a>(alloc: Global, members: Members<'_, 'a>) -> Result<Vec<SeqItem<'
     }
 }
 
-/// Reads a sequence from its node, like `read_sequence`, with the same errors.
+/// Reads a sequence from its node: `(sequence item ..)`, in which each certificate is followed by its signature.
+///
+/// # Errors
+///
+/// Those of `read_sequence`: the first fault from the left, with the number of its item, from 1. The number is 0 for the head.
 #[tactic(auto, using(crate::proofs::Heads::heads), unfolding(crate::specs::StructureFaults::sequence_fault))]
 pub fn sequence_of<'a>(alloc: Global, node: &Node<'_, 'a>) -> Result<Vec<SeqItem<'a>>, CertFault>
     ensures sequence { IfOk result (λ items. SeqOf node.now items.items) }

@@ -1,4 +1,4 @@
-//! Reads signatures and operations.
+//! Reads signatures and operations. No signature is verified here.
 
 ghost use Rattle.std.specs.Prelude.{◌≡◌, ◌≢◌, Some, None, IfOk, IfErr};
 ghost use Rattle.spki_cert.specs.{declared.hash.HashAlg.{HashAlg}, StructureFaults.{signature_fault, do_fault}, Structures.{SignatureOf, DoHashOf}};
@@ -12,7 +12,8 @@ use crate::principal_reader::principal_of;
 use crate::value_readers::{algorithm_of, hash_of};
 use sexpr_core::syntax::Node;
 
-/// Reads a signature from its node: `(signature HASH PRINCIPAL VALUE)`. Err is the first fault.
+/// Reads a signature from its node: `(signature HASH PRINCIPAL VALUE)`. HASH is the digest of what is signed, PRINCIPAL the signer. VALUE
+/// is any value: only its canonical octets are kept. Err is the first fault.
 #[tactic(auto, using(crate::proofs::Heads::heads), unfolding(crate::specs::StructureFaults::signature_fault))]
 pub(crate) fn signature_of<'a>(node: &Node<'_, 'a>) -> Result<Signature<'a>, CertFaultKind>
     ensures found { IfOk result (λ signature. SignatureOf node.now signature) }
@@ -44,8 +45,8 @@ pub(crate) fn signature_of<'a>(node: &Node<'_, 'a>) -> Result<Signature<'a>, Cer
     })
 }
 
-/// Reads the algorithm from the node of an operation: `(do hash ALG)`. Err is the first fault: `UnknownOp` for any
-/// other operation.
+/// Reads the algorithm from the node of an operation: `(do hash ALG)`. Err is the first fault. It is `UnknownOp` if the member after `do`
+/// is missing, or is anything but the string `hash`.
 #[tactic(auto, using(crate::proofs::Heads::heads), unfolding(crate::specs::StructureFaults::do_fault))]
 pub(crate) fn do_hash_of(node: &Node) -> Result<HashAlg, CertFaultKind>
     ensures found { IfOk result (λ alg. DoHashOf node.now alg) }

@@ -12,8 +12,8 @@ use crate::value_readers::date_of;
 use crate::window::Window;
 use sexpr_core::syntax::{Members, Node};
 
-/// Reads the date from the members of a limit after its head. Err is `BadDate`, or `Shape` if there is not exactly one
-/// member.
+/// Reads the date from the members of `(not-before DATE)` or `(not-after DATE)` after the head. Err is `BadDate`, or `Shape` if there is
+/// not exactly one member.
 pub(crate) fn date_in(members: Members) -> Result<Date, CertFaultKind>
     ensures found { IfOk result (λ date. Sole DateOf members.entry date) }
     ensures faultless { IfOk result (λ _. sole_fault CertFaultKind.Shape date_fault members.entry ≡ None) }
@@ -31,8 +31,8 @@ pub(crate) fn date_in(members: Members) -> Result<Date, CertFaultKind>
     }
 }
 
-/// Adds the limit in a field, `(not-before DATE)` or `(not-after DATE)`, to the window. Err is its fault: `Shape` if
-/// the window has this limit already, and `Online` for `(online ..)`.
+/// Adds the limit in a member of `(valid ..)`, `(not-before DATE)` or `(not-after DATE)`, to the window, which has the limits before it.
+/// Err is the fault of the member: `Shape` if the window has this limit already, `Online` for `(online ..)`, and `Shape` for anything else.
 fn with_limit(field: &Node, window: Window) -> Result<Window, CertFaultKind>
     ensures found { IfOk result (λ after. AddsLimit field.now window after) }
     ensures faultless { IfOk result (λ _. LimitLook window field.now None) }
@@ -65,7 +65,8 @@ fn with_limit(field: &Node, window: Window) -> Result<Window, CertFaultKind>
     }
 }
 
-/// Reads a window from the members of `(valid ..)` after the head: limits, each at most once. Err is the first fault.
+/// Reads a window from the members of `(valid ..)` after the head: limits, each at most once. Without members the window has no limits. Err
+/// is the first fault.
 pub(crate) fn valid_in(members: Members) -> Result<Window, CertFaultKind>
     ensures found { IfOk result (λ window. ValidOf members.entry window) }
     ensures faultless { IfOk result (λ _. fields_fault limit_fault members.entry ≡ None) }
@@ -84,8 +85,9 @@ pub(crate) fn valid_in(members: Members) -> Result<Window, CertFaultKind>
     Ok(window)
 }
 
-/// The window of an entry or a certificate. Its limits are either in `(valid ..)`, whose window is `valid`, or in fields of their own, `limits`. None
-/// if there is a `(valid ..)` and also a limit outside of it.
+/// The window of an entry or a certificate. Its limits are written either in fields of their own, which are `limits`, or in a field
+/// `(valid ..)`, which is `valid`, or None if there is no such field. Returns None if there is a `(valid ..)` and also a limit outside of
+/// it. Without any limit the window contains all moments.
 pub(crate) fn window_of_limits(limits: Window, valid: Option<Window>) -> Option<Window>
     ensures { MatchOption result (IsBothWays limits valid) (IsOneWay limits valid) }
 {

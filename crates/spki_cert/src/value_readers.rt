@@ -14,7 +14,8 @@ use crate::octets::Octets;
 use sexpr_core::syntax::{Members, Node, NodeKind};
 use sexpr_core::{Doc, NodeId};
 
-/// Reads a key from its node, like `read_key`. Err is the first fault: `KeyUris` or `Shape`.
+/// Reads a key from its node: `(public-key (ALG PART ..))`. Err is the first fault: `KeyUris` if a list headed `uri` follows the
+/// algorithm's list, otherwise `Shape`.
 #[tactic(auto, using(crate::proofs::Heads::heads), unfolding(crate::specs::FieldFaults::key_fault))]
 pub fn key_of<'a>(node: &Node<'_, 'a>) -> Result<Key<'a>, CertFaultKind>
     ensures key { IfOk result (λ key. KeyOf node.now key) }
@@ -41,7 +42,8 @@ pub fn key_of<'a>(node: &Node<'_, 'a>) -> Result<Key<'a>, CertFaultKind>
     }
 }
 
-/// Whether the node is a list that begins with a string without a display hint, as the algorithm of a key does.
+/// Whether the node can be the list `(ALG PART ..)` in a key: a list that begins with a string without a display hint. ALG and the parts
+/// are not tested.
 fn is_algorithm(node: &Node) -> bool
     ensures { MatchBool result (IsAlgorithm node.now) (IsAlgorithm node.now → ⊥) }
 {
@@ -54,7 +56,7 @@ fn is_algorithm(node: &Node) -> bool
     }
 }
 
-/// Reads a date from its node, like `read_date`. Err is always `BadDate`.
+/// Reads a date from its node: a string without a display hint, of the form `YYYY-MM-DD_HH:MM:SS`. Err is always `BadDate`.
 #[tactic(auto, using(crate::proofs::Heads::heads), unfolding(crate::specs::FieldFaults::date_fault))]
 pub fn date_of(node: &Node) -> Result<Date, CertFaultKind>
     ensures date { IfOk result (λ date. DateOf node.now date) }
@@ -72,7 +74,8 @@ pub fn date_of(node: &Node) -> Result<Date, CertFaultKind>
     }
 }
 
-/// Reads a hash algorithm from the node of its name. Err is `HashAlg` for any other string, and `Shape` for a list.
+/// Reads a hash algorithm from the node of its name: `sha1`, `sha256` or `sha512`. Err is `HashAlg` for any other string, also for such a
+/// name with a display hint, and `Shape` for a list.
 #[tactic(auto, using(crate::proofs::Heads::heads), unfolding(crate::specs::FieldFaults::alg_fault))]
 pub(crate) fn algorithm_of(node: &Node) -> Result<HashAlg, CertFaultKind>
     ensures named { IfOk result (λ alg. node.now ≡ plain (alg_name alg)) }
@@ -91,8 +94,8 @@ pub(crate) fn algorithm_of(node: &Node) -> Result<HashAlg, CertFaultKind>
     }
 }
 
-/// Reads the digest of a hash by this algorithm from its node. Err is `DigestLength` if it has a wrong length, and
-/// `Shape` if the node is no string without a hint.
+/// Reads the digest in a hash by this algorithm from its node. Err is `DigestLength` if its length is not that of the algorithm's digests,
+/// and `Shape` if the node is no string without a display hint.
 fn digest_member<'a>(alg: HashAlg, node: &Node<'_, 'a>) -> Result<Octets<'a>, CertFaultKind>
     ensures digest { IfOk result (λ digest. DigestOf node.now alg digest) }
     ensures refused { IfErr result (λ _. (digest : List ℕ) → DigestOf node.now alg digest → ⊥) }
@@ -110,8 +113,8 @@ fn digest_member<'a>(alg: HashAlg, node: &Node<'_, 'a>) -> Result<Octets<'a>, Ce
     }
 }
 
-/// Whether nothing, or exactly one list headed `uri`, follows the digest of a hash. `rest` are the members after the
-/// digest.
+/// Whether nothing, or exactly one list headed `uri`, follows the digest of a hash. `rest` are the members after the digest. The members of
+/// the list are not read.
 fn ends_in_uris(rest: Members) -> bool
     ensures { MatchBool result (AreUris rest.entry) (AreUris rest.entry → ⊥) }
 {
@@ -121,7 +124,8 @@ fn ends_in_uris(rest: Members) -> bool
     }
 }
 
-/// Reads a hash from its node, like `read_hash`: its algorithm and its digest. Err is the first fault.
+/// Reads a hash from its node: `(hash ALG DIGEST)`, or with `(uri x ..)` after the digest. Returns its algorithm and its digest. Err is the
+/// first fault: `HashAlg`, `DigestLength` or `Shape`, as `read_hash` says.
 #[tactic(auto, using(crate::proofs::Heads::heads), unfolding(crate::specs::FieldFaults::hash_fault))]
 pub fn hash_of<'a>(node: &Node<'_, 'a>) -> Result<(HashAlg, Octets<'a>), CertFaultKind>
     ensures hash { IfOk result (λ h. HashOf node.now h.0 h.1) }

@@ -7,8 +7,8 @@ ghost use Rattle.spki_cert.specs.FieldFaults.{sole_fault, version_fault};
 use crate::fault::CertFaultKind;
 use sexpr_core::syntax::{Members, NodeKind};
 
-/// Checks that the members after the head `version` are the string 0 alone. Err is `UnknownVersion` if the first is any
-/// other string, otherwise `Shape`.
+/// Checks that the members after the head `version` are the string `0`, without a display hint, alone. Err is `UnknownVersion` if the first
+/// is any other string. Otherwise it is `Shape`: there is no member, the first is a list, or others follow `0`.
 #[tactic(auto, using(crate::proofs::Heads::heads), unfolding(crate::specs::FieldFaults::version_fault))]
 pub(crate) fn check_version(members: Members) -> Result<(), CertFaultKind>
     ensures found { IfOk result (λ _. members.entry ≡ plain (codes "0") ∷ []) }

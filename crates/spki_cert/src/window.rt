@@ -6,9 +6,9 @@ use crate::limit::{earlier, is_from, is_in_order, is_until, later, prove_limit};
 /// The moments from a first to a last one, both included. A missing limit does not limit.
 #[derive(Clone, Copy, Debug)]
 pub struct Window {
-    /// The first moment.
+    /// The first moment. None if all moments until the last are in the window.
     pub not_before: Option<Date>,
-    /// The last moment.
+    /// The last moment. None if all moments from the first are in the window.
     pub not_after: Option<Date>,
 }
 
@@ -16,7 +16,7 @@ impl Window {
     ghost use Rattle.std.specs.Prelude.{◌≡◌, IfSome, IfNone};
     ghost use Rattle.spki_cert.specs.Time.{IsLimit, within, meet_of, IsMeet, Overlap, AreApart};
 
-    /// A fact for the prover: the limits of a window are dates, however it was made. Does nothing.
+    /// A fact for the prover: the limits of a window are dates, however the window was made. Does nothing.
     pub fn prove_limits(&self)
         ensures begins { IsLimit self.now.not_before }
         ensures ends { IsLimit self.now.not_after }
