@@ -12,12 +12,15 @@ use spki_reduce::{Step, Work};
 /// small by these numbers (`Sizes::are_small`) is spared: it takes no work.
 #[derive(Clone, Copy)]
 pub struct Budget {
+    /// The work that the entries still to be joined may take together.
     pub(crate) work: Work,
+    /// The numbers of nodes of the certificates' tags. They stay the same for all entries.
     pub(crate) sizes: Sizes,
 }
 
 impl Budget {
-    /// The budget before the first entry: all the work of a case. `steps` are the tuples of all its certificates.
+    /// The budget before the first entry: its work is the `most_work` of the case. `steps` are the tuples of all certificates of the
+    /// case, in order. The nodes of their tags are counted here once, so that each entry can be compared with `Case::uncounted`.
     pub fn of(case: &Case, steps: &[Step]) -> Budget
         ensures work { work_left result ≡ Some case.now.most_work }
         ensures sizes { IsBudgetFor (tuples_of steps.now) result }

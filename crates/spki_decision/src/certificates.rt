@@ -51,8 +51,9 @@ impl<'s, 'a> Certificate<'s, 'a> {
         }
     }
 
-    /// The certificate's tuple with `holder` as the issuer: a 5-tuple or a 4-tuple (RFC 2693, sections 6.1 and 6.2).
-    /// Whether the certificate's issuer names this key is not tested. Err if memory ran out.
+    /// The certificate's tuple, a 5-tuple or a 4-tuple (RFC 2693, sections 6.1 and 6.2). A tuple has a key as its issuer, and
+    /// a certificate may name it by a hash, so the caller passes the issuer's key as `holder`. Whether the certificate's issuer names this
+    /// key is not tested. Err if memory ran out.
     pub fn step(&self, holder: &Key<'a>) -> Result<Step<'a>, AllocError>
         ensures { IfOk result (λ step. step_tuple step ≡ tuple_of holder.now (certificate_of self.now)) }
     {
@@ -63,7 +64,7 @@ impl<'s, 'a> Certificate<'s, 'a> {
     }
 }
 
-/// An authorization certificate's 5-tuple, with `holder` as the issuer. Err if memory ran out.
+/// An authorization certificate's 5-tuple, with the key `holder` as the issuer. Err if memory ran out.
 fn five_of<'a>(cert: &AuthCert<'a>, holder: &Key<'a>) -> Result<Five<'a>, AllocError>
     ensures { IfOk result (λ f. five_tuple f ≡ auth_tuple holder.now cert.now) }
 {
@@ -114,7 +115,8 @@ fn as_signature<'s, 'a>(item: &'s SeqItem<'a>) -> Option<&'s Signature<'a>>
     }
 }
 
-/// The signature of the certificate before `items`: the first of these that is no `(do ..)`, if it is a signature.
+/// The signature of the certificate before `items`: the first of these that is no `(do ..)`, if it is a signature. None if it is
+/// something else, or if there is no such item.
 fn signature_in<'s, 'a>(items: &'s [SeqItem<'a>]) -> Option<&'s Signature<'a>>
     ensures { option_copied result ≡ signature_in items.entry.now }
 {
@@ -139,7 +141,8 @@ fn as_certificate<'s, 'a>(item: &'s SeqItem<'a>) -> Option<Certificate<'s, 'a>>
     }
 }
 
-/// Appends the item with this number, from 1, to `shown` if it is a certificate. `behind` are the items after it. Err if memory ran out.
+/// Appends the item with this number, from 1, to `shown` if it is a certificate. Its signature is looked for in `behind`, the items after
+/// it. Err if memory ran out.
 fn push_certificate<'s, 'a>(
     shown: &mut Vec<ShownCert<'s, 'a>>,
     number: usize,

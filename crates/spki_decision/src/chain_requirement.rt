@@ -49,6 +49,7 @@ impl<'a> ChainRequirement<'a> {
     }
 
     /// Calls `of_counted` with a new count, which `blank` opens. The count exists only in contracts, and is dropped afterwards.
+    /// `Ticks` says why this is a function of its own.
     fn of_with_new_count<L: Ledger>(
         alloc: Global,
         case: &Case<'a>,
@@ -64,8 +65,9 @@ impl<'a> ChainRequirement<'a> {
         ChainRequirement::of_counted(alloc, case, steps, &mut Ticks::<L>::new(blank))
     }
 
-    /// What certificates require of an entry, as `of`. A tick is a certificate, a tag or a name that is looked at, or an octet that is compared.
-    /// There are at most as many as the weights of the certificates' tuples together. `prove_well_formed` is only for the prover.
+    /// What certificates require of an entry, as `of`. A tick is a certificate, a tag or a name that is looked at, or an octet that is
+    /// compared. There are at most three for each certificate, and one for each tag, name and octet in its tag and its subject.
+    /// `prove_well_formed` is only for the prover.
     ///
     /// # Errors
     ///
@@ -93,7 +95,7 @@ impl<'a> ChainRequirement<'a> {
         Ok(ChainRequirement { required, until })
     }
 
-    /// Whether an entry and the certificates grant what this case asks, which must be that of `of`. Allocates nothing.
+    /// Whether an entry and the certificates grant what the case asks. `case` must be the one that `of` was called with. Allocates nothing.
     pub fn grants(&self, entry: &Entry, case: &Case) -> bool
         ensures { (tuples : List Tuple) → IsChainRequirement (model case.now) tuples self.now
             → IsTrue result ↔ Supported (model case.now) tuples entry.now }
@@ -102,6 +104,7 @@ impl<'a> ChainRequirement<'a> {
     }
 
     /// Calls `grants_counted` with a new count, which `blank` opens. The count exists only in contracts, and is dropped afterwards.
+    /// `Ticks` says why this is a function of its own.
     fn grants_with_new_count<L: Ledger>(&self, entry: &Entry, case: &Case, blank: Blank) -> bool
         requires name { blank.name ≡ L.name }
         requires parts { blank.parts ≡ L.parts }
@@ -136,8 +139,8 @@ impl<'a> ChainRequirement<'a> {
         }
     }
 
-    /// The last moment at which an entry and the certificates grant what the case of `of` asks, if they grant it: the earliest not-after of their
-    /// windows. None if none of them ends. Allocates nothing.
+    /// The last moment at which an entry and the certificates grant what the case of `of` asks: the earliest not-after of their windows.
+    /// None if none of them ends. It means nothing if `grants` is false for the entry. Allocates nothing.
     pub fn until(&self, entry: &Entry) -> Option<Date>
         ensures { (tuples : List Tuple) → IsUntil tuples self.now entry.now result }
     {
@@ -146,7 +149,7 @@ impl<'a> ChainRequirement<'a> {
 }
 
 /// Whether the tags of all steps contain the request of a case, and their windows its moment. If so, `until` becomes the least not-after of
-/// these windows and of what it was.
+/// these windows and of what it was. If not, some windows may be left out, and `until` means nothing.
 fn all_contain<L: Ledger>(
     steps: &[Step],
     case: &Case,
@@ -170,7 +173,7 @@ fn all_contain<L: Ledger>(
     true
 }
 
-/// The earlier of a limit and the not-after of a step's window. A missing limit does not limit.
+/// The earlier of a limit and the not-after of a step's window. A missing one does not limit: None only if both are missing.
 fn end_with(limit: &Option<Date>, step: &Step) -> Option<Date>
     ensures { (windows : List Window) → IsLeastEnd windows limit.now → IsLeastEnd (windows ++ windows_of (step_tuple step.now)) result }
 {
@@ -180,7 +183,8 @@ fn end_with(limit: &Option<Date>, step: &Step) -> Option<Date>
     }
 }
 
-/// The earlier of a limit and the not-after of a window. A missing limit does not limit. The window `so_far` only serves to compare the two.
+/// The earlier of a limit and the not-after of a window. A missing one does not limit: None only if both are missing. The window
+/// `so_far` only serves to compare the two.
 fn earlier_end(limit: &Option<Date>, window: &Window) -> Option<Date>
     ensures { (windows : List Window) → IsLeastEnd windows limit.now → IsLeastEnd (windows ++ window.now ∷ []) result }
 {
@@ -200,7 +204,8 @@ fn earlier_end(limit: &Option<Date>, window: &Window) -> Option<Date>
     }
 }
 
-/// Whether the tag of a step contains the request of a case, and its window the moment. A definition has no tag.
+/// Whether the tag of a step contains the request of a case, and its window the moment. A definition has no tag, so only its window
+/// counts.
 fn contains<L: Ledger>(step: &Step, case: &Case, ticks: &mut Ticks<L>) -> bool
     ensures answer { IsTrue result ↔ ((in_each case.now.request (tags_of (step_tuple step.now)) ≡ true)
         × (within_each case.now.moment (windows_of (step_tuple step.now)) ≡ true)) }

@@ -66,8 +66,9 @@ pub fn decide<V: Verifier>(alloc: Global, case: &Case, verifier: &V) -> Result<D
 }
 
 /// The first entry, from 1, of a case's access list that grants the request with certificates whose tuples are `steps`.
-/// `No` if there is none. Each entry up to it, and no later one, is tested for tags that are too large. `blank` opens a count, which exists only in
-/// contracts and is dropped afterwards.
+/// `No` if there is none. `ChainRequirement` decides without intersections, so `require_small` tests each entry up to the first
+/// that grants, and no later one, for tags that are too large. `blank` opens a count, which exists only in contracts and is
+/// dropped afterwards.
 ///
 /// # Errors
 ///
@@ -97,9 +98,9 @@ fn first_within_limit<'a, L: Ledger>(
     Ok(Decision::No)
 }
 
-/// Checks that the intersections of this entry's tag with the tags of the steps are within the limits of nodes and work. An entry that is spared
-/// (`Sizes::are_small`) passes. Any other is joined with the steps only to check this, which takes its work from the budget. Err is `TooLarge`, or
-/// `Memory`.
+/// Checks that the intersections of this entry's tag with the tags of the steps are within the limits of nodes and work. An entry that is
+/// spared (`Sizes::are_small`) passes. Any other is joined with the steps only to check this, and its work is taken from the budget.
+/// Whether it joins does not matter. Err is `TooLarge`, or `Memory`.
 fn require_small<'a, L: Ledger>(
     alloc: Global,
     entry: &Entry<'a>,

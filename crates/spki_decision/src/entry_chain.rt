@@ -13,9 +13,9 @@ use spki_tag::Ticks;
 use std::alloc::{AllocError, Global};
 use std::sync::ledger::Ledger;
 
-/// Joins an entry's 5-tuple with the steps after it, as `fold_owned_counted` does, under the policy and the limits of the case. The work of the steps is
-/// taken from the budget, which must be one for these steps, unless the entry is spared (`Sizes::are_small`). Err is `TooLarge` if a tag is too
-/// large, or the budget too little, or `Memory`.
+/// Joins an entry's 5-tuple with the steps after it, as `fold_owned_counted` does, under the policy and the limits of the case. The work
+/// of the steps is taken from the budget, which must be one for these steps. If the entry is spared (`Sizes::are_small`), its work has no
+/// bound and the budget stays the same. Err is `TooLarge` if a tag is too large or the budget too little, or `Memory`.
 pub(crate) fn fold_entry<'a, L: Ledger>(
     alloc: Global,
     entry: &Entry<'a>,

@@ -87,7 +87,7 @@ pub fn first_refused<V: Verifier>(
 }
 
 /// Whether the verifier accepts a signature. A digest by SHA-256 is passed to the verifier, so that a certificate is
-/// digested once. Err if memory ran out in the verifier.
+/// digested once. With another algorithm the verifier gets only the message. Err if memory ran out in the verifier.
 fn is_accepted<V: Verifier>(
     alloc: Global,
     verifier: &V,

@@ -85,7 +85,8 @@ pub fn examine<'a>(
     examined
 }
 
-/// Does what `examine` does. `keys` are the keys that the sequence shows.
+/// Does what `examine` does. `keys` are the keys that the sequence shows; `test` may add an index to them, so they are `&mut`. It is a
+/// function of its own, so that `examine` drops the keys in one place.
 fn examine_by<'a>(
     alloc: Global,
     sequence: &[SeqItem<'a>],
@@ -116,7 +117,8 @@ fn examine_by<'a>(
     Ok(ExaminedSequence { signed, unverified })
 }
 
-/// Adds the tuple of a certificate whose signature is `one`, and this signature. Err if memory ran out.
+/// Appends the tuple of a certificate that passed `test` to `steps`, and its signature `one` to `signed`. The tuple's issuer is the key
+/// of the signature. Err if memory ran out.
 fn add_passed<'a>(
     steps: &mut Vec<Step<'a>>,
     signed: &mut Vec<Signed<'a>>,
@@ -132,8 +134,10 @@ fn add_passed<'a>(
     Ok(())
 }
 
-/// Does the three tests of a certificate that need no verifier: its issuer's key is shown, its digest is right, and that key is the signer. It must
-/// have a signature, so `unreachable!()` is not reached. Err if memory ran out.
+/// Does, in order, the three tests of a certificate that need no verifier. The sequence shows the key of its issuer, `holder`. The digest
+/// in its signature is that of the certificate's octets. The signer names `holder`. Returns the signature, or the first test that is not
+/// passed. The certificate must have a signature, so `unreachable!()` is not reached. `keys` are `&mut` since an index may be added; the
+/// keys stay the same. Err if memory ran out.
 fn test<'a>(
     alloc: Global,
     shown: &ShownCert<'_, 'a>,

@@ -17,11 +17,11 @@ use std::alloc::{AllocError, Global};
 pub enum Reason {
     /// The authorization that they become grants it.
     Grants,
-    /// The subject of the result has names left, or does not name the key.
+    /// The subject of this authorization has names left, or does not name the key.
     NotTheKey,
-    /// The subject names the key, and the tag of the result does not contain the request.
+    /// Its subject names the key, and its tag does not contain the request.
     TagLacks,
-    /// The tag contains the request too, and the moment is not within the window of the result.
+    /// Its tag contains the request too, and the moment is not within its window.
     WindowLacks,
     /// A certificate does not join what the entry and the certificates before it became.
     Stopped {
@@ -90,7 +90,7 @@ pub struct ReasonSink<'c, 'a> {
 impl<'c, 'a> FoldSink<'a> for ReasonSink<'c, 'a> {
     ghost takes = { TakesReasons };
 
-    /// Appends the entry's reason.
+    /// Appends the entry's reason. `_entry` and `_alloc` are not used: the reasons come in order, and the vector has its allocator.
     fn put(
         &mut self,
         _alloc: Global,
@@ -117,7 +117,7 @@ fn fold_reason(case: &Case, fold: EntryFold) -> Reason
     }
 }
 
-/// The reason for the result of the last three tests: `Grants` if nothing is missing, otherwise that of the same name.
+/// The reason for what `Five::missing_grant` returned: `Grants` if nothing is missing, otherwise that of the same name.
 fn reason_of(missing: Option<MissingGrant>) -> Reason
     ensures { result ≡ reason_of missing }
 {

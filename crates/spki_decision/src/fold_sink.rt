@@ -11,7 +11,8 @@ pub trait FoldSink<'a> {
     // What it means that a sink takes entries: the sink before, what these entries become, and the sink after.
     ghost takes: { Self → List EntryFold → Self → Type 0 };
 
-    /// Takes what entry number `entry`, from 1, becomes. It comes behind those of all entries before it.
+    /// Takes `fold`, what entry number `entry`, from 1, becomes with all certificates. The entries come in order, each once. `alloc` is
+    /// for what the sink must allocate.
     ///
     /// # Errors
     ///
@@ -28,7 +29,7 @@ pub trait FoldSink<'a> {
 impl<'a> FoldSink<'a> for Vec<EntryFold<'a>> {
     ghost takes = { TakesFolds };
 
-    /// Appends what the entry becomes.
+    /// Appends what the entry becomes. `_entry` and `_alloc` are not used: the entries come in order, and the vector has its allocator.
     fn put(
         &mut self,
         _alloc: Global,

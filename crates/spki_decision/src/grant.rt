@@ -17,7 +17,7 @@ pub struct Grant {
 }
 
 impl Grant {
-    /// The decision. `No` if there is no grant.
+    /// The decision of an answer that also says until when: `Yes` with the entry of the grant, and `No` if there is no grant.
     pub fn decision(grant: Option<Grant>) -> Decision
         ensures { result ≡ decision_of grant }
     {

@@ -86,8 +86,8 @@ pub fn no_refusal<V: Verifier>()
         → IsUnrefused c (V.accepted verifier) decision → ¬ IsTooLarge c (V.accepted verifier) }
 {}
 
-/// An entry is left out if its subject's principal does not name the key of the first issuer, or the client's key if no certificate is shown. It
-/// never grants the request, and its chain is never too large.
+/// An entry may be left out of an access list if its subject's principal does not name the key of the first issuer, or the client's key
+/// if no certificate is shown. Such an entry never grants the request, and its chain is never too large.
 pub fn left_out()
     ensures grants { (c : Case) (tuples : List Tuple) (e : Entry) → IsLeftOut c tuples e → ¬ Supported c tuples e }
     ensures small { (c : Case) (tuples : List Tuple) (e : Entry) → IsLeftOut c tuples e
@@ -157,8 +157,8 @@ pub fn more_entries<V: Verifier>()
         → IsDecision (with_entries c (c.entries ++ more)) (V.accepted verifier) (Yes n) → length c.entries < n }
 {}
 
-/// If no entry of an access list is granted, none is granted of a list that has only entries of it. If the whole list is not refused
-/// as `TooLarge`, the list with some entries removed is not either.
+/// If the decision by an access list is no, it is no by a list that has only entries of it. If `decide` answers no, and not `TooLarge`, by
+/// the whole list, it answers no by the list with some entries removed.
 pub fn fewer_entries<V: Verifier>()
     ensures no { (verifier : V) (c : Case) (some : List Entry) → AreAmong some c.entries → IsDecision c (V.accepted verifier) No
         → IsDecision (with_entries c some) (V.accepted verifier) No }
@@ -167,8 +167,8 @@ pub fn fewer_entries<V: Verifier>()
 {}
 
 /// What narrower tuples support, wider ones support. An entry, or a certificate that passes its tests, becomes narrower if its tag is smaller, its
-/// window shorter, or it may no longer be delegated. In a case this grants no other entry, and turns no no into a yes. A case with narrower entries
-/// is a narrower case.
+/// window shorter, or it may no longer be delegated. In a case this grants no further entry, and the decision `No` stays `No`. A case with
+/// narrower entries is a narrower case.
 pub fn narrower<V: Verifier>()
     ensures chain { (c : Case) (narrow wide : List Tuple) (e f : Entry) → IsRequest c.request → is_date c.moment ≡ true
         → IsNarrowerEntry e f → AllZip IsNarrower narrow wide → Supported c narrow e → Supported c wide f }

@@ -36,6 +36,10 @@ pub fn keys_of<'a>(alloc: Global, sequence: &[SeqItem<'a>]) -> Result<Vec<Key<'a
 
 /// Returns the place, from 0, of the first of `keys` that the principal names: for which the closure `names` returns
 /// true. None if there is none. What `names` requires must hold for the principal and each key. Allocates nothing.
+///
+/// It is for programs that use this library. The caller supplies `names`, such as `Principal::names` under a policy, so that
+/// test programs can let two keys have one digest. `examine` does not call it: it finds keys by an index of their digests
+/// (`ShownKeys::holder`), and not one after another.
 pub fn first_named<F: Fn(&Principal, &Key) -> bool>(
     principal: &Principal,
     keys: &[Key],

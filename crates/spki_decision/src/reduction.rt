@@ -81,8 +81,9 @@ pub fn reduce_case<'a, V: Verifier>(
     }
 }
 
-/// Puts into `sink` what each entry of an access list and the certificates of the case become. `steps` are the tuples of
-/// all certificates, in order. The case's own access list is not examined. Err is `TooLarge` or `Memory`.
+/// Puts into `sink` what each entry of `acl` and the certificates of the case become. `steps` are the tuples of all certificates, in
+/// order. The entries are those of `acl`, here and in the contract; both callers pass the case's own list. Err is `TooLarge` or `Memory`.
+/// After an error, `sink` may have taken what some of the entries become.
 pub(crate) fn put_folds<'a, S: FoldSink<'a>>(
     alloc: Global,
     acl: &[Entry<'a>],
@@ -107,8 +108,9 @@ pub(crate) fn put_folds<'a, S: FoldSink<'a>>(
     Ok(())
 }
 
-/// Returns what an entry and the certificates of the case become. `shown` are all of these, in order, and `steps` their
-/// tuples. The work of an entry that is not spared is taken from the budget.
+/// Returns what an entry and the certificates of the case become. `shown` are all of these certificates, in order, and `steps` their
+/// tuples: if a step stops the chain, `shown` has the number of its item. The work of an entry is taken from the budget, unless the entry
+/// is spared (`Sizes::are_small`).
 ///
 /// # Errors
 ///
@@ -142,6 +144,7 @@ pub fn entry_fold<'a>(
 }
 
 /// Calls `entry_fold_counted` with a new count, which `blank` opens. The count exists only in contracts, and is dropped afterwards.
+/// `Ticks` says why this is a function of its own.
 fn entry_fold_with_new_count<'a, L: Ledger>(
     alloc: Global,
     case: &Case<'a>,
@@ -181,8 +184,8 @@ fn entry_fold_with_new_count<'a, L: Ledger>(
     )
 }
 
-/// Does what `entry_fold` does. A step that is looked at is a tick, and so is what is compared or copied where it joins. There are at most four
-/// for each unit of the work of the steps, and one.
+/// Does what `entry_fold` does, and counts it in `ticks` as `fold_owned_counted` does: at most four for each unit of the work of the steps,
+/// also if the entry is spared, and one more for a step at which the chain ends early. `prove_limits` is only for the prover.
 ///
 /// # Errors
 ///

@@ -18,15 +18,16 @@ pub(crate) struct RequiredSubject<'a> {
     pub(crate) key: Key<'a>,
     /// It has these names.
     pub(crate) names: Names<'a>,
-    /// Whether it must be allowed to delegate.
+    /// Whether an authorization to this subject must have `propagate`, so that the subject may delegate it.
     pub(crate) delegation: bool,
 }
 
 /// Returns the subject that an entry must have so that the certificates with the tuples `steps` lead from it to the
 /// key. None if there is no such subject.
 ///
-/// From the last step to the first, what is required after a step determines what is required before it. A tick is a step, or a name
-/// of its subject that is looked at, or an octet of it that is compared.
+/// After the last step it is the key without names, and need not be allowed to delegate. From the last step to the first, what is
+/// required after a step determines what is required before it. A tick is a step, or a name of its subject that is looked at, or an octet
+/// of it that is compared.
 ///
 /// # Errors
 ///
@@ -76,7 +77,8 @@ impl<'a> RequiredSubject<'a> {
             && is_name_of(&subject.principal, &self.key, policy, ticks)
     }
 
-    /// The subject that is required before a step, if `self` is required after it. None if there is none.
+    /// The subject that is required before a step, if `self` is required after it. None if there is no such subject. Err if memory
+    /// ran out.
     fn before<L: Ledger>(
         self,
         alloc: Global,
@@ -95,8 +97,9 @@ impl<'a> RequiredSubject<'a> {
         }
     }
 
-    /// The subject that is required before an authorization: its issuer's key, without names, who may delegate. None if
-    /// the authorization's own subject is not as required, or if its issuer is the owner of the access list.
+    /// The subject that is required before `next`, an authorization step, if `self` is required after it. It is the key of the step's
+    /// issuer, without names, and it must be allowed to delegate (the field `delegation`), since it issued `next`. None if the subject and
+    /// `propagate` of `next` are not as `self` requires, or if its issuer is the owner of the access list.
     fn before_delegation<L: Ledger>(
         self,
         alloc: Global,
@@ -121,9 +124,10 @@ impl<'a> RequiredSubject<'a> {
         }
     }
 
-    /// The subject that is required before a name's definition: the defined name, and after it the required names without those of the definition's
-    /// subject. It must be allowed to delegate if that is required after the definition. None if the definition's subject does not name the required
-    /// key, or if the required names do not begin with its names. Err if memory ran out.
+    /// The subject that is required before a name's definition, if `self` is required after it. Its key is the definition's. Its names are
+    /// the defined name, and after it the names of `self` without those of the definition's subject, with which they must begin. It must
+    /// be allowed to delegate if `self` must. None if the names of `self` begin otherwise, or if the principal of the definition's subject
+    /// does not name the key of `self`. Err if memory ran out.
     fn before_definition<L: Ledger>(
         self,
         alloc: Global,
@@ -152,7 +156,8 @@ impl<'a> RequiredSubject<'a> {
     }
 }
 
-/// The names that remain if those of `front` are removed from the beginning. None if `names` do not begin with them.
+/// The names that remain if those of `front` are removed from the beginning of `names`. None if `names` do not begin with them. Each name
+/// of `front` that is compared is a tick, and so is each of its octets.
 #[tactic(auto, using(crate::proofs::ChainRequirements::begins_more, crate::proofs::ChainRequirements::begins_not, crate::proofs::Costs::names_step))]
 fn names_after<'a, L: Ledger>(
     names: Names<'a>,
@@ -185,7 +190,7 @@ fn has_first(names: &Names, name: &Octets) -> bool
     }
 }
 
-/// Whether both have the same names in the same order. Each name of the first and each of its octets is a tick.
+/// Whether both have the same names in the same order. Each name of `one` that is compared is a tick, and so is each of its octets.
 #[tactic(auto, using(crate::proofs::ChainRequirements::same_more, crate::proofs::Costs::names_step))]
 fn are_same_names<L: Ledger>(one: &Names, other: &Names, ticks: &mut Ticks<L>) -> bool
     ensures answer { IsTrue result ↔ (one.now ≡ other.now) }

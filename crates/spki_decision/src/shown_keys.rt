@@ -17,9 +17,13 @@ type FirstKeys<'a> = BTreeMap<Vec<u8>, Key<'a>>;
 /// contract they are the list of the keys.
 #[derive(Drop)]
 pub(crate) struct ShownKeys<'a> {
+    /// The keys, in order.
     keys: Vec<Key<'a>>,
+    /// The index by SHA-1. None until a hash by this algorithm is looked for.
     by_sha1: Option<FirstKeys<'a>>,
+    /// The same by SHA-256.
     by_sha256: Option<FirstKeys<'a>>,
+    /// The same by SHA-512.
     by_sha512: Option<FirstKeys<'a>>,
 }
 
@@ -47,8 +51,8 @@ impl<'a> ShownKeys<'a> {
         }
     }
 
-    /// The key of an issuer: the issuer itself if it is a key, or the first key of the sequence that it names under the
-    /// policy. None if there is none. The keys stay the same; an index may be added. Err if memory ran out.
+    /// The key of a certificate's issuer: the issuer itself if it is a key, or the first key of the sequence that it names under
+    /// the policy. None if there is none. The keys stay the same; an index may be added, so `self` is `&mut`. Err if memory ran out.
     #[tactic(auto, using(crate::proofs::CertificateTests::found_none))]
     pub(crate) fn holder(
         &mut self,
@@ -71,7 +75,8 @@ impl<'a> ShownKeys<'a> {
         }
     }
 
-    /// The first key whose digest by the algorithm is `digest`. None if there is none. Err if memory ran out.
+    /// The first key whose digest by the algorithm is `digest`. None if there is none. Adds the index for the algorithm if there is none
+    /// yet. Err if memory ran out.
     fn first_with(
         &mut self,
         alloc: Global,
@@ -89,8 +94,8 @@ impl<'a> ShownKeys<'a> {
     }
 }
 
-/// The first of `keys` whose digest by the algorithm is `digest`, or None. It is found in `index`, which is made first if it is None. Err if memory
-/// ran out.
+/// The first of `keys` whose digest by the algorithm is `digest`. None if there is none. It is found in `index`, which is made of `keys`
+/// first if it is None. Err if memory ran out.
 fn first_in<'a>(
     index: &mut Option<FirstKeys<'a>>,
     alloc: Global,

@@ -8,7 +8,7 @@ ghost use Rattle.spki_decision.specs.{Requirements.{AreSizes, ArePlain}, Spared.
 use spki_reduce::Step;
 use spki_tag::Tag;
 
-/// The greatest number of nodes, or product of such numbers, that is counted.
+/// The greatest number of nodes, or product of such numbers, that is counted. It is the greatest limit that `are_small` may be asked about.
 const MOST_NODES: usize = 1_000_000;
 
 /// The numbers of nodes of the certificates' tags.
@@ -20,12 +20,12 @@ pub(crate) struct Sizes {
     pub(crate) plain: Option<PlainNodes>,
 }
 
-/// The numbers of nodes of tags that have no set.
+/// The numbers of nodes of tags that have no set. A name's definition has no tag, and counts as one node.
 #[derive(Clone, Copy)]
 pub(crate) struct PlainNodes {
     /// Of all tags together.
     pub(crate) all: usize,
-    /// The greatest of one tag.
+    /// The greatest of one tag. 1 if there is no tag.
     pub(crate) most: usize,
 }
 
@@ -40,9 +40,10 @@ impl Sizes {
         }
     }
 
-    /// Whether a chain from an entry with this tag intersects no two tags whose product of nodes is over `most`, as far as the numbers of nodes show.
-    /// They do if the product of the nodes of all tags is at most `most`; or if no tag has a set, and the nodes of all tags together, times those of
-    /// the largest tag of a certificate, are. `most` must be at most 1,000,000, and the steps those of `of`.
+    /// Whether the numbers of nodes alone show that a chain from an entry with this tag intersects no two tags whose product of nodes is
+    /// over `most`. They show it if the product of the nodes of all tags is at most `most`; or if no tag has a set, and the nodes of all
+    /// tags together, times those of the largest tag of a certificate, are at most `most`. With `Case::uncounted` as `most`, such an entry
+    /// is spared: it takes no work from the budget. `most` must be at most 1,000,000, and the steps those of `of`.
     pub(crate) fn are_small<'a>(&self, tag: &Tag, steps: &[Step<'a>], most: usize) -> bool
         requires sizes { AreSizes (tuples_of steps.now) self.now }
         requires most { most ≤ 1000000 }
@@ -92,8 +93,8 @@ fn product_of(steps: &[Step]) -> Option<usize>
     Some(product)
 }
 
-/// How many nodes the steps' tags have together, and the largest, at least 1. A name's definition counts as one node.
-/// None if a tag has a set, or they have over 1,000,000.
+/// How many nodes the steps' tags have together, and how many the largest of them has, at least 1. A name's definition counts as one node.
+/// None if a tag has a set, or if all tags have over 1,000,000 nodes together.
 fn plain_of(steps: &[Step]) -> Option<PlainNodes>
     ensures { MatchOption result ((some_nests_set (tags (all_tags (tuples_of steps.now))) ≡ true) ⊎ (1000000 < nodes_together (tuples_of steps.now)))
         (ArePlain (tuples_of steps.now)) }

@@ -19,15 +19,15 @@ use std::sync::ledger::{Blank, Ledger};
 
 /// Joins the authorization `first` with the steps after it, one after another from the left (RFC 2693, sections 6.3 and
 /// 6.4). Each authorization is joined by `Five::then`, and each definition by `Five::resolve`. Without steps the result
-/// is a copy of `first`.
+/// is a copy of `first`. `policy` says by which hashes a principal may name a key.
 ///
 /// If a step does not join the result of the steps before it, the chain stops there, and the answer is its number, from
 /// 1, and the cause. Then no derivation over the same tuples grants anything, in any bracketing.
 ///
 /// # Errors
 ///
-/// `TooLarge` if a step's tag is too large for the result of the steps before it. Then the product of the numbers of their
-/// nodes is over 1,000,000. `Memory` if memory ran out.
+/// `TooLarge` if a step joins the result of the steps before it except for their tags, and the product of the numbers of
+/// nodes of these two tags is over 1,000,000. `Memory` if memory ran out.
 #[tactic(auto, using(crate::proofs::Chains::too_large, crate::proofs::Working::unbounded))]
 pub fn fold_chain<'a>(
     alloc: Global,
@@ -63,14 +63,15 @@ pub fn fold_chain<'a>(
     fold_owned(alloc, own, steps, policy, MOST_NODES, &mut Work::new(None))
 }
 
-/// Like `fold_chain`, but consumes `first`, and with `most`, which must be at most 1,000,000, as the limit instead.
-/// Each step that joins, whatever the tags are, takes from `work` what `Work` says.
+/// Like `fold_chain`, but consumes `first`, so that it is not copied. `most`, which must be at most 1,000,000, is the
+/// greatest product of the nodes of two tags. `work` bounds the cost of all steps together: each step that joins, at least
+/// except for its tag, subtracts from it what `Work` says.
 ///
 /// # Errors
 ///
-/// `TooLarge` if a step's tag is too large for the result of the steps before it, or if the steps take more than `work`
-/// has. In the first case the product of the numbers of their nodes is over `most`. `Memory` if memory ran out. What
-/// was taken from `work` before an error stays taken.
+/// `TooLarge` if a step joins except for its tag, and the product of the nodes of this tag and of the intersection before
+/// it is over `most`; or if a step costs more than `work` still has. `Memory` if memory ran out. What was taken from `work`
+/// before an error stays taken.
 pub fn fold_owned<'a>(
     alloc: Global,
     first: Five<'a>,
@@ -107,6 +108,7 @@ pub fn fold_owned<'a>(
 }
 
 /// Calls `fold_owned_counted` with a new count, which `blank` opens. The count exists only in contracts, and is dropped afterwards.
+/// `Ticks` says why this is a function of its own.
 fn fold_with_new_count<'a, L: Ledger>(
     alloc: Global,
     first: Five<'a>,
@@ -154,8 +156,9 @@ fn fold_with_new_count<'a, L: Ledger>(
     )
 }
 
-/// Does what `fold_owned` does. A step that is looked at is a tick. One that joins, whatever the tags are, takes at most three more for
-/// each unit of what it costs. So there are at most four for each unit of the work that is taken, and one.
+/// Does what `fold_owned` does, and counts it in `ticks`. Each step that is looked at is a tick. One that joins, at least except for its
+/// tag, costs one unit of `work` or more, and adds at most three ticks for each unit. So there are at most four ticks for each unit that
+/// is taken from `work`, and one more for a step at which the chain ends early.
 ///
 /// # Errors
 ///
@@ -230,8 +233,8 @@ impl<'a> Five<'a> {
         })
     }
 
-    /// The cost of joining this authorization with a step. None if it is 2^64 or more. 0 if they do not join, whatever their
-    /// tags are.
+    /// What joining this authorization with a step takes from a `Work`. None if it is 2^64 or more. 0 if they do not join for
+    /// another reason than their tags: then no tags are intersected, and nothing is copied.
     fn cost_with(&self, step: &Step<'a>, policy: Policy) -> Option<usize>
         ensures { (n : ℕ) × IsNumber result n × IsCostOf policy (five_tuple self.now) self.now.tag (step_tuple step.now) n }
     {
@@ -253,10 +256,10 @@ impl<'a> Five<'a> {
         }
     }
 
-    /// Joins this authorization with a step: an authorization by `into_then`, a definition by `into_resolve`. `most`,
-    /// which is at most 1,000,000, is the greatest product of the numbers of nodes of two tags that are intersected.
-    /// Err is `TooLarge`, only for an authorization, or `Memory`. There are at most three ticks for each unit of what the step costs, and
-    /// none if they do not join, whatever their tags are.
+    /// Joins this authorization with a step: an authorization by `into_then`, a definition by `into_resolve_counted`. `most`,
+    /// which must be at most 1,000,000, is the greatest product of the numbers of nodes of two tags that are intersected.
+    /// Err is `TooLarge`, only for an authorization, or `Memory`. There are at most three ticks for each unit of `cost_with`, so
+    /// none if they do not join for another reason than their tags.
     #[tactic(auto, using(crate::proofs::ReducedForms::unrefused))]
     fn joined<L: Ledger>(
         self,

@@ -16,7 +16,7 @@ use std::alloc::{AllocError, Global};
 use std::marker::Brand;
 use std::sync::ledger::{Blank, Ledger};
 
-/// The greatest product of the numbers of nodes of two tags that are intersected.
+/// The greatest product of the numbers of nodes of two tags that `Five::then` and `fold_chain` intersect.
 pub(crate) const MOST_NODES: usize = 1_000_000;
 
 impl<'a> Five<'a> {
@@ -59,8 +59,9 @@ impl<'a> Five<'a> {
     }
 
     /// Like `then`, but consumes `self`, so its tag is not copied if that of `next` is `(*)`. And with `most`, which must be
-    /// at most 1,000,000, as the greatest product of the nodes of both tags. A tick is one of the intersection, or a name that is copied.
-    /// There are at most three for each unit of what the step costs, and none if they do not join, whatever their tags are.
+    /// at most 1,000,000, as the greatest product of the nodes of both tags. A tick is one of `Tag::into_meet_counted`, or a name of
+    /// the next subject. There are at most three for each unit of `cost_with`, so none if they do not join for another reason than their
+    /// tags.
     pub(crate) fn into_then<L: Ledger>(
         self,
         alloc: Global,
@@ -107,6 +108,9 @@ impl<'a> Five<'a> {
     /// They do not join if this one's subject does not begin with the name that is defined, or if no moment is within both
     /// windows. The first of these is the cause.
     ///
+    /// `_alloc` is not used, since names and tags are copied with the allocator of the vectors that they are in. It is there so
+    /// that `resolve` has the parameters of `then`.
+    ///
     /// # Errors
     ///
     /// Only `Memory`, if memory ran out.
@@ -145,6 +149,7 @@ impl<'a> Five<'a> {
     }
 
     /// Calls `into_resolve_counted` with a new count, which `blank` opens. The count exists only in contracts, and is dropped afterwards.
+    /// `Ticks` says why this is a function of its own.
     fn resolve_with_new_count<L: Ledger>(
         self,
         definition: &Four<'a>,
@@ -163,7 +168,8 @@ impl<'a> Five<'a> {
         self.into_resolve_counted(definition, policy, &mut Ticks::<L>::new(blank))
     }
 
-    /// Does what `into_resolve` does. If they join, the definition is a tick, and each name of both subjects. Otherwise there is none.
+    /// Does what `into_resolve` does, and counts it in `ticks`. If they join, there is one tick for the definition, and one for each name
+    /// of both subjects. Otherwise there is none.
     #[tactic(auto, using(crate::proofs::ReducedForms::resolves))]
     pub(crate) fn into_resolve_counted<L: Ledger>(
         self,
@@ -215,7 +221,7 @@ impl<'a> Five<'a> {
         }
     }
 
-    /// The intersection of the windows of this authorization and the next, if they join whatever their tags are. Err is
+    /// The intersection of the windows of this authorization and the next, if they join, their tags left out of account. Err is
     /// the first cause why they do not: `NotIssuer`, `NoDelegation` or `NoValidity`.
     pub(crate) fn window_with(&self, next: &Five, policy: Policy) -> Result<Window, Cause>
         ensures joins { IfOk result (λ window. Issues policy (five_tuple self.now) (five_tuple next.now)
@@ -252,7 +258,7 @@ impl<'a> Five<'a> {
         }
     }
 
-    /// Whether the subject is the key, or a hash that names it under the policy, without names.
+    /// Whether this authorization is for the key: its subject has no names, and is the key, or a hash that names it under the policy.
     pub(crate) fn is_for(&self, key: &Key, policy: Policy) -> bool
         ensures { IsTrue result ↔ IsFor policy (five_tuple self.now) key.now }
     {
@@ -260,8 +266,8 @@ impl<'a> Five<'a> {
     }
 }
 
-/// The authorization with this issuer, tag and window, and with the subject and delegation of `next`. `Stopped(NoTag)`
-/// if the tag is `(* set)`. Err if memory ran out.
+/// The authorization with this issuer, tag and window, and with the subject and delegation of `next`. `tag` is the
+/// intersection of both tags. `Stopped(NoTag)` if it is `(* set)`. Err if memory ran out.
 fn narrowed<'a>(
     issuer: Issuer<'a>,
     tag: Tag,
@@ -298,6 +304,8 @@ impl<'a> Four<'a> {
     ///
     /// They do not join if this one's subject does not begin with the name that the next one defines. Nor do they if no
     /// moment is within both windows. The first of these is the cause.
+    ///
+    /// `_alloc` is not used, as in `Five::resolve`.
     ///
     /// # Errors
     ///
@@ -346,7 +354,8 @@ fn begins(subject: &Subject, definition: &Four, policy: Policy) -> bool
     }
 }
 
-/// The subject of a definition, with `names`, except the first of them, after its own names. Err if memory ran out.
+/// The subject that a subject with `names` becomes, if its first name is resolved by a definition. `subject` is that of the
+/// definition: its principal and names come first, and after them `names` without the first. Err if memory ran out.
 fn followed<'a>(subject: &Subject<'a>, names: Names<'a>) -> Result<Subject<'a>, AllocError>
     ensures { IfOk result (λ made. (made.principal ≡ subject.now.principal)
         × (made.names ≡ subject.now.names ++ drop 1 names.entry)) }

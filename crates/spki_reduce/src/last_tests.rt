@@ -20,8 +20,9 @@ pub enum MissingGrant {
 }
 
 impl<'a> Five<'a> {
-    /// What the authorization lacks to grant the key the request at the moment. It is the first, in the order of `MissingGrant`, of the tests that it
-    /// does not pass. None if it passes all three. Its issuer is not tested. Allocates nothing. `prove_well_formed` is only for the prover.
+    /// What the authorization lacks to grant the key the request at the moment: the first, in the order of `MissingGrant`, of the tests
+    /// that it does not pass. None if it passes all three. Its issuer is not tested. Whether it may be delegated does not matter.
+    /// Allocates nothing. `prove_well_formed` is only for the prover.
     pub fn missing_grant(
         &self,
         key: &Key,

@@ -1,5 +1,6 @@
 //! Laws of derivations. A derivation joins tuples, its leaves, two at a time to one tuple, its root. Its bracketing says in which order: `(a b) c` or
 //! `a (b c)`. Tuples support a request if the root of some derivation from them grants it.
+//! Each function is a law: it does nothing, and its contract is the fact.
 
 ghost use Rattle.std.specs.Prelude.{◌≡◌, ◌≢◌, ℕ, List, [], ◌∷◌, ◌++◌, flat_map};
 ghost use Rattle.sexpr_core.specs.Value.{Value};
@@ -41,8 +42,8 @@ pub fn one_stop()
         (f : Five) → FoldsTo policy first (tuples_of steps) f → HasMet first (tuples_of steps) f → ⊥ }
 {}
 
-/// A chain of at least two tuples becomes at most one authorization: its tag and its window are determined too. The limits
-/// of windows are dates, as those of every value are.
+/// A chain of at least two tuples becomes at most one authorization: its tag and its window are determined too. The premises
+/// `IsLimit` always hold in a program: the limits of every `Window` are dates (`Window::prove_limits`).
 pub fn one_fold()
     ensures { (policy : Policy) (first : Tuple) (others : List Tuple) (f g : Five) → others ≢ [] →
         IsLimit f.window.not_before → IsLimit g.window.not_before →

@@ -9,10 +9,12 @@ use crate::tuple::{Five, Four};
 use spki_cert::Subject;
 use spki_tag::Tag;
 
-/// How much work may still be done. A step that joins two authorizations takes, for each node of the tag before it, 32 and the
-/// `Tag::node_cost` of its own tag; and one for each name of its subject. A step that applies a definition takes one, and one for each name of both subjects.
+/// How much work may still be done. A step that joins two authorizations takes, for each node of the intersection of the tags before it,
+/// 32 and the `Tag::node_cost` of its own tag; and one for each name of its subject. A step that applies a definition takes one, and one
+/// for each name of both subjects.
 #[derive(Clone, Copy, Debug, PartialEq, Eq)]
 pub struct Work {
+    /// The units that may still be taken. None if there is no bound.
     left: Option<usize>,
 }
 
@@ -24,11 +26,12 @@ impl Work {
         Work { left: bound }
     }
 
-    /// Subtracts `work` from what may still be done. If it is None, it is 2^64 or more. Does nothing if there is no bound.
+    /// Subtracts `work`, the cost of a step, from what may still be done. A `work` of None stands for 2^64 or more. Does nothing
+    /// if there is no bound.
     ///
     /// # Errors
     ///
-    /// `TooLarge` if it is more than may still be done. Then nothing is subtracted.
+    /// `TooLarge` if `work` is more than may still be done. Then nothing is subtracted.
     pub(crate) fn take(&mut self, work: Option<usize>) -> Result<(), ReduceFault>
         ensures taken { OnOk result ((n : ℕ) → IsNumber work n → Takes (left_of self.old) (left_of self.new) n) }
         ensures over { OnErr result ((n : ℕ) → IsNumber work n → IsOver (left_of self.old) n) }
@@ -46,7 +49,8 @@ impl Work {
     }
 }
 
-/// What is left if `work` is subtracted, which is 2^64 or more if it is None. None if it is more than there is.
+/// What remains of `left` if `work` is subtracted. A `work` of None stands for 2^64 or more. The result is None if `work` is more
+/// than `left`.
 fn rest_of(left: usize, work: Option<usize>) -> Option<usize>
     ensures { (n : ℕ) → IsNumber work n → MatchOption result (left < n) (λ rest. rest + n ≡ left) }
 {
@@ -56,7 +60,8 @@ fn rest_of(left: usize, work: Option<usize>) -> Option<usize>
     left.checked_sub(work)
 }
 
-/// What it costs to join an authorization that has this tag with the next one. None if it is 2^64 or more.
+/// What it costs to join an authorization that has this tag with the next one: for each node of `tag` 32, since what is left of it is
+/// looked for and kept apart, and the `node_cost` of the next tag; and one for each name of the next subject. None if it is 2^64 or more.
 pub(crate) fn intersection_cost(tag: &Tag, next: &Five) -> Option<usize>
     ensures { (path : List (List ℕ)) → IsNumber result (step_cost tag.now path (five (five_tuple next.now))) }
 {
@@ -72,8 +77,8 @@ pub(crate) fn intersection_cost(tag: &Tag, next: &Five) -> Option<usize>
     product.checked_add(next.subject.names.len())
 }
 
-/// What it costs to resolve the first name of this subject, of an authorization, by a definition. None if it is 2^64 or
-/// more.
+/// What it costs to resolve the first name of an authorization's subject by a definition: one, and one for each name of both subjects.
+/// None if it is 2^64 or more.
 pub(crate) fn resolution_cost(subject: &Subject, definition: &Four) -> Option<usize>
     ensures { (tag : Written) → IsNumber result (step_cost tag subject.now.names (four (four_tuple definition.now))) }
 {
