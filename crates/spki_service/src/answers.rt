@@ -1,4 +1,4 @@
-//! The answers to a question.
+//! The answers to a question that a guard has read: grants, decisions, explanations and reductions, by a verifier or by marks.
 
 ghost use Rattle.std.specs.Prelude.{◌≡◌, List, map, IfOk, IsErrOf, option_copied};
 ghost use Rattle.spki_reduce.specs.Chain.{tuples_of};
@@ -30,7 +30,7 @@ impl<'a> PreparedQuestion<'a> {
         &self.examined.signed
     }
 
-    /// What the question is granted, as `decide` decides it: the entry, and until when it holds. None if the decision is no.
+    /// What the question is granted: the entry that `decide` names, and until when the yes holds. None if the decision is no.
     ///
     /// Until the least not-after of that entry's window and of those of all certificates, definitions of names too, the same question is
     /// a yes, if the verifier accepts the same signatures.
@@ -69,7 +69,8 @@ impl<'a> PreparedQuestion<'a> {
         Ok(Grant::decision(self.grant(alloc, verifier)?))
     }
 
-    /// What the question is granted, as by `grant`, if exactly the marked signatures are valid.
+    /// What the question is granted, as by `grant`, if exactly the marked signatures are valid. None if the decision is no: so also if a
+    /// listed signature has no mark at its place.
     ///
     /// # Errors
     ///
@@ -95,8 +96,8 @@ impl<'a> PreparedQuestion<'a> {
         }
     }
 
-    /// Whether the question is granted if all listed signatures are valid. If it is not, no marks make it a yes, and no signature has to be verified.
-    /// True is not yet a yes.
+    /// Whether the question is granted if all listed signatures are valid. If it is not, no marks make it a yes, and no signature has to be
+    /// verified. So it is asked before the signatures are verified. True is not yet a yes.
     ///
     /// # Errors
     ///
@@ -110,8 +111,8 @@ impl<'a> PreparedQuestion<'a> {
         }
     }
 
-    /// What is granted if the verifier accepts every signature. None if a certificate fails another test. Err if memory
-    /// ran out.
+    /// What is granted if all listed signatures are valid; the marks are not looked at. None if a certificate fails one of the other tests
+    /// of `Stop`, or if no entry grants the request. Err if memory ran out.
     pub(crate) fn granted(&self, alloc: Global) -> Result<Option<Grant>, AllocError>
         ensures { IfOk result (Grants every self.now) }
     {
@@ -192,8 +193,8 @@ impl<'a> PreparedQuestion<'a> {
     }
 
     /// Reduces the question as `reduce_by` does, and puts what each entry becomes into `sink` as soon as it is found. So no more
-    /// than one entry, and what it becomes, takes memory at a time. The result is the first certificate that fails a
-    /// test. None if all certificates pass their tests; otherwise nothing is put.
+    /// than one entry, and what it becomes, takes memory at a time. Returns the first certificate that fails a test, and then puts nothing.
+    /// None if all certificates pass. A listed signature without a mark fails the last test.
     ///
     /// # Errors
     ///
@@ -217,7 +218,8 @@ impl<'a> PreparedQuestion<'a> {
         }
     }
 
-    /// Does what `reduce_into` does if the verifier accepts every signature. Err is `TooLarge` or `Memory`.
+    /// Puts what each entry becomes into `sink`, if all listed signatures are valid. Returns the first certificate that fails another test,
+    /// and then puts nothing. None if all certificates pass. Err is `TooLarge` or `Memory`, as for `reduce_into`.
     fn put_folds<S: FoldSink<'a>>(
         &self,
         alloc: Global,
@@ -241,8 +243,9 @@ impl<'a> PreparedQuestion<'a> {
     }
 }
 
-/// The key that issued the first step, or the client's key `asker` if there is no step. None if the first step is an
-/// authorization by the owner of the access list.
+/// The key that the principal of an entry must name, so that the entry can grant the request: the issuer's key of the first certificate,
+/// whose tuple is `steps[0]`, or the client's key `asker` if there is no certificate. None if that tuple is from the owner of the access
+/// list (`Issuer::Own`), as that of a certificate never is.
 pub(crate) fn first_key<'s, 'a>(asker: &'s Key<'a>, steps: &'s [Step<'a>]) -> Option<&'s Key<'a>>
     ensures { option_copied result ≡ first_key asker.entry.now (tuples_of steps.entry.now) }
 {

@@ -17,11 +17,11 @@ use spki_cert::SeqItem;
 use std::alloc::Global;
 
 /// Checks that a case has at most as many certificates, and its request at most as many strings, as the limits allow.
-/// `texts` must be those that it was read from.
+/// `texts` must be those that the case was read from: the strings are counted in the request's text.
 ///
 /// # Errors
 ///
-/// `TooManyCertificates`, otherwise `TooManyWords`. `Memory` if memory ran out.
+/// `TooManyCertificates`, otherwise `TooManyWords`, which is about the strings of the request. `Memory` if memory ran out.
 pub(crate) fn check_counts(
     alloc: Global,
     case: &Case,
@@ -57,7 +57,7 @@ fn has_more_certificates(items: &[SeqItem], most: usize) -> bool
     false
 }
 
-/// 1 for a certificate, and 0 for another item.
+/// 1 for a certificate, an authorization or a definition of a name, and 0 for another item.
 fn certificate_count(item: &SeqItem) -> usize
     ensures { result ≡ certificate_count item.now }
 {
@@ -70,7 +70,8 @@ fn certificate_count(item: &SeqItem) -> usize
     }
 }
 
-/// Whether the value of a request's text has more than `most` strings. Err is `Form` if there is no text, or `Memory`.
+/// Whether the value of a request's text has more than `most` strings. Err is `Form` if the text has no value within the limits of its
+/// form, which cannot be for a question that was read, or `Memory`.
 fn has_more_strings(alloc: Global, text: &CanonicalText, most: usize) -> Result<bool, AskFault>
     ensures tells { IfOk result (λ has_more. OfText text.now (TellsStrings most has_more)) }
     ensures refused { IfErr result (λ fault. fault ≢ AskFault.Memory → NamesForm Part.Request text.now fault) }
@@ -79,7 +80,7 @@ fn has_more_strings(alloc: Global, text: &CanonicalText, most: usize) -> Result<
     Ok(node_has_more_strings(&text.top(), most))
 }
 
-/// Whether a value has more than `most` strings. A display hint does not count.
+/// Whether a value has more than `most` strings, in lists of lists too. A display hint does not count.
 fn node_has_more_strings(node: &Node, most: usize) -> bool
     ensures { TellsStrings most result node.now }
 {
@@ -89,7 +90,8 @@ fn node_has_more_strings(node: &Node, most: usize) -> bool
     }
 }
 
-/// Subtracts the number of strings in a value from `room`. None if the value has more strings than `room`.
+/// Subtracts the number of strings in a value from `room`, which is how many may still come. None if the value has more. `node` is a
+/// string, or a list, whose members are counted.
 #[cycle(subtract_strings)]
 fn subtract_strings(room: usize, node: &Node) -> Option<usize>
     ensures { MatchOption result (room < strings_in node.now) (λ left. left + strings_in node.now ≡ room) }
@@ -100,7 +102,7 @@ fn subtract_strings(room: usize, node: &Node) -> Option<usize>
     }
 }
 
-/// Subtracts the number of strings in all members of a list from `room`. None if they have more strings than `room`.
+/// Subtracts the number of strings in all members of a list from `room`, which is how many may still come. None if they have more.
 #[cycle(subtract_strings)]
 fn subtract_member_strings(room: usize, members: Members) -> Option<usize>
     ensures { MatchOption result (room < strings_all (values members.entry)) (λ left. left + strings_all (values members.entry) ≡ room) }

@@ -1,4 +1,4 @@
-//! Moments as seconds.
+//! The date of a number of seconds since 1970-01-01 00:00:00 UTC, and the last second of a date.
 
 ghost use Rattle.std.specs.Prelude.{◌≡◌, ◌<◌, ◌+◌, ◌/◌, ◌%◌, ◌≤ℤ◌, ◌+ℤ◌, ◌*ℤ◌, pos, unsigned_abs, length, MatchOption};
 ghost use Rattle.jiff_core.specs.Calendar.{IsEpochDay};
@@ -7,9 +7,10 @@ ghost use Rattle.spki_service.specs.Questions.{date_octets, IsDateAt, IsAtNoDate
 use jiff_core::civil::{Date as CivilDate, DateTime};
 use spki_cert::{Date, Window};
 
-/// The last second, since 1970-01-01 00:00:00 UTC, that is not after a date. It is that of the date, and negative before 1970. If the month does not
-/// have the date's day (`constrain` lowers it), it is the last second of the month. If the date's second is 60, it is the second before.
-/// `prove_limits` is a fact for the prover: the octets are a date.
+/// The last second, since 1970-01-01 00:00:00 UTC, that is not after a date: until when a grant holds, for a caller whose clock has
+/// seconds. It is the date's own second, and negative before 1970. If the month does not have the date's day (`constrain` lowers it), it is
+/// the last second of the month. Otherwise a second 60 counts as 59. The window is only for `prove_limits`, a fact for the prover: the
+/// octets are a date.
 pub fn last_second(date: &Date) -> i64
     ensures { result ≡ last_second date.now }
 {
@@ -30,7 +31,8 @@ pub fn last_second(date: &Date) -> i64
     seconds_of(civil.to_unix_epoch_day(), clock)
 }
 
-/// The seconds since 1970-01-01 00:00:00 UTC until `clock` seconds of a day. `day` is the number of the day, 0 for 1970-01-01.
+/// The seconds from 1970-01-01 00:00:00 UTC to `clock` seconds after the start of a day. `day` is the number of the day: 0 for 1970-01-01,
+/// negative before.
 fn seconds_of(day: i32, clock: u32) -> i64
     requires day { IsEpochDay day }
     requires clock { clock < 86400 }
@@ -39,7 +41,7 @@ fn seconds_of(day: i32, clock: u32) -> i64
     day as i64 * 86_400 + clock as i64
 }
 
-/// The seconds of a day before the time of day `HH:MM:SS` at this offset. A second 60 counts as 59.
+/// The seconds since midnight of a time of day. Its octets `HH:MM:SS` begin at the offset `place`. A second 60 counts as 59.
 fn clock_at(octets: &[u8], place: usize) -> u32
     requires within { place + 7 < length octets.now }
     requires hour { IsNumberUpto octets.now place 23 }
@@ -54,7 +56,7 @@ fn clock_at(octets: &[u8], place: usize) -> u32
     hour as u32 * 3_600 + minute as u32 * 60 + whole as u32
 }
 
-/// The number of the two digits at this offset.
+/// The number of the two ASCII digits at the offsets `place` and `place + 1`.
 fn number_at(octets: &[u8], place: usize) -> u8
     requires within { place + 1 < length octets.now }
     requires digits { IsNumberUpto octets.now place 99 }
@@ -76,14 +78,14 @@ pub(crate) fn date_at(seconds: i64) -> Option<Date>
     }
 }
 
-/// The same number of seconds, in nanoseconds.
+/// The same number of seconds, in nanoseconds, as `DateTime::from_nanosecond` takes them.
 fn nanoseconds_of(seconds: i64) -> i128
     ensures { result ≡ seconds *ℤ pos 1_000_000_000 }
 {
     seconds as i128 * 1_000_000_000
 }
 
-/// The 19 octets of a date, such as `2024-01-01_00:00:00`. The year must not be negative. `of_century` is the year without its century.
+/// The 19 octets of a date, such as `2024-01-01_00:00:00`. The year must not be negative. `of_century` are the last two digits of the year.
 fn octets_of(civil: DateTime) -> [u8; 19]
     requires { pos 0 ≤ℤ civil.date.year }
     ensures { result ≡ date_octets (unsigned_abs civil.date.year) civil.date.month civil.date.day civil.time.hour civil.time.minute civil.time.second }

@@ -1,4 +1,4 @@
-//! Decisions whose work is counted, in contracts only: see `Ticks`.
+//! Decisions whose work is counted, in contracts only: see `spki_tag::Ticks`. Nothing is counted when the program runs.
 
 ghost use Rattle.std.specs.Prelude.{◌≡◌, ◌≤◌, ◌<◌, ◌+◌, ◌*◌, ℕ, List, length, IfOk, MatchOption};
 ghost use Rattle.spki_cert.specs.declared.entry.Entry.{Entry};
@@ -20,8 +20,8 @@ use std::sync::ledger::{Blank, Ledger};
 
 impl<'a> PreparedQuestion<'a> {
     /// Decides the question by the marks, as `decide_by`. A tick is a signature, a certificate, an entry, a tag or a name that is looked
-    /// at, or an octet that is read or compared. There are at most four times as many as the octets of the sequence's canonical text, and
-    /// twice as many as those of the entries that the index finds. `docs/PERFORMANCE.md` says what is not counted.
+    /// at, or an octet that is read or compared. There are at most four for each octet of the sequence's canonical text (`shown`), and
+    /// two for each octet of the entries that the index finds (`found`). `docs/PERFORMANCE.md` says what is not counted.
     ///
     /// # Errors
     ///
@@ -37,7 +37,8 @@ impl<'a> PreparedQuestion<'a> {
         Ok(Grant::decision(self.grant_by_counted(alloc, ticks)?))
     }
 
-    /// Does what `grant_by` does, in as many ticks as `decide_by_counted`.
+    /// What is granted by the marks, as by `grant_by`, in at most as many ticks as `decide_by_counted`. None if a listed signature has no
+    /// mark, a certificate fails another test, or no entry grants the request.
     fn grant_by_counted<L: Ledger>(
         &self,
         alloc: Global,
@@ -52,7 +53,8 @@ impl<'a> PreparedQuestion<'a> {
         }
     }
 
-    /// Calls `grant_by_counted` with a new count, which `blank` opens. The count exists only in contracts, and is dropped afterwards.
+    /// Does the work of `grant_by`, whose caller has no count: calls `grant_by_counted` with a new one, which `blank` opens. It exists only
+    /// in contracts, and is dropped afterwards.
     pub(crate) fn grant_by_with_new_count<L: Ledger>(
         &self,
         alloc: Global,
@@ -66,7 +68,8 @@ impl<'a> PreparedQuestion<'a> {
         self.grant_by_counted(alloc, &mut Ticks::<L>::new(blank))
     }
 
-    /// Does what `granted` does. The bound on its ticks includes one for each listed signature, which the caller has counted before.
+    /// What is granted if all listed signatures are valid, as by `granted`. None if a certificate fails another test, or no entry grants
+    /// the request. The bound on its ticks includes one for each listed signature, which the caller has counted before.
     fn granted_counted<L: Ledger>(
         &self,
         alloc: Global,
@@ -82,7 +85,8 @@ impl<'a> PreparedQuestion<'a> {
         }
     }
 
-    /// Calls `granted_counted` with a new count, which `blank` opens. The count exists only in contracts, and is dropped afterwards.
+    /// Does the work of `granted`, whose caller has no count: calls `granted_counted` with a new one, which `blank` opens. It exists only
+    /// in contracts, and is dropped afterwards.
     pub(crate) fn granted_with_new_count<L: Ledger>(
         &self,
         alloc: Global,
@@ -96,8 +100,9 @@ impl<'a> PreparedQuestion<'a> {
         self.granted_counted(alloc, &mut Ticks::<L>::new(blank))
     }
 
-    /// What is granted if the verifier accepts every signature, for certificates with the tuples `steps`. Only the entries that the index finds for
-    /// the first step's key are read. Err if memory ran out. The bound on its ticks is as for `granted_counted`.
+    /// What is granted if the certificates have passed their tests, and `steps` are their tuples. Only the entries that the index finds for
+    /// `first_key` are read. None if none of them grants the request. Err if memory ran out. The bound on its ticks is as for
+    /// `granted_counted`.
     fn granted_after<'s, L: Ledger>(
         &'s self,
         alloc: Global,
@@ -116,7 +121,7 @@ impl<'a> PreparedQuestion<'a> {
         first_granted(alloc, &guard.texts, &numbers, &self.case, steps, ticks)
     }
 
-    /// The first listed signature without a mark at its place. None if each has one. Each that is looked at is a tick.
+    /// The first listed signature without a mark at its place. None if each has one. Each signature that is looked at is a tick.
     pub(crate) fn unmarked_counted<L: Ledger>(&self, ticks: &mut Ticks<L>) -> Option<&Signed<'a>>
         ensures answer { MatchOption result (AllMarked (asked self.now.case) self.now.marks)
             (λ one. IsUnmarked (asked self.now.case) self.now.marks (signed_of one.now)) }

@@ -13,8 +13,8 @@ use spki_tag::Ticks;
 use std::alloc::{AllocError, Global};
 use std::sync::ledger::Ledger;
 
-/// Returns the canonical texts of the entries of an access list, in order, without a version before them. `list` must
-/// be an access list, and `count` the number of its entries. Err if memory ran out.
+/// Returns the canonical texts of the entries of an access list, in order. The list's version, if it has one before them, is left out.
+/// `list` must be an access list, so it has the head `acl`, and `count` must be the number of its entries. Err if memory ran out.
 pub(crate) fn entry_texts(alloc: Global, list: &Node, count: usize) -> Result<TextList, AllocError>
     ensures { (version entries : List Value) → IsVersion version
         → list.now ≡ group (plain (codes "acl") ∷ (version ++ entries)) → length entries ≡ count
@@ -51,7 +51,7 @@ fn member_texts(alloc: Global, members: Members<'_, '_>) -> Result<TextList, All
     Ok(texts)
 }
 
-/// Reads an entry from its canonical text. The text must be that of an entry.
+/// Reads an entry from its canonical text. The text must be that of an entry, as each text of a guard is.
 ///
 /// # Errors
 ///

@@ -1,4 +1,4 @@
-//! Explanations and reductions whose work is counted, in contracts only: see `Ticks`.
+//! Explanations and reductions whose work is counted, in contracts only: see `spki_tag::Ticks`. Nothing is counted when the program runs.
 //! A value with many parts is freed by a call of `drop`, so that the proof does not go through its parts at each exit.
 
 ghost use Rattle.std.specs.Prelude.{◌≡◌, ◌≤◌, ◌<◌, ◌⊎◌, ◌+◌, ◌*◌, List, length, IfOk, OnOk, IsErrOf};
@@ -25,10 +25,10 @@ use std::alloc::Global;
 use std::sync::ledger::{Blank, Ledger};
 
 impl<'a> PreparedQuestion<'a> {
-    /// Explains the question by the marks, as `explain_by`. A tick is a signature, an entry or a step of a chain that is looked at, an octet of an
-    /// entry that is read, or what an intersection compares or copies. There are at most four for each unit of the guard's limit of work, one
-    /// for each octet of the access list's entries, two for each entry, and one for each listed signature, also if the answer is an error.
-    /// `docs/PERFORMANCE.md` says what is not counted.
+    /// Explains the question by the marks, as `explain_by`. A tick is a signature, an entry or a step of a chain that is looked at, an
+    /// octet of an entry that is read, or what an intersection compares or copies. There are at most four for each unit of the guard's
+    /// limit of work, one for each octet of the access list's entries, two for each entry, and one for each listed signature, also if the
+    /// answer is an error. `uncounted` is 0 in each question that a guard has read. `docs/PERFORMANCE.md` says what is not counted.
     ///
     /// # Errors
     ///
@@ -50,7 +50,8 @@ impl<'a> PreparedQuestion<'a> {
         }
     }
 
-    /// Calls `explain_by_counted` with a new count, which `blank` opens. The count exists only in contracts, and is dropped afterwards.
+    /// Does the work of `explain_by`, whose caller has no count: calls `explain_by_counted` with a new one, which `blank` opens. It exists
+    /// only in contracts, and is dropped afterwards.
     pub(crate) fn explain_by_with_new_count<L: Ledger>(
         &self,
         alloc: Global,
@@ -64,7 +65,7 @@ impl<'a> PreparedQuestion<'a> {
         self.explain_by_counted(alloc, &mut Ticks::<L>::new(blank))
     }
 
-    /// Reduces the question by the marks, as `reduce_by`, in as many ticks as `explain_by_counted`.
+    /// Reduces the question by the marks, as `reduce_by`, in at most as many ticks as `explain_by_counted`.
     ///
     /// # Errors
     ///
@@ -87,7 +88,8 @@ impl<'a> PreparedQuestion<'a> {
         }
     }
 
-    /// Calls `reduce_by_counted` with a new count, which `blank` opens. The count exists only in contracts, and is dropped afterwards.
+    /// Does the work of `reduce_by`, whose caller has no count: calls `reduce_by_counted` with a new one, which `blank` opens. It exists
+    /// only in contracts, and is dropped afterwards.
     pub(crate) fn reduce_by_with_new_count<L: Ledger>(
         &self,
         alloc: Global,
@@ -102,8 +104,9 @@ impl<'a> PreparedQuestion<'a> {
         self.reduce_by_counted(alloc, &mut Ticks::<L>::new(blank))
     }
 
-    /// Reduces the question by the marks, and puts what each entry becomes into `sink`, as `reduce_into`, in as many ticks as
-    /// `explain_by_counted`. What the sink does is not counted.
+    /// Reduces the question by the marks, and puts what each entry becomes into `sink`, as `reduce_into`, in at most as many ticks as
+    /// `explain_by_counted`. What the sink does is not counted. Returns the first certificate that fails a test, and then puts nothing.
+    /// None if all certificates pass.
     ///
     /// # Errors
     ///
@@ -129,8 +132,8 @@ impl<'a> PreparedQuestion<'a> {
         }
     }
 
-    /// The explanation if the verifier accepts every signature. Err is `TooLarge` or `Memory`, as for `explain`. `prove_well_formed` is only for the
-    /// prover.
+    /// The explanation if all listed signatures are valid; the marks are not looked at. Err is `TooLarge` or `Memory`, as for `explain`.
+    /// `prove_well_formed` is only for the prover.
     fn explained_counted<L: Ledger>(
         &self,
         alloc: Global,
@@ -151,7 +154,8 @@ impl<'a> PreparedQuestion<'a> {
         }
     }
 
-    /// Calls `explained_counted` with a new count, which `blank` opens. The count exists only in contracts, and is dropped afterwards.
+    /// The explanation if all listed signatures are valid, for `explain`, whose caller has no count: calls `explained_counted` with a new
+    /// one, which `blank` opens. It exists only in contracts, and is dropped afterwards.
     pub(crate) fn explained_with_new_count<L: Ledger>(
         &self,
         alloc: Global,
@@ -165,7 +169,7 @@ impl<'a> PreparedQuestion<'a> {
         self.explained_counted(alloc, &mut Ticks::<L>::new(blank))
     }
 
-    /// The reduction if the verifier accepts every signature. Err is `TooLarge` or `Memory`, as for `reduce`.
+    /// The reduction if all listed signatures are valid; the marks are not looked at. Err is `TooLarge` or `Memory`, as for `reduce`.
     fn reduced_counted<L: Ledger>(
         &self,
         alloc: Global,
@@ -183,7 +187,8 @@ impl<'a> PreparedQuestion<'a> {
         }
     }
 
-    /// Calls `reduced_counted` with a new count, which `blank` opens. The count exists only in contracts, and is dropped afterwards.
+    /// The reduction if all listed signatures are valid, for `reduce`, whose caller has no count: calls `reduced_counted` with a new one,
+    /// which `blank` opens. It exists only in contracts, and is dropped afterwards.
     pub(crate) fn reduced_with_new_count<L: Ledger>(
         &self,
         alloc: Global,
@@ -198,7 +203,8 @@ impl<'a> PreparedQuestion<'a> {
         self.reduced_counted(alloc, &mut Ticks::<L>::new(blank))
     }
 
-    /// Does what `put_folds` does.
+    /// Puts what each entry becomes into `sink`, as `put_folds`, if all listed signatures are valid. Returns the first certificate that
+    /// fails another test, and then puts nothing. None if all certificates pass.
     fn put_folds_counted<L: Ledger, S: FoldSink<'a>>(
         &self,
         alloc: Global,
@@ -224,8 +230,9 @@ impl<'a> PreparedQuestion<'a> {
     }
 }
 
-/// Does what `fold_texts` does. An entry is a tick, and so is each octet of its text, once. Then its chain takes those of `entry_fold_counted`.
-/// What the sink does is not counted.
+/// Puts into `sink` what each entry becomes with the certificates of the case, as `fold_texts`. An entry is a tick, and so is each octet of
+/// its text, once. To these come the ticks of `entry_fold_counted`, which joins the entry with the certificates. What the sink does is not
+/// counted.
 ///
 /// # Errors
 ///

@@ -1,4 +1,4 @@
-//! Which entry of an access list grants a request, one after another (RFC 2693, section 6.3).
+//! Which entry of an access list grants a request: they are tested one after another (RFC 2693, section 6.3).
 //! A value with many parts is freed by a call of `drop`, so that the proof does not go through its parts at each exit.
 
 ghost use Rattle.std.specs.Prelude.{◌≡◌, ◌≤◌, ◌+◌, ◌*◌, List, None, length, IfOk};
@@ -17,10 +17,10 @@ use spki_tag::Ticks;
 use std::alloc::{AllocError, Global};
 use std::sync::ledger::Ledger;
 
-/// Returns the first of the entries with these numbers, from 1, that grants what the case asks, together with the certificates whose tuples are
-/// `steps`: its number, and until when it grants. None if there is none. `texts` are the canonical texts of all entries, and must have one for each
-/// number. Each entry is read just before it is tested, and nothing of it is kept. No intersection is formed. An entry is a tick, and so is each
-/// octet of its text, once when it is read and at most once when it is tested.
+/// Returns the first of the entries with these numbers, from 1, that grants what the case asks, together with the certificates whose tuples
+/// are `steps`: its number, and until when it grants. None if none of them does. `texts` are the canonical texts of all entries, and must
+/// have one for each number. Each entry is read just before it is tested, and nothing of it is kept. No intersection is formed. An entry is
+/// a tick, and so is each octet of its text, once when it is read and at most once when it is tested.
 ///
 /// # Errors
 ///

@@ -33,9 +33,13 @@ use std::marker::Model;
 /// In a contract it is these texts, the policy and the limits of its questions.
 #[derive(Drop)]
 pub struct Guard {
+    /// The canonical texts of the entries, in order.
     pub(crate) texts: TextList,
+    /// The numbers of the entries, by the principals of their subjects.
     index: EntryIndex,
+    /// Which hashes may name keys.
     policy: Policy,
+    /// The limits on each question.
     limits: Limits,
 }
 
@@ -61,14 +65,14 @@ impl Model for Guard {
 }
 
 impl Guard {
-    /// Reads an access list, `(acl entry ..)`, in any of the three forms (RFC 2693, section 3.4; RFC 9804), for a policy and
-    /// with limits on questions.
+    /// Reads an access list, `(acl entry ..)`, in any of the three forms (RFC 2693, section 3.4; RFC 9804). `policy` says which hashes may
+    /// name keys. `limits` are those on later questions, and do not limit the list.
     ///
     /// # Errors
     ///
-    /// `Form` if the text has no value within the limits in any of these forms. `Form(TooLong)` exactly if the text or
-    /// its canonical form has more than 1,048,576 octets. Otherwise `Acl` if the value is no access list, with the
-    /// first fault from the left. `Memory` if memory ran out.
+    /// `Form` if the text has no value in any of these forms within their limits, which `FormFault` names. `Form(TooLong)` exactly if the
+    /// text or its canonical form has more than 1,048,576 octets. Otherwise `Acl` if the value is no access list, with the first fault from
+    /// the left. `Memory` if memory ran out.
     pub fn read(
         alloc: Global,
         list: &[u8],
@@ -95,16 +99,16 @@ impl Guard {
         self.texts.len()
     }
 
-    /// The guard's limit of an explanation or a reduction: the most octets that its lines have together. A decision has
-    /// no such limit.
+    /// The guard's limit on the answer: the most octets that all lines of an explanation, or of a reduction, may have together. A decision
+    /// has no such limit.
     pub(crate) fn most_answer(&self) -> usize
         ensures { result ≡ self.now.answer }
     {
         self.limits.answer
     }
 
-    /// Returns the canonical texts of a question's parts, for `ask`. A text that is already canonical is not copied. A
-    /// text that has no value within the limits is no error here: `ask` refuses it.
+    /// Returns the canonical texts of a question's parts, which `ask` reads and borrows. A text that is already canonical is not copied. A
+    /// text that has no value within the limits of its form is no error here: `ask` refuses it.
     ///
     /// # Errors
     ///
@@ -123,11 +127,11 @@ impl Guard {
     ///
     /// # Errors
     ///
-    /// `TooLong` exactly if the texts have more octets than the guard's limit, which `texts` of another guard may
-    /// allow. Otherwise the first part that cannot be read is named: `Form` if its text has no value within the limits,
-    /// otherwise the fault of its value. If all can be read: `TooManyCertificates` or `TooManyWords`, tested in this
-    /// order, if there are more certificates, or more strings of the request, than the guard's limit. Nothing of the
-    /// question is judged before. `Memory` if memory ran out.
+    /// `TooLong` exactly if the texts have more octets than this guard's limit. `Guard::texts` tests this too, but perhaps another guard,
+    /// with a higher limit, made the texts. Otherwise the first part that cannot be read is named: `Form` if its text has no value within
+    /// the limits of its form, otherwise the fault of its value. If all can be read: `TooManyCertificates` or `TooManyWords`, tested in
+    /// this order, if there are more certificates, or more strings of the request, than the guard's limit. No certificate is examined
+    /// before these tests. `Memory` if memory ran out.
     pub fn ask<'a>(
         &'a self,
         alloc: Global,
@@ -166,7 +170,7 @@ impl Guard {
         })
     }
 
-    /// The numbers, ascending and counted from 1, of the entries whose principal names the key under the guard's
+    /// The numbers, ascending and counted from 1, of the entries whose subject's principal names the key under the guard's
     /// policy. Empty if `key` is None. Err if memory ran out.
     pub(crate) fn numbers_of(
         &self,
@@ -204,7 +208,7 @@ impl Guard {
     }
 }
 
-/// The fault of an access list: `Acl` with this fault, or `Memory` if memory ran out.
+/// The fault of an access list: `Memory` if the kind of this fault is `Memory`, otherwise `Acl` with the fault.
 fn fault_of_acl(fault: CertFault) -> AclFault
     ensures { IsOuter (fault.kind ≡ CertFaultKind.Memory) AclFault.Memory (AclFault.Acl fault) result }
 {

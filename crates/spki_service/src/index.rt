@@ -11,7 +11,7 @@ use spki_tag::merged;
 use std::alloc::{AllocError, Global};
 use std::cmp::Ordering;
 
-/// An entry in the index.
+/// What the index has of one entry of the access list.
 #[derive(Clone, Copy)]
 pub(crate) struct Row {
     /// The last eight octets of the principal, as a number. 0 if it has fewer.
@@ -27,14 +27,19 @@ pub(crate) struct Row {
 pub(crate) struct EntryIndex {
     /// For each entry the octets of its principal: those of a key, or a digest.
     principals: TextList,
+    /// The rows of the entries whose principal is a key.
     keys: Vec<Row>,
+    /// The rows of those whose principal is a SHA-1 hash of a key.
     sha1: Vec<Row>,
+    /// The rows of those with a SHA-256 hash.
     sha256: Vec<Row>,
+    /// The rows of those with a SHA-512 hash.
     sha512: Vec<Row>,
 }
 
 impl EntryIndex {
-    /// Makes the index of the entries whose subjects have these principals. For n entries this takes comparisons in proportion to n log n.
+    /// Makes the index of all entries of an access list. `owners` are the principals of their subjects, in order. For n entries this takes
+    /// comparisons in proportion to n log n.
     ///
     /// # Errors
     ///
@@ -57,7 +62,7 @@ impl EntryIndex {
     }
 
     /// The algorithms by which `found` may digest a key: those of the hashes in the index that may name keys under the
-    /// policy. `found` does not digest a key that carries these digests.
+    /// policy. `Guard::ask` has the question's keys carry these digests, since `found` digests only a key without them.
     pub(crate) fn algorithms(&self, policy: Policy) -> Algorithms {
         Algorithms {
             sha1: !self.sha1.is_empty() && policy.admits(HashAlg::Sha1),
@@ -102,7 +107,7 @@ impl EntryIndex {
     }
 
     /// The rows of the entries whose principal is the key's hash by the algorithm, under any policy. If the index has
-    /// no hash by the algorithm, they are none, and the key is not digested.
+    /// no hash by the algorithm, there are no rows, and the key is not digested.
     fn hashed(&self, alg: HashAlg, key: &Key) -> &[Row]
         ensures { IsInOrder self.now.principals (rows_by self.now (Some alg))
             → map row_number result.now ≡ numbers_with self.now.principals (digest_of alg key.now) (rows_by self.now (Some alg)) }
@@ -132,7 +137,8 @@ impl EntryIndex {
         }
     }
 
-    /// Those of the rows whose principal has these octets, by two binary searches. The rows must be in the order of `compare`.
+    /// Those of the rows whose principal has these octets, by two binary searches: for where they begin, and for how many they are. The
+    /// rows must be in the order of `compare`.
     fn rows_at<'i>(&'i self, rows: &'i [Row], octets: &[u8]) -> &'i [Row]
         ensures { IsInOrder self.now.principals rows.now
             → map row_number result.now ≡ numbers_with self.now.principals octets.now rows.now }
@@ -167,7 +173,7 @@ fn octets_of<'p>(principal: &'p Principal) -> &'p [u8]
     }
 }
 
-/// Whether a principal is a hash by the algorithm, or a key if there is no algorithm.
+/// Whether a principal is a hash by the algorithm or, if `alg` is None, a key.
 fn is_by(principal: &Principal, alg: Option<HashAlg>) -> bool
     ensures { result ≡ is_by alg principal.now }
 {
@@ -177,8 +183,9 @@ fn is_by(principal: &Principal, alg: Option<HashAlg>) -> bool
     }
 }
 
-/// Returns the rows of the entries whose principal is a hash by the algorithm, or a key if there is no algorithm. They are in order.
-/// `owners` are the principals of all entries, and `principals` must have their octets.
+/// Returns the rows of the entries whose principal is a hash by the algorithm or, if `alg` is None, a key. They are in the order of
+/// `compare`, and those of equal principals in the order of the entries. `owners` are the principals of all entries, and `principals` must
+/// have their octets.
 ///
 /// # Errors
 ///
@@ -200,7 +207,7 @@ fn sorted_rows(
     Ok(rows)
 }
 
-/// Returns the rows of the entries whose principal is a hash by the algorithm, or a key if there is no algorithm, in the order of
+/// Returns the rows of the entries whose principal is a hash by the algorithm or, if `alg` is None, a key. They are in the order of
 /// the entries. `owners` are the principals of all entries. Err if memory ran out.
 fn rows_of(
     alloc: Global,
@@ -221,7 +228,7 @@ fn rows_of(
     Ok(rows)
 }
 
-/// The last eight octets as a number, in little-endian order. 0 if there are fewer.
+/// The last eight octets as a number, in little-endian order. 0 if there are fewer. Rows are compared by it first, which is fast.
 fn tail_of(octets: &[u8]) -> u64
     ensures { result ≡ tail_of octets.now }
 {
@@ -242,14 +249,14 @@ fn compare(principals: &TextList, row: &Row, tail: u64, octets: &[u8]) -> Orderi
     }
 }
 
-/// The octets of a row's principal. `principals` must have those of all entries, in their order.
+/// The octets of a row's principal. `principals` must have those of all entries, in their order: entry number n is at place n - 1.
 fn row_octets<'p>(principals: &'p TextList, row: &Row) -> &'p [u8]
     ensures { result.now ≡ row_octets principals.now row.now }
 {
     principals.text(row.number.saturating_sub(1))
 }
 
-/// The numbers of the rows, in order. Err if memory ran out.
+/// The numbers of the rows' entries, in the order of the rows. Err if memory ran out.
 fn numbers_of(alloc: Global, rows: &[Row]) -> Result<Vec<usize>, AllocError>
     ensures { IfOk result (λ numbers. numbers.items ≡ map row_number rows.now) }
 {
@@ -260,8 +267,8 @@ fn numbers_of(alloc: Global, rows: &[Row]) -> Result<Vec<usize>, AllocError>
     Ok(numbers)
 }
 
-/// Merges `own`, ascending numbers, with those of the rows, which ascend too. A number that both have comes twice. If one has none, nothing is
-/// compared. Err if memory ran out.
+/// Merges `own`, ascending numbers of entries, with those of the rows, which ascend too. A number that both have comes twice, but `found`
+/// merges none such: an entry has one principal. If one of the two is empty, nothing is compared. Err if memory ran out.
 fn joined(alloc: Global, own: Vec<usize>, rows: &[Row]) -> Result<Vec<usize>, AllocError>
     ensures { IfOk result (λ numbers. numbers.items ≡ merge own.items (map row_number rows.now)) }
 {

@@ -19,8 +19,8 @@ ghost use Rattle.spki_service.specs.Questions.{IsDateAt, IsAtNoDate, last_second
 
 use spki_case::Verifier;
 
-/// An access list is held by a guard as the canonical texts of its entries. A text is held as at most one list of such texts, or has at most one
-/// fault, and never both. These texts are those of at most one list of entries.
+/// A guard contains an access list as the canonical texts of its entries. A text gives at most one list of such texts, or at most one
+/// fault, and never both. The texts in a guard are those of at most one list of entries.
 pub fn one_list()
     ensures list { (text : List ℕ) (a b : List (List ℕ)) → HoldsList text a → HoldsList text b → a ≡ b }
     ensures entries { (texts : List (List ℕ)) (es fs : List Entry) → AreEntries texts es → AreEntries texts fs → es ≡ fs }
@@ -83,7 +83,8 @@ pub fn own_marks()
     ensures no { (a : PreparedModel) (d : Decision) (one : Signed) → IsUnmarked (asked a.case) a.marks one → DecidesMarked a d → d ≡ No }
 {}
 
-/// If a question would be no yes even with all listed signatures valid, no marks make it a yes.
+/// If a question is not granted even with all listed signatures valid, no marks make it a yes. So a service need not verify any signature
+/// if `PreparedQuestion::is_possible` is false.
 pub fn possible()
     ensures { (a : PreparedModel) (es : List Entry) (n : ℕ) → AreEntries a.texts es → IsPossible a false → ¬ DecidesMarked a (Yes n) }
 {}
@@ -97,13 +98,14 @@ pub fn as_check()
         → DecidesMarked a x → IsDecided c (accepted_by c) (Ok y) → x ≡ y }
 {}
 
-/// Marking a signature does not change which question was opened.
+/// Marking a signature does not change which question was opened. If `old` was opened for the question `q` and the guard `held`, so was
+/// `new`, which is `old` after the mark.
 pub fn marked_stays()
     ensures { (held : GuardModel) (q : Question) (old new : OwnedQuestion) (place : ℕ) → HasMark old place new → IsOpened held q old → IsOpened held q new }
 {}
 
 /// A yes by marks holds until the least not-after of the window of its entry and of those of all certificates. At each moment from that of
-/// the question till then, the same question with the same marks is a yes, with this number or an earlier one. The same is true of seconds,
+/// the question till then, the same question with the same marks is a yes, by this entry or an earlier one. The same is true of seconds,
 /// from those of the question till the last second of that date.
 pub fn held_until()
     ensures dates { (a : PreparedModel) (es : List Entry) (moment : List ℕ) (grant : Grant) (d : Decision) → AreEntries a.texts es

@@ -11,13 +11,13 @@ pub struct Limits {
     pub certificates: usize,
     /// The most strings of a request.
     pub words: usize,
-    /// For explanations and reductions: the most nodes of two tags whose intersection is formed, as the product of their numbers. At
-    /// most 1,000,000.
+    /// For explanations and reductions: the greatest product of the numbers of nodes of two tags whose intersection is formed. At most
+    /// 1,000,000.
     pub nodes: usize,
     /// For explanations and reductions: the most work of all certificates and all entries together, as `spki_reduce::Work` counts it. At
     /// most 1,000,000,000.
     pub work: usize,
-    /// For explanations and reductions: the most octets of their lines.
+    /// For explanations and reductions: the most octets of all lines of the answer together.
     pub answer: usize,
     ghost octets_within: { octets ≤ 1048576 },
     ghost nodes_within: { nodes ≤ 1000000 },
@@ -52,8 +52,8 @@ impl Limits {
         }
     }
 
-    /// The highest limits: 1,048,576 octets, 1,000,000 nodes, 1,000,000,000 of work, and 2^64 - 1 for each other. On some
-    /// questions within them an explanation takes seconds.
+    /// The highest limits: 1,048,576 octets, 1,000,000 nodes, 1,000,000,000 of work, and 2^64 - 1 certificates, strings and
+    /// octets of an answer, which is no limit. On some questions within them an explanation takes seconds.
     pub fn highest() -> Limits
         ensures { (result.octets ≡ 1048576) × (result.certificates ≡ 18446744073709551615) × (result.words ≡ 18446744073709551615)
             × (result.nodes ≡ 1000000) × (result.work ≡ 1000000000) × (result.answer ≡ 18446744073709551615) }

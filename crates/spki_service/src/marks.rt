@@ -1,4 +1,4 @@
-//! Marks by which a service says which of the listed signatures are valid.
+//! Marks by which a service says which of the listed signatures are valid: a bool for each place in the list, true where there is a mark.
 
 ghost use Rattle.std.specs.Prelude.{◌≡◌, ◌↔◌, ◌<◌, ◌≤◌, ◌+◌, length, false, IsTrue, IfOk, IfNone};
 ghost use Rattle.spki_service.specs.GuardQuestions.{IsMarked, NoneMarked, IsMarkedToo, IsFirstUnmarked};
@@ -29,14 +29,16 @@ pub(crate) fn mark_at(marks: &mut [bool], place: usize) -> bool
     true
 }
 
-/// The first place, from 0 and below `count`, without a mark. None if each has one.
+/// The first place, from 0 and below `count`, without a mark. None if each of these places has one. `count` is the number of listed
+/// signatures.
 pub(crate) fn first_unmarked(count: usize, marks: &[bool]) -> Option<usize>
     ensures { IsFirstUnmarked count marks.now result }
 {
     first_unmarked_with_new_count::<Brand>(count, marks, Blank::new(1))
 }
 
-/// Calls `first_unmarked_counted` with a new count, which `blank` opens. The count exists only in contracts, and is dropped afterwards.
+/// Does the work of `first_unmarked`, whose caller has no count of ticks: calls `first_unmarked_counted` with a new one, which `blank`
+/// opens. It exists only in contracts, and is dropped afterwards. The number `count` is another thing: how many places there are.
 fn first_unmarked_with_new_count<L: Ledger>(
     count: usize,
     marks: &[bool],
@@ -50,7 +52,7 @@ fn first_unmarked_with_new_count<L: Ledger>(
     first_unmarked_counted(count, marks, &mut Ticks::<L>::new(blank))
 }
 
-/// The first place without a mark, as `first_unmarked`. Each place that is looked at is a tick.
+/// The first place below `count` without a mark, as `first_unmarked`. None if each has one. Each place that is looked at is a tick.
 pub(crate) fn first_unmarked_counted<L: Ledger>(
     count: usize,
     marks: &[bool],
@@ -69,7 +71,7 @@ pub(crate) fn first_unmarked_counted<L: Ledger>(
     None
 }
 
-/// Whether a place has a mark.
+/// Whether a place, from 0, has a mark. False if there is no such place.
 fn is_marked(marks: &[bool], place: usize) -> bool
     ensures { IsTrue result ↔ IsMarked marks.now place }
 {

@@ -1,4 +1,5 @@
-//! The number of octets of a question's texts.
+//! The number of octets of a question's texts. Where a function has `room`, this is how many octets may still come. It returns what is
+//! left.
 
 ghost use Rattle.std.specs.Prelude.{◌≡◌, ◌<◌, ◌≤◌, ◌+◌, map, length, MatchOption};
 ghost use Rattle.sexpr_core.specs.Value.{canon, decimal, verbatim};
@@ -6,8 +7,8 @@ ghost use Rattle.spki_service.specs.Questions.{words_value, wanted_octets, momen
 
 use crate::question::{Moment, Question, RequestInput};
 
-/// How many octets a question's texts have together. None if they are more than `most_octets`. None of them is read. A request's strings count as
-/// their canonical text, and seconds as the canonical form of a date, which has 22 octets.
+/// How many octets a question's texts have together, or None if there are more than `most_octets`. Only their lengths are looked at: no
+/// text is read. A request's strings count as their canonical text, and seconds as the canonical form of a date, which has 22 octets.
 pub(crate) fn octets_within(question: &Question, most_octets: usize) -> Option<usize>
     ensures { MatchOption result (most_octets < asked_octets question.now) (λ octets. (octets ≡ asked_octets question.now) × (octets ≤ most_octets)) }
 {
@@ -18,7 +19,8 @@ pub(crate) fn octets_within(question: &Question, most_octets: usize) -> Option<u
     Some(most_octets - left)
 }
 
-/// Subtracts the octets of a moment from `room`; seconds count as 22 octets. None if it has more octets than `room`.
+/// Subtracts the number of octets of a moment from `room`. None if the moment has more. Seconds count as the 22 octets of a date in
+/// canonical form, `19:` and the date.
 fn subtract_moment(room: usize, moment: &Moment) -> Option<usize>
     ensures { MatchOption result (room < moment_octets moment.now) (λ left. left + moment_octets moment.now ≡ room) }
 {
@@ -35,8 +37,7 @@ fn subtract(room: usize, octets: usize) -> Option<usize>
     room.checked_sub(octets)
 }
 
-/// Subtracts the octets of a request from `room`. None if it has more octets than `room`. Strings count as their
-/// canonical text.
+/// Subtracts the number of octets of a request from `room`. None if the request has more. Strings count as their canonical text.
 fn subtract_request(room: usize, wanted: &RequestInput) -> Option<usize>
     ensures { MatchOption result (room < wanted_octets wanted.now) (λ left. left + wanted_octets wanted.now ≡ room) }
 {
@@ -46,8 +47,8 @@ fn subtract_request(room: usize, wanted: &RequestInput) -> Option<usize>
     }
 }
 
-/// Subtracts the octets of the canonical text of a request's strings from `room`: that of the list of them, with 2 octets for the parentheses, or
-/// that of the string if there is only one. None if it has more octets than `room`.
+/// Subtracts the number of octets that `words_text` makes of a request's strings from `room`, without making them: the canonical text of
+/// the list of the strings, with 2 octets for the parentheses, or of the string if there is only one. None if the text has more.
 fn subtract_words(room: usize, words: &[&[u8]]) -> Option<usize>
     ensures { MatchOption result (room < length (canon (words_value (map (λ w. w.now) words.now))))
         (λ left. left + length (canon (words_value (map (λ w. w.now) words.now))) ≡ room) }
@@ -62,8 +63,8 @@ fn subtract_words(room: usize, words: &[&[u8]]) -> Option<usize>
     Some(left)
 }
 
-/// Subtracts the octets of a string's canonical form, such as `3:abc`, from `room`: its own, those of its length, and one for the colon. None if it
-/// has more octets than `room`.
+/// Subtracts the number of octets of a string's canonical form, such as `3:abc`, from `room`: its own, the digits of its length, and one
+/// for the colon. None if the form has more.
 fn subtract_string(room: usize, octets: &[u8]) -> Option<usize>
     ensures { MatchOption result (room < length (verbatim octets.now)) (λ left. left + length (verbatim octets.now) ≡ room) }
 {

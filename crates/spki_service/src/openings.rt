@@ -1,4 +1,5 @@
-//! Opening of questions, and the answers of those that were opened.
+//! Opening of questions, and the answers of those that were opened. A value with many parts is freed by a call of `drop`, so that the proof
+//! does not go through its parts at each exit.
 
 ghost use Rattle.std.specs.Prelude.{◌≡◌, ◌≢◌, ◌↔◌, ◌<◌, List, length, false, IsTrue, IfOk, IfErr, IsErrOf};
 ghost use Rattle.spki_decision.specs.{Granted.{IsYes}, CertificateTests.{asked, every}, Until.{decision_of}};
@@ -16,10 +17,12 @@ use crate::texts::Texts;
 use spki_decision::{Decision, Grant};
 use std::alloc::{AllocError, Global};
 
-/// What is kept of the case of a question.
+/// What an opened question keeps of its case, so that `OwnedQuestion::decide_by` need not read the texts again.
 #[derive(Drop)]
 struct ConditionalGrant {
+    /// Copies of the signatures that a verifier is asked about.
     signed: Vec<OwnedSigned>,
+    /// What is granted if all these signatures are valid.
     if_valid: Option<Grant>,
 }
 
@@ -79,7 +82,8 @@ impl OwnedQuestion {
         mark_at(&mut self.marks, place)
     }
 
-    /// What is granted by the marks, as by `PreparedQuestion::grant_by`. Nothing is read again, and nothing allocated.
+    /// What is granted by the marks, as by `PreparedQuestion::grant_by`: what `open` has found for valid signatures, or None if a listed
+    /// signature has no mark at its place. Nothing is read again, and nothing allocated.
     pub fn grant_by(&self) -> Option<Grant>
         ensures { IsConditionalGrant self.now.guard self.now.texts self.now.signed.items self.now.if_valid
             → (a : PreparedModel) × IsReadFrom self.now.guard self.now.texts a × (self.now.signed.items ≡ asked a.case)
@@ -107,7 +111,8 @@ impl OwnedQuestion {
         self.if_valid.is_some()
     }
 
-    /// Reads the question again, from the texts that it owns. The result has the same marks.
+    /// Reads the question again, from the texts that it owns, since an explanation or a reduction needs its parts. The question that is
+    /// returned has the same marks.
     ///
     /// # Errors
     ///

@@ -10,10 +10,14 @@ use spki_decision::Grant;
 /// that it was read from may change or be freed.
 #[derive(Drop)]
 pub struct OwnedQuestion {
+    /// The guard, which it owns with others.
     pub(crate) guard: SharedGuard,
+    /// The canonical texts of the question's parts.
     pub(crate) texts: Texts<'static>,
+    /// The signatures that a verifier is asked about, in order.
     pub(crate) signed: Vec<OwnedSigned>,
+    /// For each of these signatures, whether it is marked as valid.
     pub(crate) marks: Vec<bool>,
-    /// What is granted if all these signatures are valid. It is no answer before.
+    /// What is granted if all these signatures are valid. It is no answer before each has a mark.
     pub(crate) if_valid: Option<Grant>,
 }

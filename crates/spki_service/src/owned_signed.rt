@@ -9,7 +9,7 @@ use std::alloc::{AllocError, Global};
 use std::marker::Model;
 use std::sync::Arc;
 
-/// How many octets of two keys are compared at once.
+/// How many octets of two keys `is_before` compares at once.
 const PIECE: usize = 1024;
 
 /// A signature that a verifier is asked about, with texts of its own. A key that several signatures have is in memory once.
@@ -17,9 +17,13 @@ const PIECE: usize = 1024;
 /// In a contract it is the signature.
 #[derive(Drop)]
 pub struct OwnedSigned {
+    /// The number of the certificate's item in the sequence, from 1.
     item: usize,
+    /// The canonical octets of the key of the certificate's issuer.
     key: Arc<Vec<u8>>,
+    /// The certificate's canonical octets.
     message: Vec<u8>,
+    /// The canonical octets of the signature's value.
     value: Vec<u8>,
 }
 
@@ -73,7 +77,7 @@ pub(crate) fn owned_signed(alloc: Global, signed: &[Signed]) -> Result<Vec<Owned
     Ok(owned)
 }
 
-/// Returns a copy of a signature. `key` must have the octets of its key, and is not copied. Err if memory ran out.
+/// Returns a copy of a signature. `key` must have the octets of the signature's own key, and is shared, not copied. Err if memory ran out.
 fn owned_one(alloc: Global, one: &Signed, key: Arc<Vec<u8>>) -> Result<OwnedSigned, AllocError>
     requires { key.value.items ≡ one.now.key }
     ensures { IfOk result (λ owned. owned ≡ signed_of one.now) }
@@ -107,8 +111,8 @@ fn shared_key(
     }
 }
 
-/// The key with these octets, if a signature of `owned` has it. Err is the place in `order` where it would be. `order`
-/// is as for `shared_key`.
+/// The key with these octets, if a signature of `owned` has it. Otherwise Err is the place in `order` where it would be. `order`
+/// is as for `shared_key`: each of its numbers is a place in `owned`, so the `else` is not reached.
 fn found_key<'o>(
     owned: &'o [OwnedSigned],
     order: &[usize],

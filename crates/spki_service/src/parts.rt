@@ -22,9 +22,9 @@ use spki_cert::{
 use spki_tag::{Ground, TagFault};
 use std::alloc::Global;
 
-/// Reads the case of a question, without entries, with a guard's policy and limits of nodes and work. The other limits
-/// are not tested here. The parts are read in the order sequence, key, request, moment. Its keys carry their digests by
-/// `algorithms`, those of the hashes in the access list, and by those of the hashes in the sequence.
+/// Reads the case of a question, without entries, with a guard's policy and limits of nodes and work. The other limits are not tested here.
+/// The parts are read in the order sequence, key, request, moment. `algorithms` are those of the hashes in the access list. The keys of the
+/// case carry their digests by these and by those of the hashes in the sequence, so that a key is not digested again for each comparison.
 ///
 /// # Errors
 ///
@@ -62,7 +62,8 @@ pub(crate) fn case_of<'a>(
     )?)
 }
 
-/// Opens the text of a part. Err is `Form` if there is none, or `Memory`.
+/// Opens the canonical text of a part, so that its value can be read. Err is `Form` with the part and the fault of the given text, if that
+/// has no value within the limits of its form, or `Memory`.
 pub(crate) fn opened<'a>(
     alloc: Global,
     part: Part,
@@ -119,8 +120,8 @@ fn date_in(alloc: Global, text: &CanonicalText) -> Result<Date, AskFault>
     date_of_node(&text.top())
 }
 
-/// The date of a moment that was given as a text or as seconds. Err is a fault of the text, `Moment(BadDate)` if the
-/// seconds have no date, or `Memory`.
+/// The date of a moment that was given as a text or as seconds. For a text, Err is that of `date_in`: `Form`, `Moment` or `Memory`.
+/// For seconds without a date it is `Moment(BadDate)`.
 fn moment_in(alloc: Global, text: &MomentText) -> Result<Date, AskFault>
     ensures read { IfOk result (λ date. HasDate text.now date) }
     ensures refused { IfErr result (λ fault. fault ≢ AskFault.Memory → NamesDate text.now fault) }
@@ -155,7 +156,7 @@ fn sequence_at<'a>(alloc: Global, node: &Node<'_, 'a>) -> Result<Vec<SeqItem<'a>
     }
 }
 
-/// The fault of a question: `Sequence` with this fault, or `Memory` if memory ran out.
+/// The fault of a question whose sequence is refused: `Memory` if the kind of this fault is `Memory`, otherwise `Sequence` with the fault.
 fn fault_of_sequence(fault: CertFault) -> AskFault
     ensures { IsOuter (fault.kind ≡ CertFaultKind.Memory) AskFault.Memory (AskFault.Sequence fault) result }
 {
@@ -187,7 +188,7 @@ fn request_at(alloc: Global, node: &Node) -> Result<Ground, AskFault>
     }
 }
 
-/// The fault of a question: `Request` with this fault, or `Memory` if memory ran out.
+/// The fault of a question whose request is refused: `Memory` if this fault is `Memory`, otherwise `Request` with the fault.
 fn fault_of_request(fault: TagFault) -> AskFault
     ensures { IsOuter (fault ≡ TagFault.Memory) AskFault.Memory (AskFault.Request fault) result }
 {
@@ -197,7 +198,7 @@ fn fault_of_request(fault: TagFault) -> AskFault
     }
 }
 
-/// Reads a date from its node. Err is `Moment` with the fault.
+/// Reads the date of a moment from its node. Err is `Moment` with the fault.
 fn date_of_node(node: &Node) -> Result<Date, AskFault>
     ensures read { IfOk result (λ date. DateOf node.now date) }
     ensures refused { IfErr result (λ fault. fault ≢ AskFault.Memory → NamesMoment fault node.now) }

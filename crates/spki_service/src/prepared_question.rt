@@ -15,15 +15,19 @@ use std::marker::Model;
 /// answer, and the marks.
 #[derive(Drop)]
 pub struct PreparedQuestion<'a> {
+    /// The guard that has read the question.
     pub(crate) guard: &'a Guard,
+    /// The case of the question's parts, with the guard's policy. It has no entries: those are the guard's.
     pub(crate) case: Case<'a>,
+    /// The signatures that a verifier is asked about, and the certificates' tuples or the first certificate that fails another test.
     pub(crate) examined: ExaminedSequence<'a>,
+    /// For each of these signatures, whether it is marked as valid.
     pub(crate) marks: Vec<bool>,
 }
 
 impl<'a> PreparedQuestion<'a> {
-    /// The most octets of the lines of an explanation or a reduction: the guard's limit. `explain` and `reduce` do not
-    /// test it: the code that prints their answers must.
+    /// The guard's limit on the answer: the most octets that all lines of an explanation, or of a reduction, may have together. `explain`
+    /// and `reduce` do not test it: the code that prints their answers must.
     pub fn most_answer(&self) -> usize
         ensures { result ≡ self.now.answer }
     {

@@ -83,10 +83,10 @@ pub enum AskFault {
     /// The fault of the sequence. Its item is counted in the sequence, from 1.
     #[error("sequence: {0}")]
     Sequence(CertFault),
-    /// The key.
+    /// The fault of the key.
     #[error("key: {0}")]
     Key(CertFaultKind),
-    /// The request.
+    /// The fault of the request.
     #[error("request: {0}")]
     Request(TagFault),
     /// The fault of the moment. Seconds below 0 or above 253,402,300,799 are `BadDate`: a clock that failed, or a year

@@ -15,9 +15,9 @@ use spki_decision::{Budget, FoldSink, GuardFault, certificates_of, entry_fold};
 use spki_reduce::Step;
 use std::alloc::Global;
 
-/// Puts into `sink` what each entry of an access list becomes with the certificates of the case. `texts` are the canonical texts of the entries, and
-/// `steps` the tuples of all certificates, in order: one for each. An entry is read just before it is joined with them, and nothing of it is kept.
-/// The case's own access list is not examined.
+/// Puts into `sink` what each entry of an access list becomes with the certificates of the case. `texts` are the canonical texts of the
+/// entries, and `steps` the tuples of all certificates, in order: one for each. An entry is read just before it is joined with them, and
+/// nothing of it is kept. The case's own access list, which is empty in a question, is not examined. All entries share one budget of work.
 ///
 /// # Errors
 ///

@@ -17,7 +17,9 @@ struct Place {
 /// In a contract it is these texts, in order.
 #[derive(Drop)]
 pub(crate) struct TextList {
+    /// The octets of all texts, and of those that were removed.
     octets: Vec<u8>,
+    /// For each text where it is in `octets`.
     places: Vec<Place>,
 }
 
@@ -54,7 +56,8 @@ impl TextList {
         Ok(())
     }
 
-    /// Removes the first text. Its octets stay in the buffer. Nothing changes if the list is empty.
+    /// Removes the first text, such as the version before an access list's entries. Its octets stay in the buffer. Nothing changes if the
+    /// list is empty.
     pub(crate) fn remove_first(&mut self)
         ensures { self.new ≡ drop 1 self.old }
     {

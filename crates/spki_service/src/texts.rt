@@ -10,23 +10,24 @@ use crate::words::words_text;
 use sexpr_text::CanonicalText;
 use std::alloc::{AllocError, Global};
 
-/// The text of a moment.
+/// The canonical text of a moment, or its seconds.
 #[derive(Drop)]
 pub(crate) enum MomentText<'q> {
-    /// The moment was given as a text.
+    /// The moment was given as a text. This is its canonical text, or the fault of its form.
     Text(CanonicalText<'q>),
-    /// The moment was given as seconds.
+    /// The moment was given as these seconds, since 1970-01-01 00:00:00 UTC.
     Seconds(i64),
 }
 
-/// The texts of a question's parts, in canonical form. If a part has no canonical text, the fault of its form.
+/// The texts of a question's parts, in canonical form. If the text of a part has no value within the limits, its field has the fault of its
+/// form instead.
 #[derive(Drop)]
 pub struct Texts<'q> {
     pub(crate) sequence: CanonicalText<'q>,
     pub(crate) key: CanonicalText<'q>,
     pub(crate) request: CanonicalText<'q>,
     pub(crate) moment: MomentText<'q>,
-    /// How many octets the question's texts have together.
+    /// How many octets the question's texts, as they were given, have together, as `octets_within` counts them.
     pub(crate) octets: usize,
 }
 
@@ -58,7 +59,8 @@ pub(crate) fn texts_of<'q>(
     })
 }
 
-/// Returns the canonical text of a request. Err if memory ran out.
+/// Returns the canonical text of a request, which is made here if the request was given as strings. A text without a value within the
+/// limits, or strings of too many octets, are Ok too: the `CanonicalText` then has the fault. Err only if memory ran out.
 fn wanted_text<'q>(
     alloc: Global,
     wanted: &RequestInput<'q>,
@@ -71,7 +73,8 @@ fn wanted_text<'q>(
     }
 }
 
-/// Returns the canonical text of a moment that is a text, or the seconds. Err if memory ran out.
+/// Returns the canonical text of a moment that was given as a text, or its seconds. A text without a value within the limits is Ok too: the
+/// `CanonicalText` then has the fault. Seconds are not tested here. Err only if memory ran out.
 fn moment_text<'q>(alloc: Global, moment: &Moment<'q>) -> Result<MomentText<'q>, AllocError>
     ensures { IfOk result (IsMomentText moment.now) }
 {
@@ -82,8 +85,8 @@ fn moment_text<'q>(alloc: Global, moment: &Moment<'q>) -> Result<MomentText<'q>,
 }
 
 impl Texts<'_> {
-    /// Returns the same texts in memory of their own: the question's texts may change afterwards. A text that was made
-    /// is not copied.
+    /// Returns the same texts in memory of their own: the question's texts may change afterwards. A text that was made here, of another
+    /// form or of strings, is not copied. The fault of a part stays.
     ///
     /// # Errors
     ///
