@@ -7,8 +7,8 @@ use std::process::ExitCode;
 use std::rt::Env;
 use std::{env, io};
 
-/// Returns the words of the command line. The first is the program's name. Err if the system does not give them, they
-/// are not UTF-8, or memory ran out.
+/// Returns the words of the command line, for `run_words`. The first is the program's name. Err if the system does not give
+/// them, they are not UTF-8, or memory ran out.
 fn words<R: Env + AllocGlobal>(rt: &R) -> io::Result<Vec<String>> {
     let mut words = Vec::new(rt.alloc());
     for word in env::args(rt)? {
@@ -17,7 +17,8 @@ fn words<R: Env + AllocGlobal>(rt: &R) -> io::Result<Vec<String>> {
     Ok(words)
 }
 
-/// Runs the program on the words of the command line and the standard streams, and returns its exit status.
+/// Runs the program on the words of the command line and the standard streams, and returns its exit status. The streams are
+/// in meters, by which `run_words` limits the calls of each. An error of reading the words is passed on for it to report.
 fn main(rt: HostRuntime) -> ExitCode {
     let mut reader = Metered::new(rt.stdin());
     let mut writer = Metered::new(rt.stdout());

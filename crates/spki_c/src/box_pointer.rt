@@ -1,4 +1,4 @@
-//! Boxes as pointers.
+//! Boxes as pointers: a `Handle` has the pointer of a box that C holds.
 ghost use Rattle.std.specs.Prelude.{◌≡◌};
 ghost use Rattle.std_alloc.specs.Box.Ownership.{box_owns};
 
@@ -7,8 +7,11 @@ use std::marker::Model;
 
 /// A pointer to a value on the heap. It owns the value and the right to free it.
 pub(crate) struct BoxPointer<T, A: Allocator> {
+    /// Where the value is.
     pub(crate) at: *mut T,
+    /// What frees the value.
     pub(crate) alloc: A,
+    /// The value, for contracts.
     pub(crate) ghost value: { T },
 }
 
@@ -17,7 +20,7 @@ impl<T, A: Allocator> Model for BoxPointer<T, A> {
 }
 
 impl<T: Drop, A: Allocator> BoxPointer<T, A> {
-    /// Returns the pointer of a box. The pointer now owns the value, and `into_box` returns the box.
+    /// Makes a box a pointer, which now owns the value. The value stays where it is. `into_box` makes it a box again.
     pub(crate) fn of(value: Box<T, A>) -> BoxPointer<T, A>
         ensures { result.value ≡ value.value }
     {
@@ -25,7 +28,7 @@ impl<T: Drop, A: Allocator> BoxPointer<T, A> {
         BoxPointer { at, alloc }
     }
 
-    /// Returns the box of this pointer, which owns the value again.
+    /// Makes the pointer a box again, which owns the value, and frees it when it is dropped.
     pub(crate) fn into_box(self) -> Box<T, A>
         ensures { result.value ≡ self.value }
     {

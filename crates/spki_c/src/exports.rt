@@ -1,4 +1,5 @@
-//! The exported functions that take texts: commands, decisions by separate rows, and strings inside a value.
+//! The exported functions that take texts: commands, decisions by separate rows, and strings inside a value. `spki.c` calls
+//! them. `alloc` has no octets, so C passes nothing for it. For a slice C passes a pointer and the number of values.
 ghost use Rattle.std.specs.Prelude.{◌≡◌, ◌≢◌, ◌<◌, ◌⊎◌, ℕ, List, length};
 ghost use Rattle.sexpr_core.specs.Value.{Value, canon, IsWithinLimits};
 ghost use Rattle.spki_words.specs.declared.commands.Command.{Command};
@@ -14,12 +15,13 @@ use sexpr_core::{Doc, FormFault};
 use spki_guard::{Command, answer_text, check_accepted};
 use std::alloc::Global;
 
-/// Runs the command of this number on a text in any of the three forms, and writes the answer to the front of the buffer.
+/// Runs the command with this number (`command_of`) on a text in any of the three forms, and writes the answer to the front of
+/// the buffer.
 ///
-/// The command `check` returns 9 for yes and 1 for no. Every other command returns 6, also if no entry grants the
-/// request. All return 2 for a refusal, also if memory ran out, 4 if the buffer is too small, and 5 if no command has
-/// this number or the text is not lent whole (`Text::is_lent`). `needed` is the length of the answer, and 0 with status
-/// 5. With 4 and 5 the buffer is unchanged.
+/// The command `check` returns `YES` (9) or `NO` (1). Every other command returns `DONE` (6), also if no entry grants the
+/// request. All return `REFUSED` (2) for a refusal, also if memory ran out, `TOO_SMALL` (4) if the buffer is too small for the
+/// answer, and `MISUSED` (5) if no command has this number or the text is not lent whole (`Text::is_lent`). `needed` is the
+/// length of the answer in octets, and 0 with `MISUSED`. With `TOO_SMALL` and `MISUSED` the buffer is unchanged.
 #[unsafe(no_mangle)]
 pub extern "C" fn spki_c_answer(
     alloc: Global,
@@ -47,9 +49,13 @@ pub extern "C" fn spki_c_answer(
     }
 }
 
-/// Decides a case by a separate accepted list, `(accepted row ..)`, as `check_accepted` does, and writes the answer to
-/// the front of the buffer. The status, the buffer and `needed` are as for `check` in `spki_c_answer`. The rows in the
-/// case are read, and none of them is used.
+/// Decides the case in `text` by a separate accepted list, `(accepted row ..)` in `rows`, as `check_accepted` does, and writes
+/// the answer to the front of the buffer. Both texts may be in any of the three forms. The rows in the case are read, and none
+/// of them is used.
+///
+/// Returns `YES` (9) or `NO` (1), `REFUSED` (2) for a refusal, also if memory ran out, `TOO_SMALL` (4) if the buffer is too
+/// small for the answer, and `MISUSED` (5) if one of the texts is not lent whole (`Text::is_lent`). `needed` is the length of
+/// the answer in octets, and 0 with `MISUSED`. With `TOO_SMALL` and `MISUSED` the buffer is unchanged.
 #[unsafe(no_mangle)]
 pub extern "C" fn spki_c_check_accepted(
     alloc: Global,
@@ -77,10 +83,10 @@ pub extern "C" fn spki_c_check_accepted(
 /// Finds a string inside a value in canonical form. The path leads to it: each number is that of the list member to
 /// enter, from 0. An empty path leads to the value itself.
 ///
-/// Returns 6 if there is a string, and sets `at` to the offset of its octets in the text and `count` to their number. Otherwise
-/// both are unchanged: returns 7 if the path leads to no string, 2 if the text is no value in canonical form within the limits,
-/// 8 if memory ran out, and 5 if the text is not lent whole. A text of more than 1,048,576 octets has the status 2, also if memory ran
-/// out.
+/// Returns `DONE` (6) if there is a string, and sets `at` to the offset of its octets in the text, and `count` to their number.
+/// Otherwise both are unchanged. Returns `NONE` (7) if the path leads to no string, `REFUSED` (2) if the text is no value in
+/// canonical form within the limits, `NO_MEMORY` (8) if memory ran out, and `MISUSED` (5) if the text is not lent whole
+/// (`Text::is_lent`). For a text of more than 1,048,576 octets it returns `REFUSED`, also if memory ran out.
 #[unsafe(no_mangle)]
 pub extern "C" fn spki_c_string(
     alloc: Global,

@@ -1,4 +1,5 @@
-//! The exported functions for guards that a caller holds.
+//! The exported functions for guards that a caller holds, and the one that frees guards and questions. `spki.c` calls them.
+//! `alloc` has no octets, so C passes nothing for it. For a slice C passes a pointer and the number of values.
 ghost use Rattle.std.specs.Prelude.{◌≡◌, ◌≢◌, ◌⊎◌, None, Some, IsSome, length};
 ghost use Rattle.spki_c.specs.{declared.handle_value.HandleValue.{HandleValue}, HandleValues.{IsClosed}};
 ghost use Rattle.spki_c.specs.{Guards.{policy_number, numbers_in, AreAllowed, IsOpened, IsUnopened}, Results.{IsMisuse}, Asking.{IsLent}};
@@ -16,13 +17,14 @@ use crate::text::Text;
 use spki_guard::refused_list;
 use std::alloc::Global;
 
-/// Reads an access list, in any of the three forms, into a guard on the heap. The caller holds the guard by the handle,
-/// which must have no guard before. The limits are the first of `limits`, or the default ones if there are none.
+/// Reads an access list, in any of the three forms, into a guard on the heap. The caller holds the guard by `handle`, which
+/// must own nothing before. The limits are the first of `limits`, or the default ones if there are none.
 ///
-/// Returns 6 if the handle has the guard. Otherwise the handle is unchanged. Returns 2 for a refusal, also if memory
-/// ran out, and 4 if the buffer is too small for its line. Returns 5 if no policy has this number (0 is strict, 1 is
-/// open), a limit is too high (`limits_of`), or the list is not lent whole (`Text::is_lent`). With 2 the line is at the
-/// front of the buffer. Otherwise the buffer is unchanged. `needed` is the length of the line, and 0 if there is none.
+/// Returns `DONE` (6) if the handle owns the guard. Otherwise the handle is unchanged. Returns `REFUSED` (2) if the list is
+/// refused or memory ran out: the line that says so is at the front of the buffer. Returns `TOO_SMALL` (4) if the buffer is too
+/// small for that line. Returns `MISUSED` (5) if no policy has this number (0 is strict, 1 is open), a limit is too high
+/// (`limits_of`), or the list is not lent whole (`Text::is_lent`). The buffer is unchanged except with `REFUSED`. `needed` is
+/// the length of the line in octets with `REFUSED` and `TOO_SMALL`, otherwise 0.
 #[unsafe(no_mangle)]
 pub extern "C" fn spki_c_guard_open(
     alloc: Global,
@@ -62,8 +64,9 @@ pub extern "C" fn spki_c_guard_open(
     }
 }
 
-/// Frees what a handle owns, if that is of the wanted kind: a question if `is_question` is true, otherwise a guard. What is of the other kind is not
-/// freed, but returned by `back`. That handle must have nothing before.
+/// Frees what `handle` owns, if that is of the wanted kind: a question if `is_question` is true, otherwise a guard. The call takes
+/// over what the handle owns. So if it is of the other kind, it is returned by `back`, and not freed: a close of the wrong kind
+/// has no effect. `handle` must own something, and `back` nothing before.
 #[unsafe(no_mangle)]
 pub extern "C" fn spki_c_close(alloc: Global, is_question: bool, handle: Handle, back: &mut Handle)
     requires held { IsSome handle.held }
@@ -78,7 +81,7 @@ pub extern "C" fn spki_c_close(alloc: Global, is_question: bool, handle: Handle,
     }
 }
 
-/// The number of entries of the guard's access list. 0 for a question.
+/// The number of entries of the access list of a guard. `lent` is the handle of the guard. 0 if it is that of a question.
 #[unsafe(no_mangle)]
 pub extern "C" fn spki_c_guard_entries(lent: &mut BorrowedHandle) -> usize
     ensures entries { (g : GuardModel) → lent.old.content ≡ HandleValue.Guard g → result ≡ length g.texts }

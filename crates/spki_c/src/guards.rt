@@ -8,7 +8,8 @@ use spki_cert::Policy;
 use spki_guard::{AclFault, Guard, Limits, SharedGuard};
 use std::alloc::Global;
 
-/// Reads an access list in any of the three forms into a guard on the heap. The faults are those of `Guard::read`.
+/// Reads an access list in any of the three forms into a guard on the heap, for `spki_c_guard_open`. Err is `Form` if the text
+/// has no value within the limits, `Acl` if the value is no access list, or `Memory`.
 pub(crate) fn read_guard(
     alloc: Global,
     list: &[u8],

@@ -11,7 +11,9 @@ use std::marker::Model;
 /// A pointer to a guard or a question on the heap. It owns that value and the right to free it, if `held` has one.
 #[repr(C)]
 pub struct Handle {
+    /// Where the value is. C passes it on, and does not read or write there.
     at: *mut u8,
+    /// The value, for contracts. None if the handle owns nothing; then `at` does not matter.
     pub ghost held: { Option HandleValue } by { coded_option the_row.coded },
 }
 
@@ -19,10 +21,13 @@ impl Model for Handle {
     ghost also_owns = { λ h. held_owns the_row h.at h.held };
 }
 
-/// A pointer to a guard or a question that a call borrows. The value lasts at least as long as the call.
+/// A pointer to a guard or a question that a call borrows. The value lasts at least as long as the call. Calls take it by `&mut`,
+/// and change neither the pointer nor the value.
 #[repr(C)]
 pub struct BorrowedHandle {
+    /// Where the value is.
     at: *const u8,
+    /// The value, for contracts.
     pub ghost content: { HandleValue } by { the_row.coded },
 }
 
@@ -31,7 +36,8 @@ impl Model for BorrowedHandle {
 }
 
 impl Handle {
-    /// Makes the handle own the value of this pointer. The handle must have none.
+    /// Makes the handle own the value of this pointer, by which C then holds it. The handle must own nothing before. The
+    /// allocator is not kept: it is always `Global`.
     pub(crate) fn hold(&mut self, pointer: BoxPointer<HandleValue, Global>)
         requires { self.old.held ≡ None }
         ensures { self.new.held ≡ Some pointer.value }
@@ -40,7 +46,7 @@ impl Handle {
         self.at = at as *mut u8;
     }
 
-    /// Returns the pointer of the value, with the right to free it. The handle must have a value.
+    /// Takes the value over from the handle, and returns its pointer with the right to free it. The handle must own a value.
     pub(crate) fn take(self, alloc: Global) -> BoxPointer<HandleValue, Global>
         requires { IsSome self.held }
         ensures { self.held ≡ Some result.value }
@@ -54,7 +60,7 @@ impl Handle {
 }
 
 impl BorrowedHandle {
-    /// The value that this call borrows.
+    /// The guard or question that this call borrows.
     pub(crate) fn content(&mut self) -> &HandleValue
         ensures { result.now ≡ self.entry.now.content }
     {

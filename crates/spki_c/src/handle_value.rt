@@ -36,7 +36,7 @@ impl HandleValue {
         }
     }
 
-    /// Whether it is a question.
+    /// Whether the value is a question. If not, it is a guard.
     pub(crate) fn is_question(&self) -> bool
         ensures { IsTrue result ↔ IsQuestion self.now }
     {
@@ -46,7 +46,8 @@ impl HandleValue {
         }
     }
 
-    /// Marks a place of a question, as `OwnedQuestion::mark` does. Returns false, and changes nothing, if there is no such place, and for a guard.
+    /// Marks the signature at this place of a question, from 0, as valid, as `OwnedQuestion::mark` does, and returns true. Returns
+    /// false, and changes nothing, if there is no signature at this place, and for a guard.
     pub(crate) fn mark(&mut self, place: usize) -> bool
         ensures { IsMarkedBy self.old place self.new result }
     {

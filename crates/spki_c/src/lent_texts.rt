@@ -1,4 +1,4 @@
-//! The octets of texts that C passes.
+//! The octets of texts that C passes, and the test that they may be read.
 ghost use Rattle.std.specs.Prelude.{◌≡◌, ◌↔◌, IsTrue, IfOk, IfErr, All, map};
 ghost use Rattle.spki_c.specs.{Asking.{IsLent}, Readables.{AreReadable}};
 
@@ -37,8 +37,11 @@ impl Text {
     }
 }
 
-/// The texts of an array, with the octets that may be read. Err is `Unlent` if one of them is not lent whole, also if memory ran out before it;
-/// otherwise `Memory`.
+/// Returns the texts of an array, in order: the strings of a request. `readable` has the octets of these texts, for contracts
+/// alone.
+///
+/// Err is `Unlent` if one of the texts is not lent whole, otherwise `Memory` if memory ran out. So if memory runs out for a text,
+/// the texts behind it are still tested.
 pub(crate) fn texts_at(
     alloc: Global,
     places: &[TextPlace],
@@ -65,7 +68,8 @@ pub(crate) fn texts_at(
     }
 }
 
-/// The octets of each text, in order. All texts must be lent whole. Err if memory ran out.
+/// The octets of each text, in order, as `Question` takes the strings of a request. All texts must be lent whole. Err if memory
+/// ran out.
 pub(crate) fn words_of<'a>(
     alloc: Global,
     texts: &'a mut [Text],

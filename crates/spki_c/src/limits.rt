@@ -7,24 +7,24 @@ use spki_guard::Limits;
 /// The limits of questions: `struct spki_limits`.
 #[repr(C)]
 pub struct LimitParts {
-    /// The size of the structure.
+    /// The size of the structure in octets, which `spki.c` tests.
     pub size: usize,
-    /// The most octets of a question.
+    /// The most octets of the texts of a question together.
     pub octets: usize,
     /// The most certificates of a sequence.
     pub certificates: usize,
     /// The most strings of a request.
     pub words: usize,
-    /// The most nodes of an intersection.
+    /// For explanations and reductions: the most nodes of two tags whose intersection is formed, as the product of their numbers.
     pub nodes: usize,
-    /// The most work of all intersections together.
+    /// For explanations and reductions: the most work of all certificates and all entries together, as `spki_reduce::Work` counts it.
     pub work: usize,
-    /// The most octets of an answer.
+    /// For explanations and reductions: the most octets of the answer.
     pub answer: usize,
 }
 
 /// The limits that C passes: the first of `limits`, or the default ones if there are none. A limit of 0 is the default one. None if
-/// `octets` is over 1,048,576, `nodes` over 1,000,000 or `work` over 1,000,000,000. `size` is not tested.
+/// `octets` is over 1,048,576, `nodes` over 1,000,000 or `work` over 1,000,000,000. `size` is not tested here.
 pub(crate) fn limits_of(limits: &[LimitParts]) -> Option<Limits>
     ensures { MatchOption result (¬ AreAllowed (numbers_in limits.now)) (AreLimits (numbers_in limits.now)) }
 {
@@ -42,7 +42,7 @@ pub(crate) fn limits_of(limits: &[LimitParts]) -> Option<Limits>
     }
 }
 
-/// The limit, or the default one, `usual`, if it is 0.
+/// Returns `limit`, or the default one, `usual`, if `limit` is 0.
 fn or_usual(limit: usize, usual: usize) -> usize
     ensures { result ≡ or_usual limit usual }
 {

@@ -16,16 +16,17 @@ pub const REFUSED: u32 = 2;
 /// A buffer is too small for the answer.
 pub const TOO_SMALL: u32 = 4;
 
-/// The call is misused: a number has no meaning, a limit is too high, or no signature is at a place that is marked. There is no answer.
+/// The call is misused: a number has no meaning, a limit is too high, a text is not lent whole, a part of a question is given
+/// both ways, a handle is of the other kind, or no signature is at a place that is marked. There is no answer.
 pub const MISUSED: u32 = 5;
 
 /// The call is done, and its answer is no decision.
 pub const DONE: u32 = 6;
 
-/// A path leads to no string.
+/// A path leads to no string, or no signature is at a place that is read.
 pub const NONE: u32 = 7;
 
-/// Memory ran out in a call that writes no line.
+/// Memory ran out in a call that writes no line. The other calls answer `refused Memory`, with the status `REFUSED`.
 pub const NO_MEMORY: u32 = 8;
 
 /// The command with this number, from 0 for `canonical` to 6 for `explain`. None for any other number.
@@ -59,8 +60,8 @@ pub fn status_number(command: Command, verdict: Verdict) -> u32
     }
 }
 
-/// The query with this number: 4 to reduce, 5 to decide, 6 to explain, as for the commands that do the same with a
-/// case. None for any other number.
+/// The query with this number, for an opened question: 4 to reduce, 5 to decide, 6 to explain. These are the numbers of the
+/// commands `reduce`, `check` and `explain`, which ask the same of a case. None for any other number.
 pub fn query_of(number: u32) -> Option<Query>
     ensures { MatchOption result ((w : Query) → number ≢ query_number w) (λ w. number ≡ query_number w) }
 {

@@ -12,8 +12,10 @@ use crate::text::Text;
 use spki_guard::{AskFault, Printed, Question, SharedGuard, open_question, refused_question};
 use std::alloc::Global;
 
-/// Opens the question of these parts for a guard, and puts it on the heap. `texts` are the strings of its request. All texts must be lent whole
-/// (`Text::is_lent`). Err is the line of the refusal, as for `open_question`.
+/// Opens the question of these parts for a guard, and puts it on the heap. `texts` are the strings of its request, and used only
+/// if `is_worded` of `parts` is true. The moment is the first of `seconds`, or that of `parts` if there are none. All texts must
+/// be lent whole (`Text::is_lent`). Err is the line of the refusal, such as `refused key Shape` or `refused Memory`, as for
+/// `open_question`.
 pub(crate) fn open_parts(
     alloc: Global,
     guard: &SharedGuard,

@@ -2,17 +2,17 @@
 
 use crate::text::Text;
 
-/// The parts of a question: `struct spki_question` without the strings of the request.
+/// The parts of a question: `struct spki_question` without the strings of the request and without the seconds.
 #[derive(Drop)]
 #[repr(C)]
 pub struct Parts {
     /// The sequence.
     pub sequence: Text,
-    /// The client's key.
+    /// The key of the client who asks.
     pub key: Text,
-    /// The request, unless it is given by its strings.
+    /// The request as a text. Empty if it is given by its strings.
     pub request: Text,
-    /// The moment, unless it is given in seconds.
+    /// The moment as the text of a date. Empty if it is given in seconds.
     pub moment: Text,
     /// Whether the request is given by its strings.
     pub is_worded: bool,

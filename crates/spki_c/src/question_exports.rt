@@ -1,4 +1,6 @@
-//! The exported functions for opened questions that a caller holds.
+//! The exported functions for opened questions that a caller holds. `spki.c` calls them. In each, `lent` is the handle of a guard
+//! or a question that the call borrows. `asked` owns one before the call, and `handle` and `back` own one after it. `alloc` and
+//! `readable` have no octets, so C passes nothing for them. For a slice C passes a pointer and the number of values.
 ghost use Rattle.std.specs.Prelude.{◌≡◌, ◌≢◌, ◌⊎◌, negsuc, None, Some, IsSome, false, length, slice_get};
 ghost use Rattle.spki_decision.specs.CertificateTests.{Signed};
 ghost use Rattle.spki_service.specs.{AccessLists.{GuardModel}, declared.{question.Question.{Question}, owned_question.OwnedQuestion.{OwnedQuestion}}};
@@ -24,14 +26,17 @@ use spki_guard::{
 };
 use std::alloc::Global;
 
-/// Reads a question for a guard, and keeps what it needs of it on the heap. The caller holds the question by the
-/// handle, which must have no question before. The strings of the request are `words` if `is_worded` of `parts` is
-/// true; `readable` has what may be read of them. The moment is the first of `seconds`, if there are any.
+/// Opens a question for the guard of `lent`, and keeps on the heap all that its answers need. The caller holds the question by
+/// `handle`, which must own nothing before. The strings of the request are `words` if `is_worded` of `parts` is true; otherwise
+/// they are not used. `readable` exists in contracts alone: it has the octets of `words`. The moment is the first of `seconds`,
+/// or that of `parts` if there are none.
 ///
-/// Returns 6 if the handle has the question. Otherwise the handle is unchanged. Returns 2 for a refusal, also if memory
-/// ran out, and 4 if the buffer is too small for its line. Returns 5 if `lent` is no guard, a request or a moment is
-/// given both ways (`Parts::is_ambiguous`), or a text is not lent whole (`Text::is_lent`). With 2 the line is at the
-/// front of the buffer. Otherwise the buffer is unchanged. `needed` is the length of the line, and 0 if there is none.
+/// Returns `DONE` (6) if the handle owns the question. Otherwise the handle is unchanged. Returns `REFUSED` (2) if the question
+/// is refused or memory ran out: the line that says so is at the front of the buffer. Returns `TOO_SMALL` (4) if the buffer is
+/// too small for that line. Returns `MISUSED` (5) if `lent` is the handle of a question, a request or a moment is given both ways
+/// (`Parts::is_ambiguous`), or a text, used or not, has octets at a null pointer or more than memory can have (`Text::is_lent`).
+/// The buffer is unchanged except with `REFUSED`. `needed` is the length of the line in octets with `REFUSED` and `TOO_SMALL`,
+/// otherwise 0.
 #[unsafe(no_mangle)]
 pub extern "C" fn spki_c_guard_ask(
     alloc: Global,
@@ -81,7 +86,7 @@ pub extern "C" fn spki_c_guard_ask(
     }
 }
 
-/// The number of signatures that a verifier must decide for this question. 0 for a guard.
+/// The number of signatures that a verifier must decide for the question of `lent`. 0 if `lent` is the handle of a guard.
 #[unsafe(no_mangle)]
 pub extern "C" fn spki_c_asked_count(lent: &mut BorrowedHandle) -> usize
     ensures count { (o : OwnedQuestion) → lent.old.content ≡ HandleValue.Question o → result ≡ length o.signed.items }
@@ -93,10 +98,11 @@ pub extern "C" fn spki_c_asked_count(lent: &mut BorrowedHandle) -> usize
     }
 }
 
-/// Sets `texts` to those of the signature at this place, from 0. They are those of the question: nothing is copied.
+/// Sets `texts` to the key, the message and the value of the signature at this place, from 0, in the question of `lent`. A caller
+/// verifies by them. They point into the question: nothing is copied.
 ///
-/// Returns 6 if they are set. Otherwise they are unchanged: returns 7 if there is no signature at this place, 8 if memory ran out, and 5
-/// if `lent` is a guard.
+/// Returns `DONE` (6) if they are set. Otherwise they are unchanged. Returns `NONE` (7) if there is no signature at this place,
+/// `NO_MEMORY` (8) if memory ran out, and `MISUSED` (5) if `lent` is the handle of a guard.
 #[unsafe(no_mangle)]
 pub extern "C" fn spki_c_asked_signature<'a>(
     alloc: Global,
@@ -125,11 +131,11 @@ pub extern "C" fn spki_c_asked_signature<'a>(
     }
 }
 
-/// Says that the signature at this place, from 0, is valid. The question of `asked` is passed to the call, which returns it by `back`. That
-/// handle must have nothing before.
+/// Marks the signature at this place, from 0, as valid: the caller says that a verifier has accepted it. The call takes the
+/// question over from `asked`, to change it, and returns it by `back`, which must own nothing before.
 ///
-/// Returns 6 if the place is marked. Otherwise what was passed is returned unchanged, with 5: there is no signature at this place, or
-/// `asked` has a guard.
+/// Returns `DONE` (6) if the place is marked. Returns `MISUSED` (5) if there is no signature at this place, or `asked` owns a
+/// guard: then `back` owns the same value, unchanged.
 #[unsafe(no_mangle)]
 pub extern "C" fn spki_c_asked_mark(
     alloc: Global,
@@ -147,7 +153,8 @@ pub extern "C" fn spki_c_asked_mark(
     if is_marked { DONE } else { MISUSED }
 }
 
-/// Whether the question is granted, if exactly the marked signatures are valid. False for a guard.
+/// Whether the question of `lent` is granted, if exactly the marked signatures are valid. False if `lent` is the handle of a
+/// guard.
 #[unsafe(no_mangle)]
 pub extern "C" fn spki_c_asked_granted(lent: &mut BorrowedHandle) -> bool
     ensures granted { (o : OwnedQuestion) (q : Question) → lent.old.content ≡ HandleValue.Question o → IsOpened o.guard q o
@@ -160,7 +167,8 @@ pub extern "C" fn spki_c_asked_granted(lent: &mut BorrowedHandle) -> bool
     }
 }
 
-/// Whether the question is granted if all of its signatures are valid. False for a guard. If it is false, no signature has to be verified.
+/// Whether the question of `lent` is granted if all of its signatures are valid. If not, no signature has to be verified: the
+/// decision is no. True grants nothing yet. False if `lent` is the handle of a guard.
 #[unsafe(no_mangle)]
 pub extern "C" fn spki_c_asked_possible(lent: &mut BorrowedHandle) -> bool
     ensures possible { (o : OwnedQuestion) (q : Question) → lent.old.content ≡ HandleValue.Question o → IsOpened o.guard q o
@@ -173,15 +181,16 @@ pub extern "C" fn spki_c_asked_possible(lent: &mut BorrowedHandle) -> bool
     }
 }
 
-/// Answers an opened question, if exactly the marked signatures are valid. Writes the answer to the front of the buffer. The numbers of
-/// the queries are those of `query_of`.
+/// Answers the opened question of `lent`, if exactly the marked signatures are valid, and writes the answer to the front of the
+/// buffer. `query` is 4 for a reduction, 5 for a decision, 6 for an explanation (`query_of`).
 ///
-/// A decision returns 9 for yes and 1 for no. An explanation or a reduction returns 6. All return 2 for a refusal, also
-/// if memory ran out, and 4 if the buffer is too small. All return 5 if no query has this number, or if `lent` is no question. `needed`
-/// is the length of the answer, and 0 with status 5. With 4 and 5 the buffer is unchanged.
+/// A decision returns `YES` (9) or `NO` (1). An explanation or a reduction returns `DONE` (6), also if no entry grants the
+/// request. All return `REFUSED` (2) for a refusal, also if memory ran out, and `TOO_SMALL` (4) if the buffer is too small for the
+/// answer. All return `MISUSED` (5) if no query has this number, or if `lent` is the handle of a guard. `needed` is the length of
+/// the answer in octets, and 0 with `MISUSED`. With `TOO_SMALL` and `MISUSED` the buffer is unchanged.
 ///
-/// With 9 `until` is the last second, since 1970-01-01 00:00:00 UTC, at which the same question is a yes by this entry. It is the highest
-/// number if no window ends. With every other status it is the lowest.
+/// With `YES`, `until` is the last second, since 1970-01-01 00:00:00 UTC, at which the same question is a yes by the entry that
+/// grants it, or `i64::MAX` if no window ends. With every other status it is `i64::MIN`.
 #[unsafe(no_mangle)]
 pub extern "C" fn spki_c_asked_answer(
     alloc: Global,

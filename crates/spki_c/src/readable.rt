@@ -15,11 +15,12 @@ pub struct TextPlace {
     pub count: usize,
 }
 
-/// The texts of an array that C passes, with the octets that may be read. They last at least as long as the call. Only contracts use them: the type
-/// has no bytes, so C passes nothing for it.
+/// What may be read of the texts of an array that C passes. It exists in contracts alone: the type has no octets, so C passes
+/// nothing for it. The texts last at least as long as the call.
 #[repr(C)]
 #[derive(Drop)]
 pub struct Readable {
+    /// The texts of the array that `next` did not return yet, with their octets.
     pub ghost texts: { List Text } by { coded_list the_row.coded },
 }
 
@@ -28,7 +29,8 @@ impl Model for Readable {
 }
 
 impl Readable {
-    /// The next text, whose pointer and count are those of `place`.
+    /// Returns the text at `place`. In contracts it must be the first of `texts`, and is removed from them: so its octets may be
+    /// read. At run time only the pointer and the count are copied.
     pub(crate) fn next(&mut self, place: TextPlace) -> Text
         requires { (t : Text) × (ts : List Text) × (self.old.texts ≡ t ∷ ts) × (place ≡ place_of t) }
         ensures { self.old.texts ≡ result ∷ self.new.texts }

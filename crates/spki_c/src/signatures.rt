@@ -24,7 +24,7 @@ pub struct SignatureTexts<'a> {
 }
 
 /// Returns the key, the message and the value of a signature as texts, and the octets of a value that is one string. If
-/// the value is a list, `octets` is empty.
+/// the value is a list, `octets` is empty and `is_string` false. Nothing is copied.
 ///
 /// # Errors
 ///
@@ -49,8 +49,8 @@ pub(crate) fn texts_of<'a>(
     })
 }
 
-/// The octets of a value in canonical form that is one string. None if it is a list, or no value. Err if memory ran
-/// out.
+/// The octets of the string, without its length prefix, if `value` is the canonical form of one string. Ok(None) if it is a list,
+/// or no canonical form within the limits. Err if memory ran out.
 fn string_of<'a>(alloc: Global, value: &'a [u8]) -> Result<Option<&'a [u8]>, AllocError>
     ensures { IfOk result (IsStringOf value.now) }
 {

@@ -35,7 +35,7 @@ pub(crate) fn place_in(node: &Node, path: &[usize]) -> Option<Place>
     }
 }
 
-/// The place of a string's octets in the string's own text, which ends with them. None for a list.
+/// The place of a string's octets in the string's own canonical text, which ends with them: in `3:abc` it is 2. None for a list.
 fn place_of_octets(node: &Node) -> Option<Place>
     ensures { MatchOption result (octets_of node.now ≡ None)
         (λ p. StandsIn (canon node.now) (octets_of node.now) p.at p.length) }
@@ -52,8 +52,8 @@ fn place_of_octets(node: &Node) -> Option<Place>
     }
 }
 
-/// The member of a list with this number, from 0, and the offset of its text in the canonical text of the list, whose opening parenthesis is at 0.
-/// That text must have at most 1,048,576 octets. None if there is no such member, or the node is a string.
+/// The member of a list with this number, from 0, and the offset of its text in the canonical text of the list, whose opening
+/// parenthesis is at 0. That text must have at most 1,048,576 octets. None if there is no such member, or the node is a string.
 fn member_of<'d, 'a>(node: &Node<'d, 'a>, number: usize) -> Option<(Node<'d, 'a>, usize)>
     requires { length (canon node.now) ≤ 1048576 }
     ensures { MatchOption result (slice_get (parts node.now) number ≡ None) (λ r. IsMember node.now number r.0 r.1) }

@@ -5,15 +5,16 @@ ghost use Rattle.spki_c.specs.Pointers.{text_owns, lent_count};
 
 use std::marker::Model;
 
-/// A text as C passes it: `struct spki_text`, or a pointer to octets and their number. The pointer may be null. The octets last at least
-/// as long as the call.
-///
-/// `octets` are those that are lent: none if the pointer is null, or if memory cannot have as many as `count`.
+/// A text as C passes it, `struct spki_text`: a pointer to octets, and the number of octets that the caller states. `is_lent`
+/// tests both. The octets last at least as long as the call. The functions take `&mut self`, and change nothing.
 #[repr(C)]
 #[derive(Drop)]
 pub struct Text {
+    /// Where the octets are. The pointer may be null.
     pub(crate) at: *const u8,
+    /// How many octets the caller states.
     pub(crate) count: usize,
+    /// The octets that are lent, for contracts: none if the pointer is null, or if memory cannot have as many as `count`.
     pub ghost octets: { List ℕ },
 }
 
@@ -37,7 +38,7 @@ impl Text {
         at.is_null()
     }
 
-    /// The octets of the text. `count` is their number, which must not be 0.
+    /// The octets of the text, for `octets`, which tests what is required here: `count` must be their number, and not 0.
     pub(crate) fn slice(&mut self, count: usize) -> &[u8]
         requires { (count ≡ length self.old.octets) × (0 < count) }
         ensures { result.now ≡ self.entry.now.octets }

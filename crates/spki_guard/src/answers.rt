@@ -19,9 +19,9 @@ use spki_tag::Tag;
 pub enum Verdict {
     /// Yes, or the output is what the command is for.
     Done,
-    /// No.
+    /// The decision is no, a certificate fails a test, or no entry becomes an authorization or grants the request.
     No,
-    /// The text or its contents are refused.
+    /// The text or its contents are refused, or memory ran out.
     Refused,
 }
 
@@ -32,7 +32,7 @@ pub(crate) enum Answer<'o> {
     Yes(usize),
     /// No entry grants it.
     No,
-    /// What was asked for, which is no decision.
+    /// What was asked for, which is no decision. Its verdict may be `Verdict::No`, as `Output::verdict` says.
     Done(Output<'o>),
     /// The text or the question is refused.
     Refused(Refusal),
@@ -45,11 +45,11 @@ pub(crate) enum Output<'o> {
     Octets(&'o [u8]),
     /// Octets and a line feed.
     Line(&'o [u8]),
-    /// Octets that were made, and a line feed.
+    /// Octets that the answer owns, and a line feed.
     Made(Vec<u8>),
     /// A tag in advanced form and a line feed.
     Tag(Tag),
-    /// The line for a certificate that fails a test.
+    /// The line `item J STOP` for a certificate that fails a test.
     Item {
         /// The number of its item, from 1.
         item: usize,
@@ -149,7 +149,7 @@ pub(crate) fn print_answer<S: Sink>(answer: &Answer, sink: &mut S)
     }
 }
 
-/// Prints an output.
+/// Prints all octets of an answer that is no decision.
 fn print_output<S: Sink>(output: &Output, sink: &mut S)
     ensures { (octets : List ℕ) × PrintsOutput output.now octets × S.takes sink.old octets sink.new }
 {
@@ -181,8 +181,9 @@ fn print_tag_line<S: Sink>(tag: &Tag, sink: &mut S)
     sink.put_octet(b'\n');
 }
 
-/// Counts the octets of an answer as it is printed, and returns their number plus `more`. None if the sum is over the greatest `u64`, which no memory
-/// holds. `more` must be over 0, so that a counter that has stopped there also gives None.
+/// Prints an answer into a counter, and returns the number of its octets plus `more`. `send` of `runs.rt` needs the sum before
+/// the answer is written: it is the largest number of calls of the writer. None if the sum is over the greatest `u64`, which no
+/// memory holds. `more` must be over 0, so that a counter that has stopped there also gives None.
 pub(crate) fn count_with(answer: &Answer, more: u64) -> Option<u64>
     requires { 0 < more }
     ensures { IfSome result (λ n. (octets : List ℕ) → Prints answer.now octets → n ≡ length octets + more) }

@@ -8,9 +8,13 @@ use spki_decision::GuardFault;
 
 /// Counts octets, and appends them to a vector as long as their number is at most `most`. With one more it is full.
 pub(crate) struct CappedSink<'v> {
+    /// What the octets are appended to.
     octets: &'v mut Vec<u8>,
+    /// Counts all octets that are put, appended or not.
     counter: Counter,
+    /// The most octets that are appended.
     most: usize,
+    /// Whether memory ran out.
     failed: bool,
 }
 
@@ -35,8 +39,8 @@ impl<'v> CappedSink<'v> {
     ///
     /// # Errors
     ///
-    /// `TooLarge` if more octets were put: the vector lacks some. `Memory` if memory ran out, whatever was put, or if the count has stopped at the
-    /// greatest `u64`: no memory holds so many.
+    /// `TooLarge` if more than `most` octets were put: the vector lacks some of them. `Memory` if memory ran out, however many were
+    /// put, or if the count has stopped at the greatest `u64`: no memory holds so many.
     pub(crate) fn end(self) -> Result<(), GuardFault>
         ensures kept { self.exit.0.now.items ≡ kept_by self.entry }
         ensures ok { OnOk result ((has_failed self.entry ≡ false)

@@ -36,7 +36,8 @@ pub fn answer_text(alloc: Global, command: Command, text: &[u8]) -> Printed
     printed
 }
 
-/// Answers a command from what `source_of` returned for it. Nothing is printed yet.
+/// Answers a command from what `source_of` returned for it: an Err is answered as a refusal. Nothing is printed yet. The answer
+/// borrows from `source`.
 pub(crate) fn answer_source<'s, 't: 's>(
     alloc: Global,
     command: Command,
@@ -75,8 +76,9 @@ fn try_answer<'s, 't: 's>(
     }
 }
 
-/// The answer of a command to a value. `octets` are its text in the form that the command needs (`form_of`). The command must not be for a case, so
-/// `unreachable!()` is not reached. Err says why the value is refused, or that memory ran out.
+/// The answer of `canonical`, `advanced`, `transport` or `intersect` to a value. `octets` are its text in the form that the command
+/// needs (`form_of`). The command must not be one for a case, so `unreachable!()` is not reached. Err says why the value is
+/// refused, or that memory ran out.
 fn answer_octets<'o>(
     alloc: Global,
     command: Command,
@@ -97,8 +99,8 @@ fn answer_octets<'o>(
     }
 }
 
-/// The answer of `reduce`, `check` or `explain` to the text of a case, which `short_text` returned. Err says why the text is refused, or that
-/// memory ran out.
+/// The answer of `reduce`, `check` or `explain` to the text of a case, which `short_text` returned. Err says why the text is
+/// refused, or that memory ran out.
 fn answer_query<'s>(
     alloc: Global,
     query: Query,

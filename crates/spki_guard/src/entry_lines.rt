@@ -9,7 +9,7 @@ use sexpr_text::Sink;
 use spki_decision::{Reason, Stop};
 use spki_reduce::Cause;
 
-/// The word for a cause in a line: the name of its variant.
+/// The word in a line for why a certificate does not join what is before it: the name of the cause's variant.
 fn cause_name(cause: Cause) -> &'static str
     ensures { result.now ≡ cause_name cause }
 {
@@ -34,7 +34,8 @@ fn stop_name(stop: Stop) -> &'static str
     }
 }
 
-/// Prints `item J STOP` and a line feed; `item` is counted from 1.
+/// Prints the line `item J STOP` and its line feed: the certificate that is item J of the sequence fails a test. `item` is J, counted
+/// from 1.
 #[tactic(auto, using(crate::proofs::ReportLines::decimal_written))]
 pub(crate) fn print_item<S: Sink>(item: usize, stop: Stop, sink: &mut S)
     ensures { S.takes sink.old (item_line item stop) sink.new }
@@ -43,7 +44,8 @@ pub(crate) fn print_item<S: Sink>(item: usize, stop: Stop, sink: &mut S)
     print_line("item", &[digits.format(item), stop_name(stop)], sink);
 }
 
-/// Prints `entry N` and a space; `entry` is counted from 1.
+/// Prints `entry N` and a space: the beginning of a line, behind which the entry's authorization is printed. `entry` is N, counted
+/// from 1.
 #[tactic(auto, using(crate::proofs::ReportLines::decimal_written))]
 pub(crate) fn print_entry<S: Sink>(entry: usize, sink: &mut S)
     ensures { S.takes sink.old (codes "entry " ++ (decimal entry ++ 32 ∷ [])) sink.new }
@@ -54,7 +56,8 @@ pub(crate) fn print_entry<S: Sink>(entry: usize, sink: &mut S)
     sink.put_octet(b' ');
 }
 
-/// Prints `entry N item J CAUSE` and a line feed; both are counted from 1.
+/// Prints the line `entry N item J CAUSE` and its line feed: the certificate that is item J of the sequence does not join what entry N
+/// and the certificates before it became. Both numbers are counted from 1.
 #[tactic(auto, using(crate::proofs::ReportLines::decimal_written))]
 pub(crate) fn print_stopped<S: Sink>(entry: usize, item: usize, cause: Cause, sink: &mut S)
     ensures { S.takes sink.old (stopped_line entry item cause) sink.new }
@@ -70,7 +73,8 @@ pub(crate) fn print_stopped<S: Sink>(entry: usize, item: usize, cause: Cause, si
     print_line("entry", &words, sink);
 }
 
-/// Prints `entry N WORD` and a line feed; `entry` is counted from 1.
+/// Prints the whole line `entry N WORD` and its line feed, such as `entry 2 grants`, for a reason that is one word. `entry` is N,
+/// counted from 1.
 #[tactic(auto, using(crate::proofs::ReportLines::decimal_written))]
 fn print_word<S: Sink>(entry: usize, word: &str, sink: &mut S)
     ensures { S.takes sink.old (entry_line entry (word.now ∷ [])) sink.new }

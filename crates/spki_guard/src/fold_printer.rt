@@ -13,14 +13,19 @@ use spki_decision::{EntryFold, GuardFault};
 use spki_service::FoldSink;
 use std::alloc::{AllocError, Global};
 
-/// Prints a line for what each entry becomes. `room` is how many octets it may still keep. If a line has more, `is_long` is true, and no more lines
-/// are printed.
+/// Prints a line for what each entry becomes, as soon as `PreparedQuestion::reduce_into` puts it. If a line has more octets than
+/// there is room for, no more lines are printed.
 #[derive(Drop)]
 pub(crate) struct FoldPrinter {
+    /// The lines so far. If `is_long` is true, the last may be incomplete, and they are not used.
     lines: Vec<u8>,
+    /// How many more octets the lines may have. It does not matter if `is_long` is true.
     room: usize,
+    /// Whether the lines of the entries so far have more octets than the answer may have.
     is_long: bool,
+    /// Whether some entry so far became an authorization.
     some_done: bool,
+    /// The number of the last entry that was put, from 1, which is also how many were put. 0 before the first.
     count: usize,
 }
 
@@ -44,7 +49,7 @@ impl FoldPrinter {
     ///
     /// # Errors
     ///
-    /// `TooLarge` if it has more. `Memory` if memory ran out.
+    /// `TooLarge` if the answer has more octets than `most`. `Memory` if memory ran out.
     pub(crate) fn end(self, alloc: Global, most: usize) -> Result<Printed, GuardFault>
         ensures report { (folds : List EntryFold) → HasPrinted most folds self
             → IfOk result (λ a. ReportsFolds folds a.verdict (written_by a) × (length (written_by a) ≤ most)) }
@@ -67,8 +72,9 @@ impl FoldPrinter {
 impl<'a> FoldSink<'a> for FoldPrinter {
     ghost takes = { PrintsFolds };
 
-    /// Prints the line of the entry. Once the lines are too long, none is printed, and `end` refuses them; `prove_line` is then a fact for the prover
-    /// that there is a line. Err if memory ran out.
+    /// Prints the line of the entry. Entries are put in order, from 1 and without gaps, so `entry` is also how many were put. Once the
+    /// lines are too long, none is printed, and `end` refuses them; `prove_line` is then a fact for the prover, and does nothing. Err
+    /// if memory ran out.
     fn put(&mut self, alloc: Global, entry: usize, fold: EntryFold<'a>) -> Result<(), AllocError> {
         self.count = entry;
         self.some_done = self.some_done || is_done(&fold);
@@ -90,8 +96,8 @@ impl<'a> FoldSink<'a> for FoldPrinter {
     ghost nothing = { nothing_printed };
 }
 
-/// Appends the line of an entry, which is counted from 1, to `lines`, and returns how many octets there is room for
-/// then. `room` is how many there is room for before it.
+/// Appends the line of an entry, which is counted from 1, to `lines`. `room` is how many octets the line may have. Returns how
+/// many of them are left for the lines after it.
 ///
 /// # Errors
 ///

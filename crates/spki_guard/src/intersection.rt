@@ -47,14 +47,16 @@ impl From<MeetFault> for IntersectFault {
     }
 }
 
-/// The two values that are to be intersected.
+/// The two values that are to be intersected. They are not yet read as tags.
 #[derive(Drop)]
 struct Operands<'d, 'a> {
+    /// A of `(intersect A B)`.
     first: Node<'d, 'a>,
+    /// B of `(intersect A B)`.
     second: Node<'d, 'a>,
 }
 
-/// The two members of a list. None if there are not exactly two.
+/// The two values of `members`, which are those behind the word `intersect`. None if there are not exactly two.
 fn two<'d, 'a>(members: Members<'d, 'a>) -> Option<Operands<'d, 'a>>
     ensures { MatchOption result ((a b : Value) → members.entry ≢ a ∷ b ∷ [])
         (λ p. members.entry ≡ p.first ∷ p.second ∷ []) }
@@ -96,8 +98,8 @@ fn fault_of_second(fault: TagFault) -> IntersectFault
     }
 }
 
-/// Returns the intersection of the tags A and B of `(intersect A B)`. The faults are those of `intersect`, without
-/// `Form`.
+/// Returns the intersection of the tags A and B of the value `(intersect A B)`. Err is `Shape`, `First`, `Second` or `TooLarge`, as
+/// for `intersect` and tested in this order, or `Memory`.
 fn meet_in(alloc: Global, node: &Node) -> Result<Tag, IntersectFault>
     ensures read { IfOk result (λ tag. Intersects node.now tag) }
     ensures refused { IfErr result (λ fault. fault ≢ IntersectFault.Memory → ValueNotMet node.now fault) }

@@ -1,4 +1,6 @@
-//! Laws of the answers to a text, and to a question that is asked of a guard.
+//! Laws of the answers to a text, and to a question that is asked of a guard: the contracts of `answer_text`, `run`, `open_question`
+//! and `answer_opened` say that the answer is one that the specification allows, and by these laws it allows no other
+//! unless memory ran out.
 //! Each function is a law: it does nothing, and its contract is the fact.
 
 ghost use Rattle.std.specs.Prelude.{◌≡◌, ◌≢◌, ℕ, List, Bool};
@@ -11,8 +13,7 @@ ghost use Rattle.spki_decision.specs.declared.fault.GuardFault.TheVariants as gu
 ghost use Rattle.spki_guard.specs.declared.refusals.Refusal.TheVariants as refusals;
 ghost use Rattle.spki_guard.specs.declared.intersection.IntersectFault.TheVariants as intersect;
 
-/// A text has one answer of a command, unless memory ran out. It has at most one output and verdict and no refusal, or one refusal,
-/// and so one line.
+/// A command has at most one answer to a text, unless memory ran out: one output with its verdict, or one refusal, and not both.
 pub fn one_line()
     ensures same { (command : Command) (text : List ℕ) (x y : Verdict) (output line : List ℕ)
         → AnswersRead command text x output → AnswersRead command text y line → (x ≡ y) × (output ≡ line) }
@@ -23,7 +24,8 @@ pub fn one_line()
         → refusal ≢ refusals.Memory → other ≢ refusals.Memory → refusal ≡ other }
 {}
 
-/// A text that is refused as `TooLarge` is refused for nothing else, unless memory ran out.
+/// A text that is refused as `TooLarge` is refused for nothing else, unless memory ran out. `chain` is the law for a case, and
+/// `product` that for `(intersect A B)`.
 pub fn one_too_large()
     ensures chain { (command : Command) (text : List ℕ) (refusal : Refusal)
         → RefusesAnswer command text (refusals.Decision guard.TooLarge)

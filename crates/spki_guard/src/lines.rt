@@ -8,7 +8,7 @@ use sexpr_text::Sink;
 /// The line for a refusal because memory ran out.
 pub(crate) const REFUSED_MEMORY: &[u8] = b"refused Memory\n";
 
-/// Prints a line of `first` and then `words`.
+/// Prints a line of `first` and then `words`, with a space before each of them, and the line feed.
 pub(crate) fn print_line<S: Sink>(first: &str, words: &[&str], sink: &mut S)
     ensures { S.takes sink.old (line (first.now ∷ map (λ word. word.now) words.now)) sink.new }
 {

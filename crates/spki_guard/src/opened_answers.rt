@@ -18,7 +18,8 @@ use std::alloc::Global;
 pub struct OpenedAnswer {
     /// The line or lines, with their verdict.
     pub answer: Printed,
-    /// What is granted, and until when, for a decision that is a yes. None for each other one, and for an explanation or a reduction.
+    /// The entry that grants the request, and until when, for a decision that is a yes, also if memory ran out for its line. None for
+    /// every other decision, and for an explanation or a reduction.
     pub grant: Option<Grant>,
 }
 
@@ -26,10 +27,10 @@ pub struct OpenedAnswer {
 ///
 /// # Errors
 ///
-/// The line is `refused question TooLong` exactly if the question's parts together have more octets than the guard's limit. Otherwise it
-/// names the first part that has no reading, and its fault, such as `refused sequence Bad 5`; the word for the moment is `at`. If all parts
-/// have a reading, it is `refused question TooManyCertificates` or then `refused question TooManyWords` if they exceed the guard's limits. If
-/// memory ran out, the line is `refused Memory`.
+/// The line is `refused question TooLong` exactly if the question's parts together have more octets than the guard's limit. Otherwise
+/// it names the first part that has no reading, and its fault, such as `refused sequence Bad 5`; the word for the moment is `at`. If
+/// all parts have a reading, it is `refused question TooManyCertificates` or then `refused question TooManyWords` if they exceed the
+/// guard's limits. If memory ran out, the line is `refused Memory`.
 pub fn open_question(
     alloc: Global,
     guard: &SharedGuard,
@@ -45,9 +46,9 @@ pub fn open_question(
     }
 }
 
-/// Answers a question that was opened for a guard, by its marks, whatever became of the texts that it was read from (RFC 2693, section 6). The
-/// lines are those that `run` writes for the case of the guard's list and the question's parts. A decision reads nothing again. An
-/// explanation and a reduction read the parts again, from the texts that were kept.
+/// Answers a question that was opened for a guard, by its marks (RFC 2693, section 6). The texts that it was read from may have
+/// changed or be freed. The lines are those that `run` writes for the case of the guard's list and the question's parts. A decision
+/// reads nothing again. An explanation and a reduction read the parts again, from the texts that the question owns.
 ///
 /// `refused TooLarge` is an answer of `Explain` and `Reduce` alone: an intersection exceeds the guard's limit of nodes, all intersections
 /// together its limit of work, or the lines its limit of octets. If memory ran out, the line is `refused Memory`.
@@ -64,22 +65,23 @@ pub fn answer_opened(alloc: Global, query: Query, opened: &OwnedQuestion) -> Ope
     }
 }
 
-/// Whether a question that was opened is granted by its marks. Nothing is allocated.
+/// Whether a question that was opened is granted, if exactly the marked signatures are valid. Nothing is allocated.
 pub fn is_granted(opened: &OwnedQuestion) -> bool
     ensures { (q : Question) → IsOpened opened.now.guard q opened.now → GrantsHeld opened.now.guard q opened.now.marks.items result }
 {
     opened.decide_by().is_yes()
 }
 
-/// Whether a question that was opened is granted if all listed signatures are valid. If it is not, no signature has to be verified. True is not yet a
-/// yes.
+/// Whether a question that was opened is granted if all listed signatures are valid. If it is not, the decision is no, and no
+/// signature has to be verified. True is not yet a yes.
 pub fn is_possible(opened: &OwnedQuestion) -> bool
     ensures { (q : Question) → IsOpened opened.now.guard q opened.now → MayGrant opened.now.guard q result }
 {
     opened.is_possible()
 }
 
-/// The line of the decision of a question that was opened, or `refused Memory`, and what is granted.
+/// The line of the decision of a question that was opened, or `refused Memory` if memory runs out for the line, and the grant: None
+/// if the decision is no.
 fn decide_opened(alloc: Global, opened: &OwnedQuestion) -> OpenedAnswer
     ensures answer { (q : Question) → IsOpened opened.now.guard q opened.now
         → IsAnswerHeld Query.Decide opened.now.guard q opened.now.marks.items result.answer.verdict (written_by result.answer) }
@@ -91,15 +93,15 @@ fn decide_opened(alloc: Global, opened: &OwnedQuestion) -> OpenedAnswer
     OpenedAnswer { answer, grant }
 }
 
-/// The line of the decision with this grant, or `refused Memory`.
+/// The line of the decision with this grant: `yes entry N`, or `no` for None. If memory runs out, it is `refused Memory`.
 fn print_grant(alloc: Global, grant: &Option<Grant>) -> Printed
     ensures { IsLineOf (decision_of grant.now) result.verdict (written_by result) ⊎ RefusesForMemory result.verdict (written_by result) }
 {
     Printed::of(alloc, &answer_of_decision(Grant::decision(*grant)))
 }
 
-/// Reads a question again that was opened, and answers it as `answer_asked` does. If memory runs out, the answer is
-/// `refused Memory`.
+/// Explains or reduces a question that was opened: reads its parts again, of which the question owns only the texts, and answers as
+/// `answer_asked` does. If memory runs out, the answer is `refused Memory`.
 fn answer_again(alloc: Global, query: Query, opened: &OwnedQuestion) -> Printed
     ensures { (q : Question) → IsOpened opened.now.guard q opened.now
         → IsAnswerHeld query opened.now.guard q opened.now.marks.items result.verdict (written_by result) }
@@ -114,7 +116,7 @@ fn answer_again(alloc: Global, query: Query, opened: &OwnedQuestion) -> Printed
     }
 }
 
-/// The result with an answer that is no decision, so it has no grant.
+/// The result with an answer to an explanation or a reduction. No grant belongs to it.
 fn without_grant(answer: Printed) -> OpenedAnswer
     ensures { (result.answer ≡ answer) × (result.grant ≡ None) }
 {

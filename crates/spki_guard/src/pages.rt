@@ -11,9 +11,13 @@ use std::io::Write;
 /// Writes octets to a writer, in pages of at most 4,096 octets, and allocates nothing. A piece that is longer is written alone.
 /// After a write that failed it writes no more octets.
 pub(crate) struct PageSink<'w, W> {
+    /// Where full pages are written.
     writer: &'w mut Metered<W>,
+    /// Octets that were put and are not written yet.
     page: ArrayVec<u8, 4096>,
+    /// The most calls of the writer. Its meter counts them.
     most: u64,
+    /// Whether a write failed.
     failed: bool,
 }
 
@@ -80,8 +84,8 @@ impl<'w, W: Write> PageSink<'w, W> {
         self.page.clear();
     }
 
-    /// Takes octets when the page is empty, as it must be: keeps them in the page, or writes them if they are more than 4,096. A failure is noted for
-    /// `end`.
+    /// Takes octets when the page is empty, as it must be: keeps them in the page, or writes them if they are more than 4,096. A
+    /// failure is noted for `end`.
     fn take_on_empty_page(&mut self, octets: &[u8])
         requires { page_of self.old ≡ [] }
         ensures { PageTakes W.contents self.old octets.now self.new }

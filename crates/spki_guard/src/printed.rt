@@ -30,7 +30,7 @@ impl Printed {
         }
     }
 
-    /// Prints an answer. If memory runs out, it is `refused Memory`.
+    /// Prints an answer, whatever its length. If memory runs out, the result is the refusal `refused Memory` in its place.
     pub(crate) fn of(alloc: Global, answer: &Answer) -> Printed
         ensures { ((result.verdict ≡ answer_verdict answer.now) × Prints answer.now (written_by result))
             ⊎ RefusesForMemory result.verdict (written_by result) }
@@ -44,7 +44,7 @@ impl Printed {
         }
     }
 
-    /// Prints an answer. Err if memory ran out.
+    /// Prints an answer, whatever its length. Err if memory ran out: unlike `of`, it leaves that to the caller.
     pub(crate) fn whole(alloc: Global, answer: &Answer) -> Result<Printed, AllocError>
         ensures verdict { IfOk result (λ a. a.verdict ≡ answer_verdict answer.now) }
         ensures octets { IfOk result (λ a. Prints answer.now (written_by a)) }

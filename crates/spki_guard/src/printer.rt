@@ -52,7 +52,7 @@ fn print_principal<S: Sink>(principal: &Principal, sink: &mut S)
     }
 }
 
-/// Prints the principal of a subject alone, or `(name PRINCIPAL N N ..)` if there are names.
+/// Prints a subject: its principal alone if it has no names, otherwise `(name PRINCIPAL N N ..)`.
 fn print_named<S: Sink>(subject: &Subject, sink: &mut S)
     ensures { (s : Value) × IsWrittenSubject subject.now.principal subject.now.names s × S.takes sink.old (adv s) sink.new }
 {
@@ -105,7 +105,7 @@ fn print_tag_part<S: Sink>(tag: &Tag, sink: &mut S)
     sink.put_octet(b')');
 }
 
-/// Prints a space and `(WORD DATE)`, or nothing if there is no limit.
+/// Prints a space and `(WORD DATE)`, where WORD is `not-before` or `not-after`, or nothing if there is no limit.
 fn print_date<S: Sink>(word: &[u8], limit: Option<Date>, sink: &mut S)
     ensures { S.takes sink.old (adv_all 1 (values (limit_values word.now limit))) sink.new }
 {
@@ -131,7 +131,9 @@ fn print_window<S: Sink>(window: &Window, sink: &mut S)
     sink.put_octet(b')');
 }
 
-/// Prints an authorization as `(five ..)`, as `Five::write` writes it.
+/// Prints an authorization as `(five (issuer K) (subject S) (propagate) (tag T) (valid ..))`: without the issuer for the owner of the
+/// access list, without `(propagate)` if it may not be delegated, and without `(valid ..)` if its window has no limit. It is the
+/// advanced form of what `Five::write` writes.
 pub fn print_five<S: Sink>(five: &Five, sink: &mut S)
     ensures { (v : Value) × IsWrittenFive five.now v × S.takes sink.old (adv v) sink.new }
 {

@@ -12,8 +12,9 @@ use std::alloc::Global;
 use std::io;
 use std::io::{ErrorKind, Read, Write};
 
-/// Does what the words of a command line ask for, and returns the exit status, that of `Status::code` or of `WordsFault::code`. `words` is the result
-/// of reading them from the system. The first word is the program's name.
+/// Does what the words of a command line ask for, and returns the exit status, that of `Status::code` or of `WordsFault::code`: 0 for
+/// done or help, 1 for no, 2 for a refusal, 3 if reading or writing failed. `words` is the result of reading them from the system.
+/// The first word is the program's name.
 ///
 /// If the words ask for a command, it is run: it reads from the reader, and its answer goes to the writer. If the run
 /// is cut off, the reason goes to `errors`. If the words ask for help or for no command, the text of `clap` goes to
@@ -50,8 +51,8 @@ fn requested_command(alloc: Global, words: &io::Result<Vec<String>>) -> Result<C
     }
 }
 
-/// The fault for an error of reading the words from the system: `Refused` with a message if they are not UTF-8. Any other error is the fault
-/// `Memory`.
+/// The fault for an error of reading the words from the system: `Refused` with a message if they are not UTF-8. Any other error is
+/// the fault `Memory`.
 fn unread_words_fault(alloc: Global, error: &io::Error) -> WordsFault
     ensures { AreUnreadWords (error_kind error.now) result }
 {
@@ -72,7 +73,7 @@ fn not_utf8_fault(alloc: Global) -> WordsFault
     }
 }
 
-/// Runs a command, reports to `errors` a reader or writer that failed, and returns the exit status.
+/// Runs a command, reports to `errors` if the reader or the writer failed, and returns the exit status: that of `Status::code`.
 fn run_command<R: Read, W: Write, E: Write>(
     alloc: Global,
     command: Command,
@@ -115,8 +116,8 @@ fn report_words_fault<R: Read, W: Write, E: Write>(
     fault.code()
 }
 
-/// Writes the help, or why the words are refused, to `errors`. If memory ran out, writes `refused Memory` to `writer` alone: this line is the answer
-/// of every command for which memory ran out, and answers go there. Both meters are reset first.
+/// Writes the help, or why the words are refused, to `errors`. If memory ran out, writes `refused Memory` to `writer` alone: this line
+/// is the answer of every command for which memory ran out, and answers go there. Both meters are reset first.
 fn write_words_fault<W: Write, E: Write>(
     fault: &WordsFault,
     writer: &mut Metered<W>,
@@ -136,8 +137,8 @@ fn write_words_fault<W: Write, E: Write>(
     }
 }
 
-/// Resets the writer's meter, writes octets, and flushes the writer. If the writer fails, a beginning of them is written, which may be none or all
-/// of them, and the failure is ignored.
+/// Resets the writer's meter, writes octets, and flushes the writer. If the writer fails, a beginning of the octets is written, which
+/// may be none or all of them, and the failure is ignored.
 fn say<W: Write>(writer: &mut Metered<W>, octets: &[u8])
     ensures { IsSaid W.contents writer.old writer.new octets.now }
 {

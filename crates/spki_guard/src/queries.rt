@@ -15,7 +15,7 @@ pub enum Query {
     Reduce,
 }
 
-/// What a command asks of a case. None for a command that does not read a case.
+/// What a command asks of a case: `check` asks for a decision. None for a command that does not read a case.
 pub(crate) fn query_of(command: Command) -> Option<Query>
     ensures { MatchOption result (IsOnCase command → ⊥) (λ query. command ≡ command_of query) }
 {

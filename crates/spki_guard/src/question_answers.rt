@@ -21,8 +21,8 @@ pub fn refused_list(alloc: Global, fault: AclFault) -> Printed
     Printed::of(alloc, &Answer::Refused(Refusal::List(fault)))
 }
 
-/// The answer to a question that was read: the lines of `query`, `refused TooLarge` or `refused Memory`. Exactly the marked signatures are
-/// valid.
+/// The answer to a question whose parts were read: the lines of `query`, `refused TooLarge` or `refused Memory`. Exactly the marked
+/// signatures are valid. `answer_opened` calls this for explanations and reductions alone: it decides without reading the parts.
 pub(crate) fn answer_asked(alloc: Global, query: Query, read: &PreparedQuestion) -> Printed
     ensures { AnswersAsked query read.now result.verdict (written_by result) ⊎ RefusesForMemory result.verdict (written_by result) }
 {
@@ -32,8 +32,8 @@ pub(crate) fn answer_asked(alloc: Global, query: Query, read: &PreparedQuestion)
     }
 }
 
-/// The lines of `query` for a question that was read. Err is `TooLarge` if an intersection, all of them or the lines exceed the guard's
-/// limits, which a decision never does, or `Memory`.
+/// The lines of `query` for a question whose parts were read. Err is `TooLarge` if an intersection exceeds the guard's limit of nodes,
+/// all of them together its limit of work, or the lines its limit of octets, or `Memory`. A decision is never `TooLarge`.
 fn answer_query(alloc: Global, query: Query, read: &PreparedQuestion) -> Result<Printed, GuardFault>
     ensures written { IfOk result (λ a. WritesAsked query read.now a.verdict (written_by a)) }
     ensures large { IsErrOf result GuardFault.TooLarge → IsTooLargeFor query read.now }
@@ -45,7 +45,7 @@ fn answer_query(alloc: Global, query: Query, read: &PreparedQuestion) -> Result<
     }
 }
 
-/// The line of the decision: `yes entry N` or `no`. Err if memory ran out.
+/// The line of the decision by the marks: `yes entry N` or `no`. Err if memory ran out.
 fn decided(alloc: Global, read: &PreparedQuestion) -> Result<Printed, AllocError>
     ensures { IfOk result (λ a. WritesAsked Query.Decide read.now a.verdict (written_by a)) }
 {
@@ -53,8 +53,7 @@ fn decided(alloc: Global, read: &PreparedQuestion) -> Result<Printed, AllocError
     Ok(Printed::whole(alloc, &answer_of_decision(decision))?)
 }
 
-/// The lines of the explanation. Err is `TooLarge` if they, an intersection or all of them together exceed the guard's
-/// limits, or `Memory`.
+/// The lines of the explanation by the marks. Err is `TooLarge`, as `answer_query` says, or `Memory`.
 fn explained(alloc: Global, read: &PreparedQuestion) -> Result<Printed, GuardFault>
     ensures written { IfOk result (λ a. WritesAsked Query.Explain read.now a.verdict (written_by a)) }
     ensures large { IsErrOf result GuardFault.TooLarge → IsTooLargeFor Query.Explain read.now }
@@ -64,8 +63,8 @@ fn explained(alloc: Global, read: &PreparedQuestion) -> Result<Printed, GuardFau
     Printed::within(alloc, &answer, read.most_answer())
 }
 
-/// The lines of the reduction. Err is `TooLarge` if they, an intersection or all of them together exceed the guard's
-/// limits, or `Memory`.
+/// The lines of the reduction by the marks, or the one line of the first certificate that fails a test: then nothing was put into
+/// the printer. Err is `TooLarge`, as `answer_query` says, or `Memory`.
 fn reduced(alloc: Global, read: &PreparedQuestion) -> Result<Printed, GuardFault>
     ensures written { IfOk result (λ a. WritesAsked Query.Reduce read.now a.verdict (written_by a)) }
     ensures large { IsErrOf result GuardFault.TooLarge → IsTooLargeFor Query.Reduce read.now }
@@ -80,8 +79,8 @@ fn reduced(alloc: Global, read: &PreparedQuestion) -> Result<Printed, GuardFault
     }
 }
 
-/// Returns the refusal of a question that is not read: the line of the fault, as `open_question` writes it. If memory ran out, also for the
-/// line, it is `refused Memory`.
+/// Returns the refusal of a question that is not read: the line of the fault, such as `refused key Shape`. `open_question` says which
+/// there are. If memory ran out, also for the line, it is `refused Memory`.
 pub fn refused_question(alloc: Global, fault: AskFault) -> Printed
     ensures verdict { result.verdict ≡ Verdict.Refused }
     ensures line { (written_by result ≡ refused_question fault) ⊎ (written_by result ≡ refused_memory) }

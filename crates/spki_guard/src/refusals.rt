@@ -18,13 +18,13 @@ use std::alloc::AllocError;
 /// Why a text, an access list or a question is refused.
 #[derive(Clone, Copy)]
 pub(crate) enum Refusal {
-    /// It has no value within the limits.
+    /// The text has no value within the limits.
     Form(FormFault),
-    /// It has no intersection.
+    /// The text has no intersection.
     Intersect(IntersectFault),
-    /// It is no case.
+    /// The text is no case.
     Case(CaseFault),
-    /// Its case is not decided.
+    /// The case or the question was read, and is not answered.
     Decision(GuardFault),
     /// The separate accepted list is refused.
     Rows(RowsFault),
@@ -143,7 +143,7 @@ pub(crate) fn print_refusal<S: Sink>(refusal: Refusal, sink: &mut S)
     }
 }
 
-/// Prints `refused`, these words and a line feed.
+/// Prints a line of `refused` and these words, such as `refused case Shape`, and its line feed.
 fn print_refused<S: Sink>(why: &[&str], sink: &mut S)
     ensures { S.takes sink.old (refused (map (λ word. word.now) why.now)) sink.new }
 {
@@ -151,7 +151,7 @@ fn print_refused<S: Sink>(why: &[&str], sink: &mut S)
 }
 
 /// Prints `refused TEXT KIND`, or `refused TEXT KIND OFFSET` for `Bad` and `Trailing`; `text` is the word for the text
-/// that has the fault.
+/// that has the fault, such as `form` or `rows`. For `Memory` it prints `refused Memory`.
 fn print_text_fault<S: Sink>(text: &str, fault: FormFault, sink: &mut S)
     ensures { S.takes sink.old (refused_text text.now fault) sink.new }
 {
@@ -165,7 +165,7 @@ fn print_text_fault<S: Sink>(text: &str, fault: FormFault, sink: &mut S)
     }
 }
 
-/// Prints `refused TEXT KIND AT`; `at` is an offset in the text, from 0.
+/// Prints `refused TEXT KIND AT`; `at` is the offset of the octet that is refused, from 0 in the text.
 #[tactic(auto, using(crate::proofs::ReportLines::decimal_written))]
 fn print_refused_at<S: Sink>(text: &str, kind: &str, at: usize, sink: &mut S)
     ensures { S.takes sink.old (refused_at text.now kind.now at) sink.new }
@@ -174,7 +174,7 @@ fn print_refused_at<S: Sink>(text: &str, kind: &str, at: usize, sink: &mut S)
     print_refused(&[text, kind, digits.format(at)], sink);
 }
 
-/// Prints `refused PART N KIND`; `item` is N, counted from 1, or 0 for the whole part.
+/// Prints `refused PART N KIND`, such as `refused acl 2 BadDate`; `item` is N, counted from 1, or 0 for the whole part.
 #[tactic(auto, using(crate::proofs::ReportLines::decimal_written))]
 fn print_refused_item<S: Sink>(part: &str, item: usize, kind: &str, sink: &mut S)
     ensures { S.takes sink.old (refused_item part.now item kind.now) sink.new }
@@ -183,7 +183,7 @@ fn print_refused_item<S: Sink>(part: &str, item: usize, kind: &str, sink: &mut S
     print_refused(&[part, digits.format(item), kind], sink);
 }
 
-/// Prints `refused PART N Tag KIND`, for a tag in item N; `item` is counted from 1.
+/// Prints `refused PART N Tag KIND`, for a fault of a tag in item N; `item` is N, counted from 1.
 #[tactic(auto, using(crate::proofs::ReportLines::decimal_written))]
 fn print_refused_tag<S: Sink>(part: &str, item: usize, kind: &str, sink: &mut S)
     ensures { S.takes sink.old (refused_tag part.now item kind.now) sink.new }
@@ -192,8 +192,9 @@ fn print_refused_tag<S: Sink>(part: &str, item: usize, kind: &str, sink: &mut S)
     print_refused(&[part, digits.format(item), "Tag", kind], sink);
 }
 
-/// Prints the line of a fault in an access list, accepted list or sequence: `refused PART N KIND`, `refused PART N Tag KIND` for a tag, or `refused
-/// Memory`. N is the number of the entry, row or item, from 1, or 0 for the whole list.
+/// Prints the line of a fault in an access list, accepted list or sequence: `refused PART N KIND`, `refused PART N Tag KIND` for a
+/// tag, or `refused Memory`. N is the number of the entry, row or item, from 1, or 0 for the whole list. `part` is the word for the
+/// list, such as `acl`.
 fn print_item_fault<S: Sink>(part: &str, fault: CertFault, sink: &mut S)
     ensures { S.takes sink.old (refused_in part.now fault.item fault.kind) sink.new }
 {
@@ -233,7 +234,7 @@ fn print_rows_fault<S: Sink>(fault: RowsFault, sink: &mut S)
     }
 }
 
-/// Prints the line of a case or a question that is not answered: `refused TooLarge` or `refused Memory`.
+/// Prints the line of a case or a question that was read, and is not answered: `refused TooLarge` or `refused Memory`.
 fn print_decision_fault<S: Sink>(fault: GuardFault, sink: &mut S)
     ensures { S.takes sink.old (refused_decision fault) sink.new }
 {
@@ -258,7 +259,7 @@ fn print_intersect_fault<S: Sink>(fault: IntersectFault, sink: &mut S)
     }
 }
 
-/// Prints the line of an access list's fault: `refused form KIND ..` or `refused acl N KIND`.
+/// Prints the line of the fault of a guard's access list: `refused form KIND ..`, `refused acl N KIND ..` or `refused Memory`.
 fn print_list_fault<S: Sink>(fault: AclFault, sink: &mut S)
     ensures { S.takes sink.old (refused_list fault) sink.new }
 {
@@ -269,7 +270,8 @@ fn print_list_fault<S: Sink>(fault: AclFault, sink: &mut S)
     }
 }
 
-/// Prints the line of a question's fault, such as `refused question TooLong` or `refused key Shape`.
+/// Prints the line of a question's fault: `refused question KIND` if the question exceeds a limit, otherwise with the word for its
+/// part, such as `refused key Shape`, or `refused Memory`.
 fn print_question_fault<S: Sink>(fault: AskFault, sink: &mut S)
     ensures { S.takes sink.old (refused_question fault) sink.new }
 {
@@ -303,7 +305,8 @@ fn tag_kind(fault: TagFault) -> &'static str
     }
 }
 
-/// The word for a fault of a key, entry, certificate, date or other part in a line: the name of its variant.
+/// The word for a fault of a key, entry, certificate, date or other part in a line: the name of its variant. For the fault of a tag it
+/// is `Tag`, without what is wrong with the tag: `print_refused_tag` prints that too.
 fn kind_name(kind: CertFaultKind) -> &'static str
     ensures { result.now ≡ kind_name kind }
 {

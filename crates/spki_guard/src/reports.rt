@@ -1,5 +1,5 @@
-//! The lines of a case's reduction (what each entry becomes with the certificates) and of its explanation: one for each entry. Printing them
-//! allocates nothing.
+//! The lines of a case's reduction (what each entry becomes with the certificates) and of its explanation: one for each entry.
+//! Printing them allocates nothing.
 ghost use Rattle.std.specs.Prelude.{◌≡◌, ℕ, List, [], ◌∷◌};
 ghost use Rattle.sexpr_core.specs.Value.{Value};
 ghost use Rattle.sexpr_text.specs.AdvancedForm.{adv};
@@ -13,14 +13,15 @@ use sexpr_text::Sink;
 use spki_decision::{EntryFold, Reason};
 use spki_reduce::Five;
 
-/// `Done` for true, `No` for false. True means that some entry becomes an authorization, or grants the request.
+/// The verdict of a reduction or an explanation: `Done` if `yes` is true, otherwise `No`. `yes` is whether some entry becomes an
+/// authorization, for a reduction, or grants the request, for an explanation.
 pub(crate) fn verdict_of(yes: bool) -> Verdict
     ensures { result ≡ verdict_of yes }
 {
     if yes { Verdict::Done } else { Verdict::No }
 }
 
-/// Prints `entry N (five ..)` and a line feed; `entry` is counted from 1.
+/// Prints the line `entry N (five ..)` of an entry that becomes this authorization, and its line feed; `entry` is N, counted from 1.
 fn print_done<S: Sink>(entry: usize, five: &Five, sink: &mut S)
     ensures { (v : Value) × IsWrittenFive five.now v × S.takes sink.old (entry_line entry (adv v ∷ [])) sink.new }
 {
@@ -71,7 +72,7 @@ pub(crate) fn some_done(folds: &[EntryFold]) -> bool
     false
 }
 
-/// Whether the entry becomes an authorization, and no certificate stops it.
+/// Whether the entry becomes an authorization: no certificate stops it.
 pub(crate) fn is_done(fold: &EntryFold) -> bool
     ensures { result ≡ is_done fold.now }
 {

@@ -62,8 +62,8 @@ pub fn run<R: Read, W: Write>(
     }
 }
 
-/// Reads a text to its end. None if the reader failed, or its count of calls reached 2,097,152. `Some(Err)` is the refusal of a text of more than
-/// 1,048,576 octets, or `Memory` if memory ran out.
+/// Reads a text to its end. None if the reader failed, or its count of calls reached 2,097,152: then nothing is answered. `Some(Err)`
+/// is a refusal to answer with: of a text of more than 1,048,576 octets, or `Memory` if memory ran out.
 fn read_text<R: Read>(alloc: Global, reader: &mut Metered<R>) -> Option<Result<Vec<u8>, Refusal>>
     ensures asks { asks_of reader.new ≤ max (asks_of reader.old) 2097152 }
     ensures no_more { (octets : List ℕ) × (length octets ≤ 1048577) × Gives R.remaining reader.old reader.new octets }

@@ -41,8 +41,8 @@ fn answer_apart(alloc: Global, text: &[u8], rows: &[u8]) -> Answer<'static>
     }
 }
 
-/// As `answer_apart`. Err if one of the texts is refused, the case is too large, or memory ran out. A canonical text is
-/// neither copied nor converted.
+/// Decides the case in `text` by the accepted list in `rows`, for `answer_apart`. Err if one of the texts is refused, the case is
+/// too large, or memory ran out. A canonical text is neither copied nor converted.
 fn checked(alloc: Global, text: &[u8], rows: &[u8]) -> Result<Answer<'static>, Refusal>
     ensures answered { IfOk result (PrintsAs (DecidesApart text.now rows.now)) }
     ensures refused { IfErr result (λ refusal. RefusesApart text.now rows.now refusal) }
@@ -67,7 +67,7 @@ fn decide_by_rows(alloc: Global, case: &Case, rows: &[u8]) -> Result<Answer<'sta
 }
 
 /// Reads the accepted list of a text. Err is `Form` if the text has no value within the limits, or its canonical form
-/// has more than 1,048,576 octets. Otherwise it is the fault of its value, or `Memory`.
+/// has more than 1,048,576 octets. Otherwise it is `Shape` or `Row`, the fault of its value, or `Memory`.
 fn rows_in<'a>(alloc: Global, text: &'a CanonicalText<'_>) -> Result<AcceptedTable<'a>, RowsFault>
     ensures read { (given : List ℕ) → IsReadAs (IsTextWithin given) (RefusesForm given) text.entry.now
         → IfOk result (λ table. ReadsRows given (rows_of table)) }
@@ -81,8 +81,8 @@ fn rows_in<'a>(alloc: Global, text: &'a CanonicalText<'_>) -> Result<AcceptedTab
     }
 }
 
-/// Two texts have one answer of `check_accepted`, unless memory ran out: at most one decision and no refusal, or one
-/// refusal, and so one line.
+/// A law, which does nothing: `check_accepted` has at most one answer to a text and its rows, unless memory ran out. It is one
+/// decision or one refusal, and not both.
 pub fn one_answer_apart()
     ensures decided { (text rows : List ℕ) (verdict other : Verdict) (output line : List ℕ)
         → DecidesApart text rows verdict output → DecidesApart text rows other line → (verdict ≡ other) × (output ≡ line) }

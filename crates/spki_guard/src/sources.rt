@@ -12,17 +12,18 @@ use spki_case::{Case, CaseFault};
 use spki_words::Command;
 use std::alloc::Global;
 
-/// What a command reads of a text, and its answer borrows from.
+/// What a command reads of a text. The answer borrows from it, so it lasts until the answer is printed.
 #[derive(Drop)]
 pub(crate) enum Source<'a> {
     /// The text of a case, and what the command asks of the case.
     Case(Query, CanonicalText<'a>),
-    /// The value of the text, in the form that a command needs that is not for a case.
+    /// For a command that does not read a case: the value of the text, in the form that the command needs (`form_of`).
     Converted(Vec<u8>),
 }
 
 /// Reads a text for a command. Err says why the text is refused: it is `Form(TooLong)` if the text has more than
-/// 1,048,576 octets, and `Memory` if memory ran out. Any other fault of a case's text is for `case_in`.
+/// 1,048,576 octets, and `Memory` if memory ran out. If the command reads a case, a text with any other fault is Ok here, and
+/// `case_in` returns the fault.
 pub(crate) fn source_of<'a>(
     alloc: Global,
     command: Command,
@@ -41,8 +42,8 @@ pub(crate) fn source_of<'a>(
     }
 }
 
-/// Reads the text of a case. Err is `Form(TooLong)` if it has more than 1,048,576 octets, or `Memory`. Any other fault is
-/// for `case_in`.
+/// Reads the text of a case. Err is `Form(TooLong)` if it has more than 1,048,576 octets, or `Memory`. A text with any other fault
+/// is Ok here, also one whose canonical form alone is longer: `case_in` returns the fault.
 pub(crate) fn short_text<'a>(alloc: Global, text: &'a [u8]) -> Result<CanonicalText<'a>, Refusal>
     ensures read { IfOk result (IsShortText text.entry.now) }
     ensures refused { IfErr result (RefusesCase text.entry.now) }

@@ -10,9 +10,10 @@ use crate::answers::Verdict;
 pub enum Status {
     /// The whole answer was written. It has this verdict.
     Answered(Verdict),
-    /// The reader failed.
+    /// The reader failed, or had not ended after the largest number of calls. Nothing was written.
     ReadFault,
-    /// The writer failed.
+    /// The writer failed, or needs more than the largest number of calls. A beginning of the answer was written, which may be all
+    /// or none of it.
     WriteFault,
 }
 

@@ -9,7 +9,8 @@ ghost use Rattle.spki_tag.specs.TagForms.{limit_shown};
 use sexpr_text::{Sink, print_octets};
 use spki_tag::{RangeOrdering, Tag, TagForm, TagLimit};
 
-/// Prints a tag in advanced form, as `print_advanced` prints the tree that `Tag::write` makes.
+/// Prints a tag in advanced form. The octets are those that `print_advanced` prints for the tree of `Tag::write`, but no tree is
+/// made. The recursion is as deep as the tag.
 #[cycle(print)]
 pub fn print_tag<S: Sink>(tag: &Tag, sink: &mut S)
     ensures { S.takes sink.old (adv (tag_value tag.now)) sink.new }
@@ -81,8 +82,8 @@ fn ordering_name(ordering: RangeOrdering) -> &'static [u8]
     }
 }
 
-/// Prints a space, a word, a space and the limit's octets. The word is `strict` if the limit itself is excluded,
-/// otherwise `inclusive`. For None, prints nothing.
+/// Prints a space, a word, a space and the limit's octets. The word is that in `strict`, such as `g`, if the limit itself is
+/// excluded, otherwise that in `inclusive`, such as `ge`. For None, prints nothing.
 fn print_limit<S: Sink>(limit: Option<TagLimit<'_>>, strict: &[u8], inclusive: &[u8], sink: &mut S)
     ensures { S.takes sink.old (adv_all 1 (values (limit_values strict.now inclusive.now (limit_shown limit.entry)))) sink.new }
 {
@@ -92,7 +93,7 @@ fn print_limit<S: Sink>(limit: Option<TagLimit<'_>>, strict: &[u8], inclusive: &
     }
 }
 
-/// Prints a space, and the word `strict` or `inclusive`, as `is_strict` says.
+/// Prints a space, and the word in `strict` if `is_strict` is true, otherwise the word in `inclusive`.
 fn print_limit_word<S: Sink>(is_strict: bool, strict: &[u8], inclusive: &[u8], sink: &mut S)
     ensures { S.takes sink.old (adv_all 1 (values (plain (if is_strict then strict.now else inclusive.now) ∷ []))) sink.new }
 {
