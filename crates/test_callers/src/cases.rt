@@ -22,12 +22,12 @@ pub struct Question<'a> {
     pub moment: Date,
 }
 
-/// Makes the case of a service's own access list, a sequence and a question, under the strict policy. Its accepted list is
-/// empty, so the service needs a verifier of its own.
+/// Makes the case of a service's own access list `acl`, the sequence that the node `shown` is, and a question, under the strict policy. Its
+/// accepted list is empty, so the service needs a verifier of its own. The three limits are those of `Case::read`.
 ///
 /// # Errors
 ///
-/// Those of `sequence_of`, and `Memory` at item 0.
+/// Those of `sequence_of`, and `Memory` at item 0 if memory ran out for the empty accepted list.
 pub fn case_of<'a>(
     alloc: Global,
     acl: Vec<Entry<'a>>,

@@ -1,4 +1,5 @@
-//! An example of a caller of `spki_cert`, which its `CALLING.md` quotes.
+//! An example of a caller of `spki_cert`, which its `CALLING.md` quotes. `pin` is the stored digest, of a key's canonical octets. The
+//! answer is Ok with None for a key with another digest, and Err for a document that is no key.
 
 ghost use Rattle.std.specs.Prelude.{◌≡◌, ◌≢◌, ℕ, List, Some, IfOk, IfErr, OnErr, MatchOption};
 ghost use Rattle.spki_cert.specs.{declared.hash.HashAlg.TheVariants.{Sha256}, Naming.{digest_of}, Readings.{KeyOf, IsNoKey}, FieldFaults.{key_fault}};

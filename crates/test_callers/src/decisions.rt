@@ -29,7 +29,8 @@ fn is_among(keys: &[Key], key: &Key) -> bool
 impl<'v, 'k, V: Verifier> Verifier for Unrevoked<'v, 'k, V> {
     ghost accepted = { λ own. unrevoked own.revoked.now (V.accepted own.verifier.now) };
 
-    /// Whether the key is not revoked, and the other verifier accepts the signature.
+    /// Whether the key is not revoked, and the other verifier accepts `value` as its signature over `message`. Err if memory ran out in the
+    /// other verifier, which is not called for a revoked key.
     fn accepts(
         &self,
         alloc: Global,
@@ -47,7 +48,8 @@ impl<'v, 'k, V: Verifier> Verifier for Unrevoked<'v, 'k, V> {
     }
 }
 
-/// Decides a case like `decide`, but accepts no signature of a revoked key.
+/// Decides a case like `decide`, but accepts no signature of a revoked key. `verifier` decides about those of other
+/// keys. The case's accepted list is not used, unless it is the verifier.
 ///
 /// # Errors
 ///

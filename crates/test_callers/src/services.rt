@@ -26,7 +26,8 @@ pub enum ServiceFault {
     Memory,
 }
 
-/// The answer of a guard to a question, without signatures of revoked keys.
+/// The decision of a guard on one question, for `answer_both`. A signature of a revoked key is not accepted. Err is `Question` if the
+/// question is refused, or `Memory` if memory ran out while it was decided.
 fn answer<V: Verifier>(
     alloc: Global,
     guard: &Guard,
@@ -78,14 +79,15 @@ pub fn answer_both<V: Verifier>(
     Ok((to_first, to_second))
 }
 
-/// Returns a value that may be sent to another thread, and that several threads may use at the same time.
+/// Returns `value` unchanged. It is there for its bound: a call compiles only for a type whose values may be sent to another thread
+/// (`Send`), and may be used by several threads at the same time (`Sync`).
 fn shareable<T: Send + Sync>(value: T) -> T
     ensures { result ≡ value }
 {
     value
 }
 
-/// Reads the access list of a service whose threads ask one guard, under the strict policy.
+/// Reads the access list of a service whose threads ask one guard, under the strict policy. `shareable` shows that they may.
 ///
 /// # Errors
 ///

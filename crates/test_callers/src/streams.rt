@@ -1,5 +1,6 @@
-//! An example of a caller of `metered_io`, which its `CALLING.md` quotes. The count `faults` tells a reader that failed from one that was called too
-//! often.
+//! An example of a caller of `metered_io`, which its `CALLING.md` quotes. `read_whole` calls a reader at most 2,097,152 times. Its fault
+//! `Failed` is for a reader that failed, and for one that was called too often: the meter's count `faults` is 0 only for the second. So the
+//! caller first resets the meter's counts, by `restart`.
 
 ghost use Rattle.std.specs.Prelude.{◌≡◌, ◌<◌, ◌≤◌, length, vec_len, IfOk, IfSome, IsErrOf};
 ghost use Rattle.metered_io.specs.MeteredCalls.{inner_of, asks_of, faults_of};

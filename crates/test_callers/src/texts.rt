@@ -1,4 +1,5 @@
-//! An example of a caller of `sexpr_text`, which its `CALLING.md` quotes.
+//! An example of a caller of `sexpr_text`, which its `CALLING.md` quotes. `laws::one_value` gives the prover a fact, and does nothing at
+//! run time.
 
 ghost use Rattle.std.specs.Prelude.{◌≡◌, ◌↔◌, ◌⊎◌, IsTrue, IfOk, IfErr};
 ghost use Rattle.sexpr_core.specs.Value.{Value};

@@ -7,8 +7,8 @@ use sexpr_core::syntax::NodeKind;
 use sexpr_core::{Doc, FormFault};
 use std::alloc::Global;
 
-/// The canonical octets of the first member of a list in canonical form, as they are in its text: what is hashed, signed or
-/// compared. None if the text is a string or the empty list.
+/// The octets of the first member of a list, as they are in `text`, which is the list in canonical form. They are what is
+/// hashed, signed or compared. None if the value of `text` is a string or the empty list.
 ///
 /// # Errors
 ///

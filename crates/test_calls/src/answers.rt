@@ -24,13 +24,13 @@ pub fn answer<T: Answered + Drop>(alloc: Global, value: T) -> Reply {
     value.answered(alloc)
 }
 
-/// A value that is read for several calls.
+/// A value that is read from a row's texts for several calls, such as a document or a case.
 pub trait Called {
-    /// Does the call with this name on the value, with these texts of the row, and returns its answer.
+    /// Does the call with this name on the value, and returns its answer. `texts` are texts of the row: each impl says which.
     fn call(&self, alloc: Global, name: &str, texts: &[Vec<u8>]) -> Reply;
 }
 
-/// The answer of a call on a value that was read. The value is dropped here.
+/// The answer of a call on a value that was read, or the fault if it was not read. The value is dropped here.
 pub fn call_on<T: Called + Drop, E: Into<Failure>>(
     alloc: Global,
     value: Result<T, E>,
@@ -58,12 +58,13 @@ pub fn shown<T: Debug>(alloc: Global, value: &T) -> Reply {
     Ok(format!(in alloc; "{value:?}")?.into_bytes())
 }
 
-/// A fault that `Failure` lacks as an answer, in the same form: the name of its kind, the fault and its text.
+/// The answer for a fault that is no variant of `Failure`, in the form that `Failure::said` has: the name `kind`, the fault and its text,
+/// such as `Text(TooLong): text too long`.
 pub fn refused<F: Debug + Display>(alloc: Global, kind: &str, fault: &F) -> Reply {
     Ok(format!(in alloc; "{kind}({fault:?}): {fault}")?.into_bytes())
 }
 
-/// Octets one behind another, as an answer.
+/// The octets of all parts one after another, as an answer.
 pub fn joined(alloc: Global, parts: &[&[u8]]) -> Reply {
     let mut out = Vec::new(alloc);
     for part in parts {
@@ -72,7 +73,7 @@ pub fn joined(alloc: Global, parts: &[&[u8]]) -> Reply {
     Ok(out)
 }
 
-/// A number and, after a space, a value as `Debug` writes it.
+/// A number and, after a space, a value as `Debug` writes it: the item or step that stops something, and the cause.
 fn numbered<T: Debug>(alloc: Global, number: usize, value: &T) -> Reply {
     Ok(format!(in alloc; "{number} {value:?}")?.into_bytes())
 }
@@ -108,7 +109,7 @@ impl Answered for bool {
     }
 }
 
-/// In canonical form.
+/// The tree in canonical form.
 impl Answered for Sexp {
     fn answered(&self, alloc: Global) -> Reply {
         Ok(encode(alloc, self)?)
@@ -122,14 +123,15 @@ impl Answered for Tag {
     }
 }
 
-/// `yes`: it was read.
+/// `yes`: the request was read. For a request that was refused, `Result` answers the fault.
 impl Answered for Ground {
     fn answered(&self, alloc: Global) -> Reply {
         word(alloc, "yes")
     }
 }
 
-/// Its octets, or `no` if the key as a principal does not name itself.
+/// The canonical octets of the key, or `no` if the principal that is this key does not name it. So each row that answers a key tests
+/// `Principal::names` too.
 impl Answered for Key<'_> {
     fn answered(&self, alloc: Global) -> Reply {
         if Principal::Key(self.share()).names(self, Policy::Strict) {
@@ -168,7 +170,8 @@ impl Answered for Five<'_> {
     }
 }
 
-/// The name that is defined, and the rest as an authorization of everything.
+/// The name that is defined, a space, and the rest as an authorization in canonical form. Its issuer is the key that defines the name. A
+/// definition has no tag and no delegation, so they are `(*)` and false.
 impl Answered for Four<'_> {
     fn answered(&self, alloc: Global) -> Reply {
         let subject = self.subject.clone()?;
@@ -185,7 +188,7 @@ impl Answered for Four<'_> {
     }
 }
 
-/// A tuple, or the cause of a stop.
+/// The tuple that two tuples become, or the cause if they do not join.
 impl<T: Answered> Answered for Joined<T> {
     fn answered(&self, alloc: Global) -> Reply {
         match self {
@@ -195,7 +198,7 @@ impl<T: Answered> Answered for Joined<T> {
     }
 }
 
-/// An authorization, or the step that stops the chain, and the cause.
+/// The authorization that the chain becomes, or the number, from 1, of the step that stops it, and the cause.
 impl Answered for Fold<'_> {
     fn answered(&self, alloc: Global) -> Reply {
         match self {
@@ -205,7 +208,7 @@ impl Answered for Fold<'_> {
     }
 }
 
-/// An authorization, or the item that stops the entry, and the cause.
+/// The authorization that the entry becomes, or the number, from 1, of the item whose certificate does not join, and the cause.
 impl Answered for EntryFold<'_> {
     fn answered(&self, alloc: Global) -> Reply {
         match self {
@@ -215,7 +218,8 @@ impl Answered for EntryFold<'_> {
     }
 }
 
-/// The number of tuples, or the first item whose certificate fails, and why.
+/// How many certificates are verified, if all are. Otherwise the number, from 1, of the first item whose certificate fails a test, and
+/// this test.
 impl Answered for Evidence<'_> {
     fn answered(&self, alloc: Global) -> Reply {
         match self {
@@ -239,7 +243,8 @@ impl Answered for (Decision, Decision) {
     }
 }
 
-/// The reasons of the entries, or an item and its stop.
+/// The reasons of all entries, as `Debug` writes them. Or the number, from 1, of the first item whose certificate fails a test, and this
+/// test.
 impl Answered for Explanation {
     fn answered(&self, alloc: Global) -> Reply {
         match self {
@@ -249,7 +254,7 @@ impl Answered for Explanation {
     }
 }
 
-/// A line for each entry, or an item and its stop.
+/// A line for each entry. Or the number, from 1, of the first item whose certificate fails a test, and this test.
 impl Answered for Reduction<'_> {
     fn answered(&self, alloc: Global) -> Reply {
         match self {
@@ -259,7 +264,7 @@ impl Answered for Reduction<'_> {
     }
 }
 
-/// The answer for each entry, with a line feed after each.
+/// What each entry becomes, as the answer for `EntryFold` says it, with a line feed after each.
 fn lines_of(alloc: Global, folds: &[EntryFold]) -> Reply {
     let mut out = Vec::new(alloc);
     for fold in folds {

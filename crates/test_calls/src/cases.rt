@@ -19,7 +19,8 @@ pub(crate) fn call(alloc: Global, name: &str, texts: &[Vec<u8>]) -> Option<Reply
 }
 
 impl Called for Case<'_> {
-    /// Does the call with this name on the case, which is the first of `texts`. The second is the verifier.
+    /// Does the call with this name on the case, which was read from the first of `texts`. The second is the verifier, for the calls of the
+    /// `_` arm: `judge`, `decide`, `explain` and `reduce_case`.
     fn call(&self, alloc: Global, name: &str, texts: &[Vec<u8>]) -> Reply {
         match name {
             "Case::read" => counted(alloc, self),
@@ -28,13 +29,13 @@ impl Called for Case<'_> {
     }
 }
 
-/// The numbers of entries and of items of a case.
+/// The answer of `Case::read`: how many entries the access list has and, after a space, how many items the sequence has.
 fn counted(alloc: Global, case: &Case) -> Reply {
     let (entries, items) = (case.acl.len(), case.sequence.len());
     Ok(format!(in alloc; "{entries} {items}")?.into_bytes())
 }
 
-/// Does a call on a case by the verifier that `rows` states.
+/// Does a call on a case by the verifier that `rows` names: `all`, `broken`, or an accepted list.
 fn with_verifier(alloc: Global, name: &str, case: &Case, rows: &[u8]) -> Reply {
     let verifier = RowVerifier::read(alloc, rows)?;
     let reply = by_verifier(alloc, name, case, &verifier);
@@ -42,7 +43,7 @@ fn with_verifier(alloc: Global, name: &str, case: &Case, rows: &[u8]) -> Reply {
     reply
 }
 
-/// Does the call with this name on a case, `reduce_case` for any name that is not listed.
+/// Does the call with this name on a case by a verifier. The `_` arm is `reduce_case`.
 fn by_verifier(alloc: Global, name: &str, case: &Case, verifier: &RowVerifier) -> Reply {
     match name {
         "judge" => answer(alloc, judge(alloc, &case.sequence, case.policy, verifier)),

@@ -31,7 +31,8 @@ pub(crate) fn call(alloc: Global, name: &str, texts: &[Vec<u8>]) -> Option<Reply
 }
 
 impl Called for Doc<'_> {
-    /// Does the call with this name on the document, which is the first of `texts`.
+    /// Does the call with this name on the document, which was opened for the first of `texts`. The `_` arm is each call that reads the
+    /// root as a key, a tag or the like. Of these only `read_hash` takes the second of `texts`.
     fn call(&self, alloc: Global, name: &str, texts: &[Vec<u8>]) -> Reply {
         match name {
             "Doc::open" => octets(alloc, self.top().slice()),
@@ -42,7 +43,8 @@ impl Called for Doc<'_> {
     }
 }
 
-/// A line for each node, from the root on, and one for the first number that is no node. `most` is at least the number of nodes.
+/// A line with the root's number, one for each node from the root on, and one for the first number that is no node, of which all is None.
+/// `most` is the number of octets of the text, which is at least the number of nodes.
 fn nodes(alloc: Global, document: &Doc, most: usize) -> Reply {
     let mut out = format!(in alloc; "root {}\n", document.root().0)?.into_bytes();
     for n in 0..=most {
@@ -54,7 +56,7 @@ fn nodes(alloc: Global, document: &Doc, most: usize) -> Reply {
     Ok(out)
 }
 
-/// Appends the line of a node: its numbers, its octets, its string and its hint.
+/// Appends the line of node `n`: what `push_numbers` appends, the node's canonical text, and for a string its octets and its display hint.
 fn push_node(
     alloc: Global,
     out: &mut Vec<u8>,
@@ -68,7 +70,8 @@ fn push_node(
     Ok(out.push(b'\n')?)
 }
 
-/// Appends where a node begins, how many parts it has, and the numbers of the first three.
+/// Appends the offset from 0 at which node `n` begins, how many members it has, and the node numbers of the first three of them. Each is an
+/// Option, as `Debug` writes it.
 fn push_numbers(
     alloc: Global,
     out: &mut Vec<u8>,
@@ -91,7 +94,8 @@ fn push_octets(out: &mut Vec<u8>, octets: Option<&[u8]>) -> Result<(), AllocErro
     }
 }
 
-/// The answer of a call that reads the root. `octets` are the call's second text.
+/// The answer of a call that reads the root. `octets` are the row's second text. `read` requires that its node exists, and the test shows
+/// this to the prover.
 fn of_root(alloc: Global, name: &str, document: &Doc, octets: &[u8]) -> Reply {
     let root = document.root();
     if document.node(root).is_none() {
@@ -100,7 +104,7 @@ fn of_root(alloc: Global, name: &str, document: &Doc, octets: &[u8]) -> Reply {
     read(alloc, name, document, root, octets)
 }
 
-/// The answer of a call that reads node n, which must exist. `octets` are the call's second text.
+/// The answer of a call that reads node n, which must exist. `octets` are the row's second text, for `read_hash` alone.
 fn read(alloc: Global, name: &str, document: &Doc, n: NodeId, octets: &[u8]) -> Reply
     requires { IsSome (node document.now n.0) }
 {
@@ -116,7 +120,7 @@ fn read(alloc: Global, name: &str, document: &Doc, n: NodeId, octets: &[u8]) -> 
     }
 }
 
-/// The algorithm of a hash, and whether its digest is that of these octets.
+/// The algorithm of the hash that is read from node n, and whether its digest is that of `octets`: `true` or `false`.
 fn read_hash(alloc: Global, document: &Doc, n: NodeId, octets: &[u8]) -> Reply
     requires { IsSome (node document.now n.0) }
 {

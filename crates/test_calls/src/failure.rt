@@ -14,7 +14,7 @@ use std::io;
 use std::io::ErrorKind;
 use thiserror::Error;
 
-/// Why a row has no answer.
+/// Why a row has no answer. Each variant without a comment is a fault that calls of the libraries return.
 #[derive(Debug, Drop, Error)]
 pub enum Failure {
     /// Memory ran out.
@@ -70,7 +70,8 @@ impl Failure {
         )
     }
 
-    /// The fault and its text, as the answer to a row. Err is `Memory` if the fault is that memory ran out.
+    /// The fault and its text, as the answer to a row: for example `Form(Short): the text ends too soon`. Err is `Memory` if the fault is
+    /// that memory ran out.
     pub fn said(self, alloc: Global) -> Reply {
         if self.is_memory() {
             return Err(Failure::Memory);
@@ -94,7 +95,7 @@ impl<T: Drop> From<AllocFailed<T>> for Failure {
 }
 
 impl From<FromHexError> for Failure {
-    /// Texts that are no hexadecimal digits are `Unknown`.
+    /// `Unknown` for malformed hexadecimal digits, and `Memory` if memory ran out.
     fn from(fault: FromHexError) -> Failure {
         match fault {
             FromHexError::OutOfMemory => Failure::Memory,
@@ -104,7 +105,7 @@ impl From<FromHexError> for Failure {
 }
 
 impl From<io::Error> for Failure {
-    /// Any error but an allocation that failed is `Unknown`.
+    /// `Memory` for an allocation that failed, and `Unknown` for any other error.
     fn from(error: io::Error) -> Failure {
         match error.kind() {
             ErrorKind::OutOfMemory => Failure::Memory,

@@ -30,7 +30,7 @@ pub(crate) fn call(alloc: Global, name: &str, texts: &[Vec<u8>]) -> Option<Reply
 }
 
 impl Called for Sexp {
-    /// Does the call with this name on the tree.
+    /// Does the call with this name on the tree, which was read from the row's only text. The `_` arm is `print_advanced`.
     fn call(&self, alloc: Global, name: &str, _: &[Vec<u8>]) -> Reply {
         match name {
             "wrap" => answer(alloc, wrap(alloc, self)),
@@ -39,43 +39,44 @@ impl Called for Sexp {
     }
 }
 
-/// An opening parenthesis and, appended to it, the octets as a verbatim string.
+/// An opening parenthesis and, appended to it, the octets as a verbatim string. So the answer shows that `append_verbatim` keeps what was
+/// there before.
 fn verbatim(alloc: Global, octets: &[u8]) -> Reply {
     let mut out = Vec::from_slice(alloc, b"(")?;
     append_verbatim(octets, &mut out)?;
     Ok(out)
 }
 
-/// The octets of base64 up to a closing brace.
+/// The octets that are written in base64 from the beginning of a text to its first closing brace.
 fn base64(alloc: Global, text: &[u8]) -> Reply {
     Ok(read_base64(alloc, text, 0, b'}')?.octets)
 }
 
-/// The octets of a text in canonical form.
+/// The canonical octets of a text. Err is its fault, if it has no value within the limits.
 fn octets_of(alloc: Global, text: &CanonicalText) -> Reply {
     let document = text.document(alloc)?;
     octets(alloc, document.top().slice())
 }
 
-/// A text in canonical form, as it is read.
+/// The canonical octets of a text in any of the three forms, as `CanonicalText::read` reads it.
 fn canonical(alloc: Global, text: &[u8]) -> Reply {
     let read = CanonicalText::read(alloc, text)?;
     octets_of(alloc, &read)
 }
 
-/// The same, from octets that were made.
+/// The same octets by `CanonicalText::made`, from the canonical form that `convert` makes of the text.
 fn made(alloc: Global, text: &[u8]) -> Reply {
     let made = CanonicalText::made(convert(alloc, Form::Canonical, text)?);
     octets_of(alloc, &made)
 }
 
-/// The same, in memory of its own.
+/// The same octets, read as by `canonical` and then moved by `CanonicalText::into_owned` to memory of their own.
 fn owned(alloc: Global, text: &[u8]) -> Reply {
     let owned = CanonicalText::read(alloc, text)?.into_owned(alloc)?;
     octets_of(alloc, &owned)
 }
 
-/// A copy of the list that has these octets as its only member.
+/// A copy, by `Sexp::clone`, of the list that has these octets as its only member.
 fn list_of(alloc: Global, octets: &[u8]) -> Reply {
     let list = Sexp::list(vec![in alloc; Sexp::plain(alloc, octets)?]?);
     let copy: Result<_, _> = list.clone();

@@ -1,4 +1,6 @@
-//! The calls for guards. Their first texts are the access list, its policy, and the most octets and nodes of a question.
+//! The calls for guards. Their first texts are the access list, its policy, and the most octets and nodes of a question. After these most
+//! calls take four texts, a question, and one that says which of its signatures are valid: a verifier, or marks. Marks are a text with an
+//! octet for each signature that a verifier is asked about, in order. The octet `1` says that this signature is valid.
 
 use crate::answers::{Called, Reply, answer, call_on, shown, word};
 use crate::failure::Failure;
@@ -35,7 +37,8 @@ pub(crate) fn call(alloc: Global, name: &str, texts: &[Vec<u8>]) -> Option<Reply
     }
 }
 
-/// Whether the six texts are limits, in the order octets, certificates, strings, nodes, work and answer: their name, or `none`.
+/// The name of the limits that the six texts are, as `name_of` says it: octets, certificates, strings, nodes, work and answer, in this
+/// order. `none` if `Limits::new` refuses them.
 fn new_limits(alloc: Global, texts: &[Vec<u8>]) -> Reply {
     let limits = Limits::new(
         number(at(texts, 0)),
@@ -62,8 +65,8 @@ fn name_of(limits: &Limits) -> &'static str {
     "others"
 }
 
-/// The limits with these octets and nodes, each in digits; any other text is the greatest limit. The word `usual` for the octets means the default
-/// limits.
+/// The limits with these octets and nodes, each in digits. Any other text is the greatest limit, and a greater number is lowered to it, so
+/// None does not occur. Certificates and strings have no limit. The word `usual` for the octets means the default limits.
 fn limits(octets: &[u8], nodes: &[u8]) -> Option<Limits> {
     if octets == b"usual".as_slice() {
         return Some(Limits::default());
@@ -94,7 +97,9 @@ pub fn question(texts: &[Vec<u8>]) -> Question<'_> {
     }
 }
 
-/// What the guard of the first four texts answers. The texts after a question are the verifier, or the marks.
+/// What the guard of the first four texts answers. For `Guard::read` this is the number of entries, and for `Guard::ask` what `ask_words`
+/// returns. The `_` arm is `Guard::texts` and each call of `PreparedQuestion`: the next four texts are the question, and after it is a
+/// verifier or marks.
 impl Called for Guard {
     fn call(&self, alloc: Global, name: &str, texts: &[Vec<u8>]) -> Reply {
         match name {
@@ -111,7 +116,8 @@ impl Called for Guard {
     }
 }
 
-/// The decision for a key without certificates, at a moment in seconds. The texts after these two are the strings of the request.
+/// The decision on a question whose moment is seconds since 1970-01-01 UTC and whose request is strings. The texts are the key, the
+/// seconds, and the strings. The question has no certificates, so `decide_by` needs no marks.
 fn ask_words(alloc: Global, guard: &Guard, texts: &[Vec<u8>]) -> Reply {
     let mut words = Vec::new(alloc);
     for text in behind(texts, 2) {
@@ -132,13 +138,14 @@ fn seconds(text: &[u8]) -> i64 {
     word_of(text).parse().unwrap_or(0)
 }
 
-/// The answer of a call on a question to a guard. `by` are the verifier, or the marks.
+/// The answer of a call on a question to a guard. The first of `by` is the verifier, or the marks.
 fn ask(alloc: Global, name: &str, guard: &Guard, question: &Question, by: &[Vec<u8>]) -> Reply {
     let texts = guard.texts(alloc, question)?;
     of_texts(alloc, name, guard, texts, by)
 }
 
-/// The answer of a call on the texts of a question. `by` are the verifier, or the marks.
+/// The answer of a call on the texts of a question. The first of `by` is the verifier, or the marks. It is read as marks in either case,
+/// since a call by a verifier ignores them.
 fn of_texts(alloc: Global, name: &str, guard: &Guard, texts: Texts, by: &[Vec<u8>]) -> Reply {
     let reply = match name {
         "Guard::texts" => word(alloc, "read"),
@@ -148,7 +155,8 @@ fn of_texts(alloc: Global, name: &str, guard: &Guard, texts: Texts, by: &[Vec<u8
     reply
 }
 
-/// A question that was read, and marked at the places at which `marks` has the octet `1`. Places that the question does not have are ignored.
+/// A question that was read for the guard. Its signatures are marked as valid at the places, from 0, at which `marks` has the octet `1`.
+/// Places without a signature are ignored. Err is the fault if the question is refused.
 fn marked<'a>(
     alloc: Global,
     guard: &'a Guard,
@@ -164,7 +172,7 @@ fn marked<'a>(
     Ok(asked)
 }
 
-/// The calls on a question, by a verifier, which is the first of `texts`, or by its marks.
+/// The calls on a question. Four are by a verifier, which is the first of `texts`. The `_` arm is all others, by the question's marks.
 impl Called for PreparedQuestion<'_> {
     fn call(&self, alloc: Global, name: &str, texts: &[Vec<u8>]) -> Reply {
         match name {
@@ -177,7 +185,7 @@ impl Called for PreparedQuestion<'_> {
     }
 }
 
-/// Does a call on a question by the verifier that `rows` states.
+/// Does a call on a question by the verifier that `rows` names: `all`, `broken`, or an accepted list.
 fn with_verifier(alloc: Global, name: &str, asked: &PreparedQuestion, rows: &[u8]) -> Reply {
     let verifier = RowVerifier::read(alloc, rows)?;
     let reply = by_verifier(alloc, name, asked, &verifier);
@@ -185,7 +193,7 @@ fn with_verifier(alloc: Global, name: &str, asked: &PreparedQuestion, rows: &[u8
     reply
 }
 
-/// Does the call with this name on a question by a verifier.
+/// Does the call with this name on a question by a verifier. The `_` arm is `PreparedQuestion::reduce`.
 fn by_verifier(
     alloc: Global,
     name: &str,
@@ -200,7 +208,8 @@ fn by_verifier(
     }
 }
 
-/// Does the call with this name on a question by its marks.
+/// Does the call with this name on a question by its marks, which say for each of its signatures whether it is valid. `is_possible` ignores
+/// them. The `_` arm is `PreparedQuestion::reduce_into`.
 fn with_marks(alloc: Global, name: &str, asked: &PreparedQuestion) -> Reply {
     match name {
         "PreparedQuestion::decide_by" => answer(alloc, asked.decide_by(alloc)),
@@ -212,7 +221,7 @@ fn with_marks(alloc: Global, name: &str, asked: &PreparedQuestion) -> Reply {
     }
 }
 
-/// The answer for the decision that a grant stands for.
+/// The decision that `grant` means, as the answer: yes with the entry, or no for Ok with None. Err if memory ran out.
 fn granted(alloc: Global, grant: Result<Option<Grant>, AllocError>) -> Reply {
     match grant {
         Ok(grant) => answer(alloc, Ok::<Decision, AllocError>(Grant::decision(grant))),
@@ -220,7 +229,7 @@ fn granted(alloc: Global, grant: Result<Option<Grant>, AllocError>) -> Reply {
     }
 }
 
-/// What `reduce_into` puts into a vector, as a reduction.
+/// What `reduce_into` returns and puts into a vector, as the `Reduction` that `reduce_by` returns. So both have the same answer to a row.
 fn reduction<'a>(alloc: Global, asked: &PreparedQuestion<'a>) -> Result<Reduction<'a>, GuardFault> {
     let mut folds = Vec::new(alloc);
     match asked.reduce_into(alloc, &mut folds)? {

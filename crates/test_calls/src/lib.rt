@@ -21,8 +21,8 @@ mod windows;
 use crate::answers::Reply;
 use std::alloc::Global;
 
-/// Does the call with this name, and returns its answer. None if this crate does not have it. Each module passes a name that it does not have on to
-/// the next one.
+/// Does the call with this name, and returns its answer. None if this crate does not have it. Each module passes a name that it does not
+/// have on to the next one, in the order `forms`, `documents`, `tags`, `windows`, `tuples`, `cases`, `guards`, `owned_questions`.
 pub fn call(alloc: Global, name: &str, texts: &[Vec<u8>]) -> Option<Reply> {
     forms::call(alloc, name, texts)
 }

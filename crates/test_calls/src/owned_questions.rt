@@ -1,4 +1,5 @@
-//! The calls for questions that are opened. Their texts are the four of a guard, the four of a question, and the question's marks.
+//! The calls for questions that are opened. Such a question is an `OwnedQuestion`, which owns its texts and shares its guard. The texts of
+//! a call are the four of a guard, the four of a question, and the question's marks, as in `guards`.
 
 use crate::answers::{Called, Reply, answer, call_on, word};
 use crate::failure::Failure;
@@ -8,7 +9,7 @@ use spki_decision::Grant;
 use spki_service::{OwnedQuestion, SharedGuard};
 use std::alloc::Global;
 
-/// The answer of the call with this name. None if there is no such call.
+/// The answer of the call with this name. None if there is no such call: this is the last module that is asked for a name.
 pub(crate) fn call(alloc: Global, name: &str, texts: &[Vec<u8>]) -> Option<Reply> {
     match name {
         "OwnedQuestion::signed" | "OwnedQuestion::decide_by" | "OwnedQuestion::is_possible" => {
@@ -18,12 +19,13 @@ pub(crate) fn call(alloc: Global, name: &str, texts: &[Vec<u8>]) -> Option<Reply
     }
 }
 
-/// The guard of the first four texts.
+/// The guard of the first four texts, as the first of its owners: an opened question is another one.
 pub fn shared(alloc: Global, texts: &[Vec<u8>]) -> Result<SharedGuard, Failure> {
     Ok(SharedGuard::new(alloc, guard(alloc, texts)?)?)
 }
 
-/// The question after that guard, opened and marked. The guard's first owner is freed before the question is returned.
+/// The question of the four texts after those of the guard, opened for it and marked by the ninth text. The guard's first owner is freed
+/// before the question is returned, so the question must keep the guard alive.
 fn opened(alloc: Global, texts: &[Vec<u8>]) -> Result<OwnedQuestion, Failure> {
     let shared = shared(alloc, texts)?;
     let opened = OwnedQuestion::open(alloc, &shared, &question(behind(texts, 4)));
@@ -33,7 +35,8 @@ fn opened(alloc: Global, texts: &[Vec<u8>]) -> Result<OwnedQuestion, Failure> {
     Ok(opened)
 }
 
-/// Marks the places at which `marks` has the octet `1`. Returns whether the question has all of them.
+/// Marks as valid the signatures at the places, from 0, at which `marks` has the octet `1`. Returns false if one of these places has no
+/// signature; the others are marked all the same.
 pub fn mark_all(opened: &mut OwnedQuestion, marks: &[u8]) -> bool {
     let mut has_all = true;
     for (place, octet) in marks.iter().enumerate() {
@@ -45,7 +48,7 @@ pub fn mark_all(opened: &mut OwnedQuestion, marks: &[u8]) -> bool {
 }
 
 impl Called for OwnedQuestion {
-    /// Does the call with this name on the question.
+    /// Does the call with this name on the question, which was opened and marked. The `_` arm is `OwnedQuestion::decide_by`.
     fn call(&self, alloc: Global, name: &str, _texts: &[Vec<u8>]) -> Reply {
         match name {
             "OwnedQuestion::signed" => signed(alloc, self),
@@ -55,7 +58,7 @@ impl Called for OwnedQuestion {
     }
 }
 
-/// The key, the message and the value of each signature, with a line feed after each.
+/// The key, the message and the value of each signature that a verifier is asked about, with a line feed after each of the three.
 fn signed(alloc: Global, opened: &OwnedQuestion) -> Reply {
     let mut out = Vec::new(alloc);
     for one in opened.signed() {
@@ -67,7 +70,7 @@ fn signed(alloc: Global, opened: &OwnedQuestion) -> Reply {
     Ok(out)
 }
 
-/// The decision by marks, or `two decisions` if what is granted by them says another one.
+/// The decision of `decide_by`, or `two decisions` if the grant of `grant_by` says another one.
 fn decide(alloc: Global, opened: &OwnedQuestion) -> Reply {
     let decision = opened.decide_by();
     if Grant::decision(opened.grant_by()) != decision {

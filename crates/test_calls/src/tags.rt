@@ -23,7 +23,8 @@ pub(crate) fn call(alloc: Global, name: &str, texts: &[Vec<u8>]) -> Option<Reply
 }
 
 impl Called for Tag {
-    /// Does the call with this name on the tag, which is the first of `texts`. The second is a request or another tag.
+    /// Does the call with this name on the tag, which was read from the first of `texts`. The second is a request for `Tag::holds`, and
+    /// another tag for the calls of the `_` arm, which are those of `of_both`.
     fn call(&self, alloc: Global, name: &str, texts: &[Vec<u8>]) -> Reply {
         match name {
             "Tag::clone" => answer(alloc, self.clone()?),
@@ -42,7 +43,7 @@ fn holds(alloc: Global, tag: &Tag, text: &[u8]) -> Reply {
     answer(alloc, is_held)
 }
 
-/// A list with the cost as its only member, or an empty list if there is none.
+/// A list with the tag's `node_cost` as its only number, or an empty list if that is None: it is 2^64 or more.
 fn node_cost(alloc: Global, tag: &Tag) -> Reply {
     let mut costs = Vec::new(alloc);
     if let Some(cost) = tag.node_cost() {
@@ -51,7 +52,7 @@ fn node_cost(alloc: Global, tag: &Tag) -> Reply {
     answer(alloc, costs)
 }
 
-/// Does the call with this name on the tag and the one that the second text is.
+/// Does the call with this name on the tag and the tag that the second text is. The third text is the most nodes.
 fn with_other(alloc: Global, name: &str, tag: &Tag, texts: &[Vec<u8>]) -> Reply {
     let other: Tag = read(alloc, at(texts, 1))?;
     let reply = of_both(alloc, name, tag, &other, at(texts, 2));
@@ -59,7 +60,8 @@ fn with_other(alloc: Global, name: &str, tag: &Tag, texts: &[Vec<u8>]) -> Reply 
     reply
 }
 
-/// Does the call with this name on two tags. `most` is a number of nodes, at most 1,000,000.
+/// Does the call with this name on two tags. The `_` arm is `Index::places`. `most` is for `Tag::meet_within` and `Tag::into_meet`: the
+/// limit on the product of the tags' numbers of nodes, in digits. A number over 1,000,000, or no number, is 1,000,000.
 fn of_both(alloc: Global, name: &str, tag: &Tag, other: &Tag, most: &[u8]) -> Reply {
     match name {
         "Tag::same" => answer(alloc, tag.same(other)),
@@ -77,7 +79,7 @@ fn of_both(alloc: Global, name: &str, tag: &Tag, other: &Tag, most: &[u8]) -> Re
     }
 }
 
-/// The places of the members of `set` that may have a request in common with `tag`.
+/// The places, from 1, of the members of `set` that may have a request in common with `tag`, as an index of the set finds them.
 fn places(alloc: Global, set: &Tag, tag: &Tag) -> Reply {
     let index = Index::of(alloc, set)?;
     let places = index.places(alloc, tag);

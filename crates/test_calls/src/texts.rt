@@ -8,7 +8,7 @@ use spki_tag::{Ground, Tag};
 use std::alloc::Global;
 use std::str;
 
-/// The text at a place, and no octets where there is none.
+/// The text at a place, from 0. An empty text if the row has fewer texts.
 pub fn at(texts: &[Vec<u8>], place: usize) -> &[u8] {
     match texts.get(place) {
         Some(text) => text.as_slice(),
@@ -16,7 +16,7 @@ pub fn at(texts: &[Vec<u8>], place: usize) -> &[u8] {
     }
 }
 
-/// The texts from a place on.
+/// The texts from a place, from 0, on. Empty if the row has fewer texts.
 pub fn behind(texts: &[Vec<u8>], place: usize) -> &[Vec<u8>] {
     match texts.get(place..) {
         Some(rest) => rest,
@@ -36,11 +36,11 @@ pub fn number(text: &[u8]) -> usize {
 
 /// A type whose values can be read from a node.
 pub trait OfNode<'a>: Sized {
-    /// Reads a value from its node. Err is its fault.
+    /// Reads a value from its node. Err is the fault if the node is no such value, or `Memory`.
     fn of_node(alloc: Global, node: &Node<'_, 'a>) -> Result<Self, Failure>;
 }
 
-/// Reads the value of a text, which must be in canonical form.
+/// Reads a text in canonical form as a value of type `T`. Err is the fault of its form, or else that of the value.
 pub fn read<'a, T: OfNode<'a> + Drop>(alloc: Global, text: &'a [u8]) -> Result<T, Failure> {
     let document = Doc::open(alloc, text)?;
     T::of_node(alloc, &document.top())

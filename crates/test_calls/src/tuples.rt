@@ -10,7 +10,10 @@ use spki_reduce::{Five, Four, Issuer, Step, Work, fold_chain, fold_owned};
 use spki_tag::Ground;
 use std::alloc::Global;
 
-/// Does the call with this name, of this module or of one to which it passes the name on. Returns its answer. None if there is no such call.
+/// Does the call with this name, of this module or of one to which it passes the name on. Returns its answer. None if there is no such
+/// call.
+///
+/// A call that joins two tuples is done on the second tuple, and reads the first one itself, from the first three texts.
 pub(crate) fn call(alloc: Global, name: &str, texts: &[Vec<u8>]) -> Option<Reply> {
     match name {
         "Five::write" | "Five::missing_grant" => {
@@ -34,7 +37,7 @@ fn issuer<'a>(alloc: Global, text: &'a [u8]) -> Result<Issuer<'a>, Failure> {
     Ok(Issuer::Key(read(alloc, text)?))
 }
 
-/// The authorization that the first three texts are.
+/// The authorization that the first three texts are: the issuer's key or none, a text that is not read, and the entry.
 fn five<'a>(alloc: Global, texts: &'a [Vec<u8>]) -> Result<Five<'a>, Failure> {
     let issuer = issuer(alloc, at(texts, 0))?;
     let entry: Entry = read(alloc, at(texts, 2))?;
@@ -47,7 +50,7 @@ fn five<'a>(alloc: Global, texts: &'a [Vec<u8>]) -> Result<Five<'a>, Failure> {
     })
 }
 
-/// The name's definition that the first three texts are.
+/// The name's definition that the first three texts are. The tag and the delegation of the entry are left out.
 fn four<'a>(alloc: Global, texts: &'a [Vec<u8>]) -> Result<Four<'a>, Failure> {
     let key = read(alloc, at(texts, 0))?;
     let entry: Entry = read(alloc, at(texts, 2))?;
@@ -61,7 +64,7 @@ fn four<'a>(alloc: Global, texts: &'a [Vec<u8>]) -> Result<Four<'a>, Failure> {
     Ok(four)
 }
 
-/// The tuple that three texts are: an authorization if it defines no name.
+/// The tuple that three texts are: an authorization if the second is empty, otherwise a definition of this name.
 fn step<'a>(alloc: Global, texts: &'a [Vec<u8>]) -> Result<Step<'a>, Failure> {
     if at(texts, 1).is_empty() {
         five(alloc, texts).map(Step::Auth)
@@ -79,7 +82,8 @@ fn steps<'a>(alloc: Global, texts: &'a [Vec<u8>]) -> Result<Vec<Step<'a>>, Failu
     Ok(steps)
 }
 
-/// `Five::write` answers the authorization, `Five::then` the join of the first tuple of the texts with it, and `Five::missing_grant` what it lacks.
+/// The authorization is the first tuple of the row for `Five::write` and for `Five::missing_grant`, the `_` arm. `texts` are those after
+/// it. For `Five::then` it is the second tuple, with which the first is joined, and `texts` are all.
 impl Called for Five<'_> {
     fn call(&self, alloc: Global, name: &str, texts: &[Vec<u8>]) -> Reply {
         match name {
@@ -90,7 +94,8 @@ impl Called for Five<'_> {
     }
 }
 
-/// What an authorization lacks to grant a key (the first text) a request (the second) at a moment (the third).
+/// What an authorization lacks to grant a key (the first text) a request (the second) at a moment (the third). The answer is an Option, as
+/// `Debug` writes it: None if it lacks nothing.
 fn missing(alloc: Global, five: &Five, texts: &[Vec<u8>]) -> Reply {
     let holder: Key = read(alloc, at(texts, 0))?;
     let request: Ground = read(alloc, at(texts, 1))?;
@@ -99,7 +104,7 @@ fn missing(alloc: Global, five: &Five, texts: &[Vec<u8>]) -> Reply {
     reply
 }
 
-/// As `missing`, for a key and a request that were read.
+/// As `missing`, for the key `holder` and a request that were read, and the text of the moment.
 fn missing_at(alloc: Global, five: &Five, holder: &Key, request: &Ground, moment: &[u8]) -> Reply {
     let moment: Date = read(alloc, moment)?;
     shown(
@@ -108,7 +113,7 @@ fn missing_at(alloc: Global, five: &Five, holder: &Key, request: &Ground, moment
     )
 }
 
-/// The join of the authorization of the texts with `next`.
+/// The join of the authorization that the first three texts are with `next`.
 fn then(alloc: Global, texts: &[Vec<u8>], next: &Five) -> Reply {
     let first = five(alloc, texts)?;
     let joined = first.then(alloc, next, Policy::Open);
@@ -116,7 +121,8 @@ fn then(alloc: Global, texts: &[Vec<u8>], next: &Five) -> Reply {
     answer(alloc, joined)
 }
 
-/// Each call joins the first tuple of the texts with this definition.
+/// The definition is the row's second tuple, and `texts` are all. Each call joins the first tuple with it. The `_` arm is
+/// `Five::into_resolve`.
 impl Called for Four<'_> {
     fn call(&self, alloc: Global, name: &str, texts: &[Vec<u8>]) -> Reply {
         match name {
@@ -127,7 +133,7 @@ impl Called for Four<'_> {
     }
 }
 
-/// The join of the definition of the texts with this one.
+/// The join of the definition that the first three texts are with `definition`: this resolves the first name of its subject.
 fn four_then(alloc: Global, texts: &[Vec<u8>], definition: &Four) -> Reply {
     let first = four(alloc, texts)?;
     let joined = first.then(alloc, definition, Policy::Open);
@@ -135,7 +141,7 @@ fn four_then(alloc: Global, texts: &[Vec<u8>], definition: &Four) -> Reply {
     answer(alloc, joined)
 }
 
-/// The authorization of the texts, resolved by a definition.
+/// The authorization that the first three texts are, with the first name of its subject resolved by a definition.
 fn resolve(alloc: Global, texts: &[Vec<u8>], definition: &Four) -> Reply {
     let first = five(alloc, texts)?;
     let joined = first.resolve(alloc, definition, Policy::Open);
@@ -149,7 +155,7 @@ fn into_resolve(alloc: Global, texts: &[Vec<u8>], definition: &Four) -> Reply {
     answer(alloc, first.into_resolve(definition, Policy::Open))
 }
 
-/// The number that a text is. None for an empty text.
+/// The bound on work that a text is, in digits. None, which is no bound, for an empty text.
 fn bound(text: &[u8]) -> Option<usize> {
     match text.len() {
         0 => None,

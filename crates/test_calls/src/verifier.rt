@@ -11,13 +11,16 @@ use std::alloc::{AllocError, Global};
 /// Accepts the signatures of a list, or all signatures, or fails always, as if memory ran out.
 #[derive(Drop)]
 pub(crate) struct RowVerifier<'a> {
+    /// The accepted list. It is empty for `all` and `broken`.
     listed: AcceptedTable<'a>,
+    /// Whether all signatures are accepted.
     all: bool,
+    /// Whether each call fails, as if memory ran out.
     is_broken: bool,
 }
 
 impl<'a> RowVerifier<'a> {
-    /// The verifier that a text names: `all`, `broken`, or an accepted list.
+    /// The verifier that a text names: `all`, `broken`, or an accepted list in canonical form. Err is the fault of that list.
     pub(crate) fn read(alloc: Global, text: &'a [u8]) -> Result<RowVerifier<'a>, Failure> {
         let all = text == b"all".as_slice();
         let is_broken = text == b"broken".as_slice();

@@ -16,7 +16,7 @@ pub(crate) fn call(alloc: Global, name: &str, texts: &[Vec<u8>]) -> Option<Reply
     }
 }
 
-/// The limit that a text is. None for an empty text.
+/// The limit of a window that a text is, a date. Ok with None, no limit, for an empty text.
 fn limit(alloc: Global, text: &[u8]) -> Result<Option<Date>, Failure> {
     if text.is_empty() {
         return Ok(None);
@@ -32,8 +32,9 @@ fn window(alloc: Global, from: &[u8], until: &[u8]) -> Result<Window, Failure> {
     })
 }
 
-/// Whether the moment of the third text is within a window: for `Window::holds` the one from the first text until the second, otherwise the
-/// intersection of the one until the first text and the one from the second on. `no moment` if that intersection is None.
+/// Whether the moment of the third text is within a window. For `Window::holds` this is the window from the first text until the second.
+/// The `_` arm is `Window::meet`, and the window is the intersection of the one until the first text and the one from the second on. The
+/// answer is `no moment` if that is None.
 fn at_moment(alloc: Global, name: &str, texts: &[Vec<u8>]) -> Reply {
     let (one, other) = (at(texts, 0), at(texts, 1));
     let moment: Date = read(alloc, at(texts, 2))?;
@@ -47,16 +48,16 @@ fn at_moment(alloc: Global, name: &str, texts: &[Vec<u8>]) -> Reply {
     }
 }
 
-/// The intersection of the window until one limit and the window from another on.
+/// The intersection of the window until one limit and the window from another on. Ok with None if no moment is within both.
 fn meet(alloc: Global, until: &[u8], from: &[u8]) -> Result<Option<Window>, Failure> {
     let up_to = window(alloc, b"", until)?;
     Ok(up_to.meet(&window(alloc, from, b"")?))
 }
 
-/// A digest that two keys share in `is_owner`. No real digest does this.
+/// A digest that two keys share in `is_owner`. No two keys are known that share a real SHA-256 digest.
 const SHARED: &[u8] = b"0123456789abcdef0123456789abcdef";
 
-/// The two keys that share it.
+/// The two keys that share the digest `SHARED`, in canonical form.
 const OWNERS: [&[u8]; 2] = [b"(10:public-key(4:test1:a))", b"(10:public-key(4:test1:b))"];
 
 /// Whether a principal names a key, in place of `Principal::names`: as if both keys of `OWNERS` had the digest `SHARED`, and no key another one.
@@ -69,7 +70,8 @@ fn is_owner(principal: &Principal, key: &Key) -> bool {
     }
 }
 
-/// The place of the first key of the texts that has the shared digest, as the call with `is_owner` finds it.
+/// The place, from 0, of the first key of the texts that has the digest `SHARED`. None if there is none. As two keys have this digest, rows
+/// show that the library's call takes the first of several.
 fn first_named(alloc: Global, texts: &[Vec<u8>]) -> Reply {
     let keys = keys(alloc, texts)?;
     let hash = Principal::Hash {

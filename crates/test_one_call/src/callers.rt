@@ -26,7 +26,7 @@ use test_calls::answers::{Reply, answer, octets, refused, shown, word};
 use test_calls::failure::Failure;
 use test_calls::texts::{at, behind, keys, number, read};
 
-/// Does the call with this name. Returns its answer. None if there is no such call.
+/// Does the call with this name. Returns its answer. None if there is no such call: this is the last module that is asked for a name.
 pub(crate) fn call(alloc: Global, name: &str, texts: &[Vec<u8>]) -> Option<Reply> {
     let (one, other) = (at(texts, 0), at(texts, 1));
     match name {
@@ -51,7 +51,7 @@ fn member(alloc: Global, text: &[u8]) -> Reply {
     }
 }
 
-/// The whole text that a reader gives, of at most `most` octets.
+/// The whole text that `text_from` reads, of at most `most` octets. Its client is a reader in memory that gives `text`.
 fn whole(alloc: Global, text: &[u8], most: usize) -> Reply {
     let mut client = Metered::new(text);
     match text_from(alloc, &mut client, most) {
@@ -85,7 +85,7 @@ fn of_narrowed(alloc: Global, tag: Result<Tag, NarrowFault>) -> Reply {
     }
 }
 
-/// Whether a text is the key whose SHA-256 digest is `pin`.
+/// Whether the SHA-256 digest of the key that a text is equals `pin`. Err is the fault of a text that is no key.
 fn pinned(alloc: Global, text: &[u8], pin: &[u8]) -> Reply {
     let document = Doc::open(alloc, text)?;
     let found = pinned_key(&document, pin)?;
@@ -113,7 +113,7 @@ fn of_list<'a>(entry: Entry<'a>) -> Five<'a>
     }
 }
 
-/// Whether an authorization grants a key a request at a moment, which are three texts, in this order.
+/// Whether an authorization grants a key a request at a moment, which are three texts, in this order. The chain has no steps.
 fn asks(alloc: Global, first: &Five, texts: &[Vec<u8>]) -> Reply
     requires { issuer_of first.now.issuer ≡ own }
 {
@@ -137,13 +137,13 @@ fn decide(alloc: Global, texts: &[Vec<u8>]) -> Reply {
     reply
 }
 
-/// The case of these five texts.
+/// The case of the first five texts of `decide`.
 fn made<'a>(alloc: Global, texts: &'a [Vec<u8>]) -> Result<Case<'a>, Failure> {
     let document = Doc::open(alloc, at(texts, 1))?;
     of_parts(alloc, &document.top(), texts)
 }
 
-/// The case of these five texts, with `shown` as its sequence.
+/// The case of the first five texts of `decide`, with `shown`, the node of the second text, as its sequence.
 fn of_parts<'a>(
     alloc: Global,
     shown: &Node<'_, 'a>,
@@ -182,7 +182,8 @@ fn posed<'a>(sequence: &'a [u8], key: &'a [u8]) -> Posed<'a> {
     }
 }
 
-/// The decisions for two keys. The texts are the access list, the sequence, the two keys, the accepted list, and the revoked keys.
+/// The decisions of `answer_both` for two keys, each on the question of `posed`. The texts are the access list, the sequence, the two keys,
+/// the accepted list, and the revoked keys.
 fn both(alloc: Global, texts: &[Vec<u8>]) -> Reply {
     let revoked = keys(alloc, behind(texts, 5))?;
     let table = AcceptedTable::read(alloc, at(texts, 4))?;
@@ -203,7 +204,7 @@ fn of_answered(alloc: Global, decisions: Result<(Decision, Decision), ServiceFau
     }
 }
 
-/// The number of entries of a guard that threads may share.
+/// The number of entries of the access list `list`, as the guard of `shared_guard` has it.
 fn entries_of(alloc: Global, list: &[u8]) -> Reply {
     let guard = shared_guard(alloc, list)?;
     let entries = guard.entries();

@@ -24,7 +24,7 @@ pub(crate) fn call(alloc: Global, name: &str, texts: &[Vec<u8>]) -> Option<Reply
     }
 }
 
-/// The intersection in a text, or why there is none.
+/// The intersection of the tags A and B of a text `(intersect A B)`, in canonical form, or the fault if there is none.
 fn intersection(alloc: Global, text: &[u8]) -> Reply {
     match intersect(alloc, text) {
         Ok(tag) => answer(alloc, tag),
@@ -33,14 +33,14 @@ fn intersection(alloc: Global, text: &[u8]) -> Reply {
     }
 }
 
-/// The verdict of an answer, a space and its line. The answer is freed.
+/// The verdict of a printed answer, a space and its line or lines. The printed answer is freed. Err if memory ran out for it.
 fn line(alloc: Global, answer: Printed) -> Reply {
     let reply = verdict_and_line(alloc, &answer);
     drop(answer);
     reply
 }
 
-/// The verdict of an answer, a space and its line. Err if the line is `refused Memory`.
+/// What `line` returns, for a printed answer that the caller frees. Err if its line is `refused Memory`: then the row has no answer.
 fn verdict_and_line(alloc: Global, answer: &Printed) -> Reply {
     if answer.verdict == Verdict::Refused && answer.octets() == b"refused Memory\n".as_slice() {
         return Err(Failure::Memory);
@@ -49,7 +49,7 @@ fn verdict_and_line(alloc: Global, answer: &Printed) -> Reply {
     joined(alloc, &[&verdict, b" ", answer.octets()])
 }
 
-/// The line that refuses an access list, or `read` if the list is not refused.
+/// The line that refuses the access list of the first four texts, which are those of a guard, or `read` if the list is not refused.
 fn refused_list(alloc: Global, texts: &[Vec<u8>]) -> Reply {
     match guard(alloc, texts) {
         Ok(guard) => {
@@ -96,8 +96,8 @@ fn answer_to(alloc: Global, guard: &SharedGuard, query: Query, texts: &[Vec<u8>]
     }
 }
 
-/// Marks a question, and returns the line that answers it. `other marks` if it has no place that is to be marked, `other answers` if `is_granted`,
-/// `is_possible` or the grant does not fit the decision.
+/// Marks signatures of a question as valid, and returns what answers it. `other marks` if a mark has no signature at its place. For a
+/// decision it is `other answers` if `is_granted` or the grant is not as the decision says, or if a granted question is not possible.
 fn answer_of(alloc: Global, query: Query, mut opened: OwnedQuestion, marks: &[u8]) -> Reply {
     if !mark_all(&mut opened, marks) {
         drop(opened);

@@ -46,7 +46,7 @@ fn texts_of(alloc: Global, digits: &str) -> Result<Vec<Vec<u8>>, Failure> {
     Ok(texts)
 }
 
-/// What is answered to a row.
+/// What is answered to a row: the name of a call alone, or the name and its texts. Err as for `said`, or if the digits are malformed.
 fn reply_to(alloc: Global, line: &str) -> Reply {
     match line.split_once(' ') {
         None => said(alloc, line, &[]),
@@ -60,7 +60,8 @@ fn line_for(alloc: Global, line: &str) -> Result<String, Failure> {
     Ok(hex::encode(alloc, answer.as_slice())?)
 }
 
-/// Answers all rows of standard input. Returns whether each has an answer: memory was enough, and its call is known.
+/// Answers all rows of standard input. Returns whether each has an answer, as for `answer_row`. Err if standard input or output failed, or
+/// memory ran out for reading.
 fn answer_rows(rt: &HostRuntime) -> Result<bool, Failure> {
     let alloc = rt.alloc();
     let mut is_enough = true;
@@ -70,7 +71,8 @@ fn answer_rows(rt: &HostRuntime) -> Result<bool, Failure> {
     Ok(is_enough)
 }
 
-/// Answers a row on standard output. Returns whether it has an answer: memory was enough, and its call is known.
+/// Answers a row on standard output. Returns whether it has an answer: memory was enough, its call is known, and its digits are not
+/// malformed. Err if standard output failed.
 fn answer_row(rt: &HostRuntime, line: &str) -> Result<bool, Failure> {
     let answer = line_for(rt.alloc(), line);
     match &answer {

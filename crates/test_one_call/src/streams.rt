@@ -63,25 +63,29 @@ impl WithoutRoom {
 /// A reader of a text, or a writer, for tests. It passes on a few octets in each call, counts its calls, and may fail.
 #[derive(Drop)]
 struct TestStream<'a> {
-    /// The rest of the text.
+    /// The rest of the text, which a reader has still to give. Empty for a writer.
     text: &'a [u8],
-    /// What was written.
+    /// The octets that were written.
     taken: Vec<u8>,
-    /// The most octets of a call, `step`, and of all calls that follow, `room`.
+    /// The most octets of each call.
     step: usize,
+    /// The most octets of all calls that follow, together.
     room: usize,
-    /// What it answers without room.
+    /// What a read or write returns when `room` is 0.
     without_room: WithoutRoom,
-    /// The number of reads and writes, and the length of the last one's buffer, `last`.
+    /// The number of reads and writes.
     calls: usize,
+    /// The length, in octets, of the buffer of the last read or write.
     last: usize,
+    /// The number of flushes.
     flushes: usize,
+    /// Whether each flush fails.
     flush_fails: bool,
 }
 
 impl<'a> TestStream<'a> {
-    /// Makes a stream from three texts: the most octets of a call, the room, and what a call without room returns. A fourth, `fails`, means that a
-    /// flush fails.
+    /// Makes a stream that gives `text`, from three of `texts`: the most octets of a call, the room, and what a call without room returns.
+    /// The first two are numbers; any other text, or none, is no limit. A fourth, `fails`, means that each flush fails.
     fn new(alloc: Global, text: &'a [u8], texts: &[Vec<u8>]) -> TestStream<'a> {
         TestStream {
             text,
@@ -105,7 +109,8 @@ impl<'a> TestStream<'a> {
 }
 
 impl Read for TestStream<'_> {
-    /// Reads some octets of the text, within the step, the room and the buffer.
+    /// Counts the call, and reads some octets of the text, within the step, the room and the buffer. Without room it returns what
+    /// `without_room` says.
     fn read(&mut self, buf: &mut [u8]) -> io::Result<usize> {
         self.calls = self.calls.saturating_add(1);
         self.last = buf.len();
@@ -122,7 +127,7 @@ impl Read for TestStream<'_> {
 }
 
 impl Write for TestStream<'_> {
-    /// Takes some of the octets, within the step and the room.
+    /// Counts the call, and takes some of the octets, within the step and the room. Without room it returns what `without_room` says.
     fn write(&mut self, buf: &[u8]) -> io::Result<usize> {
         self.calls = self.calls.saturating_add(1);
         self.last = buf.len();
@@ -183,7 +188,7 @@ fn written(alloc: Global, counts: &[u8], taken: &[u8]) -> Reply {
     joined(alloc, &[counts, taken])
 }
 
-/// Reads once through a meter, into a buffer of three octets. The answer is as for `passed_on`.
+/// Reads a text once through a meter, into a buffer of three octets. The answer is that of `passed_on`.
 fn read_once(alloc: Global, text: &[u8]) -> Reply {
     let mut meter = Metered::new(TestStream::new(alloc, text, &[]));
     let mut buffer = [0; 3];
@@ -192,7 +197,7 @@ fn read_once(alloc: Global, text: &[u8]) -> Reply {
     passed_on(alloc, count, &buffer, asks, faults, &meter.into_inner())
 }
 
-/// Writes once through a meter, and flushes. The answer is as for `passed_on`, with what was written as the octets.
+/// Writes octets once through a meter, and flushes. The answer is that of `passed_on`, for the octets that were written.
 fn write_once(alloc: Global, octets: &[u8]) -> Reply {
     let mut meter = Metered::new(TestStream::new(alloc, b"", &[]));
     let count = meter.write(octets)?;
@@ -202,8 +207,8 @@ fn write_once(alloc: Global, octets: &[u8]) -> Reply {
     passed_on(alloc, count, &end.taken, asks, faults, &end)
 }
 
-/// How many octets were passed on, and which; the meter's counts of calls and faults; and the calls, the last buffer's length and the flushes of
-/// `stream`.
+/// The answer, which shows that a meter passes each call on once, with the same buffer. It is how many octets were passed on, and which;
+/// the meter's counts of calls, `asks`, and of faults; and the calls, the last buffer's length and the flushes of `stream`.
 fn passed_on(
     alloc: Global,
     count: usize,
@@ -217,7 +222,8 @@ fn passed_on(
     Ok(line.into_bytes())
 }
 
-/// The texts of the faults that no row shows.
+/// The messages of faults that no other row shows: those for memory, since a row for which memory runs out has no answer, and those of
+/// `metered_io`, which no call here returns.
 fn fault_texts(alloc: Global) -> Reply {
     let (form, tag, meet) = (FormFault::Memory, TagFault::Memory, MeetFault::Memory);
     let (kind, case, both) = (
