@@ -169,9 +169,9 @@ impl<'a> Case<'a> {
 
     /// Makes a case with an empty access list and an empty accepted list, for a question to a separate access list, such as that of a
     /// guard. Each certificate in `sequence` must be followed by its signature. `most_nodes`, which must be at most 1,000,000, and
-    /// `most_work` become the fields of these names. `uncounted` is 0, so all chains count as work. `algorithms` are those of the hashes in
-    /// the separate list that may name keys under the policy. The keys get the digests by which they may be compared with these hashes and
-    /// with those in the sequence; this saves time and changes no answer.
+    /// `most_work` become the fields of these names. `uncounted` is 0, so all chains count as work, and `most_work` bounds it. `algorithms`
+    /// are those of the hashes in the separate list that may name keys under the policy. The keys get the digests by which they may be
+    /// compared with these hashes and with those in the sequence; this saves time and changes no answer.
     ///
     /// # Errors
     ///

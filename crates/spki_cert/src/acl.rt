@@ -104,7 +104,7 @@ fn entries_of<'a>(alloc: Global, members: Members<'_, 'a>) -> Result<Vec<Entry<'
 /// Returns the members of an access list that are its entries: those after the head `acl`, and after `(version 0)` if that is the first of them. Err
 /// is `Shape` if the node is not headed `acl`, or the fault of the version.
 #[tactic(auto, using(crate::proofs::Heads::heads), unfolding(crate::specs::StructureFaults::outer_fault))]
-fn behind_version<'d, 'a>(node: &Node<'d, 'a>) -> Result<Members<'d, 'a>, CertFaultKind>
+fn entry_members<'d, 'a>(node: &Node<'d, 'a>) -> Result<Members<'d, 'a>, CertFaultKind>
     ensures found { IfOk result (λ entries. (all : List Value) × (node.now ≡ group (plain (codes "acl") ∷ all))
         × BeginsWell all × (entries ≡ behind_version all)) }
     ensures named { IfErr result (λ kind. outer_fault node.now ≡ Some kind) }
@@ -138,7 +138,7 @@ pub fn acl_of<'a>(alloc: Global, node: &Node<'_, 'a>) -> Result<Vec<Entry<'a>>, 
     ensures named { IfErr result (λ fault. fault.kind ≢ CertFaultKind.Memory → acl_fault node.now ≡ Some fault) }
     ensures faultless { IfOk result (λ _. acl_fault node.now ≡ None) }
 {
-    match behind_version(node) {
+    match entry_members(node) {
         Ok(members) => entries_of(alloc, members),
         Err(kind) => Err(CertFault { item: 0, kind }),
     }
@@ -189,7 +189,7 @@ pub fn acl_principals<'a>(
     ensures named { IfErr result (λ fault. fault.kind ≢ CertFaultKind.Memory → acl_fault node.now ≡ Some fault) }
     ensures faultless { IfOk result (λ _. acl_fault node.now ≡ None) }
 {
-    match behind_version(node) {
+    match entry_members(node) {
         Ok(members) => principals_in(alloc, members),
         Err(kind) => Err(CertFault { item: 0, kind }),
     }

@@ -125,8 +125,8 @@ IsChainRequirement c tuples requirement = (e : Entry) → Supported c tuples e
 pub record ArePlain (tuples : List Tuple) (plain : PlainNodes) : Type 0 where
   pub no_set : some_nests_set (tags (all_tags tuples)) ≡ false
   pub all_nodes : plain.all ≡ nodes_together tuples
-  pub most_nodes : plain.most ≡ most_of_one tuples
-  pub few : (plain.all ≤ 1000000) × (plain.most ≤ 1000000)
+  pub most_nodes : plain.largest ≡ most_of_one tuples
+  pub few : (plain.all ≤ 1000000) × (plain.largest ≤ 1000000)
 
 -- `product`, if there is one, is the product of the nodes of the tuples' tags; it is over 1,000,000 if there is none. `plain`, if there is
 -- one, is what their nodes are without sets; there is none if some tag has a set, or all have over 1,000,000 nodes together.

@@ -82,8 +82,8 @@ pub fn reduce_case<'a, V: Verifier>(
 }
 
 /// Puts into `sink` what each entry of `acl` and the certificates of the case become. `steps` are the tuples of all certificates, in
-/// order. The entries are those of `acl`, here and in the contract; both callers pass the case's own list. Err is `TooLarge` or `Memory`.
-/// After an error, `sink` may have taken what some of the entries become.
+/// order. `acl` is the case's own list: a parameter, since the lemmas of the proof are about any list. Err is that of `entry_fold` at the
+/// first entry that has one, or `Memory`. After an error, `sink` may have taken what some of the entries become.
 pub(crate) fn put_folds<'a, S: FoldSink<'a>>(
     alloc: Global,
     acl: &[Entry<'a>],

@@ -92,7 +92,7 @@ impl<'a> RequiredSubject<'a> {
     {
         ticks.tick();
         match step {
-            Step::Auth(next) => Ok(self.before_delegation(alloc, next, policy, ticks)),
+            Step::Auth(next) => Ok(self.before_authorization(alloc, next, policy, ticks)),
             Step::Name(definition) => self.before_definition(alloc, definition, policy, ticks),
         }
     }
@@ -100,7 +100,7 @@ impl<'a> RequiredSubject<'a> {
     /// The subject that is required before `next`, an authorization step, if `self` is required after it. It is the key of the step's
     /// issuer, without names, and it must be allowed to delegate (the field `delegation`), since it issued `next`. None if the subject and
     /// `propagate` of `next` are not as `self` requires, or if its issuer is the owner of the access list.
-    fn before_delegation<L: Ledger>(
+    fn before_authorization<L: Ledger>(
         self,
         alloc: Global,
         next: &Five<'a>,

@@ -11,7 +11,7 @@ use spki_tag::Tag;
 /// The greatest number of nodes, or product of such numbers, that is counted. It is the greatest limit that `are_small` may be asked about.
 const MOST_NODES: usize = 1_000_000;
 
-/// The numbers of nodes of the certificates' tags.
+/// What is kept of the numbers of nodes of the certificates' tags.
 #[derive(Clone, Copy)]
 pub(crate) struct Sizes {
     /// The product of the numbers, if it is at most 1,000,000.
@@ -25,8 +25,8 @@ pub(crate) struct Sizes {
 pub(crate) struct PlainNodes {
     /// Of all tags together.
     pub(crate) all: usize,
-    /// The greatest of one tag. 1 if there is no tag.
-    pub(crate) most: usize,
+    /// Of the largest tag. 1 if there is no tag.
+    pub(crate) largest: usize,
 }
 
 impl Sizes {
@@ -40,40 +40,42 @@ impl Sizes {
         }
     }
 
-    /// Whether the numbers of nodes alone show that a chain from an entry with this tag intersects no two tags whose product of nodes is
-    /// over `most`. They show it if the product of the nodes of all tags is at most `most`; or if no tag has a set, and the nodes of all
-    /// tags together, times those of the largest tag of a certificate, are at most `most`. With `Case::uncounted` as `most`, such an entry
-    /// is spared: it takes no work from the budget. `most` must be at most 1,000,000, and the steps those of `of`.
-    pub(crate) fn are_small<'a>(&self, tag: &Tag, steps: &[Step<'a>], most: usize) -> bool
+    /// Whether, by the numbers of nodes alone, each intersection in the chain of an entry with this tag stays within `limit`, which is for
+    /// the product of the nodes of the two tags. An intersection has at most the product of the nodes of both tags, and without sets at
+    /// most their sum. So it stays within the limit if the product of the nodes of all tags does; or if no tag has a set, and the nodes of
+    /// all tags together, times those of the largest tag of a certificate, do. With `Case::uncounted` as the limit, such an entry is
+    /// spared: it takes no work from the budget. `limit` must be at most 1,000,000. `steps` are those that `of` counted; only the contract
+    /// uses them.
+    pub(crate) fn are_small<'a>(&self, tag: &Tag, steps: &[Step<'a>], limit: usize) -> bool
         requires sizes { AreSizes (tuples_of steps.now) self.now }
-        requires most { most ≤ 1000000 }
-        ensures { result ≡ is_spared most (tuples_of steps.now) tag.now }
+        requires limit { limit ≤ 1000000 }
+        ensures { result ≡ is_spared limit (tuples_of steps.now) tag.now }
     {
-        self.have_small_product(tag, steps, most) || self.are_plain(tag, steps, most)
+        self.have_small_product(tag, steps, limit) || self.are_plain(tag, steps, limit)
     }
 
-    /// Whether the product of the nodes of all tags is at most `most`. Only the contract uses `_steps`.
-    fn have_small_product<'a>(&self, tag: &Tag, _steps: &[Step<'a>], most: usize) -> bool
+    /// Whether the product of the nodes of all tags is at most `limit`. Only the contract uses `_steps`.
+    fn have_small_product<'a>(&self, tag: &Tag, _steps: &[Step<'a>], limit: usize) -> bool
         requires sizes { AreSizes (tuples_of _steps.now) self.now }
-        requires most { most ≤ 1000000 }
-        ensures { result ≡ has_small_product most (tuples_of _steps.now) tag.now }
+        requires limit { limit ≤ 1000000 }
+        ensures { result ≡ has_small_product limit (tuples_of _steps.now) tag.now }
     {
         let Some(nodes) = self.product else {
             return false;
         };
-        tag.nodes() * nodes <= most
+        tag.nodes() * nodes <= limit
     }
 
-    /// Whether no tag has a set, and the nodes of all tags together, times those of the largest one of a certificate, are at most `most`. Only the
+    /// Whether no tag has a set, and the nodes of all tags together, times those of the largest one of a certificate, are at most `limit`. Only the
     /// contract uses `_steps`.
-    fn are_plain<'a>(&self, tag: &Tag, _steps: &[Step<'a>], most: usize) -> bool
+    fn are_plain<'a>(&self, tag: &Tag, _steps: &[Step<'a>], limit: usize) -> bool
         requires sizes { AreSizes (tuples_of _steps.now) self.now }
-        requires most { most ≤ 1000000 }
-        ensures { result ≡ is_plain most (tuples_of _steps.now) tag.now }
+        requires limit { limit ≤ 1000000 }
+        ensures { result ≡ is_plain limit (tuples_of _steps.now) tag.now }
     {
         match self.plain {
             None => false,
-            Some(plain) => !tag.nests_set() && (tag.nodes() + plain.all) * plain.most <= most,
+            Some(plain) => !tag.nests_set() && (tag.nodes() + plain.all) * plain.largest <= limit,
         }
     }
 }
@@ -99,7 +101,7 @@ fn plain_of(steps: &[Step]) -> Option<PlainNodes>
     ensures { MatchOption result ((some_nests_set (tags (all_tags (tuples_of steps.now))) ≡ true) ⊎ (1000000 < nodes_together (tuples_of steps.now)))
         (ArePlain (tuples_of steps.now)) }
 {
-    let mut plain = PlainNodes { all: 0, most: 1 };
+    let mut plain = PlainNodes { all: 0, largest: 1 };
     for step in steps {
         if nests_set(step) {
             return None;
@@ -107,7 +109,7 @@ fn plain_of(steps: &[Step]) -> Option<PlainNodes>
         let nodes = nodes_in(step);
         plain = PlainNodes {
             all: plain.all + nodes,
-            most: plain.most.max(nodes),
+            largest: plain.largest.max(nodes),
         };
         if plain.all > MOST_NODES {
             return None;

@@ -76,7 +76,7 @@ pub(crate) fn print_stopped<S: Sink>(entry: usize, item: usize, cause: Cause, si
 /// Prints the whole line `entry N WORD` and its line feed, such as `entry 2 grants`, for a reason that is one word. `entry` is N,
 /// counted from 1.
 #[tactic(auto, using(crate::proofs::ReportLines::decimal_written))]
-fn print_word<S: Sink>(entry: usize, word: &str, sink: &mut S)
+fn print_word_line<S: Sink>(entry: usize, word: &str, sink: &mut S)
     ensures { S.takes sink.old (entry_line entry (word.now ∷ [])) sink.new }
 {
     let mut digits = Buffer::new();
@@ -89,10 +89,10 @@ pub(crate) fn print_reason<S: Sink>(entry: usize, reason: Reason, sink: &mut S)
     ensures { S.takes sink.old (reason_line entry reason) sink.new }
 {
     match reason {
-        Reason::Grants => print_word(entry, "grants", sink),
-        Reason::NotTheKey => print_word(entry, "NotTheKey", sink),
-        Reason::TagLacks => print_word(entry, "TagLacks", sink),
-        Reason::WindowLacks => print_word(entry, "WindowLacks", sink),
+        Reason::Grants => print_word_line(entry, "grants", sink),
+        Reason::NotTheKey => print_word_line(entry, "NotTheKey", sink),
+        Reason::TagLacks => print_word_line(entry, "TagLacks", sink),
+        Reason::WindowLacks => print_word_line(entry, "WindowLacks", sink),
         Reason::Stopped { item, cause } => print_stopped(entry, item, cause, sink),
     }
 }

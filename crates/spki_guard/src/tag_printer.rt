@@ -89,7 +89,7 @@ fn print_limit<S: Sink>(limit: Option<TagLimit<'_>>, strict: &[u8], inclusive: &
 {
     if let Some(limit) = limit {
         print_limit_word(limit.strict, strict, inclusive, sink);
-        print_word(limit.octets, sink);
+        print_spaced(limit.octets, sink);
     }
 }
 
@@ -98,14 +98,14 @@ fn print_limit_word<S: Sink>(is_strict: bool, strict: &[u8], inclusive: &[u8], s
     ensures { S.takes sink.old (adv_all 1 (values (plain (if is_strict then strict.now else inclusive.now) ∷ []))) sink.new }
 {
     if is_strict {
-        print_word(strict, sink);
+        print_spaced(strict, sink);
     } else {
-        print_word(inclusive, sink);
+        print_spaced(inclusive, sink);
     }
 }
 
 /// Prints a string in advanced form, with a space before it.
-fn print_word<S: Sink>(octets: &[u8], sink: &mut S)
+fn print_spaced<S: Sink>(octets: &[u8], sink: &mut S)
     ensures { S.takes sink.old (adv_all 1 (values (plain octets.now ∷ []))) sink.new }
 {
     sink.put_octet(b' ');

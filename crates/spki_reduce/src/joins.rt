@@ -1,4 +1,5 @@
-//! The rules by which two tuples become one (RFC 2693, sections 6.3 and 6.4).
+//! The rules by which two tuples become one (RFC 2693, sections 6.3 and 6.4). A value with many parts is freed by a call of `drop`, so that
+//! the proof does not go through its parts at each exit.
 
 ghost use Rattle.std.specs.Prelude.{◌≡◌, ◌≢◌, ◌↔◌, true, [], ◌∷◌, ◌++◌, ◌+◌, ◌*◌, ◌<◌, ◌≤◌, ℕ, length, IsTrue, IfOk, IfErr, drop, IsFalse, IsErrOf};
 ghost use Rattle.spki_cert.specs.{Naming.{names}, Time.{IsMeet, Overlap}};
@@ -129,7 +130,7 @@ impl<'a> Five<'a> {
         self.copy()?.into_resolve(definition, policy)
     }
 
-    /// Like `resolve`, but consumes `self`, so the names of its subject and its tag are not copied.
+    /// Like `resolve`, but consumes `self`, so that neither its tag nor the names of its subject are copied.
     ///
     /// # Errors
     ///
@@ -145,12 +146,12 @@ impl<'a> Five<'a> {
             (λ cause. Stops policy (five (five_tuple self.entry)) (four (four_tuple definition.now)) cause)) }
         ensures refused { IfErr result (λ fault. fault ≡ ReduceFault.Memory) }
     {
-        self.resolve_with_new_count::<Brand>(definition, policy, Blank::new(1))
+        self.into_resolve_with_new_count::<Brand>(definition, policy, Blank::new(1))
     }
 
     /// Calls `into_resolve_counted` with a new count, which `blank` opens. The count exists only in contracts, and is dropped afterwards.
     /// `Ticks` says why this is a function of its own.
-    fn resolve_with_new_count<L: Ledger>(
+    fn into_resolve_with_new_count<L: Ledger>(
         self,
         definition: &Four<'a>,
         policy: Policy,
@@ -168,8 +169,8 @@ impl<'a> Five<'a> {
         self.into_resolve_counted(definition, policy, &mut Ticks::<L>::new(blank))
     }
 
-    /// Does what `into_resolve` does, and counts it in `ticks`. If they join, there is one tick for the definition, and one for each name
-    /// of both subjects. Otherwise there is none.
+    /// Does what `into_resolve` does, and counts it in `ticks`. If the name and the windows fit, there is one tick for the definition, and
+    /// one for each name of both subjects, also if memory runs out then. Otherwise there is none: comparing the name is not counted.
     #[tactic(auto, using(crate::proofs::ReducedForms::resolves))]
     pub(crate) fn into_resolve_counted<L: Ledger>(
         self,
@@ -206,7 +207,7 @@ impl<'a> Five<'a> {
         ticks.tick();
         ticks.read(subject.names.len());
         ticks.read(definition.subject.names.len());
-        match followed(&definition.subject, subject.names) {
+        match resolved_subject(&definition.subject, subject.names) {
             Ok(subject) => Ok(Joined::Done(Five {
                 issuer,
                 subject,
@@ -331,7 +332,7 @@ impl<'a> Four<'a> {
         Ok(Joined::Done(Four {
             key: self.key.share(),
             name: self.name.share(),
-            subject: followed(&next.subject, self.subject.names.clone()?)?,
+            subject: resolved_subject(&next.subject, self.subject.names.clone()?)?,
             window,
         }))
     }
@@ -356,7 +357,7 @@ fn begins(subject: &Subject, definition: &Four, policy: Policy) -> bool
 
 /// The subject that a subject with `names` becomes, if its first name is resolved by a definition. `subject` is that of the
 /// definition: its principal and names come first, and after them `names` without the first. Err if memory ran out.
-fn followed<'a>(subject: &Subject<'a>, names: Names<'a>) -> Result<Subject<'a>, AllocError>
+fn resolved_subject<'a>(subject: &Subject<'a>, names: Names<'a>) -> Result<Subject<'a>, AllocError>
     ensures { IfOk result (λ made. (made.principal ≡ subject.now.principal)
         × (made.names ≡ subject.now.names ++ drop 1 names.entry)) }
 {

@@ -104,7 +104,7 @@ pub(crate) fn copied_limit(limit: &Option<Limit>) -> Result<Option<Limit>, Alloc
 }
 
 /// Adds a tick for each octet of the limit's string, and none for a missing limit. It only counts: `holds` and `meet` compare the octets.
-fn read_limit<L: Ledger>(limit: &Option<Limit>, ticks: &mut Ticks<L>)
+fn count_limit<L: Ledger>(limit: &Option<Limit>, ticks: &mut Ticks<L>)
     ensures { ticks.new ≡ ticks.old + limit_octets (limit_of limit.now) }
 {
     match limit {
@@ -135,13 +135,13 @@ impl Leaf {
         ensures answer { result ≡ contains (leaf_tag self.now) (string octets.now) }
         ensures cost { ticks.new + 1 ≡ ticks.old + weight (leaf_tag self.now) }
     {
-        self.read_strings(ticks);
+        self.count_strings(ticks);
         self.holds(octets)
     }
 
     /// Adds a tick for each octet of the tag's strings: those of a string, a prefix, or the limits of a range. It only counts, for callers
     /// that compare them. The caller counts the tag itself, which is the 1 in the contract.
-    pub(crate) fn read_strings<L: Ledger>(&self, ticks: &mut Ticks<L>)
+    pub(crate) fn count_strings<L: Ledger>(&self, ticks: &mut Ticks<L>)
         ensures { ticks.new + 1 ≡ ticks.old + weight (leaf_tag self.now) }
     {
         match self {
@@ -149,8 +149,8 @@ impl Leaf {
             Leaf::String(wanted) => ticks.read(wanted.as_slice().len()),
             Leaf::Prefix(prefix) => ticks.read(prefix.octets().len()),
             Leaf::Range(range) => {
-                read_limit(&range.low, ticks);
-                read_limit(&range.up, ticks);
+                count_limit(&range.low, ticks);
+                count_limit(&range.up, ticks);
             }
         }
     }

@@ -60,9 +60,9 @@ impl Leaf {
         ensures value { IfOk result (λ r. leaf_or_nothing r ≡ meet (leaf_tag self.now) (leaf_tag other.now)) }
         ensures cost { ticks.new + 3 ≡ ticks.old + 3 * weight (leaf_tag other.now) }
     {
-        other.read_strings(ticks);
-        other.read_strings(ticks);
-        other.read_strings(ticks);
+        other.count_strings(ticks);
+        other.count_strings(ticks);
+        other.count_strings(ticks);
         self.meet(alloc, other)
     }
 

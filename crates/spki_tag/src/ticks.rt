@@ -45,7 +45,7 @@ impl<L: Ledger> Ticks<L> {
         self.book.add(&mut self.share, 1);
     }
 
-    /// Adds this number of octets, which are read or compared.
+    /// Adds this number: of octets that are read or compared, or of names.
     pub fn read(&mut self, octets: usize)
         ensures { self.new ≡ self.old + octets }
     {

@@ -70,7 +70,7 @@ fn made(alloc: Global, text: &[u8]) -> Reply {
     octets_of(alloc, &made)
 }
 
-/// The same octets, read as by `canonical` and then moved by `CanonicalText::into_owned` to memory of their own.
+/// The octets that `canonical` answers, after `CanonicalText::into_owned` of what it reads.
 fn owned(alloc: Global, text: &[u8]) -> Reply {
     let owned = CanonicalText::read(alloc, text)?.into_owned(alloc)?;
     octets_of(alloc, &owned)

@@ -51,7 +51,8 @@ fn member(alloc: Global, text: &[u8]) -> Reply {
     }
 }
 
-/// The whole text that `text_from` reads, of at most `most` octets. Its client is a reader in memory that gives `text`.
+/// The whole text that `text_from` reads, of at most `most` octets, or its fault in words. Only `Memory` is a failure of the call. The client
+/// is a reader in memory that gives `text`.
 fn whole(alloc: Global, text: &[u8], most: usize) -> Reply {
     let mut client = Metered::new(text);
     match text_from(alloc, &mut client, most) {

@@ -5,4 +5,4 @@ use Rattle.spki_decision.proofs.sizes.Sizes.are_plain.Goals as goal
 
 pub returns-in-None : goal.returns-in-None
 returns-in-None c =
-    sym (not_plain c.args.most c.args.tag.now (tuples_of c.args._steps.now) c.requires.most (rw c.in-None.is at c.requires.sizes.plain))
+    sym (not_plain c.args.limit c.args.tag.now (tuples_of c.args._steps.now) c.requires.limit (rw c.in-None.is at c.requires.sizes.plain))

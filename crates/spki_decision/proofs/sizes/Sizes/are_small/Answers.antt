@@ -6,12 +6,12 @@ use Rattle.spki_decision.proofs.sizes.Sizes.are_small.Goals as goal
 pub returns-then-have_small_product : goal.returns-then-have_small_product
 unfolding is_spared
 returns-then-have_small_product c =
-    c.if-have_small_product.true ∙ ap (λ (b : Bool). b || is_plain c.args.most (tuples_of c.args.steps.now) c.args.tag.now)
+    c.if-have_small_product.true ∙ ap (λ (b : Bool). b || is_plain c.args.limit (tuples_of c.args.steps.now) c.args.tag.now)
     (sym c.if-have_small_product.true ∙ c.have_small_product.ensures)
 
 pub returns-else-have_small_product : goal.returns-else-have_small_product
 unfolding is_spared
 returns-else-have_small_product c =
     c.are_plain.ensures
-    ∙ ap (λ (b : Bool). b || is_plain c.args.most (tuples_of c.args.steps.now) c.args.tag.now)
+    ∙ ap (λ (b : Bool). b || is_plain c.args.limit (tuples_of c.args.steps.now) c.args.tag.now)
     (sym c.if-have_small_product.false ∙ c.have_small_product.ensures)

@@ -1,6 +1,6 @@
 use Rattle.std.{proofs.Common.{◌∙◌}, specs.Prelude.{codes}}
 use Rattle.spki_cert.proofs.{HeadedLists.{same_others}, EntryFaultLaws.{unversioned}}
-use Rattle.spki_cert.proofs.acl.behind_version.Goals as goal
+use Rattle.spki_cert.proofs.acl.entry_members.Goals as goal
 
 pub returns-in_default-headed-2-clause-found : goal.returns-in_default-headed-2-clause-found
 returns-in_default-headed-2-clause-found c =
