@@ -1,5 +1,6 @@
-"""The table of attacks: each attack of attacks.py on each web server that asks spki-authd, among the error pages and caches of other sites, and while
-the daemon is stopped. A row passes if the status is one that must come, no file's content is sent, and no file is changed.
+"""The table of attacks: each attack of rows/attacks.py is sent to each web server that asks the daemon spki-authd about requests. A server runs with
+its example's lines alone, and with lines for error pages or a cache, as other sites have them; and each of these again while the daemon is stopped.
+A row passes if the status is one that must come, no file's content is sent, and no file is changed.
 
 The gate runs a tenth of the rows, always the same, and SPKI_TEST_LONG all of them."""
 import hashlib
@@ -12,6 +13,7 @@ from harness import built, needs, served, web_servers
 from harness.support import output_of, text_of
 from rows import attackers, attacks
 
+# The columns of the table: how the server is set up. In those that begin with `stopped` the daemon is stopped.
 COLUMNS = ("plain", "error pages", "a cache", "stopped", "stopped, error pages", "stopped, a cache")
 STOPPED = "stopped, "
 
@@ -22,12 +24,13 @@ def is_chosen(row: str, share: int = 10) -> bool:
 
 
 def columns_of(kind: type[web_servers.Behind]) -> list[str]:
-    """The columns of the table that a server has: `plain`, `stopped`, and those of the sites in `kind.sites`. Debian's Caddy has no cache."""
+    """The columns of the table that a server has: `plain`, `stopped`, and those whose lines are in `kind.sites`. Debian's Caddy has no cache."""
     return [column for column in COLUMNS if column in ("plain", "stopped") or column.removeprefix(STOPPED) in kind.sites]
 
 
 def rows_of(kind: type[web_servers.Behind], column: str) -> list[tuple[str, attacks.Attack]]:
-    """The names and attacks of a column, without those that the server grants by right."""
+    """The rows of a column: names and attacks. Each column has the same attacks, under names of its own, without those that the server rightly
+    grants."""
     return [(f"{kind.name}, {column}: {each.what}", each) for each in attacks.all_attacks() if (kind.name, each.what) not in attacks.GRANTED]
 
 
@@ -35,7 +38,8 @@ class Pages(unittest.TestCase):
     """The pages of the servers, and how large the table is."""
 
     def test_lines(self) -> None:
-        """Each page has at most 40 lines to paste, and says how to probe the site and what the server cannot promise."""
+        """Each page in apps/spki-authd/servers/ has at most 40 lines to paste, and says how to probe the site and what the server cannot promise.
+        The daemon's README names the page."""
         pages = [os.path.join("apps", "spki-authd", "servers", f"{name}.md") for name in
                  (*(kind.name for kind in web_servers.SERVERS), "traefik", "envoy")]
         for page in pages:
@@ -47,6 +51,7 @@ class Pages(unittest.TestCase):
             self.assertIn(page.removeprefix("apps/spki-authd/"), text_of("apps/spki-authd/README.md"))
 
     def test_rows(self) -> None:
+        # Each server has at least 600 rows, and each row a name of its own.
         for kind in web_servers.SERVERS:
             names = [name for column in columns_of(kind) for name, _ in rows_of(kind, column)]
             self.assertGreaterEqual(len(names), 600, kind.name)
@@ -54,7 +59,8 @@ class Pages(unittest.TestCase):
 
 
 class Table(unittest.TestCase):
-    """The rows of a server."""
+    """The tests of one web server. `table_of` adds the methods that unittest runs. `site` is a site behind this server, and `sender` puts keys and
+    certificates into attacks."""
 
     kind: type[web_servers.Behind]
     site: web_servers.Behind
@@ -65,6 +71,7 @@ class Table(unittest.TestCase):
         cls.site = cls.kind()
         cls.addClassCleanup(cls.site.end)
         cls.sender = attackers.Attackers(cls.site, cls.site.form)
+        # (the attack on /web/link/plan.txt follows it)
         os.symlink("../secret", cls.site.at("files/web/link"))
 
     def grants_ann(self) -> None:
@@ -72,7 +79,8 @@ class Table(unittest.TestCase):
         self.assertEqual(self.site.status("ann", "GET", "/web/index.html"), 200)
 
     def check_rows(self, column: str) -> None:
-        """Each attack of a column must fail. Before them and after them Ann is granted what she may do, unless the daemon is stopped."""
+        """Each chosen attack of a column must fail. Ann must be granted her page before the daemon is stopped, if it is, and else after the attacks
+        too. Without the daemon a plain request gets an error of the server, from 500 on. With it the log must have no decision that failed."""
         is_stopped = column.startswith("stopped")
         self.site.restart_with(self.kind.sites.get(column.removeprefix(STOPPED), []))
         self.grants_ann()
@@ -90,7 +98,7 @@ class Table(unittest.TestCase):
 
     def check_attack(self, each: attacks.Attack, is_stopped: bool) -> None:
         """The answer to an attack must have one of its statuses; while the daemon is stopped also 403 or an error of the server, and not 401.
-        No file may be sent or changed."""
+        Where there is no answer, the status is 0. No file may be sent or changed."""
         answer = self.site.answer(each.who, self.sender.filled(each.octets))
         must = (each.must | attacks.DENIED) - {401} | attacks.WITHOUT_DAEMON if is_stopped else each.must
         self.assertLessEqual(set(attackers.statuses(answer) or [0]), must, answer)
@@ -98,7 +106,7 @@ class Table(unittest.TestCase):
 
     def check_sites(self) -> None:
         """With the lines of each other site in its files, the server grants nothing that the daemon denies; and while the daemon is stopped, nothing.
-        The gate runs a third of the sites."""
+        A site whose own lines fail, as its name says, may deny Ann too. The gate runs a third of the sites."""
         for name, more in self.kind.sites.items():
             if not is_chosen(f"{self.kind.name}, {name}", 3):
                 continue
@@ -114,7 +122,8 @@ class Table(unittest.TestCase):
                     self.site.start_daemon()
 
     def check_probe(self) -> None:
-        """`-probe` finds nothing with the daemon, nor `-stopped` without it, and finds a hole."""
+        """`spki-authd -probe` must find no request that is granted while the daemon runs, nor, with `-stopped`, while it does not. It must find one
+        where the server does not ask about some requests (`kind.hole`)."""
         self.site.restart_with([])
         self.probe(0, "nothing was granted")
         self.site.restart_with(self.kind.hole)
@@ -127,15 +136,16 @@ class Table(unittest.TestCase):
             self.site.start_daemon()
 
     def probe(self, status: int, said: str, *more: str) -> None:
-        """Runs `spki-authd -probe` on the site, with the options `more`. It must end with this status, and write the text `said` among others."""
+        """Runs `spki-authd -probe` on the site, with the options `more`. It must end with this status, write the text `said` among others, and leave
+        no request out."""
         words = (self.site.program, "-probe", f"https://localhost:{self.site.port}/web/", *more)
         met = output_of(*words, env={**self.site.settings, "SSL_CERT_FILE": self.site.at("ca/ca.crt")}, seconds=served.SECONDS)
         self.assertEqual((met[0], said in met[1]), (status, True), met[1])
         self.assertNotIn("left out", met[1])
 
     def check_port(self) -> None:
-        """A server that asks the daemon on a port with TLS grants what the holder of the daemon's certificate grants there. Of another program it
-        takes no answer, and does not send it its secret."""
+        """A server that asks the daemon on a port with TLS believes only the holder of the daemon's certificate. An impostor says yes to all: with
+        this certificate it gets the server's secret, and the request is granted. With another one it gets no secret, and nothing is granted."""
         make = ("openssl", "req", "-x509", "-newkey", "ed25519", "-nodes", "-days", "9", "-subj", "/CN=spki-authd", "-addext",
                 "subjectAltName=DNS:spki-authd,IP:127.0.0.1")
         for name in ("authd", "other"):
@@ -151,13 +161,14 @@ class Table(unittest.TestCase):
                 impostor.server_close()
 
     def get_nothing(self, asked: list[attackers.Asked], statuses: set[int]) -> None:
-        """No request may be granted: each must have one of these statuses."""
+        """No request may be granted: each must have one of these statuses, and no file may be sent or changed."""
         for each in asked:
             self.assertEqual(attackers.faults_of(self.site, each, statuses), [])
 
 
 def table_of(kind: type[web_servers.Behind]) -> Callable[[type[Table]], type[Table]]:
-    """Returns a decorator that gives a class the tests of a server: one for each column, and others."""
+    """Returns a decorator that gives a subclass of Table the tests of a server: one for each column, and others. They are skipped where something
+    that they need is not there."""
     def made(table: type[Table]) -> type[Table]:
         table.kind = kind
         for column in columns_of(kind):
@@ -180,12 +191,13 @@ class Caddy(Table):
     """Caddy reads files."""
 
     def test_without_certificate(self) -> None:
-        """Who has no certificate sends none: the placeholder's name would be refused as a malformed one."""
+        """A client without a certificate gets 401. Caddy must send the daemon an empty certificate then: by itself it would send the name of its
+        placeholder, which the daemon would refuse as malformed."""
         self.site.restart_with([])
         self.assertEqual(self.site.status(None, "GET", "/web/index.html"), 401)
 
     def test_who_only_writes(self) -> None:
-        """PUT and DELETE are not answered as GET, also where the daemon grants them."""
+        """PUT and DELETE get 403, also where the daemon grants them, as to the robot that may only write. Caddy would answer them as GET."""
         self.site.restart_with([])
         for method in ("PUT", "DELETE"):
             self.assertEqual(attackers.faults_of(self.site, ("robot", method, "/web/out/main.js"), {403}), [])

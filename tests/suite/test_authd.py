@@ -20,6 +20,7 @@ from harness.support import output_of, room_for, text_of, waits_for
 from suite import test_go
 from suite.test_go import Daemon, OverSocket, Person
 
+# How many requests are granted by so many threads, how often the daemon is restarted, and the seconds after which what hangs is ended.
 GRANTS, THREADS = (100_000, 4) if built.IS_LONG else (2_000, 4)
 RESTARTS = 20 if built.IS_LONG else 4
 UNITS = [os.path.join(golang.DAEMON, name) for name in ("spki-authd.service", "spki-authd.socket")]
@@ -34,7 +35,8 @@ def listens(path: str) -> bool:
 
 @contextlib.contextmanager
 def asked_by_many(asks: Callable[[], list[int]]) -> Iterator[list[object]]:
-    """A context in which several threads call `asks` again and again. Its list gets the statuses that this returns, and each OSError as a text."""
+    """A context in which THREADS threads call `asks` again and again until it ends. Its list gets the statuses that `asks` returns, and each OSError
+    that it raises as a text."""
     ends, met = threading.Event(), list[object]()
 
     def asks_on() -> None:
@@ -56,7 +58,7 @@ def asked_by_many(asks: Callable[[], list[int]]) -> Iterator[list[object]]:
 
 
 class OfDaemon(test_go.OfGo):
-    """A test of the program, with Alice on its list."""
+    """A test of the daemon's program. By its access list Alice may read all files."""
 
     daemon_program: str
     alice: Person
@@ -105,6 +107,7 @@ class OfDaemon(test_go.OfGo):
 
     @staticmethod
     def lines(path: str) -> list[str]:
+        # The lines of a file that end, without their ends: not one that is half written.
         with open(path, encoding="utf-8") as file:
             return file.read().split("\n")[:-1]
 
@@ -129,7 +132,8 @@ class Log(OfDaemon):
 
     @needs.needs("prlimit")
     def test_full_disk(self) -> None:
-        """Where the file takes no more, nothing is granted, and each line in it is whole."""
+        """Once the log of grants takes no more octets, at a limit of 5,000, each request gets 503, and each line in the log is whole. Once there is
+        room again, requests are granted again."""
         with self.daemon("prlimit", "--fsize=5000") as daemon:
             found = self.ask_often(daemon.socket, 40, self.headers())
             granted = found.count(200)
@@ -144,7 +148,8 @@ class Log(OfDaemon):
             self.assertEqual(self.ask_often(daemon.socket, 1, self.headers()), [200])
 
     def test_reader_that_hangs(self) -> None:
-        """Nobody reads what is denied, and the pipe is full. Each answer comes, and the grants have their lines."""
+        """Nobody reads the pipe to which the daemon writes its denials, and it is full; later the pipe has no reader. Each request is answered, each
+        grant has its line in the log of grants, and the lines that are lost are counted."""
         with self.daemon() as daemon:
             daemon.process.terminate()
             daemon.process.wait()
@@ -171,7 +176,7 @@ class Log(OfDaemon):
             self.assertEqual(daemon.message()["event"], "started")
 
     def test_readers_that_are_gone(self) -> None:
-        """A broken pipe ends nothing."""
+        """A pipe at standard error whose reader is gone does not end the daemon."""
         with self.daemon() as daemon:
             assert daemon.process.stderr is not None
             daemon.process.stderr.close()
@@ -199,7 +204,7 @@ class Log(OfDaemon):
             self.assertEqual((status, "no ordinary file" in said), (1, True))
 
     def test_query_strings(self) -> None:
-        """What a client writes behind a `?` may be a password, and is in no log."""
+        """What a client writes after a `?` may be a password, and is in no log."""
         with self.daemon() as daemon:
             for target in ("/web/a?key=hunter2", "//?key=hunter2", "/web/../a?key=hunter2", "/web/\\?hunter2", "/none?hunter2", "/web/a b?hunter2"):
                 self.ask_often(daemon.socket, 1, self.headers(target))
@@ -220,7 +225,8 @@ class Manager:
         self.told.settimeout(SECONDS)
 
     def start(self) -> subprocess.Popen[bytes]:
-        """Starts the daemon, and waits until it says that it is ready."""
+        """Starts the daemon, and waits until it says that it is ready. It gets the socket as from systemd: as the open file with the number 3, which
+        LISTEN_PID and LISTEN_FDS announce. A small program in Python sets these, and becomes the daemon."""
         code = ("import os, sys\nos.dup2(int(sys.argv[1]), 3)\nos.environ.update(LISTEN_PID=str(os.getpid()), LISTEN_FDS='1')\n"
                 "os.set_inheritable(3, True)\nos.execv(sys.argv[2], sys.argv[2:])")
         words = [sys.executable, "-c", code, str(self.socket.fileno()), self.daemon.program, "-config", self.daemon.config]
@@ -235,6 +241,7 @@ class Manager:
         return self.told.recv(4096).decode()
 
     def close(self) -> None:
+        # Closes both sockets. It does not end a daemon.
         self.socket.close()
         self.told.close()
 
@@ -258,6 +265,7 @@ class Started(OfDaemon):
     """The daemon under a service manager."""
 
     def test_what_the_manager_is_told(self) -> None:
+        # At a reload, at one that is refused since the list has a fault, and at the end. The daemon does not remove the manager's socket.
         with managed(self.daemon_program, self.access_list) as manager:
             process = manager.start()
             try:
@@ -273,7 +281,8 @@ class Started(OfDaemon):
             self.assertTrue(os.path.exists(manager.daemon.socket), "the socket is the manager's")
 
     def test_restarts_lose_nothing(self) -> None:
-        """While clients ask, each request on a connection of its own, the daemon is started again and again."""
+        """While clients ask, each request on a connection of its own, the daemon is started again and again. Each request is granted and has its
+        line: those that come between two daemons wait in the manager's socket."""
         with managed(self.daemon_program, self.access_list) as manager:
             process = manager.start()
             with asked_by_many(lambda: self.ask_often(manager.daemon.socket, 1, self.headers())) as met:
@@ -287,7 +296,8 @@ class Started(OfDaemon):
             self.assertEqual(len(self.lines(manager.daemon.grants)), len(met))
 
     def test_another_socket(self) -> None:
-        """A socket that the configuration does not name, or that everyone may write to, is not taken."""
+        """The daemon refuses to start if the socket that is handed over is not the one that its configuration names, or if everyone may write to
+        it."""
         for change, said in ((lambda path: os.chmod(path, 0o666), "everyone may write"), (None, "hands over")):
             with managed(self.daemon_program, self.access_list) as manager:
                 if change:
@@ -346,13 +356,14 @@ class Started(OfDaemon):
 
     @staticmethod
     def queue(path: str) -> int:
-        """How many connections the system lets wait at the socket with this path."""
+        """How many connections the system lets wait at the socket with this path: the fourth column of `ss -xl`."""
         said = subprocess.run(["ss", "-xl"], stdout=subprocess.PIPE, text=True, check=True).stdout
         return next(int(line.split()[3]) for line in said.splitlines() if f" {path} " in line)
 
     @needs.needs("setpriv")
     def test_group_of_the_socket(self) -> None:
-        """A group that the daemon's user is not in is refused before the start."""
+        """`-test`, which checks the configuration and starts nothing, refuses a group for the socket that the daemon's user is not in. As root may
+        choose any group, the program runs as another user then."""
         with tempfile.TemporaryDirectory() as room:
             daemon = Daemon(room, self.daemon_program, self.access_list)
             daemon.process.terminate()
@@ -369,6 +380,7 @@ class Started(OfDaemon):
                 self.assertEqual((done.returncode, "is not in it" in done.stderr), (wanted, bool(wanted)), done.stderr)
 
 
+# A configuration of nginx, which asks the daemon about each request. It answers 204 to what is granted, and with a file below /web/.
 NGINX = """daemon off; error_log {room}/error.log; pid {room}/nginx.pid; worker_processes 2; {user}
 events {{ worker_connections 256; }}
 http {{
@@ -393,11 +405,12 @@ SECRET = "0123456789abcdef" * 2
 
 @needs.needs("nginx", "openssl", "import cryptography")
 class BehindNginx(OfDaemon):
-    """The daemon and a real web server between it and the clients."""
+    """The daemon, with nginx between it and the clients. Each request is made with Alice's certificate."""
 
     @contextlib.contextmanager
     def nginx(self, room: str, at: str, scheme: str) -> Iterator[str]:
-        """A context with the path of nginx's socket. nginx asks the daemon at the address `at`, by `http` or `https` (`scheme`)."""
+        """A context with the path of the socket of an nginx that runs in the folder `room`. It asks the daemon at the address `at`, a host and a port
+        or `unix:PATH`, by `http` or `https` (`scheme`)."""
         user = "user root;" if os.getuid() == 0 else ""
         certificate = urllib.parse.quote(self.alice.certificate)
         settings = {"room": room, "at": at, "scheme": scheme, "secret": SECRET, "certificate": certificate, "user": user}
@@ -422,7 +435,8 @@ class BehindNginx(OfDaemon):
         subprocess.run(words, check=True, stderr=subprocess.DEVNULL)
 
     def test_another_program_at_the_port(self) -> None:
-        """nginx asks the daemon by TLS. Another program at the same port, which says 200 to all, is asked nothing."""
+        """nginx asks the daemon by TLS. Once the daemon has ended, another program at the same port, with another certificate, says 200 to all. nginx
+        sends it no secret, and answers 500 to each request."""
         with tempfile.TemporaryDirectory() as room, socket.socket() as taken:
             os.chmod(room, 0o755)
             for name in ("crt", "other"):
@@ -474,7 +488,7 @@ class BehindNginx(OfDaemon):
             thread.join()
 
     def test_restarts_behind_nginx(self) -> None:
-        """While clients ask nginx, which keeps connections to the daemon, that is started again and again. No request fails."""
+        """The daemon is started again and again, while clients ask nginx, which keeps connections to it. No request fails."""
         with tempfile.TemporaryDirectory() as room, managed(self.daemon_program, self.access_list) as manager:
             os.chmod(room, 0o755)
             self.certificate(room, "crt")
@@ -495,7 +509,7 @@ class Units(unittest.TestCase):
 
     @needs.needs("systemd-analyze")
     def test_verified(self) -> None:
-        """systemd has no objection, with a program that is there in the place of the daemon's."""
+        """systemd accepts both files. They name /bin/true here in the place of the daemon, which need not be installed."""
         with tempfile.TemporaryDirectory() as room:
             for path in UNITS:
                 with open(os.path.join(room, os.path.basename(path)), "w", encoding="utf-8") as file:
@@ -512,7 +526,8 @@ class Units(unittest.TestCase):
         self.assertEqual(done.returncode, 0, done.stdout[-300:])
 
     def test_what_must_be_set(self) -> None:
-        """What was wrong once: a start limit that needs hands, a reload that cannot fail, a runtime folder that is removed with the socket in it."""
+        """Lines without which there was a fault once: after some failed starts somebody had to start the service by hand, a reload could not fail,
+        and the runtime folder was removed with the socket in it."""
         service, unit = (text_of(path).splitlines() for path in UNITS)
         for line in ("StartLimitIntervalSec=0", "Type=notify", "ExecReload=/usr/local/bin/spki-authd -reload -config /etc/spki-authd/config.json",
                      "RuntimeDirectoryPreserve=yes", "LogRateLimitIntervalSec=30s", "LogRateLimitBurst=30000", "Requires=spki-authd.socket"):

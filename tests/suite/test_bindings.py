@@ -1,9 +1,10 @@
 """Asks the bindings of bindings/, in Rust and in Python, what the program is asked, and compares the lines.
 
-Each case of the tables and of `chains.py` is taken apart, into the access list, the sequence, the key, the request and the
-moment. A guard is asked of them in two ways: as texts, and, where the request and the moment allow it, with the request by its strings
-and the moment in seconds. The verifier accepts what the case's rows do. `decide`, `explain` and `reduce` must give the lines of `check`,
-`explain` and `reduce` on the case. A case that is refused is asked without its rows: a guard takes none, so it has no fault of them.
+A case is one text with all that a decision depends on. Its rows, `(accepted ROW ..)`, say which signatures are valid. Each case of the tables and
+of `rows/chains.py` is taken apart, into the access list, the sequence, the key, the request and the moment. A guard, which keeps the access list, is
+asked about the others in two ways: as texts, and, where the request and the moment allow it, with the request by its strings and the moment in
+seconds. The verifier accepts what the case's rows do. `decide`, `explain` and `reduce` must give the lines of `check`, `explain` and `reduce` on the
+case. A case that is refused is asked without its rows: a guard takes none, so it has no fault of them.
 
 Runs the tests of the Python module, mypy over its types, and of the crate its tests, those in its documents, clippy and the formatter. The
 examples `decide.c`, `decide.rs` and `decide.py`, which docs/GUIDE.md quotes, must grant and deny, by real keys and signatures. The header
@@ -32,7 +33,9 @@ from model import answers as model
 from rows import chains, rows_of
 
 CRATE, RUST, PYTHON = (os.path.join(TOP, *words) for words in (["crates", "spki_c"], ["bindings", "rust"], ["bindings", "python"]))
+# The calls of a guard, and the command of the program that gives the same lines.
 COMMANDS = {"decide": "check", "explain": "explain", "reduce": "reduce"}
+# How the refusals of texts begin that are no cases, and the refusal of a case that takes too much work.
 NO_CASE = (b"refused form", b"refused case")
 TOO_LARGE = b"refused TooLarge\n"
 SECONDS = 1800
@@ -40,7 +43,9 @@ HELGRIND = ("valgrind", "--tool=helgrind", "--quiet", "--error-exitcode=98")
 
 
 class Asked(NamedTuple):
-    """A question to a guard, and the lines that are wanted."""
+    """A question to a guard, and the lines that are wanted. `command` is a key of COMMANDS, and `is_strict` whether hashes by SHA-1 name no key. The
+    request is a text or its strings, and the moment a text or seconds since 1970. `accepted` has the key, message and value of each valid signature.
+    `limits` is `highest` or the usual ones."""
 
     name: str
     command: str
@@ -84,7 +89,7 @@ def words_of(request):
 
 
 def seconds_of(moment):
-    """The seconds of a moment since 1970, None if it is earlier, or no calendar has it."""
+    """The seconds of a moment since 1970. None if it is earlier, if no calendar has it, or if it is no date at all."""
     try:
         date = datetime.strptime(moment.decode(), "%Y-%m-%d_%H:%M:%S")
         seconds = int(date.replace(tzinfo=timezone.utc).timestamp())
@@ -95,7 +100,7 @@ def seconds_of(moment):
 
 def questions_of(program, text, name) -> Iterator[Asked]:
     """Yields the questions of a case, whose text is in canonical form: with the request and the moment as texts, and again as strings and seconds
-    where that can be. If `check` refuses the case, its rows are left out, since a guard takes none."""
+    where that can be. `name` is the place of its row. If `check` refuses the case, its rows are left out, since a guard takes none."""
     case, line = read(text), run(program, "check", text)[1]
     if line.startswith(b"refused") and line != TOO_LARGE:
         case[2] = [b"accepted"]
@@ -132,13 +137,14 @@ def faults_of_answers(asked, answers):
 
 
 def text_of_reasons(reasons):
-    """The lines of an explanation, from its reasons: entry or None, item or None, and a word."""
+    """The lines of `explain`, without the last line feed, for the reasons that the module gives. Each is the number of an entry or None, that of an
+    item or None, and a word."""
     lines = [f"{f'entry {entry} ' if entry else ''}{f'item {item} ' if item else ''}{word}" for entry, item, word in reasons]
     return "\n".join(lines or ["no entries"])
 
 
 def answered_by_python(spki, asked):
-    """What the module answers, as the program's lines."""
+    """What the module `spki` answers to a question, as the program's lines. A refusal is a line too."""
     def verify(it):
         return (it.key, it.message, it.value) in asked.accepted
 
@@ -160,12 +166,13 @@ def answered_by_python(spki, asked):
 
 
 def listed(strings):
-    """A list of strings in the form that the examples `asked` read: their number, and then each of them, all as LENGTH:OCTETS."""
+    """A list of strings in the form that the examples `asked` in Rust and Go read: their number, and then each of them, all as LENGTH:OCTETS."""
     return string(str(len(strings))) + b"".join(map(string, strings))
 
 
 def framed(asked):
-    """A question in the form that the examples `asked` read: its fields one after the other, as LENGTH:OCTETS or as lists of such strings."""
+    """A question in the form that the examples `asked` in Rust and Go read: its fields one after the other, as LENGTH:OCTETS or as lists of such
+    strings."""
     is_text, is_date = isinstance(asked.request, bytes), isinstance(asked.moment, bytes)
     fields = [asked.command, "strict" if asked.is_strict else "open", asked.limits, asked.access_list, asked.sequence, asked.key]
     request = string("text" if is_text else "words") + listed([asked.request] if is_text else asked.request)
@@ -174,7 +181,7 @@ def framed(asked):
 
 
 def strings_in(octets):
-    """Yields the strings that a text has in canonical form, one behind the other."""
+    """Yields the strings of a text that has one after the other as LENGTH:OCTETS. It is what the examples `asked` write: a string for each answer."""
     at = 0
     while at < len(octets):
         colon = octets.index(b":", at)
@@ -195,7 +202,8 @@ class Version(unittest.TestCase):
     """The version of the bindings."""
 
     def test_version(self):
-        """The crate, the module and the header have the version of the file VERSION."""
+        """The crate, the module and the header have the version of the file VERSION. What the bindings demand of a library is its first two
+        numbers."""
         line = r'^version = "(.*)"$'
         met = {"bindings/rust/Cargo.toml": line, "bindings/rust/spki-sys/Cargo.toml": line, "bindings/python/pyproject.toml": line,
                "bindings/rust/spki-serde/Cargo.toml": line, "bindings/python/spki/__init__.py": r'^__version__ = "(.*)"$',
@@ -213,7 +221,7 @@ class Words(unittest.TestCase):
     """The words and numbers that the bindings have of the library."""
 
     def test_words(self):
-        """The crate and the package know the same words."""
+        """The crate and the package know the same words of each kind: causes, faults and parts. Both have `Other` too, which a macro adds in Rust."""
         rust, python = text_of("bindings/rust/src/words.rs"), text_of("bindings/python/spki/_words.py")
         kinds = re.findall(r"^    (Cause|Fault|Part) \{\n(.*?)^    \}$", rust, re.MULTILINE | re.DOTALL)
         found = {kind: re.findall(r"^        (\w+),$", members, re.MULTILINE) for kind, members in kinds}
@@ -235,7 +243,8 @@ class Words(unittest.TestCase):
         self.assertGreater(rows.count("\n"), 15)
 
     def test_highest_limits(self):
-        """The most that limits may set is what the header has, and no binding writes the usual limits."""
+        """The bindings have the numbers of the header for the highest limits and the usual answer. Of the usual limits, 65,536 and 2,000,000, no
+        binding has a copy."""
         header = dict(re.findall(r"^#define SPKI_((?:MOST_|USUAL_ANSWER)\w*) (\d+)$", text_of("crates/spki_c/spki.h"), re.MULTILINE))
         for path, line in (("bindings/rust/spki-sys/src/lib.rs", r"^pub const (MOST_\w+|USUAL_\w+): usize = ([\d_]+);$"),
                            ("bindings/python/spki/_library.py", r"^(MOST_\w+|USUAL_\w+) = ([\d_]+)$")):
@@ -263,8 +272,8 @@ class Binding(built.OfLibrary):
         cls.folder = os.path.dirname(cls.library)
 
     def check_decisions(self, *words):
-        """An example, which these words run, must grant the request to Bob, to whom Alice's certificate gives it, and to nobody else. It must deny
-        it to Bob if a bit of the signature is changed."""
+        """The example that the command `words` runs must grant the request to Bob, to whom Alice's certificate gives it, and deny it to Carol. It
+        must deny it to Bob too if the signature is Alice's for another certificate. Alice's key is of each kind in turn."""
         from spki_cert_tool import keys
         for kind in keys.KINDS:
             alice, bob, carol = (keys.FileSigner(keys.new_private(it)) for it in (kind, keys.P256, keys.ED25519))
@@ -278,7 +287,8 @@ class Binding(built.OfLibrary):
                 self.check_output(words, (access_list, [b"sequence", alice.key, certificate, signature], holder.key), wanted)
 
     def check_output(self, words, parts, wanted):
-        """An example, which `words` run, must write the text `wanted` for the access list, the sequence and the key in `parts`."""
+        """The example that the command `words` runs must write the text `wanted` for the access list, the sequence and the key in `parts`, and the
+        request `(ftp host)`."""
         with tempfile.TemporaryDirectory() as room:
             paths = [os.path.join(room, name) for name in ("acl", "sequence", "key")]
             for path, value in zip(paths, parts):
@@ -321,7 +331,7 @@ class InPython(Binding):
 
     @needs.needs("import pip", "import setuptools", "import wheel")
     def test_pip(self):
-        """pip installs the folder without a network, and the module takes the library that is inside."""
+        """pip installs the folder without a network, and the module takes the library that is inside. If SPKI_LIBRARY names no file, pip fails."""
         with tempfile.TemporaryDirectory() as room:
             source, target = os.path.join(room, "source"), os.path.join(room, "target")
             shutil.copytree(PYTHON, source, ignore=shutil.ignore_patterns("build", "*.egg-info", "__pycache__"))
@@ -338,7 +348,8 @@ class InPython(Binding):
 
     @needs.needs("import pip", "import setuptools", "import wheel")
     def test_wheel_of_an_sdist(self):
-        """An sdist is made without `wheel`. pip makes a wheel of it, with the library that a variable names by its whole path."""
+        """An sdist, a source package, is made where there is no module `wheel`. pip makes a wheel of it, with the library that SPKI_LIBRARY names. A
+        path that is not whole, or of no file, is refused."""
         with tempfile.TemporaryDirectory() as room:
             source = os.path.join(room, "source")
             shutil.copytree(PYTHON, source, ignore=shutil.ignore_patterns("build", "*.egg-info", "__pycache__"))
@@ -430,6 +441,7 @@ class InRust(Binding):
             self.assertEqual(packed, {f"{name}-{text_of('VERSION').strip()}.crate" for name in ("spki", "spki-sys")})
 
     def test_documents(self):
+        # The documents are made without warnings.
         self.does("doc", "--quiet", "--workspace", "--no-deps")
 
     @needs.needs("cargo-clippy")
@@ -460,7 +472,7 @@ class InRust(Binding):
 
     @needs.needs("valgrind")
     def test_threads_under_helgrind(self):
-        """Threads that decide by one guard and one question, and end them, do not meet in memory without order."""
+        """Threads decide by one guard and one question, and free them. helgrind finds no access to memory that is not ordered."""
         self.does("build", "--quiet", "--example", "threads")
         words = [*HELGRIND, f"--suppressions={TESTS}/programs/rust.supp", os.path.join(RUST, "out", "debug", "examples", "threads")]
         met = output_of(*words, seconds=SECONDS)
@@ -472,7 +484,8 @@ class InRust(Binding):
         self.check_decisions(os.path.join(RUST, "out", "debug", "examples", "decide"))
 
     def build_sys(self, room, **settings):
-        """Builds the part that links the library, with these settings of the environment. Returns the status, and what cargo writes."""
+        """Builds the crate spki-sys, which links the library, in the folder `room`. Of the variables for finding the library, it has only those of
+        `settings`. Returns the status, and what cargo writes."""
         whole = {name: value for name, value in os.environ.items() if not name.startswith(("SPKI_", "PKG_CONFIG"))}
         return output_of("cargo", "build", "--quiet", "-p", "spki-sys", cwd=RUST, seconds=SECONDS,
                          env={**whole, "CARGO_TARGET_DIR": room, "CARGO_NET_OFFLINE": "true", **settings})
@@ -505,7 +518,8 @@ class InRust(Binding):
 
     @needs.needs("pkg-config")
     def test_another_target(self):
-        """For another target a library of its system is linked, and none of the host."""
+        """For another target, as here ARM, a library of its system is linked. Variables of pkg-config name it, with or without the target at the ends
+        of their names. Without these the build fails, and does not take the host's library. The build script is run as cargo would run it."""
         with tempfile.TemporaryDirectory() as room:
             self.assertEqual(self.build_sys(room, SPKI_LIB_DIR=self.folder), (0, ""))
             script, = glob.glob(os.path.join(room, "debug", "build", "spki-sys-*", "build-script-build"))

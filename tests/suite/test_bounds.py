@@ -28,7 +28,8 @@ class Bounds(unittest.TestCase):
         self.assertIn(f"For each GB that is written a command takes {self.slowest.SECONDS_AN_OCTET * 1e9:g} s more.", section)
 
     def test_named_texts(self) -> None:
-        """Each named text is one of a call, and none is larger than the call allows."""
+        """Each named text is one of a call, and none is larger than the call allows. Of its calls the first is tried. Except for `intersect` the list
+        gets at most 4,096 octets here."""
         for named in self.slowest.NAMED:
             calls = [call for call in self.slowest.CALLS if call.what.startswith(named.words)]
             self.assertGreaterEqual(len(calls), len(named.words), named.what)
@@ -39,7 +40,7 @@ class Bounds(unittest.TestCase):
                 self.assertLessEqual(sum(map(len, made.parts()[1:])), min(call.asked, named.asked), named.what)
 
     def test_the_search_is_repeated(self) -> None:
-        """The same seed changes a recipe in the same way."""
+        """50 changes by chance of a recipe, which says how a text is made, give the same recipe for the same seed."""
         recipes = sys.modules["recipes"]
         met = []
         for _ in range(2):

@@ -17,7 +17,8 @@ CRATE, RUST, PYTHON = (os.path.join(TOP, *words) for words in (["crates", "spki_
 # The files, and the most lines that each may have.
 FILES = {os.path.join(EXAMPLES, "c", "cache.c"): 80, os.path.join(RUST, "examples", "cache.rs"): 60, os.path.join(PYTHON, "examples", "cache.py"): 25,
          os.path.join(golang.MODULE, "examples", "cache", "main.go"): 45}
-# What Bob sends and is answered. His right ends at /builds/, for reading and writing; a path that has two names is no request.
+# What Bob sends and is answered. He may read and write below /builds/. A path that does not begin with `/`, ends with it, or has `..`, `.` or an
+# empty part, is denied.
 LINES = [("read /builds/a", "nothing is there"), ("write /builds/a octets of a", "written 11"), ("read /builds/a", "octets of a"),
          ("read /other", "denied"), ("write /secret x", "denied"), ("read /builds/../secret", "denied"), ("read /builds/./a", "denied"),
          ("read //builds/a", "denied"), ("read /builds/", "denied"), ("read builds/a", "denied"), ("delete /builds/a", "denied"), ("", "denied"),
@@ -32,7 +33,8 @@ class Caches(built.OfLibrary):
         self.room = room_for(self)
 
     def serves(self, *words: str) -> None:
-        """The cache that these words start must answer Bob as LINES says, deny all to Carol, and all to Bob if the signature is of another text."""
+        """The cache that the command `words` starts must answer Bob as LINES says, and deny all to Carol, for whom Alice's certificate is not. It
+        must deny all to Bob too if Alice's signature is of another text."""
         from spki_cert_tool import keys
         alice, bob, carol = (keys.FileSigner(keys.new_private(kind)) for kind in (keys.P256, keys.ED25519, keys.ED25519))
         issuer = keys.principal_of(alice.key)
@@ -64,7 +66,7 @@ class Caches(built.OfLibrary):
         return done.stdout.splitlines()
 
     def made(self, *words: str, folder: str = TOP, **more: str) -> None:
-        """Runs a compiler in a folder, with the settings `more` in its environment. It must succeed."""
+        """Compiles a cache: runs the command `words` in a folder, with the settings `more` in its environment. It must succeed."""
         done = subprocess.run(words, cwd=folder, stdout=subprocess.PIPE, stderr=subprocess.STDOUT, text=True, timeout=SECONDS,
                               env={**os.environ, **more})
         self.assertEqual(done.returncode, 0, done.stdout)
@@ -96,6 +98,7 @@ class Lengths(unittest.TestCase):
     """The lines of each cache."""
 
     def test_lines(self) -> None:
+        # No file of FILES has more lines with text than its number there.
         for path, most in FILES.items():
             with open(path, encoding="utf-8") as file:
                 count = sum(bool(line.strip()) for line in file)

@@ -1,8 +1,9 @@
 """Compares the pages for callers, crates/*/CALLING.md, with the sources.
 
 The paragraph before a block of code ends with the block's file: the block stands word for word in that file of crates/test_callers, which
-the gate proves. Each call that the library's lib.rt passes on is named in the row of its file in the table of calls, or is a law of a file
-that has a row. Nothing else is named in a row. Each block and each call is a test."""
+the gate proves. A call is a public function, or a method of a type or a trait. Each call that the library's lib.rt passes on to callers is named in
+the row of its file in the table of calls, or is a law of a file that has a row. Nothing else is named in a row. Each block and each call is a
+test."""
 import functools
 import glob
 import os
@@ -13,6 +14,7 @@ from collections.abc import Callable
 from harness.support import TOP as ROOT, text_of
 
 CRATES = os.listdir(os.path.join(ROOT, "crates"))
+# A block of code with the file that is named before it, a row of the table of calls, and the line that begins an `impl` or a public trait.
 BLOCK = re.compile(r"`([\w./]+\.(?:rt|antt))`[^`\n]*\n\n```(?:rust|antt)\n(.*?)^```$", re.MULTILINE | re.DOTALL)
 ROW = re.compile(r"^\| `([\w./]+\.rt)` \| (.*) \|$", re.MULTILINE)
 HEAD = re.compile(r"(?:impl|pub trait)\b.*\{$")
@@ -25,7 +27,8 @@ def page_of(crate):
 
 
 def path_in(crate, path):
-    """The path from the top of the repository of a file that a crate's page names by its path from the crate, or from crates/."""
+    """The path of a file from the top of the repository. `path` is what the page of a crate has: `src/..` for a file of this crate, and a path from
+    crates/ for another one."""
     return f"crates/{crate}/{path}" if path.startswith("src/") else f"crates/{path}"
 
 
@@ -38,7 +41,8 @@ def owner_of(head):
 
 
 def calls_in(source):
-    """The public calls of a source: each one's type or trait, or None, and its name."""
+    """Yields the public calls of a source as pairs: the type or trait that has the call, None for a function, and the name of the call. Every method
+    of a public trait is public."""
     owner, is_trait = None, False
     for line in source.splitlines():
         if HEAD.match(line):
@@ -52,14 +56,14 @@ def calls_in(source):
 
 @functools.cache
 def calls_at(crate):
-    """The public calls of a crate's sources: each one's file, its type or trait, or None, and its name."""
+    """The public calls of a crate's sources, each as three: its file, the type or trait that has it, None for a function, and its name."""
     paths = [os.path.relpath(file, ROOT) for file in glob.glob(os.path.join(ROOT, "crates", crate, "src", "*.rt"))]
     return [(path, owner, name) for path in paths for owner, name in calls_in(text_of(path))]
 
 
 def calls_of(crate, item):
-    """Yields the calls of an item of a crate: those of a type or a trait, in any file, or the function. Each is a file and twice its name, as it is
-    there and as callers write it."""
+    """Yields the calls that a `pub use` of an item of a crate passes on: those of a type or a trait, in any file, or the function. Each is three: its
+    file, its name there, and its name as callers write it. The names are the same here, and `calls` puts modules before the second one."""
     for path, owner, name in calls_at(crate):
         if owner == item:
             yield path, f"{owner}::{name}", f"{owner}::{name}"
@@ -68,7 +72,8 @@ def calls_of(crate, item):
 
 
 def calls(crate, module="lib"):
-    """The calls that a module passes on: each one's file, its name there, and its name as callers write it."""
+    """Yields the calls that a module passes on: what its `pub use` lines name, also of other crates; its own functions, if it is not `lib`; and those
+    of its public modules. Each is three: its file, its name there, and its name as callers write it, such as `laws::one_value`."""
     path = f"crates/{crate}/src/{module}.rt"
     source = text_of(path)
     for origin, items in re.findall(r"^pub use ([\w:]+)::(\{[^}]*\}|\w+);", source, re.MULTILINE):
@@ -85,7 +90,8 @@ def calls(crate, module="lib"):
 
 
 def is_law(name):
-    """Whether a call is a law on definitions: its module, as callers write it, is one of laws."""
+    """Whether a call is a law, a proved statement about definitions: its name begins with a module of laws, such as `laws::` or `line_laws::`. A page
+    need not name each law."""
     return re.match(r"\w*laws::", name) is not None
 
 
@@ -93,7 +99,7 @@ def is_law(name):
 
 
 def checks(crate):
-    """The checks of a page: what each is about, and what is wrong or None."""
+    """Yields the checks of a page as pairs: what each is about, and what is wrong, or None if nothing is."""
     page = page_of(crate)
     blocks = BLOCK.findall(page)
     yield "the blocks", None if 2 * len(blocks) == len(re.findall(r"^```", page, re.MULTILINE)) else "one of them has no file"
@@ -110,11 +116,11 @@ def checks(crate):
 
 
 class Pages(unittest.TestCase):
-    """The pages for callers."""
+    """The pages for callers. `add_tests` adds a test for each check."""
 
 
 def made_test(crate: str, about: str, fault: str | None) -> Callable[[Pages], None]:
-    """Returns a test that fails if there is a fault: what is wrong with what `about` names on a crate's page."""
+    """Returns a test of a check. It fails unless `fault` is None: else this says what is wrong with what `about` names on a crate's page."""
     return lambda self: self.assertIsNone(fault, f"crates/{crate}/CALLING.md: {about} {fault}")
 
 

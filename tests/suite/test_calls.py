@@ -10,6 +10,7 @@ from harness import built
 from rows import call_rows, guard_rows, question_rows, shown
 from rows.call_rows import CallRow
 
+# The functions that make rows, by the names of the classes of their tests.
 MADE: dict[str, Callable[[], Iterator[CallRow]]] = {
     "CutShort": call_rows.cut_short, "FailingEnds": call_rows.failing_ends, "Verifiers": guard_rows.of_verifiers,
     "SeparateRows": guard_rows.of_separate_rows, "RevokedKeys": guard_rows.of_revoked_keys, "Questions": guard_rows.of_questions,
@@ -17,9 +18,11 @@ MADE: dict[str, Callable[[], Iterator[CallRow]]] = {
     "Limits": question_rows.of_limits, "SeveralEntries": question_rows.of_several_entries}
 
 
+# How an answer begins that is a refusal, as in `Form(Short): `.
 FAULT = re.compile(rb"\w+\(.*\): ")
+# The most octets of all texts of a row that is an example.
 MOST_OCTETS = 1000
-# The second of two entries grants, by a certificate.
+# How the place of a row begins in which the second of two entries grants, by a certificate.
 BY_CERTIFICATE = "calls/questions:second-entry 1 (public-key (test b)):"
 
 
@@ -29,7 +32,8 @@ def all_rows() -> dict[str, list[CallRow]]:
 
 
 def examples() -> list[CallRow]:
-    """Of each call a row whose texts are read, and one whose texts are refused: that with the longest answer, or a grant by a certificate."""
+    """Of each call a row whose texts are read, and one whose texts are refused: that with the longest answer, or a grant by a certificate. They are
+    for test_hostile.py, which refuses the requests of these calls for memory."""
     found: dict[tuple[str, bool], CallRow] = {}
     for row in (row for rows in all_rows().values() for row in rows if is_example(row)):
         kind = row.call, FAULT.match(row.answer) is not None
@@ -39,13 +43,13 @@ def examples() -> list[CallRow]:
 
 
 def rank(row: CallRow) -> tuple[bool, int]:
-    """How good an example a row is: the greater the value, the better."""
+    """How good an example a row is, greater being better: a grant by a certificate before all others, and then the length of the answer."""
     return row.place.startswith(BY_CERTIFICATE), len(row.answer)
 
 
 def is_example(row: CallRow) -> bool:
-    """Whether a row may be an example: it is short, it is not about depth, and no reader, writer or verifier fails by itself. The writer of `run`
-    allocates what it keeps, so a request that is refused there is a fault of writing."""
+    """Whether a row may be an example: it is short, it is not about depth, and no reader, writer or verifier fails by itself. No row of the call
+    `run` is one: its writer allocates too, and if memory is refused there, the answer is a fault of writing."""
     texts = b" ".join(row.texts)
     is_short = row.call != "run" and len(texts) <= MOST_OCTETS
     return is_short and not any(word in texts for word in (b"((((", b"( ( (", b"broken", b"interrupted", b"fails"))
@@ -72,12 +76,12 @@ class OfCalls(unittest.TestCase):
 
 
 def made_test(name: str) -> Callable[[OfCalls], None]:
-    """The test of a row."""
+    """The test of the row with this name."""
     return lambda self: self.is_answered(name)
 
 
 def made_class(name: str, rows: Iterable[CallRow], path: str) -> type:
-    """The class of the tests of some rows, by the program at a path."""
+    """A class of this name with a test for each of these rows. The program at `path` answers them."""
     named = {f"test_{row.place}:{row.call}": row for row in rows}
     tests = {each: made_test(each) for each in named}
     return type(name, (OfCalls,), {"path": path, "rows": named} | tests)

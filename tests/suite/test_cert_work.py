@@ -1,6 +1,9 @@
 """What `spki-cert` does grows as its texts do. Counts steps, and no time: lines of Python that are run, octets of a text that are looked through,
 and octets that are made canonical. A text with four times the parts takes at most five times the steps. Beyond that are bounds: the answer says
-which one ended it, and what to do."""
+which one ended it, and what to do.
+
+`spki_cert_tool` is the package of `spki-cert`. Work grows with the square of the parts, if each part leads to work on the whole text: each maker of a
+text says where that could be."""
 import hashlib
 import os
 import sys
@@ -14,13 +17,15 @@ from unittest import mock
 from harness import needs
 from harness.support import canonical
 
+# The parts of the smaller text, how many times as many the larger one has, and how many times as many steps that may take.
 FEW, TIMES, MOST_TIMES = 40, 4, 5.0
 NOW = b"2026-03-01_12:00:00"
+# The steps that are counted, as the only member of a list.
 SEEN: list[int] = [0]
 
 
 class Text(bytes):
-    """Octets that count how many of them are looked through."""
+    """A text that adds to SEEN how many of its octets are looked through: by searches, up to what is found, and in parts that are copied."""
 
     def seen(self, octets: int) -> None:
         """Counts octets as looked through."""
@@ -48,16 +53,19 @@ class Text(bytes):
 
 @contextmanager
 def counted() -> Iterator[None]:
-    """A context that sets SEEN to 0 and counts steps there: lines of `spki_cert_tool` that run, and octets that are serialized."""
+    """A context that sets SEEN to 0 and counts steps there: lines of `spki_cert_tool` that run, and octets that it makes canonical. A `Text` adds its
+    own."""
     from spki_cert_tool import asking, certificates, checking, making, sexp
 
     def trace(frame, event, _):
+        # Python calls this for each function that begins, and what it returns for each line there.
         if "spki_cert_tool" in frame.f_code.co_filename:
             SEEN[0] += 1
             return trace
         return None
 
     def made(value):
+        # `canonical`, counted.
         octets = sexp.canonical(value)
         SEEN[0] += len(octets)
         return octets
@@ -75,7 +83,7 @@ def counted() -> Iterator[None]:
 
 
 def key(name: str, octets: int = 1) -> Any:
-    """A public key whose value is the name, repeated `octets` times."""
+    """A public key whose value is the name, so many times. The name is one letter in most keys, so the value has `octets` octets then."""
     return [b"public-key", [b"test", name.encode() * octets]]
 
 
@@ -96,28 +104,31 @@ def signed(one: Any) -> Any:
 
 
 def members_behind_a_long_line(parts: int) -> bytes:
-    """A list that begins far right, whose members have lines of their own."""
+    """A list far right on a long line, whose members begin lines of their own. At each of these the parser needs the column of the list, and must
+    look for it only once. The second line feed makes an empty line before the first member, which changes nothing."""
     return b"(" + b"a" * 40 * parts + b" (b" + b"\n" * 2 + b" c\n" * parts + b"))"
 
 
 def entries_that_ended(parts: int) -> bytes:
-    """A list with one entry on each line, of which all have ended: `check` makes a remark on each."""
+    """A list with one entry on each line, of which all have ended: `check` makes a remark on each. Its line and column must be found without looking
+    through the text from the beginning."""
     return b"(acl" + b"".join(b'\n (entry (public-key (test k%d)) (tag (ftp)) (not-after "2020-01-01_00:00:00"))' % at for at in range(parts)) + b")"
 
 
 def long_display(parts: int) -> bytes:
-    """A certificate with a field of many lists."""
+    """A certificate with a field of many lists. `check` must look at each of them once."""
     return canonical([b"sequence", *signed(certificate(key("a"), key("b"), [b"display", *[[b"x"]] * 20 * parts]))])
 
 
 def hashes_of_a_long_key(parts: int) -> bytes:
-    """Certificates of one long key, which they name by its hash."""
+    """Certificates of one long key, which they name by its hash. The key must be made canonical once, and not for each certificate."""
     long = key("k", 60 * parts)
     return canonical([b"sequence", long, *[part for at in range(parts) for part in signed(certificate(hash_of(long), key(f"s{at}")))]])
 
 
 def entries_for_a_long_key(parts: int) -> bytes:
-    """An entry for a long key, and others for its hash."""
+    """An entry for a long key, at most 8 for its hash, which are compared with each other, and many for other keys. The long key must not be made
+    canonical for each of those."""
     long = key("k", 60 * parts)
     entries: Any = [[b"entry", it, [b"tag", [b"t%d" % at]]] for at, it in enumerate([long] + [hash_of(long)] * min(parts, 8))]
     others: Any = [[b"entry", key(f"o{at}"), [b"tag", [b"ftp"]]] for at in range(parts)]
@@ -125,7 +136,7 @@ def entries_for_a_long_key(parts: int) -> bytes:
 
 
 def keys_in_lines(parts: int) -> bytes:
-    """Lines that begin as keys of OpenSSH do, and have no key."""
+    """Lines that begin as keys of OpenSSH do, and have no key. The place of each must be looked for after the one before it."""
     return b"".join(b"ssh-ed25519 AAAA%06d comment\n" % at for at in range(parts))
 
 
@@ -134,7 +145,7 @@ CHECKED = [members_behind_a_long_line, entries_that_ended, long_display, hashes_
 
 @needs.needs("import cryptography")
 class OfCheck(unittest.TestCase):
-    """`check`, which reads a text, says what is probably a mistake, and verifies."""
+    """`spki-cert check`, which reads a text, says what is probably a mistake, and verifies; and what `entry` does with a list."""
 
     def grows_linearly(self, work: Callable[[int], None]) -> None:
         """`work(parts)` must take at most MOST_TIMES as many steps for TIMES as many parts."""
@@ -146,6 +157,7 @@ class OfCheck(unittest.TestCase):
         self.assertLess(met[1] / met[0], MOST_TIMES, met)
 
     def test_texts(self) -> None:
+        # The work of `check` on each text of CHECKED.
         from spki_cert_tool import checking
         checking.remarks_on("/dev/null", NOW)
         for make in CHECKED:
@@ -155,7 +167,7 @@ class OfCheck(unittest.TestCase):
                 self.grows_linearly(lambda parts: read("text", texts[parts]) and None)
 
     def test_removed_entries(self) -> None:
-        """The entries of a list are removed in one pass."""
+        """`list_without` removes all entries for a key, here each second one, in one pass through the list."""
         from spki_cert_tool import making
         entry, other = (b"\n (entry %s (tag (ftp)))" % canonical(key(name)) for name in "ab")
         lists = {parts: Text(b"(acl" + (entry + other) * parts + b")") for parts in (FEW, FEW * TIMES)}
@@ -164,7 +176,8 @@ class OfCheck(unittest.TestCase):
         self.assertEqual((text, len(gone)), (b"(acl" + other * FEW + b")", FEW))
 
     def test_compared_entries(self) -> None:
-        """The tags of entries are compared up to a bound."""
+        """The tag of a new entry is compared with those of the list until the work is MOST_PRODUCTS: with a high bound each tag is, member by
+        member, and with the bound 0 none."""
         from spki_cert_tool import certificates, making, tag_words
         wide: Any = [b"*", b"set", *[b"%03d" % at for at in range(60)]]
         listed = canonical([b"acl", *[[b"entry", key("a"), [b"tag", wide]]] * 30])
@@ -181,7 +194,8 @@ class OfMessages(unittest.TestCase):
     """What is said of a long request or name."""
 
     def test_long_requests(self) -> None:
-        """A request is shown cut off, and a set that lacks it makes one message."""
+        """`lacks` shows only the first 400 octets of a long request. For a set of 900 strings that lacks it there is one message, and not one for
+        each string."""
         from spki_cert_tool import tag_words
         long = b"m" * 100_000
         wide: Any = [b"*", b"set", *[b"%03d" % at for at in range(900)]]
@@ -193,18 +207,18 @@ class OfMessages(unittest.TestCase):
         self.assertIsNone(tag_words.lacks([b"*", b"range", b"alpha", b"ge", b"a"], long))
 
     def test_long_words(self) -> None:
-        """No word is looked for that is near a long one."""
+        """For a misspelt word of more than 60 octets no similar word is looked for, which would take long."""
         from spki_cert_tool import forms
         self.assertEqual([forms.meant(b"tah" * times, [b"tag" * times]) != "" for times in (1, 20, 21)], [True, True, False])
 
 
 @needs.needs("import cryptography")
 class OfAsk(unittest.TestCase):
-    """The search for chains."""
+    """The search of `spki-cert ask` for chains of certificates, which counts its steps itself."""
 
     def found(self, pairs, entries, holder, most=20_000):
-        """The chains that are found from entries to a holder, and the steps. `pairs` are the issuers and subjects of the certificates, `entries` the
-        subjects of the entries, and `most` is the bound of steps."""
+        """The chains that are found from entries to the key `holder`, and the object that counts steps. `pairs` are the issuers and subjects of the
+        certificates, `entries` the subjects of the entries, and `most` is the bound of steps."""
         from spki_cert_tool import certificates
         given = [certificates.Signed(certificates.terms_of(certificate(*pair)), b"", 1) for pair in pairs]
         steps = certificates.Steps(most)
@@ -212,7 +226,8 @@ class OfAsk(unittest.TestCase):
         return list(certificates.chains(listed, given, certificates.Keys(), holder, steps)), steps
 
     def test_steps(self) -> None:
-        """A chain of 16 certificates takes 16 steps, equal entries none, and a name as many as it has strings."""
+        """A chain of 16 certificates takes 16 steps, however many equal entries it begins at. A certificate for a name of 30 strings takes 31.
+        `chains` and `taken` are the wanted numbers of chains and steps."""
         line = [key(f"k{at}") for at in range(17)]
         named = [b"name", key("k1"), *[b""] * 30]
         for pairs, entries, holder, chains, taken in [
@@ -222,7 +237,7 @@ class OfAsk(unittest.TestCase):
             self.assertEqual((len(found), steps.most - steps.left, steps.is_cut), (chains, taken, False))
 
     def test_bound(self) -> None:
-        """Keys that all name each other, and long names, end the search."""
+        """40 keys that all give a right to each other, or a name of 25,000 strings, take more steps than the bound, which ends the search."""
         net = [key(f"k{at}") for at in range(40)]
         long = [b"name", key("k1"), *[b""] * 25_000]
         for pairs in ([(one, other) for one in net for other in net], [(net[0], long)]):
@@ -230,7 +245,8 @@ class OfAsk(unittest.TestCase):
             self.assertEqual((found, steps.is_cut, steps.left < 0), ([], True, True))
 
     def test_long_keys(self) -> None:
-        """A chain is known by digests, whatever the keys are."""
+        """A search compares the digests of keys, 32 octets, and not the keys, however long they are. The canonical text of a key that is added is
+        made once."""
         from spki_cert_tool import certificates
         long, known = key("k", 10_000), certificates.Keys()
         known.add(long)
@@ -239,7 +255,8 @@ class OfAsk(unittest.TestCase):
         self.assertIs(known.text_of(hash_of(long)), known.text_of(hash_of(long)))
 
     def test_many_keys_of_a_file(self) -> None:
-        """Past 1,000 keys of a file a remark says what to do."""
+        """After the first MOST_KEYS keys of a file, here 3, a last remark says that no more are looked at, and what to do. The keys are faulty, so
+        each has a remark too."""
         from spki_cert_tool import checking
         with tempfile.TemporaryDirectory() as room, mock.patch.object(checking, "MOST_KEYS", 3):
             path = os.path.join(room, "keys.pub")

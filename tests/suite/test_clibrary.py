@@ -34,17 +34,23 @@ from rows import rows_of
 from rows.until import ROWS, parts_of
 
 CRATE = os.path.join(TOP, "crates", "spki_c")
+# The number by which clibrary.c knows the call spki_check_accepted. Those of commands are their places in COMMANDS.
 CHECK_ACCEPTED = 7
+# The statuses of the program for yes and no, and of the library: NO too, DONE (SPKI_DONE), and GRANTED (SPKI_YES).
 YES, NO, DONE, GRANTED = 0, 1, 6, 9
 THREADS = 8
+# How many requests for memory are refused in turn: the first one, then the second one, and so on.
 REFUSALS = 40
+# The most octets of a question for slow ways of asking, and the seconds after which a program that hangs is ended.
 SHORT = 20_000
 SECONDS = 900
 WARNINGS = ["-Wall", "-Wextra", "-Wpedantic", "-Werror"]
 STRICT = ["-std=c11", *WARNINGS, "-O1", "-g", "-pthread"]
+# The options of the linker by which a program in C takes the place of malloc and realloc, and can refuse memory.
 REFUSING = ["-Wl,--wrap=malloc,--wrap=realloc"]
 SANITIZED = ["-fsanitize=address,undefined", "-fno-sanitize-recover=all", "-fno-omit-frame-pointer"]
 CALL = re.compile(r"^\w[\w *]*\b(spki_\w+)\(", re.MULTILINE)
+# How the symbols begin that the C compiler puts into each shared object, and the symbols of the C library that ours may need.
 WEAK = ("_ITM_", "__cxa_finalize", "__gmon_start__")
 NEEDED = {"malloc", "realloc", "free", "memcpy", "memmove", "memset", "memcmp"}
 VALGRIND = ["valgrind", "--quiet", "--leak-check=full", "--show-leak-kinds=all", "--error-exitcode=98"]
@@ -56,8 +62,8 @@ NO_ROWS = b"(accepted)"
 
 
 def as_library(command, answer):
-    """The library's answer to the command with this number, by that of the program; both are a status and octets. Only decisions return GRANTED or
-    NO; other calls return DONE."""
+    """The answer that the library must give to the command with this number, if the program gives `answer`; both are a status and octets. The octets
+    are the same. The program's yes and no are GRANTED and NO for `check`, and both are DONE for other commands. A refusal has the same status."""
     status, octets = answer
     if status > NO:
         return answer
@@ -103,7 +109,8 @@ def rows_apart(program, answered):
 
 
 def worked_rows():
-    """Yields questions on the case of the first certificate, with the wanted answers: its rows are apart, changed, or not readable."""
+    """Yields questions on the case of examples/delegation.sexp, with the wanted answers, worked out by hand: its rows are apart, changed, or not
+    readable. `bare` is the case without its rows. Each question has a name, the text of a case, and a text of rows."""
     with open(os.path.join(EXAMPLES, "delegation.sexp"), "rb") as file:
         case = file.read()
     at, end = case.index(b"(accepted"), case.index(b"\n (sequence")
@@ -165,7 +172,7 @@ def faults_of_answers(words, questions):
 
 
 def symbols(library, *words, nm="nm"):
-    """The symbols of a library that `nm` lists with these words, without their versions."""
+    """The names of the symbols of a library that `nm` lists with the options `words`, without their versions."""
     listed = subprocess.run([nm, "--format=just-symbols", *words, library], stdout=subprocess.PIPE, text=True, check=True).stdout
     return {line.split("@")[0] for line in listed.splitlines() if line and not line.endswith(":")}
 
@@ -177,13 +184,13 @@ def soname_of(shared):
 
 
 def calls_of_header():
-    """The calls that the header declares."""
+    """The names of the functions that spki.h declares."""
     with open(os.path.join(CRATE, "spki.h"), encoding="ascii") as header:
         return set(CALL.findall(header.read()))
 
 
 def worked_question():
-    """The list, the sequence and the key of the case of the first certificate."""
+    """The texts of the access list, the sequence and the key in the case of examples/delegation.sexp."""
     with open(os.path.join(EXAMPLES, "delegation.sexp"), encoding="ascii") as file:
         case = file.read()
     at = [case.index(f"({part}") for part in ("acl", "accepted", "sequence", "key", "request")]
@@ -191,13 +198,14 @@ def worked_question():
 
 
 def rpath_to(shared):
-    """The word for the compiler by which a program finds a shared object in its folder."""
+    """The option of the compiler by which a program finds this shared object at run time, in the folder where it is now."""
     return f"-Wl,-rpath,{os.path.dirname(shared)}"
 
 
 @functools.cache
 def asked_of(program):
-    """Three lists: the questions of the files, of the tables and of rows apart, each with the wanted answer."""
+    """Three lists: the questions of the files, of the tables and of rows apart, each with the wanted answer. They are made once for all tests.
+    `program` is the path of `spki`."""
     files, tables = questions_of_files(program), list(questions_of_tables())
     return files, tables, list(rows_apart(program, files + tables))
 
@@ -213,7 +221,8 @@ def short_of(program):
 
 @needs.needs(*needs.LIBRARY)
 class OfC(built.OfLibrary):
-    """A test of the libraries for C, in a folder of its own. Programs ask for the shared one by its own name."""
+    """A test of the libraries for C, in a folder of its own. The shared one lies there under its `soname` too, by which programs ask for it.
+    `linking` has the words that link a program with each library."""
 
     # How the names of the tools begin, and the words before a program that run it.
     prefix = ""
@@ -221,7 +230,7 @@ class OfC(built.OfLibrary):
 
     @classmethod
     def libraries(cls):
-        """The libraries that are tested."""
+        """The paths of the libraries that are tested, the static one and the shared one. A subclass may have others."""
         return cls.library, cls.shared
 
     @classmethod
@@ -236,7 +245,8 @@ class OfC(built.OfLibrary):
         cls.linking = {"static": [cls.library], "shared": [cls.shared, rpath_to(cls.shared)]}
 
     def compiled(self, source, library, *more):
-        """Compiles a program of tests/programs/ with a library, `static` or `shared`, once. Returns its path."""
+        """Compiles a program of tests/programs/ with a library, `static` or `shared`, and the options `more`. Returns its path. It is compiled once
+        for each library and number of options."""
         to = os.path.join(self.room, f"{source}-{library}-{len(more)}")
         if not os.path.exists(to):
             words = [f"{self.prefix}gcc" if self.prefix else "cc", *STRICT, *more, "-o", to, os.path.join(TESTS, "programs", source)]
@@ -253,7 +263,8 @@ class OfC(built.OfLibrary):
         self.assertEqual(fault, "", fault)
 
     def has_its_symbols(self, library, *words):
-        """A library must define the calls of the header and no other symbol, and need only symbols of NEEDED. `words` are options of `nm`."""
+        """A library must define the calls of the header and no other public symbol, and need only symbols of NEEDED. `words` are options of `nm`: a
+        shared object needs `--dynamic`."""
         nm = f"{self.prefix}nm"
         # (the version of the calls is a symbol too)
         given = {name for name in symbols(library, *words, "--defined-only", "--extern-only", nm=nm) if not name.startswith("SPKI_")}
@@ -280,13 +291,15 @@ class Links(OfC):
     """The symbols, and how programs link."""
 
     def test_symbols_of_the_archive(self):
+        # The archive is the static library.
         self.has_its_symbols(self.library)
 
     def test_symbols_of_the_shared_object(self):
         self.has_its_symbols(self.shared, "--dynamic")
 
     def check_linking(self, *words):
-        """`linked.c` must be compiled and linked in each way by a compiler, which `words` are with its options. It must end with 0."""
+        """`linked.c` must be compiled and linked in each way, and end with status 0. `words` are a compiler and its options. In the last way there
+        are two copies of the static library, one with other names for the calls: they must not clash."""
         other, to = os.path.join(self.room, "libother.a"), os.path.join(self.room, "linked")
         renamed = [f"--redefine-sym={name}=other_{name}" for name in calls_of_header()]
         subprocess.run(["objcopy", *renamed, self.library, other], check=True)
@@ -305,7 +318,8 @@ class Links(OfC):
 
 
 class Answers(OfC):
-    """`clibrary.c`: the answers to texts."""
+    """`clibrary.c`: the answers of the static library to each kind of question, also where memory is refused, and of the shared one to short
+    questions."""
 
     def test_files(self):
         self.check_answers(asked_of(self.program)[0], "static", threads=THREADS, refusals=REFUSALS)
@@ -351,12 +365,13 @@ class SharedUnderValgrind(OfC):
 
 
 class Guards(OfC):
-    """`cguard.c` and `misuse.c`, with each library and under what looks for faults of memory."""
+    """`cguard.c` and `misuse.c`, with each library, by itself and under AddressSanitizer, valgrind and helgrind: `add_ways` adds the tests."""
 
 
 class Head(OfC):
     """The sample at the head of spki.h, with a list and a question of 40 certificates, more than the usual limits take."""
 
+    # The sample in the header's first comment, and a program around it. SHOWN is replaced by the text of a sequence, and SAMPLE by the sample.
     SAMPLE = re.compile(r"^ \*\n((?: \*     .*\n)+) \*\n", re.MULTILINE)
     PROGRAM = """
 #include <spki.h>
@@ -384,11 +399,12 @@ int main(void)
              "question.key = spki_assume_key(...)": 'question.key = spki_assume_key(SPKI_LITERAL("(public-key (test b))"));',
              "question.words = ...": "question.words = words, question.word_count = 2;", "SPKI_STRICT, NULL,": "SPKI_STRICT, &limits,",
              "!= SPKI_DONE) ...": "!= SPKI_DONE) return 1;", "(spki_asked_granted(asked)) ...": '(spki_asked_granted(asked)) puts("granted");'}
+    # A certificate by a, for a subject, with more fields, and its signature, which has the certificate's digest.
     CERT = ("(cert (issuer (public-key (test a))) (subject (public-key (test {}))) {}(tag (*)))"
             "(signature (hash sha256 #{}#) (public-key (test a)) sig)")
 
     def test_sample(self):
-        """The sample compiles with PARTS in it, and grants."""
+        """The sample compiles with PARTS in it, and grants: 39 certificates are by a for itself, and the last one gives the right to b."""
         lines = self.SAMPLE.search(text_of("crates/spki_c/spki.h"))[1].splitlines()
         sample = "\n".join(re.sub(r"(\.\.\.\)?|;) {2,}\w.*", r"\1", line[7:]) for line in lines)
         for old, new in self.PARTS.items():
@@ -413,6 +429,7 @@ class Until(OfC):
     ASKED = range(253_402_300_799)
 
     def test_rows(self):
+        # until.c prints the status of a yes, 9, and its last second. If seconds can be asked, 1 and 0 follow: this one is a yes, the next is none.
         to = os.path.join(self.room, "until")
         self.assertTrue(is_compiled("cc", *STRICT, "-o", to, os.path.join(TESTS, "programs", "until.c"), self.library), "until.c is not compiled")
         for name, *limits, moment, until in ROWS:
@@ -442,7 +459,8 @@ class Swapped(OfC):
 
 @needs.needs(*needs.LIBRARY)
 class Structures(unittest.TestCase):
-    """`later.c`: an spki.c that is given structures of other headers, and one of a later header."""
+    """`later.c`: spki.c is given structures of a newer and of an older spki.h than its own. It is compiled with the header as it is, or with a later
+    one, whose structures have one more field."""
 
     # What that header adds at the ends of two structures.
     LATER = (("0, 0, 0, 0, 0, 0}", "0, 0, 0, 0, 0, 0, 0}"), (", SPKI_MOST_ANSWER}", ", SPKI_MOST_ANSWER, 0}"),
@@ -477,7 +495,8 @@ class Fuzzed(OfC):
     """`fuzz/calls.c`: the answers to fuzzed parts, through an spki.c that is checked as well."""
 
     def check_fuzzing(self, *flags):
-        """Fuzzing by libFuzzer, with these options, must find nothing. What it finds is kept in tests/out/."""
+        """Fuzzing by libFuzzer, with the options `flags`, must find no fault. A text that leads to one is kept in tests/out/. spki.c is compiled
+        here under AddressSanitizer too, and linked with the archive of the proved code alone."""
         to, folder, kept = (os.path.join(*words) for words in ((self.room, "fuzz"), (TESTS, "fuzz"), (TESTS, "out")))
         sources = [os.path.join(folder, "calls.c"), *(os.path.join(CRATE, name) for name in ("spki.c", "heap.c"))]
         proved = os.path.join(os.path.dirname(built.library()), "proved", "libspki_c.a")
@@ -489,6 +508,7 @@ class Fuzzed(OfC):
         self.assertEqual(done.returncode, 0, done.stdout[-4000:])
 
     def test_corpus(self):
+        # The files of fuzz/corpus/, without any change.
         self.check_fuzzing("-runs=0")
 
     def test_for_ten_minutes(self):
@@ -527,8 +547,8 @@ class OnArm(OfC):
 
 
 def add_ways():
-    """Adds the tests of guards with each library in each way. Of the shared library no request for memory is refused: it calls the C
-    library itself."""
+    """Adds the tests of Guards: with each library, by itself and under each tool. Of the shared library no request for memory is refused: it calls
+    the C library itself."""
     valgrind = needs.needs("valgrind")
     for library, refused in (("static", REFUSALS), ("shared", 0)):
         ways = {"": lambda self, it=library, most=refused: self.check_guards(it, refusals=most),

@@ -1,4 +1,4 @@
-"""Runs the commands of pages and helps that no other test runs: page_commands.py says which.
+"""Runs the commands of pages and helps that no other test runs: harness/page_commands.py says which.
 
 They run in a copy of the repository with what is built at its place, an empty home, and no environment but a path. In the long tests each page of
 MACHINES runs on a machine of its own, a chroot that Debian's mmdebstrap makes (machines.py). It has the packages that the page names, and no other.
@@ -21,6 +21,7 @@ from harness.support import LIBRARY, PROGRAM, TOP, output_of, text_of
 from suite import test_guide
 
 SECONDS = 600
+# What a script writes after each command, before its status; and a remark at the end of a command, which is what it must write.
 END = "---- end of command, status"
 STATUS = re.compile(END + r" (\d+)\n")
 REMARK = re.compile(r" {2,}# (.*)$")
@@ -31,7 +32,7 @@ STATUSES = {"crates/spki/out/spki explain < examples/signed/cases/too-wide.sexp"
 # A command that serves until it is ended, and those that need proofs or a server.
 SERVES = re.compile(r"\./service .*")
 NOT_ON_MACHINES = re.compile(r".*archive\.py|examples/database/story\.py .*")
-# What the commands of a page take as there, which a page says in words: in the folder of the commands.
+# Commands that run before those of a page, in the same folder: they make what the page presupposes in words.
 KEYS = "for who in lead member robot alice bob; do spki-cert key new --no-passphrase $who; done\n"
 BEFORE = {
     "docs/PEERS.md": KEYS,
@@ -61,8 +62,8 @@ def statuses_of(lines: Iterable[str]) -> str:
 
 
 def faults_in(lines: list[str], said: str) -> list[str]:
-    """A line for each command that ended otherwise than it must, by what a script of `statuses_of` wrote. A remark at the end of a command is what
-    it must write."""
+    """A text for each command whose status is not 0, nor that of STATUSES, or that wrote something else than the remark at its end. `lines` are the
+    commands, and `said` is what the script `statuses_of(lines)` wrote. A command that was not reached has the status -1."""
     parts = STATUS.split(said)
     found = dict(zip(range(len(lines)), zip(parts[::2], map(int, parts[1::2]))))
     faults = []
@@ -98,7 +99,8 @@ class InACopy(built.OfLibrary):
         return output_of("sh", text=script, cwd=folder, env={"HOME": home, "PATH": ":".join(commands)}, seconds=SECONDS)[1]
 
     def check_lines(self, folder: str, page: str, lines: list[str]) -> None:
-        """Commands must end with status 0, or that of STATUSES. Before them those of BEFORE make what their page presupposes."""
+        """Commands of a page must end with status 0, or that of STATUSES, and write what their remarks say. They run in a folder, after those that
+        BEFORE has for the page."""
         said = self.output(folder, BEFORE.get(page, "") + f"echo '{END}' 0\n" + statuses_of(lines))
         self.assertEqual(faults_in(lines, STATUS.split(said, maxsplit=1)[-1]), [])
 
@@ -116,7 +118,7 @@ class InACopy(built.OfLibrary):
         self.check_lines(tempfile.mkdtemp(dir=self.room), "docs/PEERS.md", lines)
 
     def test_help(self) -> None:
-        """The examples of the help, each where what it reads is there, and what it writes is not."""
+        """The examples of the help of `spki-cert`, each in a folder of its own. What it reads is there, by BEFORE; the file that it writes is not."""
         made = os.path.join(self.room, "made")
         os.mkdir(made)
         self.check_lines(made, "help", [])
@@ -170,7 +172,8 @@ class OnMachines(built.OfLibrary):
     """The commands of a page where there is what the page names, and nothing else."""
 
     def output(self, machine: Machine, by_root: str, script: str) -> str:
-        """What a script of root and one of the user write on a machine that has what a page names."""
+        """Runs `by_root`, a script of root, and then `script`, one of the user, on a new machine for a page. Returns what both write. The page's
+        name, and END with the status 0, precede the output of the user's commands."""
         packages = sorted({*machines.packages_of(text_of(machine.page)), *machine.packages})
         with tempfile.TemporaryDirectory() as room:
             clone = os.path.join(room, "clone")
@@ -181,7 +184,8 @@ class OnMachines(built.OfLibrary):
                                               f"echo {machine.page}\n{machine.before}{before}echo '{END}' 0\n{script}")
 
     def check_page(self, machine: Machine) -> None:
-        """The commands of a page must write what the page says, or where it says nothing end with 0."""
+        """The commands of a page must write what the page says, or, where it says nothing, end with status 0. Those in blocks `console` show what
+        they write; the others are in indented blocks and in backticks."""
         found = list(page_commands.commands_of(machine.page))
         if any(it.kind == "console" for it in found):
             steps = list((test_guide.steps_of_manual if machine.page.endswith(".1") else test_guide.steps_of_markdown)(text_of(machine.page)))
@@ -207,7 +211,7 @@ class OnMachines(built.OfLibrary):
 
 
 def made_test(machine: Machine) -> Callable[[OnMachines], None]:
-    """The test of a page."""
+    """The test of a page, which is added to OnMachines for the long tests."""
     return lambda self: self.check_page(machine)
 
 
@@ -215,7 +219,8 @@ class OfToolchain(unittest.TestCase):
     """What the toolchain does that a page begins with."""
 
     def first_command(self) -> None:
-        """The first command of README compiles the program, which takes more than a minute, and prints the answer that the page says."""
+        """The first command of README compiles the program, which takes more than a minute, and prints the answer that the page says. It becomes
+        `test_first_command` in the long tests alone."""
         line = next(it.line for it in page_commands.commands_of("README.md") if it.kind == "indented")
         status, said = output_of("sh", "-c", line, cwd=TOP, seconds=3 * SECONDS)
         self.assertEqual((status, "yes entry 1" in said.splitlines()), (0, True), said)
