@@ -23,7 +23,9 @@ import entries  # noqa: E402
 import spki  # noqa: E402
 from spki_store_tool.tables import Store  # noqa: E402
 
+# Of a random list: how many keys, entries and questions there are.
 KEYS, ENTRIES, QUESTIONS = 12, 150, 1500
+# How many clients there are at the same time, and how often each adds and removes entries.
 CLIENTS, ROUNDS = 4, 25
 NOON = b"19:2026-03-01_12:00:00"
 TAG = b"(tag (packages read))"
@@ -31,10 +33,12 @@ REQUEST = (b"packages", b"read", b"/a")
 
 
 def key_of(name):
+    # The value of a public key with this name. No signature is made by it: see `is_right`.
     return [b"public-key", [b"test", name]]
 
 
 def hash_of(value, algorithm="sha256"):
+    # The value `(hash ..)` that names another value by the digest of its canonical form.
     return [b"hash", algorithm.encode(), hashlib.new(algorithm, canonical(value)).digest()]
 
 
@@ -44,7 +48,7 @@ def is_right(signature):
 
 
 def question(sequence, asker, request=REQUEST, moment=NOON):
-    """A question of a key, with a sequence as a value or as a text."""
+    """A question that the key `asker`, a value, asks. `sequence` has its certificates, as a value or as the octets of a text."""
     key = spki.ProvenKey.assume(canonical(asker))
     return spki.Question(sequence if isinstance(sequence, bytes) else canonical(sequence), key, words=request, moment=moment)
 
@@ -64,11 +68,12 @@ class Maker:
         return self.random.choice([key, key, hash_of(key), hash_of(key), hash_of(key, "sha512"), hash_of(key, "sha1")])
 
     def tag(self):
+        # A tag. All but `(packages write)` contain REQUEST.
         return [b"tag", self.random.choice([[b"*"], [b"packages"], [b"packages", b"read"], [b"packages", [b"*", b"set", b"read", b"write"]],
                                             [b"packages", b"write"]])]
 
     def validity(self):
-        """A list of no field or one: an end or a beginning of the validity, before NOON."""
+        """A list of no field, or of one: an end or a beginning of the validity. Both are before NOON, so what has the end is expired."""
         return self.random.choice([[], [], [], [[b"not-after", b"2026-02-01_00:00:00"]], [[b"not-before", b"2026-02-01_00:00:00"]]])
 
     def entry(self):
@@ -87,7 +92,8 @@ class Maker:
         return [b"cert", [b"issuer", owner], [b"subject", self.principal(subject)], *propagate, self.tag(), *self.validity()]
 
     def question(self):
-        """A question with up to three certificates, of which some are wrong, and some of whose parts cannot be read."""
+        """A question with up to three certificates in a chain. Some questions lack a key, have a wrong signature, or are asked by another key. A few
+        have a part that cannot be read, and are refused."""
         chain = [self.random.choice(self.keys) for _ in range(self.random.randrange(4) + 1)]
         items = [key for key in chain if self.random.random() < 0.95]
         for issuer, subject in zip(chain, chain[1:]):
@@ -176,7 +182,7 @@ def clients_agree(opened):
 
 
 def is_refused(call, *given, **more):
-    """Whether a call raises that it refuses its arguments."""
+    """Whether `call` with these arguments raises `spki.Refused` or `ValueError`. Any other exception is raised."""
     try:
         call(*given, **more)
     except (spki.Refused, ValueError):
@@ -185,7 +191,7 @@ def is_refused(call, *given, **more):
 
 
 def entries_refused():
-    """For each of some arguments that make no entry, by a name: whether they are refused."""
+    """Calls `entries.entry` with arguments that make no entry. Returns for each call, by a name, whether it refused them: all must be True."""
     own = canonical(key_of(b"k"))
     return {"an entry without a tag": is_refused(entries.entry, own), "an entry for a tag": is_refused(entries.entry, TAG, TAG),
             "two principals": is_refused(entries.entry, own + own, TAG),
@@ -198,6 +204,7 @@ class Entries(built.OfLibrary):
     """What makes no entry is refused before it is in a table."""
 
     def test_entries_refused(self):
+        # `is_right_so` is whether `entries.entry` refused these arguments, as it must.
         for name, is_right_so in entries_refused().items():
             with self.subTest(name):
                 self.assertTrue(is_right_so)
@@ -226,6 +233,7 @@ class Stores(built.OfLibrary):
         self.assertTrue(agrees_with_whole_list(self.opened(), 0, spki.Policy.STRICT))
 
     def test_open(self):
+        # Under `ALLOW_SHA1` hashes by SHA-1 name keys too.
         self.assertTrue(agrees_with_whole_list(self.opened(), 1, spki.Policy.ALLOW_SHA1))
 
     def test_several_clients(self):

@@ -32,7 +32,8 @@ WRITERS = 6
 
 
 def sealed(*lines: str) -> bytes:
-    """The file of ended certificates with these lines and its last line, which has their number and a digest."""
+    """The file of ended certificates with these lines. Its last line is `end`, how many of them begin with a digest, and the SHA-256 of all lines
+    before it."""
     text = "".join(f"{line}\n" for line in lines).encode("utf-8", "surrogateescape")
     count = len([line for line in lines if re.match("[0-9a-f]{64}", line)])
     return text + f"end {count} {hashlib.sha256(text).hexdigest()}\n".encode()
@@ -46,7 +47,8 @@ def digests_by_model(text: bytes) -> list[str]:
 
 
 def place(kind: str, path: str) -> None:
-    """Puts something at the path of the file of ended certificates: a file, or by its kind what is none, or cannot be used."""
+    """Puts something at the path of the file of ended certificates that is no ordinary file, or is one that cannot be used. `kind` names it, as the
+    rows of `test_places` do."""
     if kind == "fifo":
         os.mkfifo(path)
     elif kind == "folder":
@@ -70,7 +72,8 @@ def state_of(path: str) -> list[int]:
 
 @needs.needs("import cryptography")
 class Case(unittest.TestCase):
-    """A test in a folder with the keys `ann` and `ben`, `first`, a sequence of one certificate, and `second`, which has two."""
+    """A test in a folder with the keys `ann` and `ben`. `first` is a sequence of one certificate, by Ann for Ben. `own` is one of Ben's for Ann.
+    `second` is a sequence with both, and `cert` the certificate of `first` alone. `digests` are those of the two certificates."""
 
     room: str
     digests: list[str]
@@ -96,6 +99,7 @@ class Case(unittest.TestCase):
 
     @classmethod
     def octets(cls, name: str) -> bytes:
+        # The octets of a file in the folder.
         with open(cls.at(name), "rb") as file:
             return file.read()
 
@@ -206,7 +210,8 @@ class Ends(Case):
         self.is_unchanged(text, "--list")
 
     def test_made(self) -> None:
-        """Without anything else the file is made once, and is looked at then."""
+        """Without a certificate the command makes the file, with mode 644. If the file is there, the command says whether it is whole, and how many
+        digests it has."""
         os.unlink(self.at(ENDED))
         self.assertIn("made; digests: 0", self.ended())
         self.assertEqual((self.rows(), stat.S_IMODE(os.stat(self.at(ENDED)).st_mode)), ([], 0o644))
@@ -364,6 +369,8 @@ class Adopts(Case):
     """How a file that people have written or changed becomes whole."""
 
     def test_taken(self) -> None:
+        # `--adopt` takes digests in capitals or with spaces around them, other ends of lines, and a last line that is wrong or missing. It writes the
+        # file as the command itself does. `lines` are those before the new last line.
         for name, octets, lines in (
                 ("old", f"#old\n\n{A.upper()}\n {B} #  x\n{C}#\xfc\n".encode(), ["#old", "", A, f"{B} # x", f"{C} # \xfc"]),
                 ("nothing in a comment", f"{A} #\n#\n{B}\t# \n".encode(), [A, "#", B]),

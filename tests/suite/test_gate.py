@@ -41,7 +41,7 @@ def changed(old: str, new: str, file: str = "src/names.rt") -> set[str | None]:
 
 
 def is_gone(process: str) -> bool:
-    """Whether a process has ended."""
+    """Whether a process, by its number as a text, has ended. A zombie (state Z), which nobody has waited for yet, has ended too."""
     with contextlib.suppress(FileNotFoundError, ProcessLookupError):
         return ") Z " in text_of(f"/proc/{process}/stat")
     return True
@@ -85,6 +85,7 @@ class Verdicts(unittest.TestCase):
         self.assertFalse(self.is_refused("fn low::names::tried: needs other, which is not proved"))
 
     def test_names_gone(self) -> None:
+        # A proof that only names what the wrong body took away is no refusal. A second fault in the proof is one.
         gone = "./proofs/names/tried/Answers.antt:4:1: error: `c` has no field `push-2`"
         self.assertFalse(self.is_refused(gone, "fn low::names::tried: not proved"))
         self.assertTrue(self.is_refused(gone, gone.replace("`c` has no field `push-2`", "`search`: no proof"), "fn low::names::tried: not proved"))
@@ -116,6 +117,8 @@ class Logs(unittest.TestCase):
         return counts.passed, counts.failed, counts.left_out
 
     def test_counts(self) -> None:
+        # The counts are those of the last line. Without such a line, or with a status other than 0 and no failure, one has failed. A command that
+        # never writes counts is one test.
         for said, status, wanted in [
                 ("a\n3 passed, 0 failed\n", 0, (3, 0)), ("3 passed, 2 failed", 1, (3, 2)), ("3 passed, 0 failed (ok)\n", 0, (3, 0)),
                 ("3 passed, 0 failed\n", 1, (3, 1)), ("3 passed, 0 failed\nand more\n", 0, (0, 1)), ("", 0, (0, 1)), ("", -9, (0, 1))]:
@@ -131,7 +134,7 @@ class Commands(unittest.TestCase):
     """Commands that run."""
 
     def shown(self, *words: str, minutes: float = 1.0) -> tuple[str, int, str]:
-        """What a command says, its status, and what is printed of it."""
+        """What a command says, its status, and what is printed of it. After so many minutes it is ended."""
         with contextlib.redirect_stdout(io.StringIO()) as printed, run.Parts(1) as parts:
             said, status = parts.wait_and_print(parts.begin(*words), minutes)
         return said, status, printed.getvalue()
@@ -149,16 +152,19 @@ class Commands(unittest.TestCase):
         self.assertEqual((counts.passed, counts.failed), (0, 1))
 
     def test_still_running(self) -> None:
+        # Every SECONDS_BETWEEN_LINES seconds it is printed which commands still run.
         with mock.patch.object(run, "SECONDS_BETWEEN_LINES", 0.1):
             self.assertIn("still running:\n    sleep 1, for 0 minutes\n", self.shown("sleep", "1")[2])
 
     def test_ended(self) -> None:
+        # The end of the context of `Parts` ends a command that still runs.
         with contextlib.redirect_stdout(io.StringIO()), run.Parts(1) as parts:
             part = parts.begin("sleep", "1000")
         self.assertIsNotNone(part.process.poll())
 
     def test_wait(self) -> None:
-        """It waits for crates that are proved, and no longer than `rt ci` runs."""
+        """`wait_until_proved` ends when the log of `rt ci` says of each crate that it is proved or kept. If the log has the last line of `rt ci`, it
+        returns the crates that are missing."""
         with tempfile.NamedTemporaryFile("w") as log:
             log.write("rt: low proved\nrt: high is kept: an earlier run proved it\n")
             log.flush()

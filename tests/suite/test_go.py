@@ -1,6 +1,6 @@
 """Tests the Go module of bindings/go and the daemon spki-authd: their own tests with the race detector, gofmt and go vet. The module is asked
 what the program is asked, as `test_bindings.py` asks the other bindings. The daemon is asked with keys and certificates that `spki-cert` and
-OpenSSL made. Among the long tests, headers, signatures and signed requests are fuzzed for two minutes each."""
+OpenSSL made. Among the long tests, headers, signatures and signed requests are fuzzed for two to five minutes each."""
 import contextlib
 import hashlib
 import http.client
@@ -21,10 +21,11 @@ from harness.support import TESTS, TOP, canonical, read
 from suite import test_bindings
 
 SPKI_CERT = os.path.join(TOP, "apps", "spki-cert", "spki-cert")
-# What is fuzzed, and for how many seconds: the fields of signed requests for ten minutes.
+# What is fuzzed: a folder, a package, a fuzz test of Go and its seconds. The two tests of signed requests take ten minutes together.
 FUZZED = [(golang.MODULE, "./verify", "FuzzSignature", 120), (golang.MODULE, "./httpsig", "FuzzFields", 300),
           (golang.MODULE, "./httpsig", "FuzzSigned", 300),
           *((golang.DAEMON, ".", name, 120) for name in ("FuzzConnection", "FuzzHeaders", "FuzzSequence", "FuzzLeft", "FuzzPath"))]
+# The kinds of keys, each with what `openssl genpkey -algorithm` gets to make one.
 KINDS = {"ed25519": ["ed25519"], "rsa": ["RSA", "-pkeyopt", "rsa_keygen_bits:2048"], "p256": ["EC", "-pkeyopt", "ec_paramgen_curve:P-256"],
          "p384": ["EC", "-pkeyopt", "ec_paramgen_curve:P-384"]}
 
@@ -68,10 +69,13 @@ class InGo(OfGo):
         self.assertLessEqual({"conguraki/spki", "conguraki/spki/guard", "conguraki/spki/verify"}, names)
 
     def test_module(self) -> None:
-        """The tests of the module pass, with the race detector and the strict checks of what is passed to C."""
+        """The tests of the module pass, with the race detector and the strict checks of pointers that are passed to C. `cgocheck=2` asks the runtime
+        of Go up to 1.20 for these checks. From 1.21 on they are a setting of the build, GOEXPERIMENT=cgocheck2."""
         self.does(golang.MODULE, "test", "-race", "./...", GODEBUG="cgocheck=2")
 
     def test_questions(self) -> None:
+        # A program in Go answers all questions of the tables as `spki` does. It reads them as `test_bindings.framed` writes them, and writes its
+        # answers as strings in canonical form.
         asked = test_bindings.all_questions(self.program)
         lines = self.does(golang.MODULE, "run", "./examples/asked", given=b"".join(map(test_bindings.framed, asked)))
         fault = test_bindings.faults_of_answers(asked, [line + b"\n" for line in test_bindings.strings_in(lines)])
@@ -85,7 +89,9 @@ class InGo(OfGo):
 
     @needs.needs("pkg-config")
     def test_shared(self) -> None:
-        """With the tag spki_shared the library is the one that pkg-config knows."""
+        """With the tag spki_shared the library is the one that pkg-config knows: here the installed one. CGO_LDFLAGS is emptied, since
+        `golang.settings` puts the folder of the built library there, by `-L`. Go passes that before the flags of pkg-config, so the linker would
+        find the built library and not the installed one."""
         with tempfile.TemporaryDirectory() as room:
             subprocess.run([os.path.join(TOP, "install.sh"), room, self.program, self.library], check=True, stdout=subprocess.DEVNULL,
                            timeout=golang.SECONDS)
@@ -129,7 +135,8 @@ class OverSocket(http.client.HTTPConnection):
 
 
 class Person:
-    """A person with a key of OpenSSL, its SPKI key, and a TLS certificate that the person has signed."""
+    """A person with a key of OpenSSL. `path` and `public` are the files of the private and the public key, and `certificate` is the text of a TLS
+    certificate that the person has signed. `key` is the SPKI key as a text, and `digest` the hash of it in hexadecimal digits."""
 
     def __init__(self, room: str, name: str, kind: str) -> None:
         self.path = os.path.join(room, name)
@@ -148,7 +155,8 @@ class Person:
 
 
 def sealed(lines: str) -> str:
-    """The text of a file of ended certificates: lines, and its last line, which has their number and a digest."""
+    """The text of a file of ended certificates: `lines`, each with its end, and the last line, which has the number of digests and the SHA-256 of
+    `lines`."""
     count = sum(bool(line) and not line.startswith("#") for line in lines.splitlines())
     return f"{lines}end {count} {hashlib.sha256(lines.encode()).hexdigest()}\n"
 
@@ -256,7 +264,7 @@ class Served(OfGo):
 
     @staticmethod
     def changed(sequence: bytes) -> bytes:
-        """A sequence whose signature has another octet at its end."""
+        """A sequence in whose last signature the last octet differs by a bit."""
         items = value_of(sequence)
         value = items[-1][3][1][-1]
         value[1] = value[1][:-1] + bytes([value[1][-1] ^ 1])
@@ -301,7 +309,7 @@ class Served(OfGo):
                 self.assertEqual(daemon.ask(alice, "GET", "/web/a").status, 200)
 
     def test_words(self) -> None:
-        """The unit's program says what is wrong in a list."""
+        """`spki-authd -check` says how many entries a list has, or what is wrong in it."""
         with tempfile.TemporaryDirectory() as room:
             program = golang.build_daemon(self.library, os.path.join(room, "spki-authd"))
             for text, status, said in [("(acl)", 0, "0 entries"), ("(acl (entry))", 1, "refused acl 1 Shape"), ("", 1, "refused form Short")]:

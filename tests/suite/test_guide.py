@@ -76,7 +76,8 @@ def steps_of_manual(page):
 
 
 def script(found):
-    """The parts of a script that writes the files and runs the commands of steps, and writes END after each command."""
+    """The parts of a script that writes the files and runs the commands of the steps `found`, and writes END after each command. A quotation needs
+    nothing."""
     for kind, first, second in found:
         if kind == "file":
             yield f"printf %s {shlex.quote(second)} > {shlex.quote(first)}\n"
@@ -85,8 +86,8 @@ def script(found):
 
 
 def outputs_of(shell, found, program):
-    """Runs steps in a shell, in an empty folder, with the program at this path as `spki`. Returns what each command writes, and what is written
-    behind the last."""
+    """Runs the steps `found` in a shell, in an empty folder, with the program at this path as `spki`. Returns a list with what each command writes,
+    and at its end what is written behind the last command."""
     with tempfile.TemporaryDirectory() as room:
         for folder in ("bin", "work"):
             os.mkdir(os.path.join(room, folder))
@@ -225,7 +226,7 @@ class Snippets(built.OfLibrary):
     """The snippets of README.md and of the guide, by their languages."""
 
     def is_right(self, language: str) -> None:
-        """Each snippet in a language must grant and deny."""
+        """Each snippet in a language must grant the request of delegation.sexp to its key, and deny it to another key."""
         texts = [text for page in PAGES[:2] for kind, text in snippets_of(text_of(page)) if kind == language]
         self.assertTrue(texts, f"the pages have no snippet in {language}")
         with tempfile.TemporaryDirectory() as room:

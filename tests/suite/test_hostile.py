@@ -25,16 +25,25 @@ from suite import test_calls
 sys.path.append(BENCH)
 import memory  # noqa: E402
 
+# The most octets of an example whose requests for memory are refused.
 MOST_REFUSED = 3000
+# Up to the first number of requests for memory, each is refused in turn. Where there are more, every Nth is, at least the second number of them.
 ALL_REQUESTS, SOME_REQUESTS = 1000, 100
+# Limits of the memory of a run, in MiB.
 LIMITS = (12, 16, 24, 32, 64, 128)
+# The most faults that a part prints.
 MOST_FAULTS = 20
+# Of so many examples one runs under valgrind.
 VALGRIND_STEP = 9
+# How often the program calls `read` before it gives up. It calls `write` so many times, and once for each octet of its answer.
 MOST_ASKS = 2097152
-# What a service may take from a client.
+# What one text may take: seconds, and MiB.
 MOST_SECONDS, MOST_MEMORY = 10, 256
+# The octets of a small stack.
 STACK = 256 * 1024
+# How runs end: the status, the output and the errors.
 MEMORY = (2, b"refused Memory\n", b"")
+# The example on which the requests before the first read are refused too.
 WORDS_REFUSED = "no-entries.csexp"
 SHORT = (2, b"refused form Short\n", b"")
 TOO_LONG = (2, b"refused form TooLong\n", b"")
@@ -76,7 +85,8 @@ ENDS = [
 
 @dataclass
 class Example:
-    """A command, a text and how a run on it ends; None where that is not known beforehand."""
+    """A command and a text. `answer` is how a run on it ends: the status, the output and the errors; None where that is not known beforehand. An
+    example of `most_work` for `within_limits` has only the beginning of the output there."""
 
     name: str
     command: str
@@ -318,7 +328,8 @@ def with_valgrind(program, example, plan):
 
 
 def attempted(do, program, *words):
-    """Does a task, the function `do` of a Program and more words. Returns the number of runs, of refusals, and the faults: an OSError is one."""
+    """Does a task: calls its function `do` with the program and the task's words. Returns the number of runs, of refusals, and the faults, as `do`
+    does. An OSError is a fault."""
     try:
         return do(program, *words)
     except OSError as fault:

@@ -12,6 +12,7 @@ from harness import built, needs
 from harness.support import EXAMPLES, SECONDS, TESTS, TOP, output_of, tables_here, text_of
 
 REFUSAL = re.compile(r" refused ([A-Za-z0-9 ]+)%n$", re.MULTILINE)
+# Files that are in the folder before, and are not of this project.
 OTHERS = ("lib/libother.so", "bin/other")
 
 
@@ -27,7 +28,8 @@ def found(pattern: str, text: str) -> str:
 
 
 def installed(program: str, library: str, **settings: str) -> tuple[tempfile.TemporaryDirectory, str]:
-    """Installs by install.sh into a new folder with other files. Returns the folder, and what install.sh wrote. Raises AssertionError if it fails."""
+    """Installs by install.sh into a new folder that has the files of OTHERS already, which uninstalling must leave. `settings` are more variables of
+    the environment of install.sh. Returns the folder, and what install.sh wrote. Raises AssertionError if it fails."""
     prefix = tempfile.TemporaryDirectory()
     for place in OTHERS:
         os.makedirs(os.path.dirname(os.path.join(prefix.name, place)))
@@ -80,7 +82,7 @@ class Installed(built.OfLibrary):
 
     @needs.needs("cmake")
     def test_cmake(self) -> None:
-        """CMake finds both libraries, of this version and of none with other first numbers."""
+        """CMake finds both libraries where a project asks for no version, or for one up to this one with the same first two numbers."""
         for target, version, is_found in (("spki::spki", "", True), ("spki::spki", "0.2", True), ("spki::static", "0.2.0", True),
                                           ("spki::spki", "0.3", False), ("spki::spki", "0.2.1", False), ("spki::spki", "0.1.9", False)):
             with self.subTest(target=target, version=version), tempfile.TemporaryDirectory() as room:

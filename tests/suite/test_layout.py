@@ -18,6 +18,7 @@ from merge_gate import plan, toolchain
 WRONG_BODIES = ("crates/*/wrong/*.edit", "crates/*/must-fail/*.edit")
 # A line of an edit that the toolchain reads.
 READ = re.compile(r"(file: |old: |new:|$)")
+# A row of CONTRIBUTING.md: a crate, and its wrong bodies: those of must-fail/, and those of wrong/ that `.ci/run` tries.
 LISTED = re.compile(r"^\| `(\w+)` \| (`[\w-]+`(?:, `[\w-]+`)*) \|$", re.MULTILINE)
 # The line that a run without names prints, or one on runs with names.
 LINE = re.compile(r"Last run of `\.ci/deep`: commit ([0-9a-f]{12,40}), \d+ passed, 0 failed, "
@@ -71,6 +72,7 @@ class Layout(unittest.TestCase):
         self.assertEqual([line for line in git("ls-files", "-s").stdout.splitlines() if line.startswith("120000")], [])
 
     def test_last_deep_run(self) -> None:
+        # In a whole clone the commit must be in the history. How many wrong bodies were added since is only printed.
         commits = LINE.findall(text_of("CONTRIBUTING.md"))
         self.assertEqual(len(commits), 1, "CONTRIBUTING.md has not one line on the last run of .ci/deep, with 0 failed, and the seed of 1,000,000 "
                                           "texts or 'wrong bodies only'")

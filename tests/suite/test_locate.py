@@ -24,6 +24,7 @@ from rows import Row, rows_of
 
 PATH = os.path.join(TOP, "apps", "locate")
 GENERATED, SEED = 150, "locate"
+# The beginning of a refusal, by which `locate` reads a text as a command does. The other commands read any value: `refused form`.
 READ_AS = {"intersect": "refused tag", "check": "refused case", "explain": "refused case", "reduce": "refused case"}
 KEY = "(public-key (test a))"
 HASH = f"(hash sha256 #{'00' * 32}#)"
@@ -141,8 +142,8 @@ def has_no_place(answer):
 
 
 def show_places(wrong, inner, places):
-    """Has `locate` show each place of the fault `wrong`, unless it is None. It must not raise. `inner` is the text in which the places are: without
-    its braces, if it has some. `places` are then the offsets of its octets, or else None."""
+    """Has `locate` show each place of the fault `wrong`, unless it is None. It must not raise. `inner` is the text in which the places are. Of a text
+    in braces this is what they hold, and `places` are the offsets of its octets in the file. For any other text `places` is None."""
     for at, _ in [(wrong.at, wrong.why), *wrong.others] if wrong else []:
         LOCATE.place_shown(inner, places, at)
 

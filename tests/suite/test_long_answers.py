@@ -12,6 +12,7 @@ from harness.support import TESTS, canonical, output_of
 from suite import test_bindings
 from suite.test_bindings import CRATE, PYTHON, SECONDS, Asked
 
+# The calls that `counted.c` counts. 6 is the status SPKI_DONE.
 NAMES = ("spki_asked_explain", "spki_asked_reduce", "spki_answer")
 ENTRIES, KEY_OCTETS, DONE = 900, 4000, 6
 ISSUER, AT = [b"public-key", [b"test", b"a"]], b"2024-01-01_00:00:00"
@@ -44,6 +45,7 @@ class Counted(test_bindings.Binding):
         super().setUpClass()
         cls.room = tempfile.mkdtemp()
         cls.addClassCleanup(subprocess.run, ["rm", "-rf", cls.room], check=True)
+        # (renames the calls of NAMES in the library, and joins it with counted.c, which has these names: as an archive and as a shared library)
         renamed, own, whole, archive, cls.counting = (os.path.join(cls.room, name) for name in (
             "renamed.a", "counted.o", "whole.o", "libspki_c.a", "libspki_c.so"))
         for words in (["objcopy", *[f"--redefine-sym={name}=of_library_{name}" for name in NAMES], cls.library, renamed],
@@ -101,6 +103,7 @@ class Counted(test_bindings.Binding):
         words = ["-std=c++17", "-Wall", "-Wextra", "-Wpedantic", "-Werror", "-I", CRATE, "-o", program, source]
         self.assertEqual(output_of("g++", *words, self.archive, seconds=SECONDS), (0, ""))
         answers = []
+        # (each case has a question of `explain`, and then one of `reduce`: the program answers both)
         for explained, reduced in zip(self.asked[::2], self.asked[1::2]):
             paths = [os.path.join(self.room, name) for name in ("list", "sequence", "key")]
             for path, octets in zip(paths, (explained.access_list, explained.sequence, explained.key)):

@@ -156,6 +156,8 @@ class OfWriting(Room):
         self.assertEqual(before, os.stat(self.at("c.sexp")))
 
     def test_a_list_is_edited_in_its_place(self):
+        # The file of a list keeps its mode and its owner. An entry that gives nothing new needs `--yes`, and a list that is read-only is not
+        # changed.
         adds = ("entry", "--to", "bob.pub", "--tag", "(packages read)", "--acl", "acl.sexp")
         os.chmod(self.at("acl.sexp"), 0o640)
         with contextlib.suppress(PermissionError):
@@ -177,6 +179,7 @@ class OfWriting(Room):
         self.assertEqual(len(value_in(octets_in(self.at("new.sexp"))).value), 5)
 
     def test_a_dash_is_a_stream(self):
+        # For a file that is read `-` is standard input, which is read once. For one that is written it is standard output.
         for words, name in [(("key", "-"), "bob.pub"), (("show", "-"), "to-bob"), (("check", "-"), "acl.sexp"),
                             (("key", "-o", "-", "bob.pub"), "bob.pub"),
                             (("sign", "--by", "-", "--to", "bob.pub", "--tag", TAG, "--days", "1"), "alice"),
@@ -244,6 +247,7 @@ class OfArguments(Room):
         self.sign("-o", "c.sexp", tag="(* set (packages read) (packages write))")
 
     def test_what_is_not_meant_is_not_made(self):
+        # No mistake of `mistakes.OF_WORDS` makes the file c.sexp. Each ends with the status and the words of its row.
         for row in mistakes.OF_WORDS:
             self.write("authorized_keys", b"".join(public + b"\n" for _, public in self.pairs.values()))
             self.write("braces", b"{%s}" % base64.b64encode(sexp.canonical(value_in(octets_in(self.at("to-bob"))).value)))
@@ -352,6 +356,7 @@ class OfChains(Room):
 class OfTheRightOfAChain(OfChains):
     """`sign --chain`, by the library that is tested."""
 
+    # (needs no library: OfChains runs it)
     test_the_search_is_bounded = None
 
     def setUp(self):
@@ -363,6 +368,7 @@ class OfTheRightOfAChain(OfChains):
         return self.sign("--chain", chain, "--force", "-o", "c.sexp", *words, by=by, to=to, tag=tag, wanted=wanted, days=("--days", "5"))
 
     def test_what_the_issuer_has_is_signed(self):
+        # Bob gives on a tag that his chain gives him, or a part of it, also where Alice gave it to a name that is his.
         for tag in ("(packages read)", "(packages read (* set b a))", "(packages read (* prefix /web/))"):
             self.chained(tag=tag)
             self.assertEqual(len(self.verified("c.sexp")), 2)
@@ -373,6 +379,7 @@ class OfTheRightOfAChain(OfChains):
         self.chained(chain="both", tag="(packages (* set read write))")
 
     def test_what_the_issuer_cannot_give_is_not_signed(self):
+        # Neither as it is nor by `--yes`. With `--anyway` it is signed, and the reason is still said.
         text = octets_in(self.at("to-bob"))
         self.write("changed", text.replace(b"(packages read)", b"(packages)"))
         self.write("tampered", re.sub(rb"\(s\s+#..", lambda it: it[0][:-2] + b"%02x" % (int(it[0][-2:], 16) ^ 1), text))
@@ -416,12 +423,14 @@ class OfTheRightOfAChain(OfChains):
                 self.assertEqual("item 1 of the chain ends earlier" in said, is_told, said)
 
     def test_certificates_of_a_key_for_itself_are_no_burden(self):
+        # Many such certificates do not keep the search from the right chain. Where it stops at a bound of steps or chains, that is said.
         os.mkdir(self.at("many"))
         for number, one in enumerate(self.signed(12)):
             self.write(f"many/{number}", sexp.laid_out(one))
         asks = ("ask", "--acl", "acl.sexp", "--key", "carol.pub", "--cert", "many", "--")
         self.assertIn("so entry 1 grants it", self.done(*asks, "packages", "read"))
         self.assertIn("TagLacks", self.done(*asks, "mail", wanted=1))
+        # (`most` is also the default of `left`, the first field of the dataclass)
         with mock.patch.object(certificates.Steps, "most", 1), mock.patch.object(certificates.Steps.__init__, "__defaults__", (1, False)):
             self.assertIn("the search for chains ended after 1 steps", self.done(*asks, "packages", "read", wanted=1))
         self.write("many/other", sexp.laid_out(self.signed_here("bob", "carol", 99)))
@@ -530,7 +539,9 @@ class OfSignals(Room):
         self.each_ends("key", "show", "check", "ask", "completion")
 
     def each_ends(self, *names):
-        """Each signal must end these commands as it should, while they wait for their input, or if they have none, for their output to be read."""
+        """Sends each signal to these commands while they wait for their input, or if they have none, for their output to be read. One of
+        `commands.ENDING` must end them with status 3 and a line that says so. Any other may end them or not, but without a traceback. The
+        files that were there do not change."""
         before = self.contents()
         wanted = sorted(signal.valid_signals() - {signal.SIGKILL, signal.SIGSTOP} - set(range(signal.SIGRTMIN + 1, signal.SIGRTMAX)))
         for name in names:
@@ -549,6 +560,7 @@ class OfSignals(Room):
 
     def ended_by(self, words, number):
         """Sends a signal to a command that waits, and then gives it what it waits for. Returns its status, and what it has written."""
+        # (the child writes to `is_ready` when it waits, and then reads from `hang`, which ends when this process closes `let`)
         (ready, is_ready), (hang, let) = os.pipe(), os.pipe()
 
         def before():
@@ -589,9 +601,12 @@ class OfSignals(Room):
 class OfRandomWords(Room):
     """Whatever words, files and streams a command gets, it ends with a status of the manual and loses nothing."""
 
+    # Options behind which a command has a file that it writes, and for each command the words behind which it has one that it reads. For a command
+    # that INPUTS does not have, these are --by, --to and --chain.
     OUTPUTS = ("-o", "--output", "--save", "--sequence", "--svg", "--acl")
     INPUTS = {"key": ("--hash", "--json", "--force", "key"), "show": ("--force", "--json", "--braces", "show", "--labels"),
               "ask": ("--acl", "--key", "--cert", "--labels", "--case"), "entry": ("--to",)}
+    # Words that an option or a command may get, and likely commands.
     VALUES = ("(packages read)", "(*", "(* prefix /)", "x", "", "-", "--", "7", "0", "2099-01-01", "2020-01-01", "\udcff\udc80", "ä", "a\nb",
               "9" * 30, "(hash sha256 #00#)", "(name x)", ".", "folder", "none", "none/x", "/dev/null", "/dev/full", "ed25519", "c.sexp", "link",
               "alice", "alice.pub", "bob", "bob.pub", "acl.sexp", "to-bob", "keys", "wild", "wild.pub", "wild.sexp", "carol", "carol.pub")
@@ -639,6 +654,7 @@ class OfRandomWords(Room):
         return bytes(octets)
 
     def test_nothing_is_lost(self):
+        # With random words, files and streams, in children of this process. `check_run` has what must hold.
         rng, before = random.Random(SEED), self.contents()
         for number in range(RUNS):
             words, wild = self.words(rng), {name: self.wild(rng) for name in ("wild", "wild.pub", "wild.sexp")}
@@ -651,6 +667,7 @@ class OfRandomWords(Room):
                 self.check_run(words, status, said, {**before, **wild})
 
     def test_nothing_is_lost_by_the_program(self):
+        # The same with the program itself, and so in fewer runs.
         rng, before = random.Random(SEED + " starts"), self.contents()
         for number in range(STARTS):
             words, wild = self.words(rng), {"wild": self.wild(rng)}

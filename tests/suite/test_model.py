@@ -45,6 +45,7 @@ class Model(unittest.TestCase):
     """The model beside the tables and the document."""
 
     def test_tables(self) -> None:
+        # The model answers each row of the tables as the row says.
         for row in (row for table in tables_here() for row in rows_of(table)):
             with self.subTest(row.place, command=row.command):
                 try:
@@ -65,6 +66,8 @@ class Model(unittest.TestCase):
 class Generated(built.OfProgram):
     """The library on each case and the program on some; or the program alone on each text."""
 
+    # `differ` and `ended` are the numbers of the cases that differ, and of those that ended their process. `rows` counts how often each row of the
+    # model came. `told` has what is printed of some of these cases, by their numbers. `by_program` is how many cases the program answered.
     seed: str
     differ: list[int]
     ended: list[int]
@@ -122,13 +125,13 @@ def made_test(command: str) -> Callable[[Generated], None]:
 
 
 def rows_that_came(self: Generated) -> None:
-    """With 20,000 cases each row of the model comes."""
+    """The test that each row of the model comes in some case, if there are 20,000 cases or more. Not where the program alone is tested."""
     never = differential.unreached(self.rows) if built.CASES >= differential.WHOLE_COVERAGE else []
     self.assertEqual(never, [], f"never came, seed {self.seed}")
 
 
 def part_of_the_program(self: Generated) -> None:
-    """With 20,000 cases the program answers a tenth of them."""
+    """The test that the program answers a tenth of the cases, if there are 20,000 or more. Not where the program alone is tested."""
     wanted = differential.PROGRAM_SHARE * built.CASES if built.CASES >= differential.WHOLE_COVERAGE else 0
     self.assertGreaterEqual(self.by_program, wanted)
 

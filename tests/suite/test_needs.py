@@ -17,7 +17,7 @@ class Needs(unittest.TestCase):
         self.assertIn(needs.install_line(), text_of("CONTRIBUTING.md"), "CONTRIBUTING.md has not the line that tests/run --needs prints")
 
     def test_skips(self) -> None:
-        """A skip is honest where what it names is on the list and not there."""
+        """A test may be skipped only for a need that is on the list and that this machine lacks."""
         gone = needs.Need("no-such-command", "no-such-package", "nothing")
         self.assertFalse(needs.is_by_missing_needs(gone.reason))
         self.assertTrue(all(needs.is_by_missing_needs(need.reason) != need.is_there for need in needs.NEEDS))

@@ -105,7 +105,8 @@ SITES: list[tuple[str, str, str]] = [
     ("a folder where any will do", "", "location /secret/ { satisfy any; allow all; }"),
     ("open files that are kept", "open_file_cache max=100; open_file_cache_errors on; open_file_cache_valid 1h;", ""),
 ]
-# Locks that are broken: a name, the lines of other sites that the lock keeps out, and a pattern of the lock's own lines, which are taken away.
+# Lines of files.conf that keep the lines of other sites without effect: the first lock. Each row breaks it: a name, lines of another site, and a
+# pattern of the lock's own lines, which are taken away. The second lock is the folder of the files, which nginx has only after a yes of the daemon.
 LOCKS: list[tuple[str, str, str]] = [
     ("error pages", f"proxy_intercept_errors on; error_page 401 403 {ERRORS} =200 {SORRY};", "(error_page 599 /|proxy_intercept_errors off);"),
     ("satisfy any", "satisfy any; allow all;", "satisfy all;"),
@@ -121,7 +122,8 @@ class Sites(OfSite):
         self.addCleanup(lambda: self.restart_nginx("", ""))
 
     def restart_nginx(self, of_all: str, of_server: str, without: str = "no such line") -> None:
-        """Starts nginx again with more lines outside of the server and in it, and without those that a pattern matches."""
+        """Starts nginx again with the lines `of_all` outside of the server and `of_server` in it, and without lines that the pattern `without`
+        matches."""
         for name, place, lines in (("loopback.conf", "include files.conf;", of_all), ("files.conf", "server_name localhost;", of_server)):
             more = lines.replace("{room}", self.site.room)
             self.site.write(f"etc/{name}", re.sub(f"(?m)^ *{without}$", "", self.kept[name]).replace(place, f"{more}\n{place}", 1))
@@ -133,6 +135,7 @@ class Sites(OfSite):
             self.assertEqual(faults_of(self.site, each, must), [])
 
     def test_denied(self) -> None:
+        # No lines of other sites turn a denial into a grant, and Ann still gets what she may.
         for name, of_all, of_server in SITES:
             self.restart_nginx(of_all, of_server)
             with self.subTest(name):
@@ -156,6 +159,7 @@ class Sites(OfSite):
                 self.get_nothing([each for each in ASKED if each[2] != "/web/"], DENIED | UNDECIDED)
 
     def test_daemon_stopped(self) -> None:
+        # While no daemon answers, nobody gets anything, not even Ann what she may.
         self.grants_ann()
         self.site.stop_daemon()
         self.addCleanup(self.site.start_daemon)

@@ -20,6 +20,7 @@ class Operating(unittest.TestCase):
         try:
             said = output_of(shell, text="".join(test_guide.script(steps)), cwd=site.room, env=settings, seconds=served.SECONDS)[1]
         finally:
+            # (the page starts a second daemon, which would run on)
             output_of("sh", "-c", "kill $(cat run/second.pid)", cwd=site.room)
         met = [each.strip("\n") for each in said.split(f"{test_guide.END}\n")]
         self.assertEqual(met, [*(answer.strip("\n") for _, _, answer in steps), ""])

@@ -17,6 +17,7 @@ from harness import built, golang, needs
 from harness.support import EXAMPLES, TESTS, TOP, output_of, room_for, run, text_of
 
 VERSION = text_of("VERSION").strip()
+# The version without its last number, as the soname has it; the package of the shared library, and the folder of both libraries.
 INTERFACE = VERSION.rpartition(".")[0]
 SHARED, PLACE = f"libspki-c{INTERFACE}", "usr/lib/x86_64-linux-gnu"
 MAINTAINER = "Ann Smith <ann@conguraki.org>"
@@ -38,6 +39,7 @@ RELATIONS = {"spki": r"Depends: libc6 \(>= 2\.\d+\)$", SHARED: r"Depends: libc6 
 SOURCES = ("*.sh", "VERSION", "CHANGELOG.md", "README.md", "apps", "bindings", "crates/spki_c/*.h*", "docs", "examples", "packaging")
 # There is no license yet.
 TAGS_OF_LINTIAN = {"copyright-without-copyright-notice"}
+# The sections that programs and shared libraries must not have, and those that the static library must not have, which needs its symbols.
 SYMBOLS, DEBUG = re.compile(r"\.(?:symtab|strtab|z?debug\w*)$"), re.compile(r"\.z?debug\w*$")
 SECTIONS = re.compile(r"^ +\[ *\d+\] (\S+) ", re.MULTILINE)
 GO_CACHE = os.path.join(TESTS, "out", "go")

@@ -35,12 +35,14 @@ class Lists(unittest.TestCase):
         self.assertEqual(left, [], "these rows of NOT_RUN are about no command: remove them")
 
     def test_the_tests_read_their_pages(self) -> None:
+        # The test that a row of RUN names has the name of its page in its source.
         for row in RUN:
             with self.subTest(row):
                 self.assertIn(os.path.basename(row.page), text_of(f"tests/suite/{row.test}.py"))
 
     def test_names(self) -> None:
-        """A command that is named with its options has both."""
+        """Where a text in backticks is a command of `spki` or `spki-cert`, or a flag of `spki-authd`, the program has it, and `spki-cert` has the
+        options behind the command."""
         helps: dict[str, str] = {}
         flags = "".join(text_of(path) for path in tracked() if path.startswith("apps/spki-authd/") and path.endswith(".go"))
         for it in self.found:

@@ -21,6 +21,7 @@ SECONDS = 600
 NAME = "files.example.org"
 NGINX = """daemon off; pid {room}/pid; events {{}} http {{ {http} access_log off; client_body_temp_path t; proxy_temp_path t; fastcgi_temp_path t;
 uwsgi_temp_path t; scgi_temp_path t; server {{ listen unix:{room}/proxy; location / {{ proxy_pass http://{to}; {more} }} }} }}"""
+# Lines of nginx: they pass on the name that the client sent, and take the nonce out of a signature.
 OWN_HOST = "proxy_http_version 1.1; proxy_set_header Host $http_host;"
 BY_NONCE = """map $http_signature_input $spki_nonce { '~;nonce="([^"]+)"' $1; }"""
 CADDY = "{{\nadmin off\nauto_https off\n}}\nhttp:// {{\nbind unix/{room}/proxy\nreverse_proxy 127.0.0.1:{port}\n}}\n"

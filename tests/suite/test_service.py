@@ -122,6 +122,7 @@ def is_granted(port: int, sent: Sent) -> bool:
     return b" 200 " in first_line_for(port, "\r\n".join(lines).encode("latin-1"))
 
 
+# Octets that are no request: what is sent here is never granted.
 NO_REQUESTS = (b"", b"\r\n\r\n", b"GET\r\n\r\n", b"GET / HTTP/1.1\r\n\r\n", b"GET / HTTP/1.1\r\n: x\r\n\r\n", b"\0" * 99, b"GET " + b"a" * 99_999,
                b"GET / HTTP/1.1\r\nHost: x", b"GET / HTTP/1.1\r\n" + b"a: b\r\n" * 20_000 + b"\r\n")
 
@@ -147,7 +148,8 @@ class Service(built.OfLibrary):
             file.write(text)
 
     def check_service(self, *words: str, **settings: str) -> None:
-        """The service that these words start must answer each request as it should, and must not start on a wrong list."""
+        """The service that these words start must answer each request as it should, and must not start on a wrong list. Neither a sanitizer nor
+        valgrind may report a fault in what it writes. `settings` are more variables of its environment."""
         others = {**os.environ, **settings}
         with open(os.path.join(self.room, "said"), "w+b") as said, subprocess.Popen(
                 [*words, self.path, NAME], stdout=subprocess.PIPE, stderr=said, env=others) as service:

@@ -57,6 +57,7 @@ class Handler(http.server.BaseHTTPRequestHandler):
     do_GET = do_HEAD = do_PUT = do_DELETE = answer_it
 
     def log_message(self, *words: object) -> None:
+        # Writes no log.
         pass
 
 
@@ -187,7 +188,8 @@ class InC(unittest.TestCase):
         return [self.answer_of(line, row[1].body) for line, row in zip(done.stdout.decode().split("\n"), rows)]
 
     def answer_of(self, line: str, body: bytes | None) -> str:
-        """The answer on a line, `valid` only if the body has the digest there: the caller of the verifier must compare it."""
+        """The answer on a line, or `other-digest` where it is `valid` with the digest of another body: the caller of the verifier must compare them.
+        The digest has 64 hexadecimal digits by SHA-256 or 128 by SHA-512. Without one only an empty body is right. A body of None is not compared."""
         answer, _, digest = line.partition(" ")
         if answer != "valid" or body is None:
             return answer
@@ -224,7 +226,8 @@ class InC(unittest.TestCase):
 
 
 def mutated(row: Row, chance: random.Random) -> Row:
-    """A row of which one text has another octet, one less or one more, or a part twice. It is asked once."""
+    """A row of which one text has another octet, one less or one more, or a part twice or not at all. The same request never came before (None). The
+    row keeps its answer, which may be wrong now."""
     name, message, now, _, gives = row
     texts = [message.method, message.authority, message.target, *(it for pair in message.fields for it in pair)]
     place = chance.randrange(len(texts))

@@ -32,9 +32,11 @@ from spki_store_tool.beats import Beats  # noqa: E402
 from spki_store_tool.tables import Store  # noqa: E402
 
 STORE = os.path.join(TOP, "apps", "spki-store", "spki-store")
+# The driver of PostgreSQL for Go, and the options by which the daemon is built with it.
 DRIVER = "/usr/share/gocode/src/github.com/lib/pq/conn.go"
 WITH_DRIVER = ("-modfile=postgres.mod", "-tags", "spki_postgres")
 QUESTIONS = 20_000 if built.IS_LONG else 1_500
+# An entry for a key, and one that delegates, for a name that begins with a hash of zeros.
 A = b"(5:entry(10:public-key(4:test1:a))(3:tag(1:*)))"
 ZEROS = b"(5:entry(4:name(4:hash6:sha25632:" + bytes(32) + b")3:bob)(9:propagate)(3:tag(1:a1:b)))"
 
@@ -371,6 +373,7 @@ class Driven(OfDaemon):
                 SPKI_STORE_SCHEMA=self.schema, SPKI_STORE_QUESTIONS=str(QUESTIONS))
 
 
+# `stale_seconds` of the daemons: the state of a store that is older decides nothing.
 STALE = 3
 # The site that clients sign requests to.
 SITE = "files.example.org"

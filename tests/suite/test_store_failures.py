@@ -20,8 +20,9 @@ from suite.test_store import STALE, Store
 
 import psycopg
 
-# While something fails: longer than a state may be old.
+# How many seconds something fails: longer than a state may be old.
 FAILING = STALE + 2
+# Settings of PostgreSQL: its own, short waits for a server that is gone, and a small log. And the MiB of a small disk.
 USUAL: dict[str, str] = {}
 SHORT = {"wal_receiver_timeout": "2s", "wal_sender_timeout": "2s", "wal_retrieve_retry_interval": "200ms"}
 SMALL = {"min_wal_size": "32MB", "max_wal_size": "48MB", "wal_keep_size": "0"}
