@@ -12,7 +12,7 @@ import (
 type access struct {
 	lists []*list
 	ended *ended
-	// The digest of the one list, or of the places and digests of several.
+	// What digestOfLists has returned, and when the files were read.
 	digest string
 	read   time.Time
 }
@@ -31,7 +31,8 @@ type reloaded struct {
 	fault error
 }
 
-// readAccess reads the access lists of a configuration and its file of ended certificates. After an error no list in a file stays open.
+// readAccess reads the access lists of a configuration and its file of ended certificates. After an error no list in a file stays open. A store is
+// opened by the first call alone, and stays open.
 func readAccess(c *config, now time.Time) (*access, error) {
 	policy, err := policyOf(c.Policy)
 	if err != nil {
@@ -55,7 +56,7 @@ func readAccess(c *config, now time.Time) (*access, error) {
 	return made, nil
 }
 
-// readEnded reads the digests of ended certificates, if there is a file of them.
+// readEnded reads the digests of ended certificates. With an empty path, which is that of a configuration without such a file, none has ended.
 func (a *access) readEnded(path string) error {
 	if path == "" {
 		return nil
@@ -70,7 +71,8 @@ func (a *access) readEnded(path string) error {
 	return err
 }
 
-// digestOfLists returns the digest of the one list, or that of the places and digests of several.
+// digestOfLists returns the stamp of the one list, or the digest of the places and stamps of several. The stamp is the digest of a file, and names
+// the last change of a store. Operators compare what is returned between daemons.
 func (a *access) digestOfLists() string {
 	if len(a.lists) == 1 {
 		return a.lists[0].stamp()

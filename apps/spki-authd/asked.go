@@ -10,11 +10,12 @@ import (
 // scheme begins the value of `Authorization` in which a client sends its certificates. It is the same in upper and lower case.
 const scheme = "SPKI "
 
-// The most octets of a request's number.
+// The most octets of a request's number, or of an address, in the log: what is longer is cut.
 const mostID = 64
 
 // An asked is what the web server asks: what its headers say.
 type asked struct {
+	// What the client asks the web server for, and its TLS certificate: the header's value, which keys.of reads, or empty.
 	method, target, certificate string
 	// The client's certificates in transport form, or empty.
 	sequence string
@@ -71,7 +72,8 @@ func (c *config) askedOf(request *http.Request) (made asked, err error) {
 	return made, err
 }
 
-// targetOf returns the target that the client asks for: from a header, or that of the request itself behind path_prefix.
+// targetOf returns the target that the client asks for: from a header, or that of the request itself behind path_prefix. Without that prefix it fails
+// with errPrefix, and returns the whole target for the log.
 func (c *config) targetOf(request *http.Request) (string, error) {
 	if c.Headers.URI != "" {
 		return required(request, c.Headers.URI)
@@ -120,7 +122,8 @@ func (c *config) checkServer(request *http.Request) error {
 }
 
 // sequenceOf returns the certificates that the client sends in transport form, or an empty text: from `Authorization: SPKI {..}` or from a header of
-// their own. With both it fails.
+// their own. It fails with errSequence for both, for `SPKI` alone, and for a text that does not begin with `{`. Other credentials in `Authorization`
+// are passed over.
 func (c *config) sequenceOf(request *http.Request) (string, error) {
 	own, err := only(request, c.Headers.Sequence)
 	if err != nil {
@@ -145,7 +148,7 @@ func (c *config) sequenceOf(request *http.Request) (string, error) {
 	return "", errSequence
 }
 
-// required returns the value of a header, which must be there once and not be empty.
+// required returns the value of a header, which must be there once and not be empty: otherwise it fails with errHeader.
 func required(request *http.Request, name string) (string, error) {
 	value, err := only(request, name)
 	if err == nil && value == "" {
@@ -154,7 +157,8 @@ func required(request *http.Request, name string) (string, error) {
 	return value, err
 }
 
-// only returns the value of a header, or an empty text if it is not there. If it is there twice, a client could have sent one of them: then it fails.
+// only returns the value of a header, or an empty text if it is not there. If it is there twice, a client could have sent one of them: then it fails
+// with errHeader, as for a value with CR, LF or NUL.
 func only(request *http.Request, name string) (string, error) {
 	values := request.Header[name]
 	if len(values) == 0 {

@@ -28,7 +28,8 @@ func newCache(most int) *cache {
 	return &cache{newRecent[digest, struct{}](most)}
 }
 
-// verifies says whether a signature is valid, and whether that was known before. `message` is the digest of signed.Message, which callers have.
+// verifies says whether a signature is valid, and whether that was known before: only what is not known is verified, by `verify`. `message` is the
+// digest of signed.Message, which callers have.
 func (c *cache) verifies(signed guard.Signature, message digest, verify guard.Verify) (isValid, wasKnown bool) {
 	name := digestOf(signed, message)
 	if _, wasKnown := c.valid.get(name); wasKnown {
@@ -41,7 +42,7 @@ func (c *cache) verifies(signed guard.Signature, message digest, verify guard.Ve
 	return true, false
 }
 
-// The octets that the key, the digest and the value of most signatures have together.
+// The octets that the key, the digest and the value of most signatures have together. For longer ones digestOf takes more memory.
 const roomForSignature = 512
 
 // digestOf returns the digest of a signature's key, its message's digest and its value. The length of the key goes in front, so that no two

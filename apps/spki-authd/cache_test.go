@@ -9,7 +9,7 @@ import (
 	"conguraki/spki/guard"
 )
 
-// verifies asks a cache whether a signature is valid, and whether it knew that.
+// verifies asks a cache whether a signature is valid, and whether it knew that. It makes the digest of the message, which the daemon has already.
 func verifies(c *cache, signed guard.Signature, verify guard.Verify) (isValid, wasKnown bool) {
 	return c.verifies(signed, sha256.Sum256(signed.Message), verify)
 }
@@ -19,6 +19,8 @@ func numbered(number int) guard.Signature {
 	return guard.Signature{Key: []byte("key"), Message: []byte(fmt.Sprint(number)), Value: []byte("value")}
 }
 
+// TestCacheKeepsValidSignatures asks three times for a valid signature, which is verified once, and for one that is not valid, which is verified each
+// time.
 func TestCacheKeepsValidSignatures(t *testing.T) {
 	made, calls := newCache(10), 0
 	verify := func(signed guard.Signature) bool {
@@ -52,6 +54,7 @@ func TestCacheTellsPartsApart(t *testing.T) {
 	}
 }
 
+// TestCacheIsBounded asks a cache of 100 signatures for 1000. One that is asked for each time stays, and a cache of 0 keeps none.
 func TestCacheIsBounded(t *testing.T) {
 	made, valid := newCache(100), func(guard.Signature) bool { return true }
 	for number := 0; number < 1000; number++ {

@@ -18,8 +18,9 @@ func (c *config) open(entries []byte) (*guard.Guard, error) {
 	return guard.Open(append(append([]byte("(3:acl"), entries...), ')'), policy, c.Limits.ofQuestion())
 }
 
-// signaturesOf returns the signatures of a sequence's certificates, at least one, whatever access list is in force. It fails with errUnkept if there
-// is none, or if a certificate would not count even if all signatures were valid. `key` and `now` only complete the question to the library.
+// signaturesOf returns the signatures of the certificates that a client leaves, at least one, whatever access list is in force. It verifies none. It
+// fails with errUnkept if there is none, or if a certificate would not count even if all signatures were valid: so it marks them all as valid, and
+// asks the library for a reason. `key` and `now` only complete the question.
 func (c *config) signaturesOf(sequence string, key guard.ProvenKey, now time.Time) ([]guard.Signature, error) {
 	empty, err := c.open(nil)
 	if err != nil {
@@ -49,8 +50,8 @@ func (c *config) signaturesOf(sequence string, key guard.ProvenKey, now time.Tim
 	return signatures, nil
 }
 
-// names says whether a principal names a key: by itself or by a hash that the policy allows. The library decides, by a list with one entry, which
-// gives this principal everything.
+// names says whether a principal names a key: by itself or by a hash that the policy allows. It is false for any other principal, such as a name. The
+// library decides, by a list with one entry, which gives this principal everything.
 func (c *config) names(principal []byte, key guard.ProvenKey, now time.Time) (bool, error) {
 	if !bytes.HasPrefix(principal, []byte("(10:public-key")) && !bytes.HasPrefix(principal, []byte("(4:hash")) {
 		return false, nil
@@ -78,7 +79,8 @@ func subjectOf(certificate []byte) []byte {
 	return nil
 }
 
-// lengthOf returns the number of octets of the value at the beginning of a canonical text, or of the whole text if no whole value is there.
+// lengthOf returns the number of octets of the value at the beginning of a canonical text, which is a string or a list, or of the whole text if no
+// whole value is there.
 func lengthOf(text []byte) int {
 	depth := 0
 	for place := 0; place < len(text); {

@@ -43,7 +43,7 @@ type client struct {
 	name string
 }
 
-// The number of keys that are kept, and the most octets of a certificate whose key is.
+// The number of keys that are kept, and the most octets of a header whose key is.
 const (
 	mostKeys   = 1000
 	mostLength = 4096
@@ -54,7 +54,7 @@ func newKeys(name string) *keys {
 	return &keys{forms[name], newRecent[string, client](mostKeys)}
 }
 
-// of returns the client whose certificate a header has. `text` is the header's value.
+// of returns the client whose certificate a header has, or the error of keyOf. `text` is the header's value.
 func (k *keys) of(text string) (client, error) {
 	if kept, isKept := k.read.get(text); isKept {
 		return kept, nil
@@ -106,7 +106,7 @@ func ofBase64(text string) ([]byte, error) {
 }
 
 // ofForwarded reads the field Cert of `X-Forwarded-Client-Cert`, as Envoy writes it: one element, with fields NAME=VALUE between semicolons, and
-// the certificate as escaped PEM in quotes.
+// the certificate as escaped PEM in quotes. It fails unless exactly one field is Cert.
 func ofForwarded(text string) ([]byte, error) {
 	var found []string
 	for text != "" {

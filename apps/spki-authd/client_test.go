@@ -81,6 +81,7 @@ func TestKindsOfKeys(t *testing.T) {
 	}
 }
 
+// TestKeysAreKept reads Alice's certificate twice, the second time from what is kept, and a text that is no certificate twice.
 func TestKeysAreKept(t *testing.T) {
 	made, alice := newKeys(escapedPEM), newPerson(t)
 	for turn := 0; turn < 2; turn++ {

@@ -7,7 +7,7 @@ import (
 
 // A clock notes whether the time of day goes back: then certificates that have ended count again.
 type clock struct {
-	// The moment that was noted last, in nanoseconds since 1970, and how often it was earlier than the one before.
+	// The moment that was noted last, in nanoseconds since 1970, and how often one was more than backAtLeast earlier than the one before.
 	last, times atomic.Int64
 }
 

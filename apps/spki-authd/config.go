@@ -25,16 +25,17 @@ type config struct {
 	Headers         headers `json:"headers"`
 	CertificateForm string  `json:"certificate_form"`
 	PathPrefix      string  `json:"path_prefix"`
-	List            string  `json:"-"`
-	Source          source  `json:"list"`
-	Lists           []place `json:"lists"`
-	Ended           string  `json:"ended"`
-	Log             string  `json:"log"`
-	LogSync         string  `json:"log_sync"`
-	Policy          string  `json:"policy"`
-	Requests        []rule  `json:"requests"`
-	RefusedStatus   int     `json:"refused_status"`
-	Explain         bool    `json:"explain"`
+	// The path of the single list, or what it is called in messages if it is in a store. It is empty if there are several lists.
+	List          string  `json:"-"`
+	Source        source  `json:"list"`
+	Lists         []place `json:"lists"`
+	Ended         string  `json:"ended"`
+	Log           string  `json:"log"`
+	LogSync       string  `json:"log_sync"`
+	Policy        string  `json:"policy"`
+	Requests      []rule  `json:"requests"`
+	RefusedStatus int     `json:"refused_status"`
+	Explain       bool    `json:"explain"`
 	// How requests are signed, or nil if they are not.
 	Signatures *signatures `json:"signatures"`
 	// Where the certificates are that clients have left, or nil if they can leave none.
@@ -42,6 +43,7 @@ type config struct {
 	Cache  *int    `json:"cache"`
 	Limits limits  `json:"limits"`
 
+	// What the file of SecretFile has, or empty.
 	secret []byte
 	// Whether a rule or a list depends on the host, so that a request must have one.
 	needsHost bool
@@ -64,6 +66,7 @@ type limits struct {
 }
 
 const (
+	// The signatures that are kept, if `cache` is left out, and the octets that a secret must have.
 	usualCache  = 10_000
 	leastSecret = 32
 	// The most octets of the configuration, of the secret and of the digests: what is longer is none of them. A list has at most those that the
@@ -74,7 +77,7 @@ const (
 // usualLimits are taken for limits of zero. 40 workers of nginx that keep 16 connections each have 640, and there is room for others.
 var usualLimits = limits{HeaderOctets: 131_072, PathOctets: 4096, Connections: 1024, Seconds: 5, ExplainRate: 5}
 
-// readConfig reads and checks a configuration.
+// readConfig reads and checks a configuration, and reads the secret whose file it names.
 func readConfig(path string) (*config, error) {
 	octets, err := readFile(path, mostConfig)
 	if err != nil {
@@ -136,7 +139,7 @@ func (c *config) setUsual() {
 	}
 }
 
-// all returns pointers to the limits, always in this order.
+// all returns pointers to the limits, always in this order: so those of two values can be paired by their places.
 func (l *limits) all() []*int {
 	return []*int{&l.Octets, &l.Certificates, &l.Words, &l.HeaderOctets, &l.PathOctets, &l.Connections, &l.Seconds, &l.KeyRate, &l.AddressRate, &l.ExplainRate}
 }
@@ -148,7 +151,7 @@ func setText(text *string, usual string) {
 	}
 }
 
-// check says what is wrong in a configuration.
+// check returns an error that says what is wrong in a configuration, or nil. The checks of lists and chains also set fields that were left out.
 func (c *config) check() error {
 	if _, known := servers[c.Server]; !known {
 		return fmt.Errorf(`"server" is %q, and must be nginx, caddy, haproxy, apache, traefik or envoy`, c.Server)

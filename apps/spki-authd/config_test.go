@@ -10,6 +10,7 @@ import (
 const least = `{"listen": "unix:/run/x/s", "server": "nginx", "list": "/acl", "log": "/log",
  "requests": [{"prefix": "/", "methods": {"GET": "read"}, "request": ["files", "{method}", "{path}"]}]}`
 
+// TestLeastConfig reads the least configuration: each field that was left out has its usual value.
 func TestLeastConfig(t *testing.T) {
 	made, err := parseConfig([]byte(least))
 	if err != nil {
@@ -27,6 +28,7 @@ func with(fields string) string {
 	return strings.Replace(least, "{", "{"+fields+", ", 1)
 }
 
+// TestWrongConfigs reads what is no configuration, and the least one with one thing wrong: each is refused.
 func TestWrongConfigs(t *testing.T) {
 	for _, text := range []string{
 		"", "{}", "[]", "null", least[:40], least + "x", least + "{}", with(`"unknown": 1`), with(`"limits": {"octet": 1}`),
@@ -45,6 +47,7 @@ func TestWrongConfigs(t *testing.T) {
 	}
 }
 
+// TestSecrets reads files of the secret: a right one, wrong ones, and the right one while everyone may read it.
 func TestSecrets(t *testing.T) {
 	const secret = "0123456789abcdef0123456789abcdef"
 	path := writeFile(t, "secret", secret+"\n")

@@ -17,15 +17,17 @@ import (
 // server of net/http answers some requests by itself, such as `OPTIONS *` with 200.
 type door struct {
 	decider *decider
-	places  chan struct{}
+	// Has an element for each open connection, and room for as many as there may be.
+	places chan struct{}
 	// Closed when no further connection is taken.
 	isShut chan struct{}
 	mutex  sync.Mutex
-	// The open connections, and what each does. The mutex holds the map alone.
+	// The open connections, and what each does. The mutex guards the map alone: a visit has a mutex of its own.
 	open map[net.Conn]*visit
-	// Set before the time of the open connections is ended: who notes afterwards what a connection does sees it.
+	// Whether the daemon ends. It is set before the open connections get their deadlines, so that no later note leaves one without.
 	isEnding atomic.Bool
-	all      sync.WaitGroup
+	// Counts the open connections.
+	all sync.WaitGroup
 	// Closed when the last connection is, after isShut.
 	isEmpty chan struct{}
 }
@@ -45,11 +47,13 @@ type stage int
 const (
 	// There was no request yet.
 	isFresh stage = iota
+	// A request is read or answered.
 	isBusy
+	// A request was answered, and the next one has not begun.
 	isIdle
 )
 
-// The octets of a body that are passed over. A web server that asks sends no body.
+// The most octets of a body that are passed over. A web server that asks sends no body.
 const mostBody = 65_536
 
 // How often in the time of a request it is looked which connections have had theirs. To set a deadline for each request takes a microsecond.
@@ -163,7 +167,7 @@ func (d *door) note(visit *visit, stage stage) error {
 	return nil
 }
 
-// patience returns how long a connection may stay in a stage.
+// patience returns how long a connection may stay in a stage. A request has its time in any case, and so has the first one unless the daemon ends.
 func (d *door) patience(stage stage) time.Duration {
 	isEnding := d.isEnding.Load()
 	switch {
@@ -177,7 +181,7 @@ func (d *door) patience(stage stage) time.Duration {
 	return d.decider.config.Limits.time()
 }
 
-// watch ends connections whose time is over, until the last one is closed.
+// watch ends connections whose time is over, until the daemon ends and the last one is closed.
 func (d *door) watch() {
 	looks := time.NewTicker(d.decider.config.Limits.time() / looksInTime)
 	defer looks.Stop()
@@ -246,6 +250,7 @@ func (d *door) answerAll(visit *visit) {
 	reader := newHeads(limited)
 	stage := isFresh
 	for isOpen := true; isOpen; stage = isIdle {
+		// (so many octets are read from the connection for one request; whether its headers are too long is checked later)
 		limited.N = int64(2 * d.decider.config.Limits.HeaderOctets)
 		if d.note(visit, stage) != nil {
 			return
@@ -257,7 +262,7 @@ func (d *door) answerAll(visit *visit) {
 	}
 }
 
-// survive logs a panic. Then the connection is closed without an answer.
+// survive is deferred by answerAll: it stops a panic, and logs it. Then the connection is closed without an answer.
 func (d *door) survive() {
 	if fault := recover(); fault != nil {
 		d.decider.endAs(answerFailed, fmt.Errorf("panic: %v", fault))

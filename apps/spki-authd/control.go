@@ -11,7 +11,8 @@ import (
 )
 
 // The control socket is for the operator alone: its mode is 0600. A client writes one line, an order, and reads one line that says whether it is
-// done or why not, and a text behind it. This is no HTTP, so that a web server that asks here by mistake reads no 200.
+// done or why not, and a text behind it. This is no HTTP, so that a web server that asks here by mistake reads no 200. mostOrder and mostText are the
+// most octets that are read of an order and of an answer.
 const (
 	controlSuffix = ".control"
 	isDone        = "done"
@@ -31,7 +32,7 @@ const (
 	orderState       = "state"
 )
 
-// An order is done between two events of the daemon's main loop, which alone reads lists.
+// An order is a function that the daemon's main loop calls between two events, and the channel for its error. Only the main loop reads lists.
 type order struct {
 	what func(*daemon) error
 	done chan error
@@ -67,7 +68,7 @@ func (d *daemon) serveControl(listener net.Listener) {
 	}
 }
 
-// obey reads an order from a connection, does it, and writes the answer.
+// obey reads an order from a connection, does it, and writes the answer. A line that is too long, or does not end, gets none.
 func (d *daemon) obey(connection net.Conn) {
 	defer connection.Close()
 	if connection.SetDeadline(time.Now().Add(timeToObey)) != nil {
@@ -114,7 +115,8 @@ func (d *daemon) inMain(what func(*daemon) error) error {
 	}
 }
 
-// give sends an order to the daemon of a control socket, and returns the text of its answer. The error says why the order was not done.
+// give sends an order to the daemon of a control socket, and returns the text of its answer. The error says why the order was not done: the daemon
+// may send a text then too.
 func give(path, what string) (string, error) {
 	connection, err := net.DialTimeout("unix", path, timeToObey)
 	if err != nil {

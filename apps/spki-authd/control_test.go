@@ -22,7 +22,8 @@ func (s *served) runProgram(t *testing.T, words ...string) (status int, out, mes
 	return status, to.String(), fault.String()
 }
 
-// TestReloadsThatAreRefused has lists read again over the control socket. The status says whether they are in force.
+// TestReloadsThatAreRefused has lists read again over the control socket. The status says whether they are in force. A row has the two files, the
+// command line, its status and message, and whether -health says afterwards that all is well.
 func TestReloadsThatAreRefused(t *testing.T) {
 	s := serveHere(t, "")
 	s.config.Ended = writeFile(t, "ended", withLastLine(oneDigest+"\n"))

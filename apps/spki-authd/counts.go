@@ -5,12 +5,13 @@ import (
 	"time"
 )
 
-// A counts has how often what was decided, since the start.
+// A counts has how often each answer was given since the start, and how often signatures were verified or not.
 type counts struct {
-	// By the number of the rule, where 0 is none, and by the answer.
+	// The number of answers, by the number of the rule, where 0 is none, and by the answer's place in `answers`.
 	decisions [][]atomic.Uint64
 	seconds   histogram
-	// The signatures whose validity was known, those that were verified, and those that were not since they would change nothing.
+	// The signatures whose validity was known, those that were verified, which countValid and checkLeft count, and those that were not verified since
+	// they would change nothing.
 	known, verified, spared atomic.Uint64
 }
 
@@ -19,7 +20,8 @@ var answers = []answer{
 	answerYes, answerNo, answerRefused, answerUnknown, answerLimited, answerFailed, answerKept, answerKnown, answerFull,
 }
 
-// A histogram has how many requests took at most so long, in the buckets of bounds, and how long all took.
+// A histogram has how many requests took how long, and how long all took together. Each request is in one bucket: the first whose bound it did not
+// exceed, or the last one, which has no bound.
 type histogram struct {
 	buckets     [len(bounds) + 1]atomic.Uint64
 	nanoseconds atomic.Int64
@@ -39,7 +41,7 @@ func newCounts(rules int) *counts {
 	return made
 }
 
-// note counts one answer, and the time that it took.
+// note counts one answer, its signatures that were known or spared, and the time that it took.
 func (c *counts) note(made *record, took time.Duration) {
 	for place, answer := range answers {
 		if answer == made.Answer {

@@ -15,10 +15,11 @@ type decider struct {
 	keeper    keeper
 	cache     *cache
 	sequences *sequences
-	signed    *signed
-	chains    chainKeeper
-	counts    *counts
-	clock     clock
+	// What verifies signed requests, and what keeps certificates that clients have left: each is nil if the configuration has none.
+	signed *signed
+	chains chainKeeper
+	counts *counts
+	clock  clock
 	// The rates of keys and of addresses.
 	byKey, byAddress *rates
 	// How often denials are explained, of all keys together.
@@ -92,7 +93,7 @@ func shownTarget(target string) string {
 }
 
 // judge asks the guard whether a key may make the request in a record, and sets the record's answer, which is `no` before. `sequence` is in transport
-// form, or empty if no certificate is shown.
+// form, or empty if no certificate is shown: then a denial is `unauthenticated`, since certificates may help.
 func (d *decider) judge(made *record, key guard.ProvenKey, path, sequence string, now time.Time) {
 	question := guard.Question{Key: key, Words: made.Request, Time: now}
 	var decision guard.Decision
@@ -114,11 +115,13 @@ func (d *decider) judge(made *record, key guard.ProvenKey, path, sequence string
 	}
 }
 
-// decideKnown decides a question whose signatures are known to be valid. A certificate that has ended early counts as not verified.
+// decideKnown decides a question whose signatures are known to be valid. A certificate that has ended early counts as not verified, and so do those
+// behind it. `question` has no sequence, since `known` has it.
 func (d *decider) decideKnown(made *record, question guard.Question, path string, known *shown) (guard.Decision, error) {
 	verified, text := known.canonical()
 	valid := 0
 	var decision guard.Decision
+	// (a store reads the sequence in this one, to find the entries that are needed)
 	shows := question
 	shows.Sequence = text
 	_, at, err := d.withList(&shows, made.Host, path, func(present *access, at *list) (err error) {
@@ -164,8 +167,9 @@ func (d *decider) withList(question *guard.Question, host, path string, use func
 	}
 }
 
-// decideAnew opens a question, and verifies its signatures only if the request is granted where all of them are valid. So whoever gets no right by
-// them, valid or not, costs no verification. If all of them are valid, the sequence is kept for later requests.
+// decideAnew decides a question by certificates whose signatures are not all known to be valid, and each one where denials are explained. It verifies
+// signatures only if the request is granted where all of them are valid. So whoever gets no right by them, valid or not, costs no verification. If
+// all of them are valid, the sequence is kept for decideKnown.
 func (d *decider) decideAnew(made *record, question guard.Question, path, sequence string) (guard.Decision, error) {
 	question.Sequence = nothingShown.text
 	if sequence != "" {
@@ -207,9 +211,9 @@ func (d *decider) decideAnew(made *record, question guard.Question, path, sequen
 	return decision, err
 }
 
-// explained returns why a request that was decided is denied, or notExplained if that was asked too often just before. Signatures that were not
-// verified, since they could not help, count as valid: so the reasons are what else is missing. These marks come after the decision, and change only
-// the reasons.
+// explained returns why a request that was decided is denied, or notExplained if that was asked more often than explain_rate allows. Signatures that
+// were not verified, since they could not help, count as valid: so the reasons are what else is missing. These marks come after the decision, and
+// change only the reasons.
 func (d *decider) explained(r *record, opened *guard.Asked) string {
 	if !d.explaining.allows("", d.now()) {
 		return notExplained

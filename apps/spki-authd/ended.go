@@ -13,7 +13,7 @@ import (
 // An ended has the certificates that no longer count, by the digests of their octets.
 type ended struct {
 	digests map[digest]struct{}
-	// The number of lines with a digest, and the digest of all lines but the last one, as that one has them.
+	// The number of lines with a digest, and the SHA-256 digest of the octets of all lines but the last one. The last line has both too.
 	count  int
 	digest string
 }

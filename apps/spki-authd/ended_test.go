@@ -47,7 +47,8 @@ func TestWrongEnded(t *testing.T) {
 	}
 }
 
-// TestFewerEnded reads files of ended certificates one after the other: what has ended stays so, unless one reload says otherwise.
+// TestFewerEnded reads files of ended certificates one after the other: what has ended stays so, unless one reload says otherwise. `isRight` says
+// that the file is accepted, and `isStill` that Bob's certificate has ended after that.
 func TestFewerEnded(t *testing.T) {
 	s := newSite(t, "")
 	s.config.Ended = writeFile(t, "ended", withLastLine(digestOfText(s.toBob)+"\n"))

@@ -37,13 +37,14 @@ func checkFields(octets []byte) error {
 	}
 }
 
-// An object is an object or an array of JSON up to some token. Only an object has names, and isValue is true where a value comes next.
+// An object is what was read of an object or an array of JSON that is still open. isNamed is true for an object, which alone has names. isValue is
+// true where a value comes next, and seen has the names so far, in small letters.
 type object struct {
 	isNamed, isValue bool
 	seen             map[string]bool
 }
 
-// take notes the next token, and fails if it is a name that the object has already.
+// take notes the next token of an object or an array, and fails if it is a name that the object has already. Of a nested one it gets the first token.
 func (o *object) take(token json.Token) error {
 	if !o.isNamed {
 		return nil

@@ -91,7 +91,8 @@ func FuzzLeft(f *testing.F) {
 	})
 }
 
-// A played connection is one on which a client has sent all that it sends.
+// A played connection is one on which a client has sent all that it sends: `sent` has what is not read yet, and `told` what was answered. It is never
+// closed, and its deadlines do nothing.
 type played struct {
 	net.Conn
 	sent *bytes.Reader
@@ -145,7 +146,8 @@ func FuzzConnection(f *testing.F) {
 	})
 }
 
-// mustBeGranted fails unless a line of the log may be a grant: by what the certificates say, and by nothing that the daemon computes.
+// mustBeGranted fails unless a line of the log may be a grant: by what newSite gives Alice, Bob and Carol, and by nothing that the daemon computes.
+// `method` is the one that was asked for.
 func (s *site) mustBeGranted(t *testing.T, method string, line record) {
 	t.Helper()
 	folders := map[string]string{s.alice.key: "/web/", s.bob.key: "/web/docs/", s.carol.key: "/web/docs/a/"}

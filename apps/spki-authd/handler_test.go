@@ -12,12 +12,15 @@ import (
 	"time"
 )
 
-// A site is a decider with a list, and the people whom the tests are about: Alice is on the list, and gives Bob a right, who gives Carol one.
+// A site is a decider with a list, and the people whom the tests are about. By the list Alice may read below /web/. She gives Bob the right to read
+// below /web/docs/, who gives Carol that below /web/docs/a/. Mallory has no right.
 type site struct {
 	*decider
 	alice, bob, carol, mallory person
-	toBob, toCarol             string
-	log                        journal
+	// The certificates to Bob and to Carol, in canonical form and not signed.
+	toBob, toCarol string
+	// All lines that the decider has logged.
+	log journal
 }
 
 // newSite makes a site. `fields` are more fields of its configuration, each after a comma such as `, "cache": 0`, or empty.
@@ -41,7 +44,7 @@ func newSite(t testing.TB, fields string) *site {
 	return made
 }
 
-// sequencesShown returns the sequences that Bob and Carol show.
+// sequencesShown returns the sequences that Bob and Carol show, in transport form: Bob's certificate, and both.
 func (s *site) sequencesShown() (bob, carol string) {
 	bobs := s.alice.sign(s.toBob)
 	return sequence(bobs), sequence(bobs, s.bob.sign(s.toCarol))
@@ -224,6 +227,7 @@ func TestSecretOfServer(t *testing.T) {
 	}
 }
 
+// TestRefusedStatus asks for a path that is not clear where refused_status is 403: the status is that, and the answer is still `refused`.
 func TestRefusedStatus(t *testing.T) {
 	s := newSite(t, `, "refused_status": 403`)
 	if met := s.by(s.alice, "GET", "/web/../x", ""); met.StatusCode != 403 || met.Header.Get("X-Spki-Answer") != "refused" {
@@ -231,6 +235,7 @@ func TestRefusedStatus(t *testing.T) {
 	}
 }
 
+// TestEndedCertificates ends Carol's certificate after it has granted a request: it counts no longer, and Bob's still does.
 func TestEndedCertificates(t *testing.T) {
 	s := newSite(t, "")
 	bobs, carols := s.sequencesShown()
@@ -272,6 +277,7 @@ func TestReloads(t *testing.T) {
 	}
 }
 
+// TestExplanations denies two requests, and compares the reasons in the log.
 func TestExplanations(t *testing.T) {
 	s := newSite(t, `, "explain": true`)
 	bobs, _ := s.sequencesShown()
@@ -328,6 +334,7 @@ func TestTime(t *testing.T) {
 	}
 }
 
+// TestPanicIsAFailure takes the cache away, so that the decider panics: the answer is 503, and the log has it.
 func TestPanicIsAFailure(t *testing.T) {
 	s := newSite(t, "")
 	s.cache = nil

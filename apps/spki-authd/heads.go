@@ -10,14 +10,15 @@ import (
 
 // A heads reads the requests of a connection.
 type heads struct {
+	// Reads the connection.
 	all *bufio.Reader
-	// Of a request whose lines are more than fit in all: these up to the empty one, those of them that are not read yet, and what reads them and the
-	// body behind them.
+	// A copy of the lines of a request that do not fit in the buffer of `all`, up to the empty one, and the part of them that Read has not returned yet.
 	lines, left []byte
-	whole       *bufio.Reader
+	// Reads that request by Read: `left`, and then its body from `all`. It is nil until there is such a request.
+	whole *bufio.Reader
 }
 
-// The octets that are read at once, and the room for lines that a connection keeps for its next request.
+// The octets that are read at once, and the most octets of room for lines that a connection keeps for its next request.
 const (
 	roomForRequest = 8192
 	mostKept       = 32_768
@@ -76,7 +77,7 @@ func (h *heads) peekLines() (isWhole, isClear bool, err error) {
 	}
 }
 
-// Read reads the lines of a request, and then what is behind them.
+// Read reads the copied lines of a request, and then what is behind them on the connection. It makes the heads an io.Reader for `whole`.
 func (h *heads) Read(into []byte) (int, error) {
 	if len(h.left) == 0 {
 		return h.all.Read(into)
@@ -86,7 +87,7 @@ func (h *heads) Read(into []byte) (int, error) {
 	return count, nil
 }
 
-// readLines reads the lines up to the first that is empty, and says whether none of them gives a body's length without a number.
+// readLines reads the lines up to the first that is empty into h.lines, and says whether none of them gives a body's length without a number.
 func (h *heads) readLines() (isClear bool, err error) {
 	h.lines = h.lines[:0]
 	if cap(h.lines) > mostKept {

@@ -29,7 +29,9 @@ func checkHealth(config *config, out io.Writer) error {
 	return err
 }
 
-// checkAnswers sends the daemon of a configuration a request that it must refuse, and fails if it does not.
+// checkAnswers sends the daemon of a configuration a request that it must not grant, and fails if the answer is neither `refused` nor
+// `unauthenticated`. The request lacks the headers with the method and the URI, or, where these are not needed, as for Envoy, the client's
+// certificate.
 func (c *config) checkAnswers() error {
 	request, err := http.NewRequest(http.MethodGet, c.scheme()+"://spki-authd/", nil)
 	if err != nil {
@@ -85,7 +87,7 @@ func (c *config) client() (*http.Client, error) {
 	return &http.Client{Timeout: c.Limits.time(), Transport: transport}, err
 }
 
-// health returns the state of the daemon, for people. The error says what an operator must look after.
+// health returns the state of the daemon, for people. The error says what an operator must look after, and is nil if all is well.
 func (d *daemon) health() (string, error) {
 	d.clock.note(d.now())
 	var text strings.Builder

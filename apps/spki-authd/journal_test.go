@@ -55,7 +55,7 @@ func (j *journal) fail(fault error) {
 	j.fault = fault
 }
 
-// writer returns what writes to the journal.
+// writer returns an io.Writer that writes to the journal, for what takes no function.
 func (j *journal) writer() io.Writer {
 	return toJournal{j}
 }
@@ -63,6 +63,7 @@ func (j *journal) writer() io.Writer {
 // A toJournal writes to a journal.
 type toJournal struct{ *journal }
 
+// Write adds octets to the journal, and never fails.
 func (w toJournal) Write(octets []byte) (int, error) {
 	w.other(octets)
 	return len(octets), nil

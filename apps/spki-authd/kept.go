@@ -45,10 +45,13 @@ type chainKeeper interface {
 	add(key string, chain keptChain, now time.Time) (answer, error)
 }
 
-// A kept has sequences in a folder, and all of them in memory.
+// A kept is the chainKeeper of a folder. It has all sequences of the folder in memory too.
 type kept struct {
+	// The configuration, with the folder and the limits.
 	chains
-	mutex  sync.Mutex
+	// Guards what follows.
+	mutex sync.Mutex
+	// The sequences by the digest of their key, in the order of their ends, and the octets of all of them.
 	byKey  map[string][]keptChain
 	octets int
 }
@@ -66,13 +69,15 @@ const (
 // begunName is the name of a file that is not whole.
 var begunName = regexp.MustCompile(`^[0-9a-f]{64}\.new$`)
 
-// A keptChain is a sequence in transport form, its file and when it is forgotten.
+// A keptChain is a sequence in transport form, the name of its file, which is the SHA-256 digest of the text, and when it is forgotten. One that was
+// read from a store has no name.
 type keptChain struct {
 	text, name string
 	until      time.Time
 }
 
-// check sets what was left out, and says what is wrong. isSigned says whether requests can be signed, without which nothing can be left.
+// check sets what was left out, and says what is wrong. isSigned says whether requests can be signed, without which nothing can be left. `c` may be
+// nil: then nothing is wrong.
 func (c *chains) check(isSigned bool) error {
 	if c == nil {
 		return nil
@@ -217,14 +222,14 @@ func endOf(text string) (end time.Time, hasEnd bool) {
 	return end, hasEnd
 }
 
-// of returns the sequences of a key that have not ended.
+// of returns the sequences of a key that have not ended, and removes the files of the others. It never fails.
 func (k *kept) of(key string, now time.Time) ([]keptChain, error) {
 	k.mutex.Lock()
 	defer k.mutex.Unlock()
 	return k.current(key, now), nil
 }
 
-// current returns the sequences of a key, and forgets those that have ended. The mutex is held.
+// current returns the sequences of a key that have not ended, and forgets those that have, with their files. The mutex is held.
 func (k *kept) current(key string, now time.Time) []keptChain {
 	var left []keptChain
 	for _, each := range k.byKey[key] {
@@ -273,7 +278,8 @@ func (k *kept) add(key string, chain keptChain, now time.Time) (answer, error) {
 	return answerKept, nil
 }
 
-// write writes the file of a sequence, whole or not at all. After an error a file with the end ofBegun may be left.
+// write writes the file of a sequence, whole or not at all: under a name with ofBegun at its end, which is changed at last. After an error that file
+// may be left.
 func (k *kept) write(key string, chain keptChain) error {
 	folder := filepath.Join(k.Folder, key)
 	if err := os.MkdirAll(folder, 0o700); err != nil {
@@ -289,6 +295,7 @@ func (k *kept) write(key string, chain keptChain) error {
 // judgeAll sets the answer of a record by the certificates that the request shows. Where it shows none and the list alone grants nothing, each
 // sequence that is kept for its key is tried, until one grants the request.
 func (d *decider) judgeAll(made *record, key guard.ProvenKey, path string, asked *asked, now time.Time) {
+	// (each sequence is tried with the record as it is before the first decision)
 	begun := *made
 	d.judge(made, key, path, asked.sequence, now)
 	if asked.sequence != "" || made.Answer != answerUnknown || d.chains == nil {

@@ -42,7 +42,7 @@ func (s *site) statusFor(who person, target, sequence string) int {
 	return s.ask(pairs...).StatusCode
 }
 
-// put returns a request by which a person leaves certificates, with its signature.
+// put returns a request by which a person leaves certificates, with its signature. `sequence` is its body.
 func (p person) put(t testing.TB, target, sequence string) *http.Request {
 	t.Helper()
 	request := httptest.NewRequest(http.MethodPut, target, strings.NewReader(sequence))
@@ -65,7 +65,7 @@ func (s *site) leaves(t testing.TB, who person, sequence string) (int, answer) {
 	return met.StatusCode, answer(met.Header.Get("X-Spki-Answer"))
 }
 
-// keeps says whether any sequence is kept for a person's key.
+// keeps says whether any sequence that a client has left is kept for a person's key.
 func (s *site) keeps(t testing.TB, who person) bool {
 	t.Helper()
 	found, err := s.chains.of(hexDigest([]byte(who.key)), s.now())
@@ -75,7 +75,8 @@ func (s *site) keeps(t testing.TB, who person) bool {
 	return len(found) > 0
 }
 
-// TestKeptChains leaves certificates and asks, with and without showing some, one after the other, and once more after a start of the daemon.
+// TestKeptChains leaves certificates and asks, with and without showing some, one after the other, and once more after a start of the daemon. A row
+// whose target is `put` leaves its sequence, and any other row asks for its target.
 func TestKeptChains(t *testing.T) {
 	s := newKeeping(t)
 	bobs, carols := s.sequencesShown()
@@ -142,7 +143,8 @@ func (p person) defines(name, subject string) string {
 	return p.sign("(4:cert(6:issuer(4:name" + p.key + str(name) + "))(7:subject" + subject + "))")
 }
 
-// TestWhatIsKept leaves chains of each kind. Each certificate must be signed, and the subject of the last one be the key that signs the request.
+// TestWhatIsKept leaves chains of each kind. Each certificate must be signed, and the subject of the last one be the key that signs the request. A
+// row without a reason is kept, and any other one is refused with this reason.
 func TestWhatIsKept(t *testing.T) {
 	s := newKeeping(t)
 	tag := prefix("read", "/web/")
@@ -393,7 +395,8 @@ func TestKeptNowhere(t *testing.T) {
 	}
 }
 
-// TestKeptFiles reads a folder with files that the daemon has not written, such as half a file or one of another name: they are left out.
+// TestKeptFiles reads a folder with files that the daemon has not written, such as half a file or one of another name: they are left out. It also
+// checks settings of `chains`, and a folder that others may write.
 func TestKeptFiles(t *testing.T) {
 	s := newKeeping(t)
 	bobs, _ := s.sequencesShown()

@@ -18,6 +18,7 @@ const (
 
 // A ledger is the file with a line for each grant. Only one daemon writes it. A line in it is whole or absent.
 type ledger struct {
+	// Its path, and syncNever, syncSeconds or syncEach.
 	path, syncs string
 	file        file
 	// The octets of the file before the lines that are written now, and whether its last line was cut and could not be removed.
@@ -28,7 +29,7 @@ type ledger struct {
 	fault   error
 }
 
-// A file is what a ledger needs of an os.File.
+// A file is what a ledger needs of an os.File. Tests have others, which fail.
 type file interface {
 	Write(octets []byte) (int, error)
 	Truncate(size int64) error
@@ -81,7 +82,8 @@ func checkLedgerPath(path string) error {
 	return err
 }
 
-// checkWritable returns an error unless this user may write a file, or make it.
+// checkWritable returns an error unless this user may write a file, or its folder where the file does not exist. -test asks this, which makes no
+// file.
 func checkWritable(path string) error {
 	const toWrite = 2
 	if _, err := os.Stat(path); errors.Is(err, fs.ErrNotExist) {
@@ -121,7 +123,7 @@ func syncFolder(path string) error {
 	return folder.Sync()
 }
 
-// write writes lines. After an error they are cut off again.
+// write writes lines. After an error they are cut off again. If that fails too, isCut has the next lines begin behind a line feed.
 func (l *ledger) write(lines []byte) error {
 	if err := l.prepare(); err != nil {
 		return err
@@ -143,7 +145,8 @@ func (l *ledger) write(lines []byte) error {
 	return nil
 }
 
-// prepare makes a ledger again that was removed, and fails if what was written before is still not on the disk.
+// prepare is called before lines are written. It notes the file's size, makes the file again if it was removed, and fails if lines that should be on
+// the disk by now are still not there.
 func (l *ledger) prepare() error {
 	about, err := l.file.Stat()
 	if err != nil {
@@ -159,7 +162,8 @@ func (l *ledger) prepare() error {
 	return l.fault
 }
 
-// beat writes to the disk what was written since the last time, if the ledger has syncSeconds. The writer calls it each second.
+// beat writes to the disk what was written since the last time, if the ledger has syncSeconds. The writer calls it each second. An error is noted for
+// the next write.
 func (l *ledger) beat() {
 	if l.syncs == syncSeconds && (l.isDirty || l.fault != nil) {
 		l.fault = l.file.Sync()

@@ -11,14 +11,15 @@ import (
 	"time"
 )
 
-// A failing file fails as a full disk does where a write has more octets than `room`, which is -1 for no limit. It may not be cut or not be written
-// to its disk.
+// A failing file fails as a full disk does where a write has more octets than `room`, which is -1 for no limit.
 type failing struct {
 	*os.File
-	room                  int
+	room int
+	// Whether Truncate fails, and whether Sync does.
 	isUncut, isNotWritten bool
 }
 
+// Write writes what there is room for, and fails with errFull if that is not all.
 func (f *failing) Write(octets []byte) (int, error) {
 	if f.room < 0 || len(octets) <= f.room {
 		return f.File.Write(octets)
@@ -30,6 +31,7 @@ func (f *failing) Write(octets []byte) (int, error) {
 	return count, err
 }
 
+// Truncate cuts the file, or fails with errFull if isUncut.
 func (f *failing) Truncate(size int64) error {
 	if f.isUncut {
 		return errFull
@@ -37,6 +39,7 @@ func (f *failing) Truncate(size int64) error {
 	return f.File.Truncate(size)
 }
 
+// Sync writes the file to its disk, or fails with errFull if isNotWritten.
 func (f *failing) Sync() error {
 	if f.isNotWritten {
 		return errFull
@@ -95,6 +98,7 @@ type filled struct {
 	writes int
 }
 
+// Write writes octets, or at each third call half of them, and fails then.
 func (f *filled) Write(octets []byte) (int, error) {
 	if f.writes++; f.writes%3 > 0 {
 		return f.File.Write(octets)
@@ -156,7 +160,8 @@ func TestCutLedger(t *testing.T) {
 	made.mustHave(t, "one\ntw\nfour\nfive\n")
 }
 
-// TestSyncs writes where the disk takes nothing. With `each` that is no line; with `seconds` no further one, until the disk takes them.
+// TestSyncs writes where the disk takes nothing. With syncEach that is no line; with syncSeconds no further one, until the disk takes them. A row
+// says whether the first and the second write succeed.
 func TestSyncs(t *testing.T) {
 	for syncs, row := range map[string]struct{ first, second bool }{syncNever: {true, true}, syncSeconds: {true, false}, syncEach: {false, false}} {
 		made, to := openFailing(t, syncs, "")

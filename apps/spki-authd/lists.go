@@ -9,7 +9,7 @@ import (
 )
 
 // A place says which access list decides: that of the first place whose host is the request's and whose prefix the path begins with. A place
-// without a host is for each host.
+// without a host is for each host. List is the path of the file, or what a store is called in messages: nameLists sets it.
 type place struct {
 	Host   string `json:"host"`
 	Prefix string `json:"prefix"`
@@ -17,16 +17,19 @@ type place struct {
 	Source source `json:"list"`
 }
 
-// A list is an access list that was read, and its place.
+// A list is an access list that was read, and its place. There are three kinds: a list in a file; a list in a store, which has no guard; and the part
+// of that which one question needs, which store.list returns.
 type list struct {
 	place
+	// The library's checker with the entries, or nil for a list in a store.
 	guard *guard.Guard
-	// The digest of the file's octets, for the log.
+	// The digest of the file's octets, for the log. A part has the number of the store's last change, and a list in a store the digest of its name.
 	digest string
-	// Where the entries are in a store: what reads it, or, of those that a question needs, their numbers.
-	store   *store
+	// What reads the store of a list in a store, and otherwise nil.
+	store *store
+	// Of a part, the numbers of its entries in the store, in their order.
 	numbers []int
-	// Whether it is closed after one question.
+	// Whether it is a part that is not kept: whoever asked for it closes it after one question.
 	isPassing bool
 }
 
@@ -80,7 +83,7 @@ func (p *place) fits(host, path string) bool {
 	return (p.Host == "" || p.Host == host) && strings.HasPrefix(path, p.Prefix)
 }
 
-// readList reads the file of an access list. The caller closes its guard.
+// readList reads the file of an access list, and opens it with a policy and limits. The list has no place yet. The caller closes its guard.
 func readList(path string, policy guard.Policy, limits limits) (*list, error) {
 	octets, err := readFile(path, mostList)
 	if errors.Is(err, errLong) {

@@ -5,6 +5,7 @@ import (
 	"testing"
 )
 
+// TestHosts reads hosts as web servers pass them on, and texts that are no host or not clear, which are refused.
 func TestHosts(t *testing.T) {
 	for text, wanted := range map[string]string{
 		"a.example": "a.example", "A.Example": "a.example", "a.example:443": "a.example", "a.example:": "a.example", "192.0.2.1:8443": "192.0.2.1",
@@ -43,7 +44,8 @@ func twoSites(t *testing.T) *site {
 	return s
 }
 
-// TestListsOfHosts asks each host with each right. No right on one of them counts on the other.
+// TestListsOfHosts asks each host with each right. No right on one of them counts on the other. `isInTheLists` says that a list decides, which the
+// log names then.
 func TestListsOfHosts(t *testing.T) {
 	s := twoSites(t)
 	toMallory := s.alice.sign(s.alice.certificate(s.mallory, prefix("read", "/web/"), ""))
@@ -105,6 +107,7 @@ func TestHostsThatNothingDependsOn(t *testing.T) {
 	}
 }
 
+// TestWrongLists reads configurations whose places of lists are wrong, each of which is refused, and a right one.
 func TestWrongLists(t *testing.T) {
 	lists := func(text string) string { return strings.Replace(least, `"list": "/acl"`, `"lists": [`+text+`]`, 1) }
 	for name, text := range map[string]string{

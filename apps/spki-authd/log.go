@@ -10,13 +10,14 @@ import (
 // The octets that most lines have.
 const roomForLine = 1024
 
-// rooms have room for lines and answers, which is used again.
+// rooms are buffers for lines and answers, which are used again.
 var rooms = sync.Pool{New: func() any {
 	made := make([]byte, 0, roomForLine)
 	return &made
 }}
 
-// line returns the record as a line of JSON, in `room`, which is overwritten: what encoding/json writes, which takes four times as long.
+// line returns the record as a line of JSON, in `room`, which is overwritten. It has the octets that encoding/json would write, which takes four
+// times as long.
 func (r *record) line(room []byte) []byte {
 	line := fields(room[:0])
 	line.text("time", r.Time, true)
@@ -41,7 +42,7 @@ func (r *record) line(room []byte) []byte {
 	return append(line, "}\n"...)
 }
 
-// A fields is an object of JSON up to some field.
+// A fields is the text of an object of JSON up to some field, without the brace that ends it.
 type fields []byte
 
 // name writes the name of the next field.
@@ -90,7 +91,7 @@ func (f *fields) string(value string) {
 		*f = append(append(append(*f, '"'), value...), '"')
 		return
 	}
-	// (a text has no value that JSON lacks)
+	// (for a text Marshal never fails)
 	escaped, _ := json.Marshal(value)
 	*f = append(*f, escaped...)
 }

@@ -39,12 +39,16 @@ type words struct {
 	controls controls
 }
 
-// controls are the values of a flag that may be there more than once.
+// controls are the values of -of, which may be there more than once. They are a flag.Value.
 type controls []string
 
-func (c *controls) String() string         { return strings.Join(*c, " ") }
+// String returns the values, as flag.Value needs it.
+func (c *controls) String() string { return strings.Join(*c, " ") }
+
+// Set adds the value of one more -of.
 func (c *controls) Set(value string) error { *c = append(*c, value); return nil }
 
+// main runs the program, and ends it with the exit status of that.
 func main() {
 	os.Exit(run(os.Args[1:], os.Stdout, os.Stderr))
 }

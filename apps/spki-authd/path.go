@@ -36,7 +36,7 @@ func pathOf(target string, most int) (string, error) {
 	return path, nil
 }
 
-// decoded decodes each `%XX`, once, and refuses the characters that no path has.
+// decoded decodes each `%XX` of a sent path, once. It fails with errUnclear for a character that no path has, and for an escaped `/`.
 func decoded(sent string) (string, error) {
 	if hasPathOctets(sent) {
 		return sent, nil
@@ -77,6 +77,7 @@ func hasPathOctets(text string) bool {
 	return true
 }
 
+// isHexadecimal says whether an octet is a hexadecimal digit, in small or large letters.
 func isHexadecimal(octet byte) bool {
 	return '0' <= octet && octet <= '9' || 'a' <= octet|0x20 && octet|0x20 <= 'f'
 }

@@ -6,6 +6,7 @@ import (
 	"testing"
 )
 
+// TestPaths reads targets that are clear, and compares the decoded paths.
 func TestPaths(t *testing.T) {
 	for target, wanted := range map[string]string{
 		"/": "/", "/a/b": "/a/b", "/a/b/": "/a/b/", "/a?b": "/a", "/a?": "/a", "/a?/../b": "/a", "/a?%00%zz": "/a", "/%61": "/a", "/%7Ea": "/~a",
@@ -34,6 +35,7 @@ func TestUnclearPaths(t *testing.T) {
 	}
 }
 
+// TestLongPaths reads a path of as many octets as may be, with a query that does not count, and one octet more.
 func TestLongPaths(t *testing.T) {
 	long := "/" + strings.Repeat("a", 99)
 	if _, err := pathOf(long+"?"+long, 100); err != nil {
@@ -44,7 +46,7 @@ func TestLongPaths(t *testing.T) {
 	}
 }
 
-// FuzzPath holds a path against what Go's standard library reads.
+// FuzzPath compares the path of each target that is accepted with what Go's standard library reads. Escaped again, it must be read as the same path.
 func FuzzPath(f *testing.F) {
 	for _, seed := range []string{"/", "/a/b?c", "/a%20b", "/%2e%2e/a", "//a", "/a%2fb", "/a;b", "/%u002e"} {
 		f.Add(seed)

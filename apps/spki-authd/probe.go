@@ -13,10 +13,11 @@ import (
 // A probe asks a finished site for what it must deny. Each request is for a path of its own that is drawn by chance, so a hole shows and no
 // file is read, changed or removed.
 type probe struct {
-	base      *url.URL
+	base *url.URL
+	// Whether the operator has stopped the daemon, so that each answer that depends on it is a fault.
 	isStopped bool
 	out       io.Writer
-	// All that was sent, the answers that show that nothing decided, and what was granted.
+	// The number of requests that were sent, of answers of 5xx, which show that nothing decided, and of requests that were granted.
 	sent, failed, granted int
 }
 
@@ -87,8 +88,8 @@ func baseOf(address string) (*url.URL, error) {
 	return base, nil
 }
 
-// sendAll sends all requests of an asker, and prints how often each status was the answer. An asker whose protocol or key the server does not take is
-// left out.
+// sendAll sends all of `tries` by an asker, and prints how often each status was the answer. An asker whose protocol or key the server does not take
+// is left out. It fails with errShown if the first answer is 5xx though the daemon should run, and if one request is answered by 429 again and again.
 func (p *probe) sendAll(by asker) error {
 	first, err := by.send(p.base, tries[0])
 	if err != nil && by.mayFail {
@@ -170,7 +171,7 @@ func countsAsText(counts map[string]int) string {
 	return strings.Join(names, ", ")
 }
 
-// header returns the header of a request. `second` is the name of the second path, for methods that need one.
+// header returns the header of a try. `second` is the name of the second path, for methods that need one: COPY and MOVE, which must not overwrite it.
 func (t try) header(base *url.URL, second string) http.Header {
 	header := http.Header{"User-Agent": {"spki-authd -probe"}}
 	for name, value := range t.more {

@@ -17,10 +17,11 @@ import (
 	"time"
 )
 
-// A try is a request that must be denied. `{}` in its path is a name that is drawn by chance.
+// A try is a request that must be denied. `{}` in its path is a name that is drawn by chance, and an empty path is one `{}`.
 type try struct {
 	method, path, body string
-	more               map[string]string
+	// Further headers, by their names.
+	more map[string]string
 	// Whether it would make something if it were granted, whether it names a second path, and whether only HTTP/1.1 has it with a path.
 	makes, hasSecond, isOld bool
 }
@@ -75,7 +76,7 @@ type asker struct {
 	client  *http.Client
 }
 
-// An answered is a request and the status of its answer.
+// An answered is a request, its target with the names that were drawn, the status of its answer and the protocol of that: 1 or 2, as an asker has it.
 type answered struct {
 	try              try
 	target           string

@@ -12,7 +12,8 @@ import (
 	"time"
 )
 
-// probeHandler probes a site that a handler answers, and returns the exit status, what was printed, and the paths that were asked for.
+// probeHandler runs -probe on a site that a handler answers, and returns the exit status, what was printed, and the paths that were asked for.
+// `words` are more words of the command line.
 func probeHandler(t *testing.T, handler func(http.ResponseWriter, *http.Request), words ...string) (status int, said string, paths []string) {
 	t.Helper()
 	var mutex sync.Mutex
@@ -45,6 +46,7 @@ func denies(isHole func(*http.Request) bool, status int) func(http.ResponseWrite
 	}
 }
 
+// never is no hole for denies, and always is one for each request.
 func never(*http.Request) bool  { return false }
 func always(*http.Request) bool { return true }
 
@@ -53,14 +55,17 @@ func isMethod(method string) func(*http.Request) bool {
 	return func(request *http.Request) bool { return request.Method == method }
 }
 
+// hasKey is a hole for requests with a certificate for TLS, and isAnswered for those that have the daemon's own header of a grant.
 func hasKey(request *http.Request) bool     { return len(request.TLS.PeerCertificates) > 0 }
 func isAnswered(request *http.Request) bool { return request.Header.Get("X-Spki-Answer") == "yes" }
 
+// hasSuffix returns a hole for denies: it is true for the requests whose path has this suffix.
 func hasSuffix(suffix string) func(*http.Request) bool {
 	return func(request *http.Request) bool { return strings.HasSuffix(request.URL.Path, suffix) }
 }
 
-// TestProbe probes sites with a hole, each of which is found, and sites that deny all.
+// TestProbe probes sites with a hole, each of which is found, and sites that deny all. A row has the hole and the status that it answers, the exit
+// status, more words of the command line, and a part of what must be printed.
 func TestProbe(t *testing.T) {
 	for name, each := range map[string]struct {
 		isHole         func(*http.Request) bool

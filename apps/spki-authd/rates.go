@@ -30,7 +30,7 @@ func newRates(perSecond int) *rates {
 	return &rates{perSecond: float64(perSecond), known: newRecent[string, *bucket](mostKnown)}
 }
 
-// allows says whether a key or an address may make one more request, and counts that. A clock that goes back gives nothing.
+// allows says whether a key or an address may make one more request at a moment, and counts that request if so. A clock that goes back gives nothing.
 func (r *rates) allows(who string, now time.Time) bool {
 	if r.perSecond == 0 {
 		return true

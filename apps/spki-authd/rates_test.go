@@ -7,7 +7,8 @@ import (
 	"time"
 )
 
-// TestRates asks as two clients at several times, and counts how many requests are allowed.
+// TestRates asks as two clients at several times, and counts how many requests are allowed. A row has the client, the time since the row before, and
+// how many requests are made and allowed.
 func TestRates(t *testing.T) {
 	made, now := newRates(5), time.Unix(1_000_000, 0)
 	count := func(who string, times int) (allowed int) {

@@ -10,12 +10,12 @@ type recent[K comparable, V any] struct {
 	old, young map[K]V
 }
 
-// newRecent returns a map of at most so many values. With 0 it keeps none.
+// newRecent returns a map of at most so many values. With 0 or 1 it keeps none.
 func newRecent[K comparable, V any](most int) *recent[K, V] {
 	return &recent[K, V]{half: most / 2, young: map[K]V{}}
 }
 
-// get returns the value of a key, and whether it is kept.
+// get returns the value of a key, and whether it is kept. If it is in the old half, it is put into the young one too.
 func (r *recent[K, V]) get(key K) (V, bool) {
 	r.mutex.Lock()
 	defer r.mutex.Unlock()
@@ -29,14 +29,14 @@ func (r *recent[K, V]) get(key K) (V, bool) {
 	return value, isOld
 }
 
-// add keeps a value.
+// add keeps a value for a key. What was kept longest without being asked for may be dropped.
 func (r *recent[K, V]) add(key K, value V) {
 	r.mutex.Lock()
 	defer r.mutex.Unlock()
 	r.put(key, value)
 }
 
-// put keeps a value. The mutex is held.
+// put puts a value into the young half, and begins a new one before if that is full. The mutex is held.
 func (r *recent[K, V]) put(key K, value V) {
 	if r.half == 0 {
 		return

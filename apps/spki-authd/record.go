@@ -24,7 +24,9 @@ const (
 	answerFull  answer = "full"
 )
 
-// A record is one decision: a line of the log, and what the web server is told. It has no key and no certificate, but their digests.
+// A record is one decision: a line of the log, and what the web server is told. It has no key and no certificate, but their digests. Cached counts
+// the signatures that were known to be valid, and Unverified those that were not verified. Reason is the fault that the daemon has found, and Reasons
+// are the library's, of a denial that is explained. Kept is `used` where certificates that were left grant the request.
 type record struct {
 	Time         string   `json:"time"`
 	ID           string   `json:"id,omitempty"`
@@ -51,7 +53,8 @@ type record struct {
 	numbers []int
 }
 
-// number returns the number of an entry by its place in the guard, from 1, and 0 for 0. Where entries are in a store, it is that in the store.
+// number returns the number of an entry as the log has it, by its place in the guard, which counts from 1. Where entries are in a store, it is the
+// number in the store, and otherwise the place itself. 0, which is no entry, stays 0.
 func (r *record) number(place int) int {
 	if place > 0 && place <= len(r.numbers) {
 		return r.numbers[place-1]

@@ -7,7 +7,8 @@ import (
 )
 
 // A rule says which request a method and a path mean. The first rule is taken whose host is the request's, or none, and whose prefix the path
-// begins with.
+// begins with. Methods has the word for each method of HTTP, such as `read` for GET. Request has the strings that a right is needed for: the three
+// below stand in it for the word of the method, the path and the host.
 type rule struct {
 	Host    string            `json:"host"`
 	Prefix  string            `json:"prefix"`
@@ -15,14 +16,14 @@ type rule struct {
 	Request []string          `json:"request"`
 }
 
-// The places of a request that are filled.
+// The strings of a rule's Request that `filled` replaces.
 const (
 	placeOfMethod = "{method}"
 	placeOfPath   = "{path}"
 	placeOfHost   = "{host}"
 )
 
-// checkRules says what is wrong in rules.
+// checkRules says what is wrong in the rules of a configuration, of which there must be one at least.
 func checkRules(rules []rule) error {
 	if len(rules) == 0 {
 		return errors.New(`"requests" is missing: which request a method and a path mean`)
@@ -94,7 +95,8 @@ func requestOf(rules []rule, host, method, path string) (request []string, numbe
 	return nil, 0
 }
 
-// filled returns the strings of a request, with the host, the word of the method and the path in their places.
+// filled returns the strings of a request, with the host, the method and the path in their places. `method` is the word that the rule has for the
+// method of HTTP.
 func (r rule) filled(host, method, path string) []string {
 	words := append([]string(nil), r.Request...)
 	for place, word := range words {

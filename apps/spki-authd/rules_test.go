@@ -10,6 +10,7 @@ var rulesOfTests = []rule{
 	{Prefix: "/", Methods: map[string]string{"GET": "read", "PUT": "write"}, Request: []string{"files", "{method}", "{path}"}},
 }
 
+// TestRequests compares the requests that methods and paths mean, and the numbers of the rules. nil is for a method that the rule lacks.
 func TestRequests(t *testing.T) {
 	for _, row := range []struct {
 		method, path string
@@ -55,6 +56,7 @@ func TestRequestsOfHosts(t *testing.T) {
 	}
 }
 
+// TestWrongRules checks rules of which one thing is wrong, each of which is refused, and those of the tests.
 func TestWrongRules(t *testing.T) {
 	methods, request := map[string]string{"GET": "read"}, []string{"files", "{path}"}
 	for name, rules := range map[string][]rule{

@@ -16,7 +16,8 @@ const (
 	timeToRetry = 50 * time.Millisecond
 )
 
-// The parts of the time of a request for which a grant waits for its line, and another answer for its own.
+// For how long an answer waits for its line in the log: a grant for the time of a request divided by partOfGrant, and another answer for that time
+// divided by partOfOther.
 const (
 	partOfGrant = 2
 	partOfOther = 20
@@ -66,14 +67,15 @@ func (d *daemon) listenAndServe() error {
 	return d.serve(listener)
 }
 
-// close writes the lines that wait, and closes the log of grants.
+// close writes the lines that wait, and closes the log of grants, between two writes of its writer.
 func (d *daemon) close() {
 	d.other.flush()
 	d.messages.flush()
 	d.granted.do(d.ledger.close)
 }
 
-// serve answers until a signal ends it, and does orders and signals meanwhile. Questions under way are answered.
+// serve is the main loop: it answers in other goroutines until a signal ends it, and does orders and signals meanwhile. Questions under way are
+// answered.
 func (d *daemon) serve(listener net.Listener) error {
 	door := newDoor(d.decider)
 	go door.serve(listener)
@@ -146,7 +148,8 @@ func (d *daemon) statusLine() string {
 	return made
 }
 
-// tell writes a message on what the daemon did, or did not because of a fault, with the lists that it has now.
+// tell writes a message on what the daemon did, or did not because of a fault, with the digests of the lists and ended certificates that it has now.
+// The event is `what`, and with a fault `what` followed by `not`.
 func (d *daemon) tell(what string, fault error) {
 	present := d.keeper.present.Load()
 	made := event{

@@ -73,7 +73,7 @@ func waitFor(t *testing.T, path string) {
 	t.Fatal("nobody listens at ", path)
 }
 
-// get returns the status of a request by Alice to read a target, or 0 after an error.
+// get asks the daemon over its socket whether Alice may read a target, and returns the status, or 0 after an error.
 func (s *served) get(t *testing.T, target string) int {
 	request, err := http.NewRequest(http.MethodGet, "http://daemon/", nil)
 	if err != nil {
@@ -310,7 +310,7 @@ func TestEndBesideConnections(t *testing.T) {
 	}
 }
 
-// A dated connection notes the deadline that it has.
+// A dated connection notes the deadline that it was given last, for reads or for both.
 type dated struct {
 	net.Conn
 	until time.Time
@@ -319,7 +319,8 @@ type dated struct {
 func (d *dated) SetDeadline(until time.Time) error     { d.until = until; return nil }
 func (d *dated) SetReadDeadline(until time.Time) error { d.until = until; return nil }
 
-// TestDeadlines ends the time of connections on each of which a request comes at that moment: it has its whole time.
+// TestDeadlines has an idle connection ended, to make room for a new one or since it was idle for long, while a request comes on it: that request has
+// its whole time.
 func TestDeadlines(t *testing.T) {
 	for name, ends := range map[string]func(door *door){
 		"for a new one": (*door).closeIdle, "after long": func(door *door) { door.endLate(time.Now().Add(timeIdle + time.Second)) },

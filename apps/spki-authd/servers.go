@@ -17,7 +17,7 @@ type headers struct {
 	Address     string `json:"address"`
 }
 
-// How a web server asks.
+// A server is how a web server asks if the configuration says nothing else: by these headers, with the client's certificate in this form.
 type server struct {
 	headers headers
 	form    string
@@ -36,7 +36,8 @@ func init() {
 	servers["apache"] = servers["haproxy"]
 }
 
-// The headers of every server, if no others are set.
+// The headers of every server, if no others are set; the host's of Caddy and Traefik; and the one in which a client can send its certificates, which
+// cannot be set.
 const (
 	usualSequence = "X-Spki-Sequence"
 	usualSecret   = "X-Spki-Secret"
@@ -46,7 +47,8 @@ const (
 	authorization = "Authorization"
 )
 
-// setUsual sets the names that were left out. Names are the same in upper and lower case.
+// setUsual sets the names that were left out to those of `usual`, which has the headers of one web server, or to those of every server. It writes
+// each name as net/http does, since names are the same in upper and lower case.
 func (h *headers) setUsual(usual headers) {
 	usual.Sequence, usual.Secret, usual.ID, usual.Address = usualSequence, usualSecret, usualID, usualAddress
 	for place, name := range h.all() {
@@ -55,7 +57,7 @@ func (h *headers) setUsual(usual headers) {
 	}
 }
 
-// all returns pointers to the names, always in this order.
+// all returns pointers to the names, always in this order: so those of two values can be paired by their places.
 func (h *headers) all() []*string {
 	return []*string{&h.Method, &h.URI, &h.Certificate, &h.Sequence, &h.Secret, &h.ID, &h.Host, &h.Address}
 }

@@ -12,11 +12,11 @@ import (
 // the policy of a daemon does not change, and a signature stays valid. So nothing in it can become wrong. It says nothing of the key, the request,
 // the time, the list and the ended certificates: each question is decided anew.
 type shown struct {
-	// The sequence as it was shown, and from the second time on in canonical form: with its signatures, which are valid, and its octets alone.
+	// The sequence with its valid signatures, and its octets: as it was shown, and from the second time on in canonical form, which `again` makes once.
 	verified guard.Verified
 	text     []byte
 	again    sync.Once
-	// The digests of the certificates that are signed, and the same as the log has them.
+	// The SHA-256 digests of the certificates that are signed, in their order, and the same in hexadecimal digits, as the log has them.
 	digests []digest
 	names   []string
 }
@@ -30,7 +30,7 @@ const (
 // nothingShown is the sequence of a client that shows no certificates.
 var nothingShown = &shown{text: guard.Verified{}.Sequence()}
 
-// A sequences keeps sequences by their texts.
+// A sequences keeps the sequences that were shown most recently, by their texts.
 type sequences struct {
 	kept *recent[string, *shown]
 }
@@ -72,7 +72,8 @@ func (s *shown) canonical() (guard.Verified, []byte) {
 	return s.verified, s.text
 }
 
-// shownBy returns a sequence with the digests of its certificates, by its signatures. It has no text yet.
+// shownBy returns a sequence with the digests of its certificates, by its signatures. It has no text yet, and whether the signatures are valid is not
+// looked at: the caller does that.
 func shownBy(signatures []guard.Signature) *shown {
 	made := &shown{digests: make([]digest, len(signatures)), names: make([]string, len(signatures))}
 	for place, signed := range signatures {

@@ -8,7 +8,7 @@ import (
 	"time"
 )
 
-// kept returns the number of sequences that are kept.
+// kept returns the number of sequences that are kept since they were shown and valid.
 func (s *site) kept() int {
 	return len(s.sequences.kept.old) + len(s.sequences.kept.young)
 }
@@ -25,6 +25,7 @@ func (s *site) mustBe(t *testing.T, what string, who person, target, shown strin
 	return s.lastLine(t)
 }
 
+// TestKeptSequencesGrantNothingByThemselves shows Carol's kept sequence for other paths, keys and methods: each question is decided anew.
 func TestKeptSequencesGrantNothingByThemselves(t *testing.T) {
 	s := newSite(t, "")
 	_, carols := s.sequencesShown()
@@ -46,6 +47,7 @@ func TestKeptSequencesGrantNothingByThemselves(t *testing.T) {
 	}
 }
 
+// TestSequenceIsCanonicalFromTheSecondTimeOn compares how the text of a kept sequence begins after it was shown once and twice.
 func TestSequenceIsCanonicalFromTheSecondTimeOn(t *testing.T) {
 	s := newSite(t, "")
 	_, carols := s.sequencesShown()
@@ -59,6 +61,7 @@ func TestSequenceIsCanonicalFromTheSecondTimeOn(t *testing.T) {
 	}
 }
 
+// TestKeptSequencesAndTheList replaces the list while Carol's sequence is kept: the list in force decides.
 func TestKeptSequencesAndTheList(t *testing.T) {
 	s := newSite(t, "")
 	_, carols := s.sequencesShown()
@@ -108,6 +111,7 @@ func TestKeptSequencesAndEndedCertificates(t *testing.T) {
 	}
 }
 
+// TestKeptSequencesAndTime shows a kept sequence in the last second of its certificate, and a second later.
 func TestKeptSequencesAndTime(t *testing.T) {
 	s := newSite(t, "")
 	s.now = func() time.Time { return time.Date(2026, 1, 1, 0, 0, 0, 0, time.UTC) }
@@ -118,6 +122,7 @@ func TestKeptSequencesAndTime(t *testing.T) {
 	s.mustBe(t, "a second later", s.bob, "/web/x", shown, 403)
 }
 
+// TestOnlyValidSequencesAreKept shows forged, unreadable and ended certificates, and right ones where `cache` is 0: no sequence is kept.
 func TestOnlyValidSequencesAreKept(t *testing.T) {
 	s := newSite(t, "")
 	forged := s.mallory.sign(s.alice.certificate(s.mallory, prefix("read", "/web/"), propagates))
@@ -144,6 +149,7 @@ func TestOnlyValidSequencesAreKept(t *testing.T) {
 	}
 }
 
+// TestKeptSequencesAreBounded adds more sequences than are kept, and one that is too long.
 func TestKeptSequencesAreBounded(t *testing.T) {
 	s := newSite(t, "")
 	for number := 0; number < 2*mostShown; number++ {
@@ -160,6 +166,7 @@ func TestKeptSequencesAreBounded(t *testing.T) {
 	}
 }
 
+// TestKeptSequencesAreExplained denies a request by a kept sequence: where denials are explained, the log has the reasons.
 func TestKeptSequencesAreExplained(t *testing.T) {
 	s := newSite(t, `, "explain": true`)
 	bobs, _ := s.sequencesShown()

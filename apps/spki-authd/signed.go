@@ -31,7 +31,7 @@ type signed struct {
 	names map[string]string
 }
 
-// check says what is wrong in the names. Without signatures nothing is.
+// check says what is wrong in the names and the number of nonces. Without signatures, where `s` is nil, nothing is.
 func (s *signatures) check() error {
 	if s == nil {
 		return nil
@@ -72,7 +72,8 @@ func newSigned(c *config, now func() time.Time) *signed {
 	return made
 }
 
-// isSigned says whether a request is to be proved by its signature: signatures are read, and it has one of the fields.
+// isSigned says whether the key of a request is to be proved by its signature: signatures are read, so `s` is not nil, and it has `Signature` or
+// `Signature-Input`.
 func (s *signed) isSigned(asked *asked) bool {
 	return s != nil && len(asked.header["Signature"])+len(asked.header["Signature-Input"]) > 0
 }

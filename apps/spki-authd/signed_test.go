@@ -142,6 +142,7 @@ func TestSignaturesAreOff(t *testing.T) {
 // forgetful are nonces that are never seen twice, so that one request can be measured.
 type forgetful struct{}
 
+// Take accepts each nonce.
 func (forgetful) Take([]byte, string, int64, int64) error { return nil }
 
 // BenchmarkSigned measures a signed request without certificates: the proof and the decision.

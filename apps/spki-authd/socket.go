@@ -14,7 +14,8 @@ import (
 // The connections that wait in the system's queue until they are taken. The system bounds it by net.core.somaxconn.
 const mostWaiting = 4096
 
-// openSocket opens a Unix socket that only the daemon's user can write to.
+// openSocket opens a Unix socket that only the daemon's user can write to. The control socket stays so. Of the web server's socket setOwner then sets
+// the group and the mode.
 func openSocket(path string) (net.Listener, error) {
 	if err := removeStale(path); err != nil {
 		return nil, err

@@ -19,7 +19,7 @@ type source struct {
 	store *storeOf
 }
 
-// A storeOf is how a store is read, which `spki-store` makes.
+// A storeOf has the settings by which the daemon reads a store: a database that `spki-store` makes. README.md says what each field means.
 type storeOf struct {
 	Host         string `json:"host"`
 	Port         int    `json:"port"`
@@ -76,7 +76,7 @@ func (s *source) name() string {
 	return "postgres " + s.store.Schema + " at " + s.store.Host
 }
 
-// check sets what was left out, and says what is wrong.
+// check sets the settings that were left out, and says what is wrong in them.
 func (s *storeOf) check() error {
 	setText(&s.Schema, usualSchema)
 	for field, usual := range map[*int]int{&s.Port: usualPort, &s.StaleSeconds: usualStale, &s.Connections: usualConnections} {

@@ -62,7 +62,7 @@ func start(words words, out, messages io.Writer) error {
 	return made.listenAndServe()
 }
 
-// newDecider returns a decider without an access list, which is read later.
+// newDecider returns a decider without an access list, which is read later. `open` of the daemon sets where it writes its lines.
 func newDecider(config *config) *decider {
 	made := &decider{
 		config: config, keys: newKeys(config.CertificateForm), cache: newCache(*config.Cache), sequences: newSequences(*config.Cache), now: time.Now,

@@ -9,7 +9,7 @@ import (
 
 var errStates = errors.New("the daemons have different lists or ended certificates")
 
-// state returns one line that is the same for two daemons with the same lists and the same ended certificates.
+// state returns one line with the digests of the lists and of the ended certificates. It is the same for two daemons that have the same of both.
 func (d *daemon) state() string {
 	present := d.keeper.present.Load()
 	return fmt.Sprintf("list %s entries %d ended %d %s\n", present.digestNow(), present.entries(), present.ended.count, present.ended.digest)

@@ -25,10 +25,14 @@ type store struct {
 	// The key of the first issuer by the text of a sequence, or nothing if no signature is listed.
 	firsts *recent[string, string]
 
+	// Guards what follows.
 	mutex sync.RWMutex
 	seen  seen
+	// The error of the last poll, or nil.
 	fault error
-	kept  *keptRows
+	// The lists of entries that were read, by key.
+	kept *keptRows
+	// The digests of the certificates that have ended early.
 	ended map[digest]struct{}
 	count storeCounts
 }
@@ -82,7 +86,7 @@ type seen struct {
 	lag time.Duration
 }
 
-// storeCounts count how often rows were kept, were read, and could not be read.
+// storeCounts count how often the entries of a key were kept, were asked of the database, and could not be read from it. misses include failures.
 type storeCounts struct {
 	hits, misses, failures uint64
 }
@@ -113,8 +117,8 @@ func newStore(options *storeOf, reader reader, open func(list []byte) (*guard.Gu
 		kept: newKeptRows(*options.CacheMiB << 20), ended: map[digest]struct{}{}, fault: errNever}, nil
 }
 
-// list returns the list of the entries that a question can need. It fails where the store is stale or cannot be read, and where the question is
-// refused.
+// list returns the list of the entries that a question can need: one that is kept, or a new one. The caller closes it if it isPassing. It fails where
+// the store is stale or cannot be read, and where the question is refused.
 func (s *store) list(question *guard.Question) (*list, error) {
 	key, err := s.keyOf(question)
 	if err != nil {
@@ -185,7 +189,8 @@ func (s *store) read(name digest, key []byte) (*list, error) {
 	return made, nil
 }
 
-// listOf returns the list of entries that were found, and how many octets these have.
+// listOf returns the list of entries that were found, and how many octets these have. It fails with errHostile if a row is not exactly one entry, and
+// with errMany if they are too many or too long.
 func (s *store) listOf(found found) (*list, int, error) {
 	size := 0
 	for _, text := range found.texts {
@@ -229,7 +234,7 @@ func (s *store) keptOf(name digest) *list {
 	return kept
 }
 
-// noteRead counts that rows were read, or could not be because of a fault.
+// noteRead counts that the database was asked for the entries of a key. `err` is why they could not be read, or nil.
 func (s *store) noteRead(err error) {
 	s.mutex.Lock()
 	defer s.mutex.Unlock()

@@ -8,9 +8,10 @@ import (
 
 // A storedChains has the sequences that clients have left in a store, so that each daemon finds them.
 type storedChains struct {
+	// The configuration, with the limits.
 	*chains
 	reader reader
-	// What was read for a key not long ago.
+	// What was read for a key not long ago, by the key's digest in hexadecimal digits.
 	known *recent[string, readChains]
 }
 
@@ -66,7 +67,7 @@ func (s *storedChains) add(key string, chain keptChain, _ time.Time) (answer, er
 	return became, nil
 }
 
-// digestIn returns the digest that a text has in hexadecimal digits. The text must be one of a digest.
+// digestIn returns the octets of a digest whose 64 hexadecimal digits are `text`.
 func digestIn(text string) (made digest) {
 	_, _ = hex.Decode(made[:], []byte(text))
 	return made

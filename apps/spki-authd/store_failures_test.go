@@ -29,7 +29,8 @@ const (
 	betweenChanges  = 5 * time.Millisecond
 )
 
-// A version is the entries of a list, and when they may have been what was in force: since its change was begun, until the next change was over.
+// A version is the entries of a list by their numbers, and when they may have been what was in force: since its change was begun, until the next
+// change was over. `until` is zero while that is not so yet.
 type version struct {
 	entries     map[int]string
 	from, until time.Time
@@ -41,11 +42,13 @@ type timeline struct {
 	writers []*pool
 	// The writer that is asked, and the last number of an entry.
 	at, number int
-	// How many changes were not certain.
+	// How many changes failed, so that it was not certain whether they were done.
 	uncertain int
-	end       chan struct{}
-	mutex     sync.Mutex
-	past      []*version
+	// Closed when the test ends.
+	end chan struct{}
+	// All versions, in the order in which they were noted. The mutex guards them.
+	mutex sync.Mutex
+	past  []*version
 }
 
 // newTimeline opens the store that the environment names, and the servers by which it is changed.
@@ -105,7 +108,7 @@ func (l *timeline) transact(texts []string, values ...driver.Value) (rows [][]dr
 	return rows, err
 }
 
-// A beat, by the clock of a server, which is wrong by what the table `error` says.
+// The statement that adds a beat, by the clock of a server, which is wrong by what the table `error` says.
 const beats = "UPDATE @.heartbeat SET number = number + 1, moment = clock_timestamp() + (SELECT by FROM @.error)"
 
 // change adds an entry or removes one, with a beat, and notes the version. If it is not certain that this was done, it is settled.

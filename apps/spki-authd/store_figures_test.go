@@ -109,7 +109,7 @@ func printFigure(name string, times []time.Duration) {
 	fmt.Printf("figure %s p50 %.1f p99 %.1f\n", name, float64(times[len(times)/2].Nanoseconds())/1e3, float64(times[len(times)*99/100].Nanoseconds())/1e3)
 }
 
-// measure decides `count` times for the keys whose numbers `number` returns, and prints the figure of this name.
+// measure decides `count` times for the keys whose numbers `number` returns, and prints the figure of this name. bench/store.py reads these lines.
 func (f *figures) measure(name string, count int, number func() int) {
 	times := make([]time.Duration, count)
 	for place := range times {
@@ -147,7 +147,8 @@ func min(one, other int) int {
 	return other
 }
 
-// measureLoad has several goroutines ask at once, nine of ten times for a key whose list is kept.
+// measureLoad has several goroutines ask at once, nine of ten times for a key whose list is kept. The store keeps 1 MiB alone, so that the lists of
+// other keys are seldom kept.
 func (f *figures) measureLoad() {
 	const each, hot = 20_000, 200
 	f.store.kept.most = 1 << 20

@@ -4,13 +4,16 @@ import ordered "container/list"
 
 // A keptRows keeps lists of the entries of a key, up to so many octets: those that were asked for last. It has no mutex of its own.
 type keptRows struct {
+	// The most octets, and those of what is kept, by keptRow.size.
 	most, size int
-	order      *ordered.List
-	byName     map[digest]*ordered.Element
-	byPlace    map[string]*ordered.Element
+	// A keptRow for each key, first the one that was asked for last, and the same by each key's `name` and by each of its `places`.
+	order   *ordered.List
+	byName  map[digest]*ordered.Element
+	byPlace map[string]*ordered.Element
 }
 
 // A keptRow is what is kept for a key. `places` are the digests of the key by which the database has its entries, and `name` is that by SHA-256.
+// `size` is about how many octets of memory it takes.
 type keptRow struct {
 	name   digest
 	places [][]byte
@@ -18,7 +21,7 @@ type keptRow struct {
 	size   int
 }
 
-// The octets of an entry's table in the library for each octet of its text, and those of a key without entries: about.
+// About how many octets of memory the library takes for each octet of an entry's text, and how many a key without entries takes.
 const (
 	octetsEach = 3
 	octetsRow  = 2048
@@ -75,7 +78,7 @@ func (k *keptRows) clear() {
 	}
 }
 
-// count returns the number of keys whose lists are kept.
+// count returns the number of keys whose lists are kept, for the status line.
 func (k *keptRows) count() int {
 	return k.order.Len()
 }

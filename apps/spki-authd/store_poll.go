@@ -40,7 +40,8 @@ func (s *store) pollOnce() error {
 	return nil
 }
 
-// take uses what a poll has read that was begun at a time. If that does not follow what was known, all of that is forgotten. The mutex is held.
+// take uses what a poll has read that was begun at a time. `follows` says that these are the changes since the poll before. Otherwise `read` has all
+// ended certificates, and what was known before is forgotten. The mutex is held.
 func (s *store) take(read news, begun time.Time, follows bool) {
 	s.fault = nil
 	if !follows {
@@ -73,7 +74,7 @@ func (s *store) statusLine() (string, error) {
 		s.seen.beat, age.Seconds(), len(s.ended), s.kept.count(), s.kept.size, s.count.misses, s.count.failures), err
 }
 
-// stamp returns what tells one state of a list from another: the digest of a file, or the last change of a store.
+// stamp returns what tells one state of a list from another: the digest of a file, or `change-NUMBER-TIME` of the last change of a store.
 func (l *list) stamp() string {
 	if l.store == nil {
 		return l.digest
@@ -104,7 +105,7 @@ var storeFamilies = []struct {
 	{"store_rows_failed_total", "counter", "Decisions that failed since their rows could not be read.", func(s *store) any { return s.counted().failures }},
 }
 
-// stores writes the metrics of the stores, by the numbers of their lists.
+// stores writes the metrics of the stores, by the numbers of their lists, which count from 1. Without a store it writes nothing.
 func (e *exposition) stores(present *access) {
 	for _, family := range storeFamilies {
 		isBegun := false
@@ -121,7 +122,7 @@ func (e *exposition) stores(present *access) {
 	}
 }
 
-// counted returns how often rows were kept, were read, and could not be read.
+// counted returns a copy of the store's counts.
 func (s *store) counted() storeCounts {
 	s.mutex.RLock()
 	defer s.mutex.RUnlock()

@@ -22,21 +22,23 @@ import (
 // A pool has connections to a server. A slot is an open connection, or nil for one that is not open.
 type pool struct {
 	connector *pq.Connector
-	patience  time.Duration
-	slots     chan *link
-	texts     [asks]string
+	// How long an answer, and a free connection, is waited for.
+	patience time.Duration
+	slots    chan *link
+	// The SQL of each statement, by askRows and so on.
+	texts [asks]string
 	// How often the connections were renewed: a connection of an earlier time is closed before it is used again.
 	times atomic.Int64
 }
 
-// A link is a connection and its prepared statements.
+// A link is a connection, its prepared statements, which are nil until they are used, and the pool's `times` when it was opened.
 type link struct {
 	driver.Conn
 	statements [asks]driver.Stmt
 	times      int64
 }
 
-// The statements, by what they ask for.
+// The statements, by the method of reader that uses each, and their number.
 const (
 	askRows = iota
 	askSince
@@ -187,7 +189,7 @@ func (l *link) ask(what int, text string, use func(row []driver.Value) error, va
 	return err
 }
 
-// stateIn returns the state that a row begins with, in stateColumns.
+// stateIn returns the state that a row begins with, in stateColumns, without its token. It fails with errVersion if the store has another version.
 func stateIn(row []driver.Value) (storeState, error) {
 	var numbers [4]int64
 	for place := range numbers {
@@ -234,7 +236,7 @@ func requireState(hasState bool, err error) error {
 }
 
 // since returns the changes after that with a number, and the time of that one. Behind the state a row has the number, the time, the kind and the
-// digest of a change.
+// digest of a change. The statement also reads the change with that number, and one more than a poll takes, which shows whether there are more.
 func (p *pool) since(number int64) (made news, err error) {
 	hasState, count := false, 0
 	err = p.ask(askSince, func(row []driver.Value) (err error) {
@@ -293,7 +295,8 @@ func (p *pool) chains(key digest) (made []keptChain, err error) {
 	return made, err
 }
 
-// keep keeps a sequence for a key, if the limits let it, and returns the answer to that, which the store gives.
+// keep keeps a sequence for a key, if the limits let it, and returns the answer to that, which a function of the database gives: `kept`, `known` or
+// `full`.
 func (p *pool) keep(key digest, chain keptChain, limits *chains) (became answer, err error) {
 	err = p.ask(askKeep, func(row []driver.Value) error {
 		became = answer(fmt.Sprint(row[0]))

@@ -32,14 +32,16 @@ const (
 // What the answer of a store that has none begins with.
 const failed = "failed: "
 
-// A rig is a store in PostgreSQL, what changes it, and all lists that it had, by the number of the last change.
+// A rig is a store in PostgreSQL, what changes it, and all lists that it had.
 type rig struct {
-	t       *testing.T
-	store   *store
-	writer  *pool
-	random  *rand.Rand
-	people  []person
-	mutex   sync.Mutex
+	t      *testing.T
+	store  *store
+	writer *pool
+	random *rand.Rand
+	people []person
+	// Guards what follows.
+	mutex sync.Mutex
+	// The present entries by their numbers, and those after each change, by the number of the change.
 	entries map[int]string
 	history []map[int]string
 }
@@ -224,7 +226,7 @@ func (r *rig) answer(question guard.Question) string {
 }
 
 // TestQuestionsToStore asks a store while another client changes it. Each answer must be that of the guard of the whole list, in a state between
-// the one that was polled last and the present one.
+// the one that was polled last and the present one. `met` counts the answers by their first two letters: yes, no, refused.
 func TestQuestionsToStore(t *testing.T) {
 	r := newRig(t, time.Minute)
 	for count := 0; count < 60; count++ {

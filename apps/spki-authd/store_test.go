@@ -13,19 +13,23 @@ import (
 
 // A table is a reader of a store in memory: it has the entries, and what a poll would return of their changes.
 type table struct {
+	// The entries, and the SHA-256 digests of their keys, by the numbers of the entries.
 	texts  map[int]string
 	places map[int]string
-	news   []change
-	ended  []digest
-	state  storeState
-	fault  error
+	// All changes, first that with the number 1, and what `whole` returns as ended.
+	news  []change
+	ended []digest
+	state storeState
+	// What each call fails by, if anything.
+	fault error
 	// What happens after rows were read and before they are returned.
 	meanwhile func()
-	reads     int
-	kept      map[digest][]keptChain
+	// How often rows or sequences were read.
+	reads int
+	kept  map[digest][]keptChain
 }
 
-// A change is an entry's principal, or an ended certificate, with the time of the change.
+// A change is the digest of the key whose entry has changed, or an ended certificate, with the time of the change.
 type change struct {
 	place string
 	ended *digest
@@ -50,6 +54,7 @@ func (t *table) note(made change) {
 	t.news = append(t.news, made)
 }
 
+// rows returns the entries, by numbers below 100, whose key has one of these digests.
 func (t *table) rows(places [][]byte) (made found, err error) {
 	t.reads++
 	made.storeState = t.state
@@ -67,6 +72,7 @@ func (t *table) rows(places [][]byte) (made found, err error) {
 	return made, t.fault
 }
 
+// since returns the changes after that with a number, and the time of that one, or 0 if there is no such change.
 func (t *table) since(number int64) (news, error) {
 	made := news{storeState: t.state}
 	if number > 0 && number <= t.state.changes {
@@ -82,15 +88,18 @@ func (t *table) since(number int64) (news, error) {
 	return made, t.fault
 }
 
+// whole returns the ended certificates of the table, and the state.
 func (t *table) whole() (news, error) {
 	return news{storeState: t.state, ended: t.ended}, t.fault
 }
 
+// chains returns the sequences that are kept for a key.
 func (t *table) chains(key digest) ([]keptChain, error) {
 	t.reads++
 	return t.kept[key], t.fault
 }
 
+// keep keeps each sequence, whatever the limits are, unless the table fails.
 func (t *table) keep(key digest, chain keptChain, limits *chains) (answer, error) {
 	if t.fault == nil {
 		t.kept[key] = append(t.kept[key], chain)
@@ -98,9 +107,10 @@ func (t *table) keep(key digest, chain keptChain, limits *chains) (answer, error
 	return answerKept, t.fault
 }
 
+// renew does nothing: there are no connections.
 func (t *table) renew() {}
 
-// A stored is a site whose list is a table in memory, and its clock.
+// A stored is a site whose list is a table in memory. `time` is what the clock of its store says.
 type stored struct {
 	*site
 	table *table

@@ -16,7 +16,8 @@ type tlsOf struct {
 	present atomic.Pointer[tls.Certificate]
 }
 
-// read reads the certificate and the key. Without a configuration for TLS it returns nil.
+// read reads the certificate and the key, and returns both. Without a configuration for TLS, where `t` is nil, it returns nil and no error. The
+// listener shows the certificate only after `use`.
 func (t *tlsOf) read() (*tls.Certificate, error) {
 	if t == nil {
 		return nil, nil
@@ -43,7 +44,7 @@ func (t *tlsOf) read() (*tls.Certificate, error) {
 	return &made, nil
 }
 
-// use has the listener show a certificate from now on.
+// use has the listener show a certificate from now on. Without a configuration for TLS it does nothing.
 func (t *tlsOf) use(certificate *tls.Certificate) {
 	if t != nil {
 		t.present.Store(certificate)

@@ -33,9 +33,9 @@ type writer struct {
 	waiting []*batch
 	queued  int
 	present *batch
-	// Room for lines that is used again.
+	// Buffers for lines that are used again.
 	rooms [][]byte
-	// Calls endLate, and whether it is going to.
+	// The timer that calls endLate, and whether it is set.
 	watchdog  *time.Timer
 	isWatched bool
 }
@@ -44,7 +44,7 @@ type writer struct {
 type batch struct {
 	lines []byte
 	count int
-	// Whether its lines are still written when nobody waits for them any more.
+	// Whether its lines are still written when nobody waits for them any more: those of offer are, and those of write are not.
 	isKept bool
 	// When its first line came, and whether no further one comes.
 	begun  time.Time
@@ -135,7 +135,7 @@ func (w *writer) newRoom() []byte {
 	return room
 }
 
-// wake has the goroutine write what waits.
+// wake tells the writer's goroutine that lines wait, unless it was told and has not looked yet.
 func (w *writer) wake() {
 	select {
 	case w.wakes <- struct{}{}:
@@ -151,10 +151,12 @@ func (w *writer) watch() {
 	}
 }
 
-// endLate tells those who have waited too long. A line that is waited for and comes from now on is in a batch of its own, and is given as much time.
+// endLate tells those who have waited too long that their lines are not written in time, and drops the lines of write among those that wait. A line
+// of write that comes from now on is in a batch of its own, and is given as much time.
 func (w *writer) endLate() {
 	w.mutex.Lock()
 	defer w.mutex.Unlock()
+	// (what has begun before this would be late before the next look)
 	late := time.Now().Add(w.patience/looksInPatience - w.patience)
 	if w.present != nil && w.present.begun.Before(late) {
 		w.giveUp(w.present)
@@ -176,14 +178,16 @@ func (w *writer) endLate() {
 	}
 }
 
-// giveUp tells those who wait for a batch that it is not written in time, and says whether it is still to be written. The mutex is held.
+// giveUp tells those who wait for a batch that it is not written in time, and says whether the batch is still to be written: it is if it isKept. The
+// mutex is held.
 func (w *writer) giveUp(late *batch) (isKept bool) {
 	w.isStuck.Store(true)
 	late.end(errHangs)
 	return late.isKept
 }
 
-// end tells those who wait what became of their lines, if they were not told before. The writer's mutex is held.
+// end tells those who wait what became of their lines, if they were not told before. `err` is nil if the lines are written. The writer's mutex is
+// held.
 func (b *batch) end(err error) {
 	if !b.isDone {
 		b.isDone, b.err = true, err
@@ -191,7 +195,8 @@ func (b *batch) end(err error) {
 	}
 }
 
-// do has the writer's goroutine call a function between two writes, and says whether that ended in time.
+// do has the writer's goroutine call a function between two writes, and says whether that ended in time. If not, the function was not called, or is
+// still under way.
 func (w *writer) do(command func()) bool {
 	patience := time.NewTimer(w.patience)
 	defer patience.Stop()

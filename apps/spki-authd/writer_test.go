@@ -12,12 +12,13 @@ import (
 	"time"
 )
 
-// A hanging sink takes nothing until it is let go.
+// A hanging sink takes nothing until `goes` is closed, and then has all that is written.
 type hanging struct {
 	goes chan struct{}
 	text bytes.Buffer
 }
 
+// write waits until the sink is let go, and then takes the lines.
 func (h *hanging) write(lines []byte) error {
 	<-h.goes
 	_, err := h.text.Write(lines)
@@ -171,12 +172,13 @@ func (w *writer) lines() int {
 	return taken + w.queued
 }
 
-// A filling writer is full after so many octets.
+// A filling writer has room for so many more octets, and is full then.
 type filling struct {
 	room int
 	text bytes.Buffer
 }
 
+// Write takes what there is room for, and fails with errFull if that is not all.
 func (f *filling) Write(octets []byte) (int, error) {
 	if len(octets) > f.room {
 		count, _ := f.text.Write(octets[:f.room])
