@@ -1,4 +1,5 @@
-"""What the page asks, and the answers as it shows them. Each job yields its answer in parts, the decision first.
+"""What the page asks, and the answers as it shows them. Each job yields its answer in parts, the decision first: a part is a dictionary, and its
+fields replace those of earlier parts. `engine` is who decides, and `sent` the object that the page sent.
 
 A job that takes too long is ended by the one who asked for it, who keeps the parts that were yielded.
 """
@@ -16,12 +17,12 @@ MOST_REASONS, MOST_LEFT = 100, 20
 
 
 def shown_refusal(given, line):
-    """The part of an answer that shows a refusal, by its line."""
+    """The part of an answer that shows a refusal. `given` is the question, a `Given` or `GivenCase`, and `line` the line of the refusal."""
     return {"kind": "refused", "line": line, "shown": given.shown(line), "title": REFUSED.get(line, ""), "faults": given.fault(line)}
 
 
 def labels_of(engine, given):
-    """The labels that the page sent."""
+    """The labels of keys that the page sent."""
     return Labels(engine, text(given, "labels"))
 
 
@@ -53,7 +54,8 @@ def case(engine, sent):
 
 
 def explained(given, labels):
-    """Yields the decision, then the reasons and the picture, then both again with the rights that remain."""
+    """Yields the decision of a question, then the reasons and the picture, then both again with the rights that remain, which they name. If the
+    library refuses to explain, a notice is the last part."""
     line = given.check()
     yield {"kind": "yes" if line.startswith("yes") else "no", "line": line}
     acl, sequence, key, request, at = given.values()
@@ -80,14 +82,15 @@ def shown_reasons(story, reasons, line):
 
 
 def add_lefts(given, story, reasons, reduced):
-    """Adds to the story the rights that remain, from the lines of `reduce` in the order of the entries, and the right before the item that stops the
-    first chain."""
+    """Adds to `story.lefts` the rights that remain, from `reduced`, the lines of `reduce` in the order of the entries, and the right before the item
+    that stops the first chain."""
     value = given.engine.value
     for reason in reasons[:MOST_LEFT]:
         if reason.entry and "(five" in reduced[reason.entry - 1]:
             story.lefts[reason.entry, None] = value(five_of(reduced[reason.entry - 1]))
     first = reasons[0] if reasons else None
     if first and first.entry and first.item:
+        # (the items before that item, and all keys behind it, which hashes in the items before may name)
         keys = [it for it in story.items[first.item:] if it[0] == b"public-key"]
         before = given.cut([*story.items[:first.item - 1], *keys])[first.entry - 1]
         if "(five" in before:
@@ -122,8 +125,8 @@ def tags(engine, sent):
 
 
 def containment(engine, tag, words):
-    """What a guard with one entry says of a tag and a request: `contains`, which is a boolean, or the `line` of a refusal and its `places` in the
-    tag, or the `requestLine` of one that is about the request."""
+    """What a guard with one entry, which gives the tag to the key that asks, says of a request of these words: `contains`, which is a boolean, or the
+    `line` of a refusal and its `places` in the tag, or the `requestLine` of one that is about the request."""
     try:
         acl = b"(3:acl(5:entry" + PARTS["key"] + b"(3:tag" + engine.canonical(tag) + b")))"
     except Refused as why:
@@ -139,6 +142,7 @@ def fault_of_tag(engine, tag, line):
     """What is shown of a refusal by a guard with one entry: the line and its places in the tag, which `intersect` finds, or `requestLine`."""
     if line.split()[1] != "acl":
         return {"requestLine": line}
+    # (the refusal as `intersect` has it of the first of two tags, which is here the one in question)
     line = line.replace("acl 1 Tag", "tag 1").replace("acl 1", "tag 1")
     front = b"(intersect "
     found = [(at - len(front), why) for at, why in places(front + tag + b" a)", line)]

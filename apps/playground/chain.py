@@ -3,6 +3,7 @@ from labels import field
 from spki_cert_tool.sexp import on_one_line
 from story import issuer_of, joined, moment_of, subject_of, tag_of, window
 
+# What each cause of a no says beside its arrow.
 SHORT = {
     "KeyNotShown": "the key of its issuer is not shown", "DigestDiffers": "its signature has another digest",
     "SignerDiffers": "it is signed by another key than its issuer's", "NotAccepted": "its signature does not count",
@@ -27,7 +28,7 @@ def terms(name, value):
 
 
 class Chain:
-    """The boxes and arrows, from above."""
+    """The boxes and arrows of a story, from above: `steps`. `subject` is that of the last box of a subject, or None before the first."""
 
     def __init__(self, story):
         self.story, self.steps, self.subject = story, [], None
@@ -52,7 +53,7 @@ class Chain:
         self.person(entry[1])
 
     def follow(self, reason):
-        """Adds the certificates up to the one that stops the chain."""
+        """Adds the certificates up to the one that stops the chain, which is `reason.item`, or all if none does."""
         for number, item in enumerate(self.story.items, 1):
             if item[0] != b"cert" or (reason.item and number > reason.item):
                 continue
@@ -63,6 +64,7 @@ class Chain:
         """Adds a certificate: an arrow to its subject. If it stops the chain, `word` is the cause, the arrow is red, and `before` is the right before
         it, or None."""
         issuer = issuer_of(item)
+        # (one that does not join comes behind a gap, from the box of its issuer, and is faint)
         if word in APART:
             self.steps.append(arrow("gap", word, SHORT[word]))
         if word in APART or self.subject is None:
@@ -78,7 +80,8 @@ class Chain:
         self.person(joined(self.subject or issuer, item) if state == "plain" else subject_of(item), "faint" if word else "plain")
 
     def end(self, reason, left):
-        """Adds the request, and whether what is left contains it. `left` is None if that is not known."""
+        """Adds the request, and whether the right that is left at the end of the chain contains it. `left` is this right, or None if it is not
+        known."""
         story, word = self.story, reason.word
         good = word == "grants"
         if word == "NotTheKey":
@@ -112,6 +115,7 @@ def chain(story, reason):
 def shortened(steps, behind):
     """The steps, without the middle if they are more than MOST_STEPS, and `behind`, which is how many certificates behind them are not drawn."""
     if len(steps) > MOST_STEPS:
+        # (a certificate is two steps: an arrow and a box)
         half = MOST_STEPS // 2
         left_out = arrow("faint", f"{(len(steps) - MOST_STEPS) // 2} certificates are not drawn")
         steps = [*steps[:half], left_out, *steps[-half:]]

@@ -26,13 +26,14 @@ from spki_cert_tool.sexp import canonical, read  # noqa: E402
 COMMANDS = ("canonical", "advanced", "transport", "intersect", "reduce", "check", "explain")
 # The limits of a guard on each question. A list is bounded by what the server takes.
 MOST_OCTETS, MOST_NODES = 65_536, 1_000_000
+# How many texts or questions are kept with what was made of them.
 KEPT = 32
 # The parts in the order in which they are read, each with a text that can be read.
 PARTS = {"sequence": b"(8:sequence)", "key": b"(10:public-key(4:test7:anybody))", "request": b"1:a", "at": b"19:2000-01-01_00:00:00"}
 
 
 class Question(NamedTuple):
-    """A question of separate parts."""
+    """A question of separate parts, as texts. `words` are the strings of the request, and `at` is the moment, as a string in any form."""
 
     acl: bytes
     sequence: bytes
@@ -45,7 +46,7 @@ class Question(NamedTuple):
 
 
 class Refused(Exception):
-    """A line that begins with `refused`."""
+    """The library or the program refuses a text: `line` is its line, which begins with `refused`. `labels` raises it with a remark of its own."""
 
     def __init__(self, line):
         super().__init__(line)
@@ -107,6 +108,7 @@ class ByLibrary(Engine):
 
     def answer(self, name, text):
         """The octets that the program `spki` would write for a text that it gets with the command `name`."""
+        # (`spki_answer` writes how many octets it needs, and is called again if there was less room)
         needed, room = ctypes.c_size_t(MOST_OCTETS), b""
         while len(room) < needed.value:
             room = ctypes.create_string_buffer(needed.value)
@@ -129,7 +131,7 @@ class ByLibrary(Engine):
             raise Refused(why.line) from None
 
     def signed(self, question):
-        """The signatures on which the decision depends."""
+        """The signatures on which the decision depends, in the order of the certificates. Raises `Refused`."""
         return self.ask(question, lambda asked: [Signed(it.key, it.message, it.value) for it in asked.signatures()])
 
     def lines(self, question, command):
@@ -207,7 +209,8 @@ class ByProgram(Engine):
 
 
 def signed_by(certificate, signature, keys, is_strict):
-    """The signature of a certificate, if its key is shown, and the digest and the signer are right. None otherwise."""
+    """The signature of a certificate, if the key of its issuer is shown, and the digest and the signer are right. None otherwise. `keys` are those of
+    the sequence."""
     issuer = next(field[1] for field in certificate[1:] if field[0] == b"issuer")
     key, message = key_of(issuer[1] if issuer[0] == b"name" else issuer, keys, is_strict), canonical(certificate)
     _, (_, algorithm, digest, *_), signer, value = signature

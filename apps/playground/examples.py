@@ -25,6 +25,7 @@ TO_BUILDERS = f""" (cert
   (tag (packages write (* prefix /builds/))))"""
 
 
+# The text of a sequence with these items, which are texts.
 def sequence(*items):
     return "(sequence\n" + "\n".join(items) + ")"
 

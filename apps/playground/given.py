@@ -11,13 +11,14 @@ MOST_LETTERS = 4000
 
 
 def text(given, name):
-    """A string that the page sent, or an empty one."""
+    """The field `name` of the object that the page sent, if it is a string, else an empty string."""
     value = given.get(name)
     return value if isinstance(value, str) else ""
 
 
 class Given:
-    """A question of separate boxes, as octets. Methods that ask the engine raise `Refused`."""
+    """A question of separate boxes, as octets. `given` is the object that the page sent, whose fields may have wrong types. `sequence` has the
+    signatures that the page made up too. Methods that ask the engine raise `Refused`."""
 
     def __init__(self, engine, given):
         self.engine, self.box = engine, {name: text(given, name).encode(errors="replace") for name in ("acl", "sequence", "key", "at")}
@@ -43,13 +44,14 @@ class Given:
         return self.engine.lines(self.question, command)
 
     def cut(self, items):
-        """The lines of `reduce` if the sequence had these items only."""
+        """The lines of `reduce` if the sequence had only these items, which are values."""
         return self.engine.lines(self.question._replace(sequence=canonical([b"sequence", *items])), "reduce")
 
     def signatures(self, labels):
         """The signatures on which the decision depends, each with whether it counts."""
         listed = []
         for place, signed in enumerate(self.engine.signed(self.question)):
+            # (the message that is signed is the certificate)
             story = read(signed.message)
             labels.learn(story)
             listed.append({"by": labels.of(read(signed.key)), "says": on_one_line(story)[:MOST_LETTERS],
@@ -59,6 +61,7 @@ class Given:
     def fault(self, line):
         """What is shown at the box that a refusal is about, with its places there, by the name of the box. Empty if it is about no box."""
         word = line.split()[1]
+        # (a fault of the form that is named after no part is one of the access list)
         name = "acl" if word == "form" else word
         if name not in BOXES:
             return {}

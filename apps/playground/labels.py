@@ -5,6 +5,7 @@ import re
 from engine import Refused
 from spki_cert_tool.sexp import canonical, on_one_line
 
+# A label, perhaps `=`, and a key as an S-expression.
 LINE = re.compile(r"\s*(.*?)\s*=?\s*(\(.*)", re.DOTALL)
 MOST_LABELS, MOST_LETTERS = 64, 40
 PLAIN = re.compile(rb"[ -~]{1,40}\Z")
@@ -56,7 +57,7 @@ class Labels:
         return self.hashes.get((principal[1], principal[2]), principal) if principal[0] == b"hash" else principal
 
     def of(self, subject):
-        """What a principal or a name is called."""
+        """What a principal or a name is called: its own label, else for a hash that of its key, else a short form."""
         given = self.of_values.get(canonical(subject))
         if given:
             return given
@@ -75,7 +76,7 @@ def field(value, head):
 
 
 def short(principal):
-    """A short form of a key or a hash."""
+    """A short form of a key or a hash: the only part of a key if that is plain text, else the beginning of a digest in hexadecimal."""
     if principal[0] == b"hash":
         return f"{principal[1].decode()} {principal[2].hex()[:8]}.."
     parts = principal[1][1:]

@@ -45,6 +45,7 @@ def spans(values, answer):
     """The spans between two changes of an answer, in their order, each with the answer and the limits at both ends. The limits are those in `values`,
     and `answer` returns the answer at a date. Only the first MOST_LIMITS changes are looked at."""
     limits = [limits_of(value) for value in values]
+    # (by the moment from which the answer may change: the word and the limit as the page shows them)
     begins = {moment: ("from", moment) for it in limits for moment in it[b"not-before"]}
     ends = {after(moment): ("after", moment) for it in limits for moment in it[b"not-after"] if after(moment)}
     changes = dict(sorted({**ends, **begins}.items())[:MOST_LIMITS])

@@ -68,7 +68,8 @@ def title(reasons, line):
 
 
 def right_left(story, number, item, left):
-    """A right that remains of an entry, in words. If an item is given, the right is that before the item."""
+    """The right `left` that remains of the entry with a number, in words. If an item is given, it is the right before this item, which stops the
+    chain. Otherwise it is that at the end."""
     return {"entry": number, "before": story.number(item) if item else 0, "holder": story.labels.of(field_of(left, b"subject")),
             "tag": tag_of(left), "window": window(left) or "at all times", "passes": any(it == [b"propagate"] for it in left)}
 

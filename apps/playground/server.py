@@ -124,6 +124,7 @@ class Handler(http.server.BaseHTTPRequestHandler):
             self.wfile.write(octets)
         self.wfile.flush()
 
+    # (the header Server, without the version of Python)
     def version_string(self):
         return self.server_version
 
@@ -132,7 +133,8 @@ class Handler(http.server.BaseHTTPRequestHandler):
 
 
 class Server(http.server.ThreadingHTTPServer):
-    """The server, with a bound on the connections at once. `start` are the octets of `start.json`."""
+    """The server, with a bound on the connections at once. `workers` answer, `jobs` are the jobs by the names under which a page asks for them, and
+    `start` are the octets of `start.json`."""
 
     daemon_threads = True
     request_queue_size = 32
@@ -143,11 +145,12 @@ class Server(http.server.ThreadingHTTPServer):
         self.files = {**files(), "start.json": (KINDS[".json"], start)}
         self.room = threading.BoundedSemaphore(MOST_CONNECTIONS)
         self.origins = [f"http://{name}:{self.server_port}" for name in ("127.0.0.1", "localhost")]
+        # (as `get_all` returns the headers Host: there must be exactly one)
         self.hosts = [[origin.removeprefix("http://")] for origin in self.origins]
 
     @property
     def address(self):
-        """The address of the page."""
+        """The address of the page, with the token that each request must have."""
         return f"{self.origins[0]}/{self.token}/"
 
     def process_request(self, request, client_address):

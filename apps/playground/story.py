@@ -44,10 +44,13 @@ class Story:
     """The values of a question, and what they are called."""
 
     labels: Labels
+    # The entries of the access list, and the items of the sequence: keys, certificates and signatures.
     entries: list
     items: list
+    # The key that requests.
     key: list
     request: object
+    # The moment.
     at: bytes
     lefts: dict = of_default(default_factory=dict)
     """The remaining right of an entry by its number, and by a number and an item the right before this item."""
@@ -61,7 +64,7 @@ class Story:
         return sum(it[0] == b"cert" for it in self.items[:item])
 
     def holder(self, reason):
-        """The subject that has the right where the chain of an entry ends, or stops."""
+        """The subject that has the right where the chain of a reason ends, or before the item that stops it. The reason must have an entry."""
         subject = self.entries[reason.entry - 1][1]
         for number, item in enumerate(self.items, 1):
             if reason.item is not None and number >= reason.item:

@@ -43,7 +43,7 @@ def serve(pipe, wanted, seconds):
 
 
 class Worker:
-    """One process, and the pipe to it."""
+    """One process that runs `serve`, and the pipe to it."""
 
     def __init__(self, wanted, seconds):
         here, there = multiprocessing.get_context("spawn").Pipe()
@@ -76,7 +76,8 @@ class Worker:
 
 
 class Workers:
-    """All processes: those that wait for a job, and for each page those that have one."""
+    """All processes: those that wait for a job (`idle`), and by page and job those that have one (`busy`). `wanted` is for `choose_engine`, a job may
+    take so many `seconds`, and about `spare` processes are kept waiting."""
 
     def __init__(self, wanted, seconds, spare=2):
         self.given, self.seconds, self.spare = (wanted, seconds), seconds, spare
@@ -119,7 +120,7 @@ class Workers:
         return whole
 
     def refill(self):
-        """Starts a process ahead of the next job."""
+        """Starts a process ahead of the next job, in place of one that was ended."""
         with self.lock:
             if len(self.idle) < self.spare:
                 self.idle.append(Worker(*self.given))

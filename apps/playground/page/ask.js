@@ -1,6 +1,7 @@
 // Questions to the server. An answer is shown only if nothing was typed since its question was sent. A question that comes while another one of
 // its kind is under way waits for it a moment, and then replaces it.
 
+// How many milliseconds a question waits for the one before. PAGE is this page's name, by which the server knows whose question it replaces.
 const PATIENCE = 150;
 const PAGE = crypto.randomUUID();
 let mostOctets = Infinity;
@@ -36,6 +37,7 @@ export function asker(kind, collect, show, typed) {
     }
   }
 
+  // (asks at once; or, if a question is under way, after its answer or after PATIENCE, which aborts it)
   return () => {
     if (!underWay) {
       send();

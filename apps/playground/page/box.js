@@ -18,10 +18,12 @@ export class Box {
     this.showFault(null);
   }
 
+  /** The text that is typed. */
   get value() {
     return this.text.value;
   }
 
+  /** Replaces the text. A refusal of the old one is no longer shown, and `changed` is not called. */
   set value(text) {
     this.text.value = text;
     this.showFault(null);

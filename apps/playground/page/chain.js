@@ -2,10 +2,11 @@
 import { drawn, made } from "./dom.js";
 
 const GAP = 10, LINE = 17, PAD = 10, SHAFT = 22, BESIDE = 42, MOST_LINES = 3, MOST_LETTERS = 1200;
+// The fonts of a box's name, of other text, of S-expressions, and of the cause that stops a chain.
 const FONTS = { name: "600 13px", plain: "13px", mono: "12px", why: "650 13px" };
 const measuring = document.createElement("canvas").getContext("2d");
 
-/** Draws the steps of a chain as SVG for a width. `summary` is read out in the place of the picture. */
+/** Draws the steps of a chain, as `chain.py` makes them, as SVG for a width in pixels. `summary` is read out in the place of the picture. */
 export function picture(chain, width, summary) {
   const svg = drawn("svg", { width, role: "img", "aria-label": summary });
   let y = 1;
@@ -33,7 +34,7 @@ export function words(chain) {
   });
 }
 
-/** The box of a step, and its height. */
+/** The box of a step as `element`, and its `height` in pixels. */
 function box(step, width) {
   const lines = wrapped(step.label, width - 2 * PAD - 2, step.shape === "request" ? "mono" : "name", 12);
   const notes = step.note ? [step.note] : step.shape === "list" ? [step.whole] : [];
@@ -47,7 +48,7 @@ function box(step, width) {
   return { element: group, height };
 }
 
-/** The arrow of a step with its lines, and its height. One where the chain does not join is no arrow, but a gap with a cross. */
+/** The arrow of a step with its lines as `element`, and its `height` in pixels. Where the chain does not join, it is a gap with a cross. */
 function arrow(step, width) {
   const stops = step.state !== "plain" && step.state !== "faint";
   const group = drawn("g", { class: step.state }, title(step.whole));

@@ -16,11 +16,13 @@ for (const element of document.querySelectorAll("[data-box]")) {
 }
 const times = new Times(() => changed());
 const answer = new Answer(boxes, () => changed());
+// The name of the panel that is shown, and how often something that is asked was changed.
 let chosen = "question";
 let changes = 0;
 
 // ---- what is asked
 
+/** The lines of a text, each a string of the request. A line feed at the end begins no further one. */
 const lines = (text) => (text === "" ? [] : text.replace(/\n$/, "").split("\n"));
 
 /** The moment as a case has it, or an empty text. */
@@ -45,6 +47,7 @@ function showAnswer(got) {
   }
 }
 
+/** How often something that is asked was changed, by which an answer to an earlier text is known. */
 const typed = () => changes;
 const askers = {
   question: asker("question", question, showAnswer, typed),
@@ -110,6 +113,7 @@ function moveTab(event) {
   }
 }
 
+/** Puts all boxes and the chosen panel into the address, and copies it. */
 async function copyLink() {
   const others = Object.fromEntries(OTHERS.map((name) => [name, boxes[name].value]));
   const address = linked({ panel: chosen, ...question(), ...others });
@@ -123,12 +127,14 @@ async function copyLink() {
   setTimeout(() => say(at("link"), "Copy link"), 2000);
 }
 
+/** Puts the case that an answer has, which is the whole question as one text, into the box of the panel for cases. */
 function editCase() {
   boxes.case.value = at("text").textContent;
   choose("case");
   boxes.case.text.focus();
 }
 
+/** Fills the menu of examples by their groups. Choosing one loads its question. */
 function offerExamples(examples) {
   const groups = {};
   examples.forEach((example, place) => {
@@ -142,7 +148,7 @@ function offerExamples(examples) {
   });
 }
 
-/** Fills the boxes with what the address holds. */
+/** Fills the boxes with what the address holds, if there is something, and chooses its panel. */
 function restore() {
   const given = inFragment();
   if (given) {
@@ -153,6 +159,7 @@ function restore() {
   choose(given?.panel ?? chosen);
 }
 
+/** Fetches `start.json`, fills the page by it, and asks the first question: that of the address, else of the first example. */
 async function start() {
   const { examples, engine, others, mostOctets } = await (await fetch("start.json")).json();
   bound(mostOctets);

@@ -2,10 +2,12 @@
 // takes long: so nothing is read as the answer to another question.
 import { at } from "./dom.js";
 
+// After how many milliseconds an answer counts as one that takes long.
 const WAITING = 300;
 const PARTS = { question: "#verdict, #answer, #signatures, .fault", times: "#bar, #span", tags: "#tags-card", forms: "#forms-card" };
 let waits;
 
+/** The elements of a part, by its name in PARTS. */
 const elements = (name) => document.querySelectorAll(PARTS[name]);
 
 /** Marks all parts as those of an earlier text. `waited` is called if there is no verdict yet after WAITING milliseconds. */

@@ -26,6 +26,7 @@ export class Times {
     this.slider = at("slider");
     this.moment = at("at");
     this.spans = [];
+    // (the ends of the scale, in seconds from 1970)
     this.low = this.high = 0;
     this.slider.addEventListener("input", () => {
       const time = Math.round(this.low + (Number(this.slider.value) / STEPS) * (this.high - this.low));
@@ -63,6 +64,7 @@ export class Times {
 
   /** Draws the spans as parts of a bar, and the dates at its ends. */
   draw() {
+    // (the place of a limit on the bar in percent, or `end` where a span has no limit)
     const place = (limit, end) => (limit ? Math.min(100, Math.max(0, ((seconds(limit.moment) - this.low) / (this.high - this.low)) * 100)) : end);
     at("bar").replaceChildren(...this.spans.map((span) => {
       const part = made("i", { class: span.answer === "no" ? "no" : "yes" });
@@ -95,7 +97,8 @@ export class Times {
   }
 }
 
-/** A span of time in words. */
+/** A span of time in words. Its ends are limits as `moments.py` gives them, or nothing. Before a limit with the word `after`, the moment itself is
+  * still in the span. */
 function between({ begin, end }) {
   const from = begin && `${begin.word} ${begin.moment}`;
   const until = end && (end.word === "after" ? `until ${end.moment}` : `before ${end.moment}`);

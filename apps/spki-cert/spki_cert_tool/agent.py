@@ -7,10 +7,12 @@ import struct
 from .keys import ED25519, RSA, BadKey, openssh_line, public_of, split_string, value_of_numbers, value_of_octets
 from .sexp import Value
 
+# The kinds of messages, and a flag of SIGN_REQUEST: RSA signs by SHA-256.
 REQUEST_IDENTITIES, IDENTITIES, SIGN_REQUEST, SIGN_RESPONSE = 11, 12, 13, 14
 RSA_SHA2_256 = 2
 # How many octets each of the two numbers of a signature has, by the algorithm.
 CURVES = {b"ecdsa-sha2-nistp256": 32, b"ecdsa-sha2-nistp384": 48}
+# The most octets of an answer, and how long one is waited for.
 MOST_OCTETS, SECONDS = 262144, 60
 
 

@@ -31,7 +31,7 @@ Files are OpenSSH, PEM or S-expressions, and `-` is a stream. SPKI_LABELS names 
 
 
 class Once(argparse._StoreAction):
-    """An option with one value, which is given once."""
+    """The action of an option with one value, which may be given once. To argparse alone, the last of several values would count."""
 
     def __call__(self, parser: argparse.ArgumentParser, namespace: argparse.Namespace, values: Any, option: str | None = None) -> None:
         if option and getattr(namespace, self.dest, None) not in (None, self.default):
@@ -43,7 +43,7 @@ class CommandParser(argparse.ArgumentParser):
     """Parses the words of a command. Raises Refused for wrong ones. No option is abbreviated: the beginning of one may be another one."""
 
     def __init__(self, **settings: Any) -> None:
-        """Makes `Once` the action of each option that names none."""
+        """Makes `Once` the action of each option that names none, or `store`. `settings` are those of ArgumentParser."""
         super().__init__(formatter_class=argparse.RawDescriptionHelpFormatter, allow_abbrev=False, **settings)
         for name in (None, "store"):
             self.register("action", name, Once)
@@ -55,6 +55,7 @@ class CommandParser(argparse.ArgumentParser):
         for word in itertools.takewhile(lambda it: it != "--", args or []):
             name = os.fsencode(word.partition("=")[0])
             if not commands and word.startswith("--") and " " not in word and name[2:] not in options:
+                # (the other commands that have this option)
                 having = ", ".join(it for it, those in commands_with_options().items() if word.partition("=")[0] in those)
                 others = f" of {self.prog.split()[-1]}, but of {having}" if having else ""
                 others += "; to define a name: `spki-cert name`; a note: `--comment`" if word.startswith("--name") and having else ""
@@ -65,14 +66,17 @@ class CommandParser(argparse.ArgumentParser):
                 break
         found, left = super().parse_known_args(args, namespace)
         if left:
+            # (a dash that was made longer, or one of two that is missing)
             bare, why = left[0].lstrip("-\N{EN DASH}\N{EM DASH}"), "one word too many; put quotes around what has spaces or parentheses"
             near = f"; is `--{bare}` meant?" if os.fsencode(bare) in options else ""
             self.error(f"{left[0]}: {why if bare == left[0] else f'no such option{near}'}")
         return found, left
 
+    # (argparse writes the text of --help and --version by this)
     def _print_message(self, message: str, file: IO[str] | None = None) -> None:
         put(message)
 
+    # (argparse calls this for words that it refuses; its own method prints the message and exits)
     def error(self, message: str) -> NoReturn:
         raise Refused(f"{message.removeprefix('argument ')} ({self.prog} --help)")
 
@@ -217,9 +221,11 @@ the file of a private key, or of the public one of a key that ssh-agent holds.""
 
 
 def parser_of_commands() -> argparse.ArgumentParser:
-    """The parser of the command line, by COMMANDS and OPTIONS."""
+    """The parser of the command line, by COMMANDS and OPTIONS. It gives the name of the command as `command`. `key new` is NEW_KEY there, which the
+    help does not list."""
     parser = CommandParser(prog="spki-cert", description=DESCRIPTION, epilog=EPILOG)
     parser.add_argument("--version", action="version", version=f"spki-cert {__version__}", help="write the version")
+    # (for commands without these options, whose functions are shared with others)
     parser.set_defaults(name=None, tag=None, propagate=False, tries=[])
     commands = parser.add_subparsers(dest="command", required=True, metavar="COMMAND")
     for name, (told, long, example, words) in COMMANDS.items():
@@ -232,6 +238,7 @@ def parser_of_commands() -> argparse.ArgumentParser:
     return parser
 
 
+# The script of `completion`, with `{commands}` and `{cases}` to be filled in.
 COMPLETION = """_spki_cert() {{
     local word=${{COMP_WORDS[COMP_CWORD]}}
     if [[ $COMP_CWORD -eq 1 ]]; then

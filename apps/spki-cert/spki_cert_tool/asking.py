@@ -30,7 +30,7 @@ if TYPE_CHECKING:
 MOST_CHAINS = 64
 # The most certificates and strings of a question. A service may allow fewer.
 MOST_SHOWN = 65536
-# The last words of a chain that joins to its end.
+# The words of `explain` for a chain that joins to its end. Only then a right `(five ..)` is left of the entry.
 JOINED = ("grants", "TagLacks", "WindowLacks", "NotTheKey")
 
 
@@ -39,11 +39,14 @@ class Asked:
     """What is asked, with all certificates that are at hand."""
 
     access_list: Value
+    # The key that requests.
     key: Value
     request: Value
     moment: bytes
     labels: Labels
+    # The sequences that are given. A chain is searched among all their certificates.
     sequences: list[Value] = field(default_factory=list)
+    # Whether the policy is strict, and a hash by SHA-1 names no key.
     is_strict: bool = True
     accepted: list[Value] | None = None
     """The rows of a case, which say what signatures are valid. None if signatures are verified."""
@@ -51,7 +54,8 @@ class Asked:
     """A certificate that is not signed yet, in canonical form. It counts as if it were."""
 
     def verify(self, key: bytes, message: bytes, value: bytes) -> bool:
-        """Whether a signature counts. The three texts are canonical: the key, the certificate, and the value of the signature."""
+        """Whether a signature counts: by the rows of a case, or else because it is valid or its certificate is `unsigned`. The three texts are
+        canonical: the key, the certificate, and the value of the signature."""
         from spki_verify import verify_texts
         if self.accepted is None:
             return message == self.unsigned or verify_texts(key=key, message=message, value=value)
@@ -66,8 +70,8 @@ class Asked:
 
 @dataclass
 class Answer:
-    """The decision about one sequence, and the library's reasons. `entry` is the number of the entry that grants, or None, and `reduced` has for each
-    entry the line of `reduce`."""
+    """The decision about one sequence, and the library's reasons: the lines of `explain`. `entry` is the number of the entry that grants, or None.
+    `reduced` has for each entry the line of `reduce`: `entry N (five ..)`, or what stops the chain."""
 
     sequence: Value
     entry: int | None
@@ -84,12 +88,13 @@ class Answer:
         return furthest(self.reasons)
 
     def left(self, entry: int) -> Value:
-        """The right `(five ..)` that is left of an entry, by its number, at the end of the chain."""
+        """The right `(five ..)` that is left of an entry, by its number, at the end of the chain. The chain must join to its end."""
         return Parser(self.reduced[entry - 1].split(" ", 2)[2].encode()).whole().value
 
 
 def furthest(reasons: list[Reason]) -> Reason | None:
-    """The reason of the entry that goes furthest: it grants, or its chain ends last. None if there are no entries."""
+    """The reason of the entry that goes furthest: it grants, or its chain ends last. A reason without an item joins to its end, and of equal ones the
+    first entry is taken. None if there are no entries."""
     return max(reasons, key=lambda it: (it.word == "grants", it.item or sys.maxsize, -(it.entry or 0))) if reasons else None
 
 
@@ -122,7 +127,8 @@ def answer_of(guard: Guard, asked: Asked, sequence: Value) -> Answer:
 
 
 def best_answer(asked: Asked) -> Answer:
-    """The answer of the first chain that grants the request; else of the one sequence that is given, or of the chain that goes furthest."""
+    """The answer that is told: the first that grants, of the one sequence that is given, as it is, or of a chain. If none grants, that of the one
+    sequence, if it has certificates, else of the chain that goes furthest, or of an empty sequence if there is no chain."""
     with guard_of(asked) as guard:
         given = asked.sequences[0] if len(asked.sequences) == 1 else [b"sequence"]
         first = answer_of(guard, asked, given)
@@ -139,7 +145,8 @@ def best_answer(asked: Asked) -> Answer:
 
 
 def rank(answer: Answer) -> tuple[bool, int]:
-    """A key for `max`: how far the chain of an answer goes. One that joins to its end goes furthest, else one that is stopped by a later item."""
+    """A key for `max` among answers that do not grant: how far the chain goes. One that joins to its end at the key goes furthest, else one that is
+    stopped by a later item."""
     chosen = answer.chosen
     return (chosen is not None and chosen.word in ("TagLacks", "WindowLacks"), (chosen.item or sys.maxsize) if chosen else 0)
 
@@ -149,6 +156,7 @@ def sequences_to(asked: Asked, steps: Steps) -> Iterator[Value]:
     chain, one of all certificates, so that it can be said what stops it. Sets `steps.is_cut` if some are left out."""
     keys = Keys([asked.key, *(key for one in asked.sequences for key in keys_in(one)), *asked.labels.keys.by_hash.values()])
     certificates = [it for one in asked.sequences for it in certificates_in(one)]
+    # (in a case the rows decide about signatures, and each certificate may be in a chain)
     valid = [it for it in certificates if asked.accepted is not None or fault_of_signature(it, keys) is None]
     entries, count = entries_of(asked.access_list), 0
     for chain in chains(entries, valid, keys, asked.key, steps):
@@ -162,7 +170,7 @@ def sequences_to(asked: Asked, steps: Steps) -> Iterator[Value]:
 
 
 def case_of(asked: Asked, sequence: Value) -> Value:
-    """The case of a question, with a row for each signature that counts."""
+    """The case of a question about one sequence, with a row for each signature that counts: a text that has all that is needed to decide again."""
     keys = Keys([asked.key, *keys_in(sequence)])
     rows: list[Value] = []
     for each in certificates_in(sequence):
@@ -185,6 +193,7 @@ class Words:
         self.asked, self.answer, self.labels = asked, answer, asked.labels
         self.entries, self.chain = entries_of(asked.access_list), certificates_in(answer.sequence)
         self.keys = Keys([asked.key, *keys_in(answer.sequence)])
+        # (what the key that requests is called)
         self.asker = self.labels.of(asked.key)
 
     def lines(self) -> Iterator[str]:
@@ -204,7 +213,8 @@ class Words:
             yield f"  the search for chains ended after {Steps.most:,} steps or {MOST_CHAINS} chains: give only the certificates of the chain"
 
     def way(self, chosen: Reason, is_whole: bool = False) -> list[tuple[str, Terms]]:
-        """The entry of a reason and the certificates before the item that stops it, each as name and terms. The whole way has that item too."""
+        """The entry of a reason, if it has one, and the certificates before the item that stops it, or all if none does: each as name and terms. With
+        `is_whole` the item that stops it is there too."""
         last = (chosen.item or sys.maxsize) - (not is_whole)
         entry = [(f"entry {chosen.entry}", self.entries[chosen.entry - 1])] if chosen.entry else []
         return entry + [(f"item {it.number}", it.terms) for it in self.chain if it.number <= last]
@@ -259,7 +269,7 @@ class Words:
         """Who has the right where the chain of a reason stops, in words, and the names of that subject which no certificate before has defined. The
         certificates before must join."""
         principal: Value = b""
-        # (the last one first: a definition takes the first name away, and copies no others)
+        # (the last name first. A right begins anew, and a definition takes the first name away; then come the names of the new subject)
         left: list[Value] = []
         for _, terms in self.way(chosen):
             left = left[:0] if terms.name is None else left
@@ -270,7 +280,7 @@ class Words:
         return self.labels.of_subject([b"name", principal, *names] if names else principal), names
 
     def why_it_stops(self, item: Signed, chosen: Reason) -> str:
-        """Why a certificate stops the chain, by the cause in a reason."""
+        """Why a certificate stops the chain, in words, by the cause in a reason. A cause in FAULTS is about its signature alone."""
         if chosen.word in FAULTS:
             return FAULTS[chosen.word]
         issuer, (holder, names) = self.labels.of(item.terms.issuer), self.holder(chosen)
@@ -306,9 +316,11 @@ def what_cannot_be_given(chain: Value, certificate: Value, key: Value, label: st
     begin: Value = [b"name", first.issuer or b"", first.name] if first.name is not None else first.issuer or b""
     labels = Labels()
     labels.add(key, label)
+    # (`-` is in place of the value of the signature, which is not made yet)
     left, why = left_of(begin, sequence_with(chain, key, certificate, b"-"), certificate, key, labels)
     if why or field_of(certificate, b"tag") is None:
         return why
+    # (the tag of the certificate in the form of the library, as it remains where the issuer has every right)
     alone, _ = left_of(principal_of(key), sequence_with(None, key, certificate, b"-"), certificate, key, labels)
     return [] if covers(left, alone) else [f"of this tag the chain gives only `{on_one_line(left)}`: sign that"]
 

@@ -30,7 +30,7 @@ def field(value: Value, head: bytes) -> Value | None:
 
 
 def only(value: Value | None) -> Value | None:
-    """The first member of a field after its head, or None."""
+    """The first member of a field after its head. None if it has none, or the field is None, as `field` returns it where there is none."""
     return members(value)[0] if value is not None and members(value) else None
 
 
@@ -50,9 +50,12 @@ class Terms:
     """The name that a certificate defines, or None if it gives a right."""
     subject: Value
     """A principal, or `(name PRINCIPAL n ..)`."""
+    # None for a certificate that defines a name.
     tag: Value | None
+    # The first and the last moment at which it is valid, or None for no limit.
     begins: bytes | None
     ends: bytes | None
+    # Whether it has `(propagate)`, so that its subject may delegate the right.
     delegates: bool
     comment: str
 
@@ -80,7 +83,8 @@ class Terms:
 
 
 def terms_of(value: Value) -> Terms:
-    """The terms of an entry or a certificate. A relative name is one of the issuer. A limit of the window may be in `(valid ..)`."""
+    """The terms of an entry or a certificate. A relative name as subject becomes one of the issuer. A limit of the window may be in `(valid ..)`.
+    The readers of `structures` say what is wrong in a value, and nothing here does."""
     issuer, name, subject = None, None, members(value)[0]
     if headed(value, b"cert"):
         issuer, subject = only(field(value, b"issuer")) or b"", only(field(value, b"subject")) or b""
@@ -119,7 +123,7 @@ def entries_of(access_list: Value) -> list[Terms]:
 
 
 class Signed(NamedTuple):
-    """A certificate of a sequence with its signature, and the number of its item."""
+    """A certificate of a sequence with its signature. `number` is that of the certificate among all items of the sequence, from 1."""
 
     terms: Terms
     signature: Value
@@ -148,6 +152,7 @@ class Keys:
     """Keys that are known, to be found by the principals that name them. Each is made canonical once: many hashes may name a long one."""
 
     def __init__(self, keys: Iterable[Value] = ()) -> None:
+        # (both by the algorithm and the digest of a hash: the key; and its canonical text with the SHA-256 digest of it)
         self.by_hash: dict[tuple[bytes, bytes], Value] = {}
         self.texts: dict[tuple[bytes, bytes], tuple[bytes, bytes]] = {}
         for key in keys:
@@ -186,7 +191,8 @@ class Keys:
 
 
 def fault_of_signature(signed: Signed, keys: Keys) -> str | None:
-    """The word of `explain` for the first test that a certificate's signature does not pass. None if it is valid."""
+    """The word of `explain` for the first test that a certificate's signature does not pass, one of FAULTS in `showing`. None if it is valid.
+    `keys` are those that a hash may name."""
     issuer = signed.terms.issuer or b""
     if keys.named(issuer) is None:
         return "KeyNotShown"
@@ -223,6 +229,7 @@ def holder_of(principal: Value, names: Iterable[Value], keys: Keys) -> Holder:
 def chains(entries: Iterable[Terms], certificates: list[Signed], keys: Keys, key: Value, steps: Steps, most: int = 16) -> Iterator[list[Signed]]:
     """The chains of at most `most` certificates that lead from an entry to a key, the shortest first. No chain passes a holder twice: without the
     certificates in between it would give at least as much. The search ends when no steps are left, and then sets `steps.is_cut`."""
+    # (the certificates by their issuers as holders, a key or a key and the name that is defined, each with its subject as a holder)
     wanted, by_issuer = holder_of(key, [], keys), dict[Holder, list[tuple[Signed, Holder]]]()
     for each in certificates:
         terms = each.terms
@@ -234,6 +241,7 @@ def chains(entries: Iterable[Terms], certificates: list[Signed], keys: Keys, key
         holders, chain = waiting.popleft()
         if holders[-1] == wanted:
             yield chain
+        # (the subject of a certificate replaces its issuer, the key and the first name of a holder; further names stay behind it)
         for each, after in by_issuer.get(holders[-1][:2], []) if len(chain) < most and holders[-1] != wanted else []:
             steps.left -= len(after) + max(0, len(holders[-1]) - 2)
             leads_to = (*after, *holders[-1][2:]) if steps.left >= 0 else ()
@@ -243,7 +251,8 @@ def chains(entries: Iterable[Terms], certificates: list[Signed], keys: Keys, key
 
 
 def sequence_of(chain: Iterable[Signed], keys: Keys) -> Value:
-    """The sequence of a chain: the keys that its issuers name by hashes, and each certificate with its signature."""
+    """The sequence of a chain: the keys of those issuers that are named by hashes, and each certificate with its signature. `keys` has the keys; one
+    that is not known is left out."""
     shown: list[Value] = []
     items: list[Value] = []
     for each in chain:

@@ -16,6 +16,7 @@ from .structures import read_tag
 from .tag_words import MOST_PRODUCTS, contains, is_everything, remarks
 
 S_EXPRESSIONS, OTHER_KEYS = (".sexp", ".csexp", ".tsexp"), (".pub", ".pem", ".key")
+# The heads of all kinds of texts, which a misspelled head is compared with.
 HEADS = (*BY_HEAD, *ALONE, b"tag", b"request", b"private-key")
 # How many keys of a file are looked at.
 MOST_KEYS = 1000
@@ -91,6 +92,7 @@ def remarks_on_text(path: str, octets: bytes, moment: bytes) -> tuple[str, list[
     (wrong, text, places), node = read_text(octets)
     if wrong is None and node.head not in (*BY_HEAD, *ALONE):
         wrong = fault_of_tag(node)
+    # (the remarks as offsets and words: of a refusal only that on its first place)
     said = [*probable_mistakes(node, moment)] if wrong is None else places_of(wrong)[:1]
     begin = f"{refusal(wrong, places).removeprefix('refused ')}: " if wrong is not None else ""
     lines = Lines(text)
@@ -110,7 +112,7 @@ def fault_of_tag(node: Node) -> Wrong | None:
 
 
 def tag_of(node: Node) -> Node:
-    """The tag in `(tag ..)`, or a value that is given without this field."""
+    """The tag in a text `(tag ..)`. Any other text is taken as the tag itself."""
     return node.members[1] if node.head == b"tag" and node.members and len(node.members) == 2 else node
 
 
@@ -171,11 +173,13 @@ def needless_entries(node: Node) -> Iterator[tuple[int, str]]:
     for number, (_, terms) in enumerate(entries):
         by_subject.setdefault(canonical([keys.text_of(terms.principal)[1], *terms.names]), []).append(number)
     work_left, told = MOST_PRODUCTS, set[int]()
+    # (the indices, from 0, of two entries for one subject)
     for one, other in (pair for same in by_subject.values() for pair in itertools.permutations(same[:MOST_COMPARED], 2)):
         (node, narrow), (its_node, wide) = entries[one], entries[other]
         work_left -= (node.end - node.begin) * (its_node.end - its_node.begin)
         if work_left < 0:
             return
+        # (of two that give the same only the later one is needless)
         if one not in told and contains(wide, narrow, keys) and (other < one or not contains(narrow, wide, keys)):
             told.add(one)
             yield node.begin, f"entry {other + 1} gives all of entry {one + 1}: remove entry {one + 1}"

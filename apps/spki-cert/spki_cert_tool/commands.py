@@ -1,4 +1,5 @@
-"""The commands of `spki-cert`. Each is a function of the words that were given, and returns the exit status."""
+"""The commands of `spki-cert`. Each is a function of the words that were given, and returns the exit status. `given.WORD` is the value of the
+option or word WORD in `arguments`."""
 import argparse
 import base64
 import contextlib
@@ -27,6 +28,7 @@ from .sexp import Value, canonical, on_one_line
 from .showing import Labels, lines_of, rows_of, what_is
 from .structures import PRINCIPALS, read_subject, read_tag
 
+# The signals that end the program by `end_by_signal`.
 ENDING = (signal.SIGHUP, signal.SIGINT, signal.SIGQUIT, signal.SIGTERM)
 NOT_SHOWN = "only an access list, a certificate, a sequence or a case is shown; for a key there is `spki-cert key`"
 
@@ -35,7 +37,7 @@ NOT_SHOWN = "only an access list, a certificate, a sequence or a case is shown; 
 
 
 def key(given: argparse.Namespace) -> int:
-    """Writes the SPKI keys of files, or their hashes."""
+    """Writes the SPKI keys of files, or with --hash their hashes. Of a private key it writes the public one."""
     keys = [(path, key_at(path, given.number, True)) for path in given.files]
     rows = [{"file": path, "key": on_one_line(it), "hash": on_one_line(hash_of(it)), "algorithm": kind_of(it)} for path, it in keys]
     text = b"".join(text_of(hash_of(it) if given.hash else it) for _, it in keys)
@@ -44,7 +46,7 @@ def key(given: argparse.Namespace) -> int:
 
 
 def new_key(given: argparse.Namespace) -> int:
-    """Makes a key pair, as two files."""
+    """Makes a key pair as two files, and writes over none: `given.file` is the private key, and `given.file`.pub the public one."""
     path = given.file
     if path.endswith(".pub"):
         raise Refused(f"{path}: a private key is not called .pub; give {path[:-4]}, and the public key is {path}")
@@ -66,20 +68,23 @@ def new_key(given: argparse.Namespace) -> int:
 
 
 def sign(given: argparse.Namespace) -> int:
-    """Signs a certificate that gives a right or defines a name, if nothing is probably a mistake, and its issuer can give what it says."""
+    """Signs and writes a certificate that gives a right or, for the command `name`, defines a name. What is probably a mistake needs --yes, and what
+    the issuer cannot give by --chain needs --anyway: without them nothing is written, and UNCONFIRMED is returned."""
     from .asking import what_cannot_be_given
     fields, subject = fields_given(given), subject_of(given)
     chain = value_of(given.chain, "sequence") if given.chain else None
     signer = signer_at(given.by)
     certificate = certificate_of(signer.key, subject, fields, os.fsencode(given.name) if given.name is not None else None)
     terms = terms_of(certificate)
-    # (who says 30 days means whole days: a chain that ends some hours before gives them)
+    # (until when the chain must be valid: --days 30 means whole days, and a chain that ends some hours before gives them)
     needed = now(given.days - 1) if given.days is not None else terms.ends
     warnings = [*remark_on_mode(given.by), *warnings_of_certificate(terms, given.tag, needed, chain, [*map(request_of, given.tries)])]
     try:
         cannot = what_cannot_be_given(chain, certificate, signer.key, os.path.basename(given.by)) if chain is not None else []
     except Refused as why:
+        # (the library refuses the chain, or cannot be loaded: then --anyway is needed too)
         cannot = list(why.lines)
+    # (a list, so that both are called, and all warnings are told)
     if not all([confirm(given.anyway, "--anyway", cannot), confirm(given.yes, "--yes", warnings)]):
         return UNCONFIRMED
     write((given.output, text_of(signed_sequence(certificate, signer, chain))), force=given.force)
@@ -87,7 +92,8 @@ def sign(given: argparse.Namespace) -> int:
 
 
 def entry(given: argparse.Namespace) -> int:
-    """Writes an entry, or puts it at the end of an access list."""
+    """Writes an entry, adds it to an access list or a store, or with --remove removes the entries of --to from a list. A list in a file is locked
+    meanwhile."""
     if given.to is None:
         raise Refused("an entry needs --to, a key, a hash or a name")
     others = (given.tag, given.propagate or None, given.tries or None, given.begins, given.days, given.until, given.comment)
@@ -98,10 +104,12 @@ def entry(given: argparse.Namespace) -> int:
 
 
 def add(given: argparse.Namespace) -> int:
-    """Writes an entry for a subject, into an access list if there is one."""
+    """Writes an entry for the subject of --to: into the list of --acl, into the store of --store, or else alone. Returns UNCONFIRMED if it is
+    probably a mistake, and there is no --yes."""
     made: Value = [b"entry", subject_of(given), *fields_given(given)]
     is_there = given.acl == "-" or given.acl is not None and os.path.exists(given.acl)
     before = list_at(given.acl) if is_there else b"(acl)"
+    # (also without --acl: it raises Refused for an entry that a service would refuse)
     text = list_with(made, before)
     warnings = [*warnings_of(terms_of(made), given.tag, [*map(request_of, given.tries)]), *warnings_of_list(made, before)]
     if not confirm(given.yes, "--yes", warnings):
@@ -113,7 +121,8 @@ def add(given: argparse.Namespace) -> int:
 
 
 def add_to_store(text: bytes, settings: str) -> int:
-    """Has `spki-store`, from the folder beside that of this command or as it is installed, add an entry to the store at some settings of libpq."""
+    """Has `spki-store`, from the folder beside that of this command or as it is installed, add an entry to the store at some settings of libpq.
+    Returns its exit status, or FAILED if a signal ended it."""
     beside = os.path.join(os.path.dirname(os.path.realpath(__file__)), "..", "..", "spki-store", "spki-store")
     program = beside if os.path.exists(beside) else "spki-store"
     try:
@@ -124,7 +133,8 @@ def add_to_store(text: bytes, settings: str) -> int:
 
 
 def remove(given: argparse.Namespace) -> int:
-    """Removes the entries for a subject from an access list."""
+    """Removes the entries for the subject of --to from an access list. Returns NO if there are none. The list of a stream is written in any case,
+    since its reader waits for it, and that of a file only if it changes."""
     text, gone = list_without(subject_of(given), list_at(given.acl))
     if gone or given.acl == "-":
         write((given.acl, text), edits=True)
@@ -134,14 +144,15 @@ def remove(given: argparse.Namespace) -> int:
 
 
 def list_at(path: str) -> bytes:
-    """The text of an access list that is edited. It must be one that a service takes."""
+    """Reads the text of an access list that is edited. Raises Refused if it is no regular file or stream, or if a service would refuse it."""
     if path != "-" and os.path.exists(path) and not os.path.isfile(path):
         raise Refused(f"{path}: this is no regular file, and only such a list is edited; nothing was written")
     return text_at(path, "refused acl")[0]
 
 
 def confirm(is_given: bool, option: str, warnings: Iterable[str]) -> bool:
-    """Tells the warnings about something that is to be made. Returns whether to make it: there are no warnings, or the option is given."""
+    """Tells the warnings about something that is to be made. Returns whether to make it: there are no warnings, or the option that overrules them,
+    which is called `option`, is given."""
     said = list(warnings)
     nothing = [f"nothing was written; {option} makes it as it is"] if said and not is_given else []
     tell(*(f"spki-cert: {it}" for it in [*said, *nothing]))
@@ -149,7 +160,7 @@ def confirm(is_given: bool, option: str, warnings: Iterable[str]) -> bool:
 
 
 def fields_given(given: argparse.Namespace) -> list[Value]:
-    """The fields of the certificate or of the entry."""
+    """The fields that the options give a certificate or an entry: tag, validity, delegation and comment. Raises Refused for a right without --tag."""
     if given.tag is None and given.name is None:
         raise Refused("a right needs --tag")
     tag = node_of(os.fsencode(given.tag), "--tag", read_tag).value if given.tag is not None else None
@@ -157,11 +168,13 @@ def fields_given(given: argparse.Namespace) -> list[Value]:
 
 
 def subject_of(given: argparse.Namespace) -> Value:
-    """The subject that --to and --named say: a key, a hash, or a name."""
+    """The subject that --to and --named say: a key, a hash, or a name. Without --to it is a name of the issuer, which only a certificate has. Raises
+    Refused."""
     if given.to is None:
         if not given.named:
             raise Refused("a certificate needs --to, or --named for a name of the issuer")
         return [b"name", *map(os.fsencode, given.named)]
+    # (--to is an S-expression itself, or the name of a file with a key)
     is_itself = given.to.lstrip().startswith(("(", "{"))
     to = node_of(os.fsencode(given.to), "--to", read_subject).value if is_itself else principal_of(key_at(given.to, given.number))
     if headed(to, b"name") and given.named:
@@ -182,7 +195,7 @@ def request_of(words: list[str]) -> Value:
 
 
 def labels_of(given: argparse.Namespace, *paths: str) -> Labels:
-    """What keys are called: by the paths that are given, and by SPKI_LABELS."""
+    """The labels of keys, from the files and folders of --labels, of SPKI_LABELS, and of `paths`. The first label of a key stays."""
     labels = Labels()
     for path in (it for it in (*given.labels, os.environ.get("SPKI_LABELS", ""), *paths) if it):
         labels.add_path(path)
@@ -201,6 +214,7 @@ def show(given: argparse.Namespace) -> int:
         write((given.svg, svg_of(values[0][1], labels)), force=given.force)
     if given.json:
         return say(json.dumps([{"file": path, "shows": [*rows_of(value, moment, labels)]} for path, value in values], indent=1))
+    # (no words where the picture goes to standard output)
     for path, value in values if given.svg != "-" else []:
         lines = (line for row in rows_of(value, moment, labels) for line in lines_of(row))
         say(f"{path}: {what_is(value)}", *(f"  {line}" for line in lines))
@@ -208,7 +222,7 @@ def show(given: argparse.Namespace) -> int:
 
 
 def ask(given: argparse.Namespace) -> int:
-    """Decides a request, says why, and writes the files that are wanted of the decision."""
+    """Decides a request, or that of --case, says why, and writes the files that are wanted of the decision. Returns NO if it is not granted."""
     from .asking import Asked, Words, asked_of_case, best_answer, case_of
     if given.case:
         asked = asked_of_case(value_of(given.case, "case"), labels_of(given))
@@ -216,11 +230,14 @@ def ask(given: argparse.Namespace) -> int:
         raise Refused("the request is missing: `-- packages read`" if given.acl and given.key else "ask needs --acl and --key, or --case")
     else:
         key = key_at(given.key)
+        # (a folder of --cert may have public keys too, which give labels; a file of --cert is a sequence, and labels no key)
         labels = labels_of(given, *(path for path in [given.key, *filter(os.path.isdir, given.cert)] if path != "-"))
+        # (the last argument is `is_strict`: --open asks for the open policy, under which hashes by SHA-1 name keys)
         asked = Asked(value_of(given.acl, "acl"), key, request_of(given.words), given.at or now(), labels,
                       [value_of(path, "sequence") for path in sequences_below(given.cert)], not given.open)
     answer = best_answer(asked)
     lines = list(Words(asked, answer).lines())
+    # (the sequence that grants is neither empty nor one of those that were given, but put together from their certificates)
     if answer.entry is not None and answer.sequence not in [*asked.sequences, [b"sequence"]] and not given.sequence:
         lines.append("  these certificates are picked and put in order: --sequence FILE writes them for the service")
     parts = [(path, text_of(value)) for path, value in ((given.sequence, answer.sequence), (given.save, case_of(asked, answer.sequence))) if path]
@@ -236,7 +253,7 @@ def ask(given: argparse.Namespace) -> int:
 
 
 def sequences_below(paths: list[str]) -> Iterator[str]:
-    """The files that are given, and those of folders that are sequences."""
+    """The paths of the sequences: each file that is given itself, whatever it has, and the files in given folders that are headed by `sequence`."""
     from .checking import files_below
     for path, is_given in files_below(paths):
         with contextlib.suppress(Wrong):
@@ -245,9 +262,10 @@ def sequences_below(paths: list[str]) -> Iterator[str]:
 
 
 def check(given: argparse.Namespace) -> int:
-    """Says what is wrong in files."""
+    """Says what is wrong in files. Returns REFUSED if a service would refuse one of them, NO if there are other remarks, and else DONE."""
     from .checking import files_below, remarks_on
     moment = now()
+    # (for each file whether its own path is given, what the file is, or None if it is left out, and the remarks on it)
     found = [(path, is_given, *remarks_on(path, moment, is_given)) for path, is_given in files_below(given.paths)]
     kinds, remarks = [(path, kind) for path, is_given, kind, _ in found if is_given and kind], [it for *_, said in found for it in said]
     left_out = sum(kind is None for _, _, kind, _ in found)
@@ -305,7 +323,8 @@ def end_by_signal(number: int, frame: object) -> NoReturn:
 
 
 def run() -> NoReturn:
-    """The program: `main`, with an end by each signal, and nothing left to be written at its end. Warnings of libraries are not for its user."""
+    """The program: runs `main`, with an end by each signal of ENDING, and exits with its status. `os._exit` does it: all output is flushed when it is
+    written, so nothing is left to be written. Warnings of libraries are not shown."""
     warnings.simplefilter("ignore")
     for number in ENDING:
         if signal.getsignal(number) is not signal.SIG_IGN:

@@ -18,8 +18,10 @@ from .showing import Labels
 if TYPE_CHECKING:
     from spki import Reason
 
+# The letters of a line of text, by default and in the pictures of `spki-cert`.
 WIDTH, PICTURE_WIDTH = 36, 70
 RED, GREEN, BLACK = "red", "darkgreen", "black"
+# The causes of a no, as `explain` has them, in the words of the picture.
 MEANINGS = {
     "KeyNotShown": "the key of its issuer is not shown", "DigestDiffers": "its signature has another digest",
     "SignerDiffers": "it is signed by another key than its issuer's", "NotAccepted": "its signature is not accepted",
@@ -58,7 +60,7 @@ class Drawing:
         return textwrap.wrap(text, self.width, break_on_hyphens=False) or [""]
 
     def of(self, value: Value) -> bytes:
-        """Adds the shape of a subject, unless it is there. Returns its name."""
+        """Adds the shape of a subject, unless it is there. Returns the name of the shape, which is the same for a known key and its hashes."""
         principal, *names = members(value) if headed(value, b"name") else [value]
         identity = canonical([self.keys.text_of(principal)[1], *names])
         label = [f"{' '.join(on_one_line(name) for name in names)} of"] if names else []
@@ -105,7 +107,8 @@ class Drawing:
 
 
 def drawing_of_case(case: Value, reasons: list[Reason], reduced: Callable[[int], Value], labels: Labels | None = None, width: int = WIDTH) -> Drawing:
-    """The drawing of a case. `reasons` are the library's. `reduced` returns the right `(five ..)` that is left of an entry, by its number."""
+    """The drawing of a case, for the reason that goes furthest of the library's `reasons`. `reduced` returns the right `(five ..)` that is left of an
+    entry, by its number: it is called only if the chain joins to its end. Without entries the drawing is empty."""
     chosen = furthest(reasons)
     access_list, _, sequence, key = members(case)[:4]
     drawing = Drawing([members(key)[0], *keys_in(sequence)], labels, width)
@@ -121,8 +124,9 @@ def drawing_of_case(case: Value, reasons: list[Reason], reduced: Callable[[int],
 # ---- SVG
 
 
+# The class of CLASSES for a box with a colour.
 KINDS = {"blue": "own", "darkgreen": "good", "red": "bad"}
-# What a class of the pictures looks like, on light pages and on dark ones.
+# What an element or a class of the pictures looks like in CSS: on light pages, and on dark ones.
 CLASSES = {
     ".page": ("fill: #ffffff; stroke: #d0d7de", "fill: #0d1117; stroke: #30363d"),
     ".box": ("fill: #f6f8fa; stroke: #57606a", "fill: #161b22; stroke: #8b949e"),
@@ -181,6 +185,7 @@ def page(width: float, height: float, title: str, *parts: Iterable[str]) -> Iter
 def svg_of_drawing(drawing: Drawing, title: str, width: float = 620) -> Iterator[str]:
     """A picture as SVG: from top to bottom, each arrow with the boxes where it begins and ends. Where an arrow begins at the box before,
     that box is not drawn again."""
+    # (`y` is the lower edge of the last box, whose name is `last`)
     x, y, parts = 20, 20, list[str]()
     last: bytes | None = None
     for arrow, is_end in ((arrow, is_end) for arrow in drawing.arrows for is_end in (False, True)):

@@ -24,6 +24,7 @@ ENDED = re.compile(rb"([0-9a-f]{64})(?: # ([^\n]*))?")
 LAST = re.compile(rb"end (0|[1-9][0-9]*) ([0-9a-f]{64})")
 # A line as people write it: digits in capitals too, spaces, a comment right behind it.
 BY_HAND = re.compile(rb"[ \t]*([0-9A-Fa-f]{64})?[ \t]*(?:#([^\n]*))?")
+# A comment that begins with a date, as `add` writes it, and perhaps a reason behind it.
 DATED = re.compile(r"(\d{4}-\d\d-\d\d)(?: (.*))?")
 
 
@@ -37,12 +38,12 @@ def visible(text: str) -> str:
 
 
 def rows_of(lines: Iterable[bytes]) -> list[re.Match[bytes]]:
-    """The matches of the lines that have a digest."""
+    """The matches of ENDED for the lines that have a digest: group 1 is the digest, and group 2 the comment or None."""
     return [row for line in lines if (row := ENDED.fullmatch(line))]
 
 
 def digests_of(lines: Iterable[bytes]) -> set[str]:
-    """The digests of the file."""
+    """The digests in the lines of the file, in hexadecimal."""
     return {row[1].decode() for row in rows_of(lines)}
 
 
@@ -126,7 +127,8 @@ def meant_at(path: str, place: int | None) -> tuple[str, str]:
 
 
 def meant_by(given: argparse.Namespace) -> dict[str, str]:
-    """The digests of all certificates that the command line names, in its order, each with the first that it is called there."""
+    """The digests of all certificates that the command line names, in its order, by FILE or by --digest, each with what it is called. Of several
+    names for one certificate it is the first. Raises Refused."""
     for digest in given.digest:
         if not DIGITS.fullmatch(digest):
             raise Refused(f"--digest {digest}: a digest has 64 hexadecimal digits; `spki-cert show FILE` prints that of a certificate")
@@ -138,7 +140,7 @@ def meant_by(given: argparse.Namespace) -> dict[str, str]:
 
 
 def make(given: argparse.Namespace) -> int:
-    """Makes the file without digests if it is not there. Otherwise it must be whole."""
+    """Makes the file without digests if it is not there. Otherwise says how many it has. Raises Refused if it is not whole."""
     with locked(given.ended):
         if os.path.lexists(os.path.realpath(given.ended)):
             return say(f"{given.ended}: it is there already, and whole; digests: {len(rows_of(lines_in(given.ended)))}")
@@ -177,7 +179,7 @@ def undo(given: argparse.Namespace) -> int:
 
 
 def listed(row: re.Match[bytes]) -> str:
-    """What is printed of a digest: with its date and reason. A comment that begins with no date is all reason."""
+    """The line that is printed for a digest, a match of ENDED: with its date and reason. A comment that begins with no date is all reason."""
     comment = visible((row[2] or b"").decode(errors="backslashreplace"))
     date, reason = met.groups() if (met := DATED.fullmatch(comment)) else ("-", comment)
     return f"{row[1].decode()} {date} {reason or ''}".rstrip()
@@ -190,7 +192,8 @@ def list_all(given: argparse.Namespace) -> int:
 
 
 def adopt(given: argparse.Namespace) -> int:
-    """Takes the lines of a file that people have written or changed, and gives it its last line."""
+    """Takes the lines of a file that people have written or changed, and gives it its last line. If it has no digests, or another number of them than
+    its last line says, it is left as it is without --yes, and UNCONFIRMED is returned."""
     with locked(given.ended):
         lines, is_as_said = lines_by_hand(given.ended)
         rows = rows_of(lines)

@@ -27,6 +27,7 @@ DONE, NO, REFUSED, FAILED, UNCONFIRMED = 0, 1, 2, 3, 4
 DAY_ENDS = "_23:59:59"
 SECONDS_TO_LOCK = 30
 Signer = Union[FileSigner, AgentSigner]
+# What is escaped where a text is written to a stream: control characters but tab and line feed.
 CONTROLS = re.compile("[\0-\x08\x0b-\x1f\x7f-\x9f]")
 # How the file of ended certificates begins, and an S-expression.
 ENDED, HEAD = re.compile(rb"(?:#[^\n]*\n|\s)*(?:[0-9a-f]{64}\b|end \d)"), re.compile(rb"\s*\(\s*(?:\d+:)?([\w-]+)")
@@ -35,13 +36,14 @@ READ: set[tuple[int, int]] = set()
 INPUT = (-1, -1)
 # What names of files hardly have, and keys do.
 PASTED = re.compile(r"[A-Za-z0-9+/=]{40,}|[A-Za-z0-9+=]{24,}|\n.*", re.DOTALL)
+# A date in another notation: year, month, day, and perhaps hour, minute, second and zone.
 NEARLY_DATE = re.compile(r"(\d{4})[-/.](\d\d?)[-/.](\d\d?)(?:[T_ ]+(\d\d?):(\d\d)(?::(\d\d))?)?(Z|[+-]\d\d:?\d\d| ?UTC)?", re.ASCII)
-# What the terminal is set to, while a passphrase is asked for on it.
+# The terminal's descriptor and its settings before, while a passphrase is asked for on it: `end_by_signal` restores them. Otherwise empty.
 TERMINAL: list[tuple[int, list[Any]]] = []
 
 
 class Refused(Exception):
-    """What is wrong with a file or a word, in lines for people to read."""
+    """What is wrong with a file or a word, in lines for people to read. `status` is the exit status of the command that it ends."""
 
     status = REFUSED
 
@@ -60,7 +62,8 @@ class Failed(Refused):
 
 
 def write_at_once(stream: TextIO | None, text: str | bytes) -> None:
-    """Writes to a stream of the system, past its buffer. What its encoding or a terminal does not take is escaped. Raises OSError or ValueError."""
+    """Writes to a stream of the system and flushes it. In a text, control characters and what its encoding does not have are escaped. `bytes` are
+    written as they are. Raises OSError, also if the stream is closed (None), or ValueError."""
     if stream is None:
         raise OSError(errno.EBADF, "it is closed")
     if isinstance(text, str):
@@ -72,7 +75,7 @@ def write_at_once(stream: TextIO | None, text: str | bytes) -> None:
 
 
 def put(text: str | bytes) -> None:
-    """Writes to standard output, if there is something to write. Raises Failed."""
+    """Writes to standard output, if there is something to write. Raises Failed, without a line where the reader of a pipe has ended."""
     try:
         if text:
             write_at_once(sys.stdout, text)
@@ -82,7 +85,7 @@ def put(text: str | bytes) -> None:
 
 
 def tell(*lines: str) -> None:
-    """Writes to standard error, if that is possible."""
+    """Writes lines to standard error, if that is possible."""
     with contextlib.suppress(OSError, ValueError, AttributeError):
         write_at_once(sys.stderr, "".join(f"{line}\n" for line in lines))
 
@@ -100,7 +103,7 @@ def say(*lines: str, is_aside: bool = False) -> int:
 
 
 def identity(found: os.stat_result) -> tuple[int, int]:
-    """What a file is known by in READ."""
+    """What a file is known by in READ: its device and inode."""
     return found.st_dev, found.st_ino
 
 
@@ -158,7 +161,7 @@ def value_headed(path: str, heads: tuple[bytes, ...], wanted: str) -> Value:
 
 
 def node_of(octets: bytes, what: str, read: Reader) -> Node:
-    """The value of a text, which `read` must accept. Raises Refused, where the text is called `what`."""
+    """The value of a text, which `read` must accept, as the node with its places. Raises Refused, where the text is called `what`."""
     try:
         node = value_in(octets)
         read(node)
@@ -201,6 +204,7 @@ def signer_at(path: str) -> Signer:
     with octets_of_key(path) as octets:
         if is_private(octets):
             return FileSigner(read_private(octets, lambda: passphrase_for(path)))
+        # (a public key asks for no passphrase)
         return AgentSigner(read_public(octets, lambda: b""))
 
 
@@ -234,7 +238,8 @@ def now(days: int = 0) -> bytes:
 
 
 def moment_of(text: str, time_of_day: str = "_00:00:00") -> bytes:
-    """The moment of a word: a date with its time, or a day, to which the time is added. Raises Refused."""
+    """The moment of a word: a date with its time, or a day, to which `time_of_day` is added. Raises Refused, and says how it is written, where the
+    word is a date in another notation."""
     whole = os.fsencode(text if "_" in text else text + time_of_day)
     if MOMENT.fullmatch(whole) and is_in_calendar(whole):
         return whole
@@ -296,8 +301,9 @@ def instead(path: str, there: bytes, made: bytes) -> str:
 
 
 def write(*parts: tuple[str | None, bytes], mode: int = 0o644, force: bool = False, edits: bool = False) -> None:
-    """Writes files, each whole or not at all, after none of them is refused; what has no path goes to standard output. With `force` a file may
-    be there already, and with `edits` it may be one that was read: it keeps its mode and its owner."""
+    """Writes octets to files, each by its path, after none of them is refused; those with None or `-` as path go to standard output. Each file is
+    written whole or not at all. With `force` it may be there already, and with `edits` it may be one that was read: then it keeps its mode and its
+    owner. `mode` is that of a new file. Raises Refused or Failed."""
     targets = [(path, *target_of(path, octets, force, edits), octets) for path, octets in parts if path is not None and path != "-"]
     places = [place for _, place, _, _ in targets]
     if len(set(places)) < len(places):

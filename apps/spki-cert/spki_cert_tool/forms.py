@@ -26,10 +26,12 @@ PIECE = re.compile(rb"([^\"\\]+)|\\(?:([\"'?\\])|([abtnvfr])|([0-3][0-7]{2})|x([
 ESCAPED = {b"a": b"\a", b"b": b"\b", b"t": b"\t", b"n": b"\n", b"v": b"\v", b"f": b"\f", b"r": b"\r"}
 DIGITS = re.compile(rb"[0-9A-Fa-f]{16}")
 SYMBOLS = re.compile(rb"([A-Za-z0-9+/]*)(=*)")
+# Remarks on octets that begin no value.
 SAID = {b";": "`;` begins no comment: there are no comments, only the field `(comment \"..\")`",
         b",": "there are no commas: spaces are between members, and what contains each of several words is `(* set read write)`",
         b"'": "`'` is no quotation mark here: leave it out, or write `\"`",
         b"?": "there are no patterns: what begins so is `(* prefix /web/)`, and a string with `?` needs quotes"}
+# The kinds of faults of the form of a text. All others are of its value.
 FORM_FAULTS = ("TooLong", "TooDeep", "Short", "Bad", "Trailing")
 # A further place of a fault, with a remark.
 Place = tuple[int, str]
@@ -37,7 +39,8 @@ Place = tuple[int, str]
 
 @dataclass
 class Node:
-    """A value and its place: a string has a body, a list has members."""
+    """A value and its place in the text, from the offset `begin` to the offset `end` behind it. A string has `body`, and perhaps a display hint in
+    `hint`. A list has `members`. What a value does not have is None."""
 
     begin: int
     end: int = 0
@@ -47,7 +50,7 @@ class Node:
 
     @property
     def head(self) -> bytes | None:
-        """The word that a list is headed by, or None."""
+        """The word that a list begins with. None for a string, and for a list that begins with no plain string."""
         first = self.members[0] if self.members else None
         return first.body if first is not None and first.hint is None else None
 
@@ -70,7 +73,7 @@ class Node:
 
 
 class Wrong(Exception):
-    """Why a text is refused: the kind of fault, the offset of its place, a remark, and further places with remarks."""
+    """Why a text is refused: the kind of fault as `spki` names it, the offset of its place, a remark, and further places with remarks."""
 
     def __init__(self, kind: str, at: int, why: str, others: Iterable[Place] = (), shown_at: int | None = None) -> None:
         super().__init__(kind, at, why)
@@ -167,7 +170,7 @@ class Parser:
                      [(behind, "this follows the value"), begins], node.end - 1)
 
     def skip(self, at: int) -> int:
-        """The offset after whitespace, which canonical form does not have."""
+        """The offset after the whitespace at an offset. In canonical form it is the same offset, since there is none."""
         return at if self.is_canonical else spaces_end(self.text, at)
 
     def octet(self, at: int, begun: int | None = None) -> bytes:
@@ -238,7 +241,8 @@ class Parser:
         return self.of_length(at, length.end(), length[0])
 
     def of_length(self, begin: int, at: int, digits: bytes) -> tuple[bytes, int]:
-        """The octets of a string with a length, and the offset after it. It begins at `begin` with the digits of its length, which end at `at`."""
+        """The octets of a string with a length, and the offset after it. It begins at `begin` with the digits of its length, which end at `at`.
+        Behind them is a colon, or in advanced form the mark of a string as `marked` reads it. Raises Wrong."""
         octet = self.octet(at, begin)
         length = int(digits) if len(digits) < 10 else 10**9
         if octet == b":":

@@ -25,9 +25,11 @@ if TYPE_CHECKING:
 ED25519, RSA, P256, P384 = "ed25519", "rsa", "p256", "p384"
 KINDS = (ED25519, RSA, P256, P384)
 NEW_BITS = 3072
+# The octets of each of the two numbers of a signature by Ed25519 or P-256. Of a number of a private RSA key 2 * MOST_OCTETS octets are read.
 HALF, MOST_OCTETS = 32, 2049
 PRIVATE = (b"(private-key", b"(11:private-key")
 PEM = re.compile(rb"-----BEGIN ([A-Z0-9 ]+)-----")
+# A line of a public key of OpenSSH, also behind the options of authorized_keys: the key, and its comment.
 OPENSSH = re.compile(rb"^(?![ \t]*#)(?:.*?[ \t])?((?:ssh-|ecdsa-|sk-)[\w@.-]{1,64}[ \t]{1,64}AAAA[A-Za-z0-9+/=]+)[ \t]*([^\r\n]*)", re.MULTILINE)
 NEEDS_BCRYPT = "encrypted OpenSSH keys need python3-bcrypt (pip: bcrypt); or let ssh-agent sign by it"
 ENCRYPTED = "this is an encrypted private key"
@@ -36,7 +38,7 @@ Asking = Callable[[], bytes]
 
 
 class BadKey(Exception):
-    """What is said of a file that has no key that can be used."""
+    """There is no key that can be used, in a file or at ssh-agent. The text says why."""
 
 
 def digest_of(value: Value) -> bytes:
@@ -50,7 +52,7 @@ def hash_of(value: Value) -> Value:
 
 
 def principal_of(key: Value) -> Value:
-    """How certificates name a key: by itself, or one of RSA, which is long, by its hash."""
+    """The principal by which certificates name a key: the key itself, or for one of RSA, which is long, its hash."""
     is_long = isinstance(key, list) and isinstance(key[1], list) and key[1][0] == b"rsa"
     return hash_of(key) if is_long else key
 
@@ -77,7 +79,7 @@ def key_of(public: object) -> Value:
 
 
 def public_of(key: Value) -> Public | None:
-    """The public key of `cryptography` for a key in exactly the form of `key_of`. None for any other."""
+    """The public key of `cryptography` for an SPKI key in exactly the form of `key_of`. None for any other: services verify no signature by it."""
     from spki_verify import public_of as public_of_text
     return public_of_text(canonical(key))
 
@@ -107,7 +109,7 @@ def value_of_octets(kind: str, octets: bytes) -> Value:
 
 
 def value_of_numbers(r: int, s: int, octets: int = HALF) -> Value:
-    """The value `(sig-val ..)` of a signature of ECDSA, with so many octets for each number."""
+    """The value `(sig-val ..)` of a signature of ECDSA, whose numbers are `r` and `s`. Each is written in so many octets."""
     return [b"sig-val", [b"ecdsa", [b"r", r.to_bytes(octets, "big")], [b"s", s.to_bytes(octets, "big")]]]
 
 
@@ -140,7 +142,7 @@ def verifies(key: Value, message: bytes, value: Value) -> bool:
 
 
 def is_private(octets: bytes) -> bool:
-    """Whether the octets of a file have a private key."""
+    """Whether the octets of a file have a private key: PEM, OpenSSH, PuTTY or an S-expression."""
     is_pem = any(it.endswith(b"PRIVATE KEY") for it in PEM.findall(octets))
     return is_pem or octets.startswith(b"PuTTY-User-Key-File") or octets.lstrip().startswith(PRIVATE)
 
@@ -156,8 +158,8 @@ def is_text(octets: bytes) -> bool:
 
 
 def read_public(octets: bytes, asking: Asking, number: int | None = None) -> Value:
-    """The public key of the octets of a file: OpenSSH, PEM or S-expression, public or private. Of several it is the one with this number.
-    Raises BadKey or Wrong."""
+    """The public key of the octets of a file: OpenSSH, PEM or S-expression, public or private. Of several it is the one with this number, from 1,
+    which must be given then. `asking` gives the passphrase of a private key in PEM that is encrypted. Raises BadKey or Wrong."""
     if is_private(octets):
         octets = public_part(octets) or openssh_line(read_private(octets, asking).public_key())
     found = pieces_of(octets)
@@ -182,7 +184,7 @@ def pieces_of(octets: bytes) -> list[bytes]:
 
 
 def no_passphrase() -> bytes:
-    """For callers that only look at keys: raises BadKey instead of asking for a passphrase."""
+    """An `asking` for callers that only look at keys: raises BadKey instead of asking for a passphrase."""
     raise BadKey(ENCRYPTED)
 
 
@@ -216,7 +218,8 @@ def public_part(octets: bytes) -> bytes | None:
 
 
 def split_string(octets: bytes) -> tuple[bytes, bytes]:
-    """The first string of some octets, which SSH writes behind its length, and the octets after it. Raises BadKey."""
+    """The first string of some octets, which SSH writes behind its length, and the octets after it. Raises BadKey if it is cut off. Its text is for
+    an answer of ssh-agent; `public_part`, which reads a file, says something else instead."""
     end = 4 + int.from_bytes(octets[:4], "big")
     if len(octets) < max(end, 4):
         raise BadKey("ssh-agent sent an answer that is not whole")
@@ -224,7 +227,7 @@ def split_string(octets: bytes) -> tuple[bytes, bytes]:
 
 
 def key_of_text(octets: bytes) -> Value:
-    """The key of an S-expression. Raises Wrong if it is none."""
+    """The SPKI key that a text is, in any of the three forms. Raises Wrong if it is none."""
     from .structures import read_key
     node = value_in(octets)
     read_key(node)
@@ -232,7 +235,8 @@ def key_of_text(octets: bytes) -> Value:
 
 
 def read_private(octets: bytes, asking: Asking) -> Private:
-    """The private key of the octets of a file. `asking` gives the passphrase if it is encrypted. Raises BadKey."""
+    """The private key of the octets of a file: PEM, OpenSSH or S-expression. `asking` gives the passphrase if it is encrypted. Raises BadKey, also
+    for a key of a kind or length that is not used, or Wrong for an S-expression that cannot be read."""
     from cryptography.exceptions import UnsupportedAlgorithm
     from cryptography.hazmat.primitives.serialization import load_pem_private_key
     from cryptography.hazmat.primitives.serialization.ssh import load_ssh_private_key
@@ -285,7 +289,8 @@ def new_private(kind: str) -> Private:
 
 
 def file_of(private: Private, passphrase: bytes, is_pem: bool = False) -> bytes:
-    """The file of a private key, as OpenSSH has it or in PEM (PKCS#8). It is encrypted unless the passphrase is empty."""
+    """The octets of the file of a private key, as OpenSSH has it or in PEM (PKCS#8). It is encrypted unless the passphrase is empty. Raises BadKey
+    where OpenSSH's form cannot be encrypted here."""
     from cryptography.exceptions import UnsupportedAlgorithm
     from cryptography.hazmat.primitives.serialization import BestAvailableEncryption, Encoding, NoEncryption, PrivateFormat
     encryption = BestAvailableEncryption(passphrase) if passphrase else NoEncryption()

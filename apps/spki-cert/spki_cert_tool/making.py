@@ -18,7 +18,7 @@ def certificate_of(key: Value, subject: Value, fields: list[Value], name: bytes 
 
 
 def fields_of(tag: Value | None, begins: bytes | None, ends: bytes | None, delegates: bool = False, comment: str = "") -> list[Value]:
-    """The fields that certificates and entries have alike. What is not given has none."""
+    """The fields that certificates and entries have alike. What is None, or an empty comment, gets no field."""
     fields: list[Value] = [[b"propagate"]] if delegates else []
     given = (b"tag", tag), (b"not-before", begins), (b"not-after", ends), (b"comment", os.fsencode(comment) or None)
     return fields + [[head, value] for head, value in given if value is not None]
@@ -55,12 +55,14 @@ def sequence_with(chain: Value | None, key: Value, certificate: Value, value: Va
 
 
 def list_without(subject: Value, before: bytes) -> tuple[bytes, list[tuple[int, str]]]:
-    """The text of the access list `before` without the entries for a subject, and their numbers and tags. What is around them stays as it is."""
+    """The text of the access list `before` without the entries for a subject, and the numbers, from 1, and tags of these. What is around them stays
+    as it is, unless the list is in braces. A key and a hash of it are one subject."""
     if before.lstrip().startswith(b"{"):
         before = text_of(value_in(before).value)
     wanted, entries = terms_of([b"entry", subject]), [it for it in value_in(before).members or [] if it.head == b"entry"]
     terms = [terms_of(it.value) for it in entries]
     keys = Keys(it.principal for it in (wanted, *terms))
+    # (the indices, from 0, of the entries that go; `ends` has 0 and the offset behind each of them)
     gone = [at for at, it in enumerate(terms) if it.names == wanted.names and keys.are_one(it.principal, wanted.principal)]
     ends = [0, *(entries[at].end for at in gone)]
     # (the text before each entry that goes; what is after the last one follows)
@@ -70,7 +72,7 @@ def list_without(subject: Value, before: bytes) -> tuple[bytes, list[tuple[int, 
 
 
 def refuse_as_service(what: str, text: bytes) -> None:
-    """Raises Refused if a service would refuse a text, which is an `acl` or a `sequence`."""
+    """Raises Refused if a service would refuse a text that was made here. `what` says what it is: `acl` or `sequence`."""
     found = read_text(text, f"refused {what}")[0]
     if found[0] is not None:
         raise Refused("a service would refuse this:", *lines_of_fault(f"the {what}", found))
@@ -80,8 +82,9 @@ def refuse_as_service(what: str, text: bytes) -> None:
 
 
 def warnings_of_certificate(terms: Terms, tag_text: str, needed: bytes | None, chain: Value | None, tries: list[Value]) -> Iterator[str]:
-    """What is probably a mistake in a certificate. It is made only if that is confirmed. The chain must not end before the moment `needed`, or not
-    end at all if it is None. `tag_text` is the tag as it was written, and `tries` are requests that the tag is to contain."""
+    """What is probably a mistake in a certificate. It is made only if that is confirmed. The chain, the sequence by which its issuer has the right,
+    must not end before the moment `needed`, or not end at all if that is None. `tag_text` is the tag as it was written, and `tries` are requests
+    that the tag is to contain."""
     if terms.ends is None:
         yield "it has no end: give --days or --until; otherwise it counts until a service ends it by `spki-cert end`"
     if terms.name is None and not terms.names and Keys([terms.issuer or b"", terms.principal]).are_one(terms.issuer, terms.principal):
@@ -135,5 +138,5 @@ def tries_lacked(tag: Value | None, tries: list[Value]) -> Iterator[str]:
 
 
 def text_of(value: Value) -> bytes:
-    """A text of a value for people to read."""
+    """A value in advanced form with line breaks, for people to read, as a file has it."""
     return laid_out(value).encode() + b"\n"

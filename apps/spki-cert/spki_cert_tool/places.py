@@ -12,7 +12,9 @@ from .sexp import canonical
 from .structures import (Members, Reader, but_is, read_certificate, read_date, read_entry, read_hash, read_item, read_key, read_request, read_row,
                          read_signature, read_tag, read_version)
 
+# How many octets are shown on each side of a place.
 WIDTH = 60
+# The heads of the parts of a case, in their order.
 PARTS = (b"acl", b"accepted", b"sequence", b"key", b"request", b"at")
 # What is wrong with a text, or None; the canonical text in its braces, or else itself, which has the place of the fault; and, if there are braces,
 # the offset in the text of each octet in them.
@@ -53,6 +55,7 @@ SECRET = re.compile(rb"(?i)private.?key|K(?:DExOn|H)ByaXZhdGUta2V5|AGE-SECRET-KE
 # What is in no word of a command but a private key itself. A file may be called `private-key`.
 PRIVATE = re.compile(rb"BEGIN [A-Z0-9 ]{0,40}PRIVATE KEY|private-key\s*\((?:\d:)?(?:ecc|rsa|dsa|ec?dsa|eddsa|elg)\b|PuTTY-User-Key-File|PrivateKey ="
                      rb"|AGE-SECRET-KEY-1|b3BlbnNzaC1rZXktdjE|K(?:DExOn|H)ByaXZhdGUta2V5")
+# A line that is meant as a comment, and how a text begins that may follow other words.
 COMMENT = rb"[ \t]*(?:#[^#()]{0,40}[G-Zg-z][^#]*|//.*|--.*)\Z"
 BEGINS = rb"^\((?:acl|case|cert|entry|public-key|sequence)[\s()]"
 FLAGS = re.DOTALL | re.MULTILINE
@@ -74,7 +77,8 @@ def has_private_key(word: bytes) -> bool:
 
 
 def name_foreign(text: bytes, wrong: Wrong) -> None:
-    """Changes the remark and the place of a fault that lies in something known that is no S-expression, such as a key of OpenSSH or a comment."""
+    """Changes the remark and the place shown of the fault `wrong`, if it lies in something known that is no S-expression: a key of OpenSSH, a
+    comment, or words before an S-expression. Otherwise leaves it as it is."""
     for pattern, why in [*FOREIGN, *PASTED]:
         for found in re.finditer(pattern, text, FLAGS):
             if found.start() <= wrong.at <= found.end():
@@ -126,6 +130,7 @@ def read_list(node: Node) -> None:
 def read_sequence(node: Node) -> None:
     """Reads a sequence. Raises Wrong for a wrong item, or if a certificate has no signature behind it, with at most operations `(do ..)` between."""
     read_part("sequence 0", partial(Members, head=b"sequence", what="the sequence"), node)
+    # (the number, from 1, and the node of a certificate whose signature has not come yet)
     waits: tuple[int, Node] | None = None
     items = node.rest
     for number, item in enumerate([*items, None], 1):
@@ -164,6 +169,7 @@ def read_outline(node: Node) -> None:
         if part.head != head:
             order = ", ".join(it.decode() for it in PARTS)
             raise Wrong("case Shape", part.begin, f"this part must be {but_is(part, head)}; the order is {order}")
+        # (key, request and at, the last three of PARTS, have one member)
         if place > 2 and len(part.rest) != 1:
             raise Wrong("case Shape", part.begin, f"`({head.decode()} ..)` has one member, and this has {len(part.rest)}")
     for place, member in enumerate(parts[len(PARTS):]):
@@ -205,8 +211,8 @@ NAMED = ("rows", "sequence", "key", "request", "at")
 
 
 def kind_of(node: Node, word: str) -> str | None:
-    """The kind in READERS as which a text is read: by its head, or by the first word of a refusal if no text of this head is refused by it. None if
-    neither says it."""
+    """The kind in READERS as which a text is read, by its head, or by `word`, which is the word after `refused` in a refusal, or empty. The head says
+    it unless `word` belongs to texts of another kind only. None if neither says it."""
     kind = BY_HEAD.get(node.head or b"")
     if kind and (word in (kind, *WORDS.get(kind, ())) or word not in READERS and word not in BY_WORD):
         return kind
@@ -214,8 +220,8 @@ def kind_of(node: Node, word: str) -> str | None:
 
 
 def read_as(node: Node, word: str, fault: str) -> None:
-    """Reads a value by the reader of its kind, and tests how long its canonical form is. Raises Wrong. `word` and `fault` are the words of a refusal
-    that was given, or empty: a fault of the form says nothing of the value."""
+    """Reads a value by the reader of its kind, and tests how long its canonical form is. Raises Wrong. `word` and `fault` are those of the refusal
+    `refused WORD FAULT` that is to be explained, or empty. If FAULT is one of the form other than TooLong, nothing is read."""
     if fault in FORM_FAULTS[1:]:
         return
     kind, length = kind_of(node, word), len(canonical(node.value))
@@ -228,8 +234,9 @@ def read_as(node: Node, word: str, fault: str) -> None:
 
 
 def read_text(text: bytes, given: str = "") -> tuple[Found, Node]:
-    """What is wrong with a text, and its value, which is an empty list where the text has no form. `given` is empty or a refusal, such as
-    `refused sequence 3 Shape`, which names the part that the text is, and a fault."""
+    """What is wrong with a text, and its value, which is an empty list where the text has no form. `given` is empty or a refusal that
+    is to be explained, as `refused sequence 3 Shape` or `refused key Short`: its second word says as what the text is read."""
+    # (`inner` is the text, or what is in its braces, and then `places` are the offsets of these octets in the text)
     word, fault, *_ = *given.split()[1:3], "", ""
     node, inner, places = Node(0, members=[]), text, None
     try:
@@ -256,6 +263,7 @@ def read_text(text: bytes, given: str = "") -> tuple[Found, Node]:
 
 def value_in(text: bytes) -> Node:
     """The value of a text in any of the three forms, with its places. Raises Wrong with a place in the text."""
+    # (as if a fault of the form were to be explained, so only the form is read)
     (wrong, _, places), node = read_text(text, "refused form Trailing")
     if wrong is None:
         return node
@@ -296,8 +304,8 @@ def place_shown(text: bytes, places: list[int] | None, at: int) -> tuple[str, st
 
 
 def places_of(wrong: Wrong) -> list[Place]:
-    """The places of a fault with their remarks, each place once. Of several remarks on a further place the last one is kept, which
-    has the number of the item."""
+    """The places of a fault with their remarks, each place once, and that which is shown first in front. Of several remarks on a further place the
+    last one is kept, which has the number of the item."""
     first = wrong.at if wrong.shown_at is None else wrong.shown_at
     others = {at: why for at, why in wrong.others if at != first}
     return [(first, wrong.why), *others.items()]

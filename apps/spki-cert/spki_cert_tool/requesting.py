@@ -10,6 +10,7 @@ import subprocess
 from .files import Refused, octets_of, put, remark_on_mode, signer_at, tell, value_of
 from .sexp import canonical
 
+# The exit status for curl ended by a signal is BY_SIGNAL and the number of the signal, as a shell has it.
 DONE, BY_SIGNAL = 0, 128
 METHOD = re.compile(r"[A-Z]{1,32}")
 ADDRESS = re.compile(r"https?://[^/?#@\s]+(?:[/?][!\"$-~]*)?")

@@ -11,7 +11,9 @@ from .forms import Wrong
 from .keys import OPENSSH, BadKey, digest_of, hash_of, is_private, kind_of, no_passphrase, read_public
 from .sexp import Value, on_one_line
 
+# The most letters of a key that is written as it is, and how many hexadecimal digits of its hash stand for a longer one.
 SHORT_KEY, SHORT_DIGITS = 40, 8
+# What is said of a signature that is not valid, by the word of `explain`.
 FAULTS = {"KeyNotShown": "the key of its issuer is not here, so the signature is not tested", "DigestDiffers": "its signature has another digest",
           "SignerDiffers": "signed by another key than its issuer's", "NotAccepted": "the signature is not valid"}
 KINDS = {b"cert": "a certificate", b"case": "a case", b"intersect": "a question of two tags", b"accepted": "rows of valid signatures",
@@ -21,7 +23,7 @@ Row = dict[str, object]
 
 
 class Labels:
-    """Keys with their labels."""
+    """What keys are called: `labels` by the SHA-256 digests of the keys. `keys` has also those without a label, so that their hashes are known."""
 
     def __init__(self) -> None:
         self.keys = Keys()
@@ -44,7 +46,7 @@ class Labels:
                     self.add(read_public(line, no_passphrase), comment.decode(errors="replace").strip() or stem)
 
     def of(self, principal: Value | None) -> str:
-        """What a principal is called."""
+        """What a principal is called: its label, else the text of a short key, or digits of the hash of a long one. None is the issuer of entries."""
         if principal is None:
             return "the list"
         is_known, digest = self.keys.named(principal) is not None, self.keys.text_of(principal)[1]
@@ -65,7 +67,8 @@ class Labels:
 
 
 def row_of_terms(kind: str, number: int | None, terms: Terms, moment: bytes, labels: Labels) -> Row:
-    """What an entry or a certificate says, as a row. `kind` is `entry` or `certificate`."""
+    """What an entry or a certificate says, as a row. `kind` is `entry` or `certificate`, and `number` is that of the entry or item, or None for a
+    certificate that is alone."""
     return {"kind": kind, "number": number, "issuer": labels.of(terms.issuer),
             "name": terms.name.decode(errors="replace") if terms.name is not None else None,
             "subject": labels.of_subject(terms.subject), "tag": on_one_line(terms.tag) if terms.tag is not None else None,
@@ -74,7 +77,7 @@ def row_of_terms(kind: str, number: int | None, terms: Terms, moment: bytes, lab
 
 
 def rows_of(value: Value, moment: bytes, labels: Labels) -> Iterator[Row]:
-    """The rows of a list, a certificate, a sequence or a case."""
+    """The rows of a list, a certificate, a sequence or a case: one for each entry, certificate and key, and for a case also its question."""
     if headed(value, b"cert"):
         yield row_of_terms("certificate", None, terms_of(value), moment, labels)
     elif headed(value, b"acl"):
@@ -119,7 +122,7 @@ def lines_of(row: Row) -> Iterator[str]:
 
 
 def what_is(value: Value) -> str:
-    """What a value is, in words."""
+    """What kind of text a value is, in words, by its head."""
     if headed(value, b"acl"):
         return f"an access list, entries: {len(entries_of(value))}"
     if headed(value, b"sequence"):

@@ -6,6 +6,7 @@ from collections.abc import Callable
 from .forms import MOST_NODES, Node, Wrong, meant, shape, shown
 
 MOMENT = re.compile(rb"\d{4}-(0[1-9]|1[0-2])-(0[1-9]|[12]\d|3[01])_([01]\d|2[0-3]):[0-5]\d:([0-5]\d|60)")
+# How many octets a digest has, by its algorithm.
 DIGESTS = {b"sha1": 20, b"sha256": 32, b"sha512": 64}
 PRINCIPALS = (b"public-key", b"hash")
 STARS, ORDERINGS = (b"set", b"prefix", b"range"), (b"alpha", b"time", b"date")
@@ -14,7 +15,7 @@ ENTRY_FIELDS = (*LIMITS, b"valid", b"tag", b"propagate", b"comment")
 CERTIFICATE_FIELDS = (*ENTRY_FIELDS, b"issuer", b"subject", b"version", b"display", b"issuer-info", b"subject-info")
 # Reads a value, and raises Wrong where a service would refuse it: so do all functions `read_..`. Some return what others need of the value.
 Reader = Callable[[Node], object]
-# What each field says, by its head, with the list of the field.
+# The fields that were read, by their heads: for each its node, and what its reader returned.
 Said = dict[bytes, tuple[Node, object]]
 
 
@@ -28,7 +29,8 @@ def but_is(node: Node, *heads: bytes) -> str:
 
 
 class Members:
-    """The members of a list after its head, which are read from the left. Raises Wrong for another head; `what` is what must have this head."""
+    """The members of a list after its head. `left` has those that are not read yet, and `next` takes the first. Raises Wrong for another head; `what`
+    is what must have this head, for the remark."""
 
     def __init__(self, node: Node, head: bytes, what: str) -> None:
         if node.head != head:
@@ -49,8 +51,8 @@ class Members:
 
 
 def list_of(head: bytes | None, what: str, *readers: tuple[str, Reader]) -> Reader:
-    """The reader of a list with this head, or any head for None, and exactly these members: each by what it is called, and its reader. It returns
-    what the last of these readers returns."""
+    """Returns a reader of lists with this head, or any head for None, and exactly these members: each by what it is called, and its reader. The list
+    is called `what` in a remark. The reader returns what that of the last member returns, and None without members."""
     def reader(node: Node) -> object:
         members, said = Members(node, head or node.head or b"", what), None
         for name, read in readers:
@@ -161,6 +163,7 @@ def field_of(read: Reader) -> Reader:
 
 
 read_version = list_of(b"version", "a version", ("the version's string", read_version_number))
+# The reader of each field by its head. (`read_tag` and `read_fields` are defined below.) A field that is not here is not read.
 FIELDS: dict[bytes, Reader] = {
     b"not-before": field_of(read_date), b"not-after": field_of(read_date), b"tag": field_of(lambda node: read_tag(node)),
     b"issuer": field_of(read_issuer), b"subject": field_of(read_subject), b"version": read_version,
@@ -168,7 +171,7 @@ FIELDS: dict[bytes, Reader] = {
 
 
 def remark_on_no_field(node: Node, allowed: tuple[bytes, ...]) -> str:
-    """The remark on a value that is no field here."""
+    """The remark on a value that is no field where only the fields with the heads `allowed` may be."""
     if node.head is not None:
         return f"`{shown(node.head)}` is no field here{meant(node.head, allowed)}"
     word = shown(node.body or b"") if node.body in allowed else "tag"

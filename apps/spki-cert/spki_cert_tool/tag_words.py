@@ -11,13 +11,14 @@ from .structures import MOMENT, STARS
 TIME = re.compile(rb"([01]\d|2[0-3]):[0-5]\d:([0-5]\d|60)")
 FORMS = {b"time": TIME, b"date": MOMENT}
 COMPARED = {b"g": operator.gt, b"ge": operator.ge, b"l": operator.lt, b"le": operator.le}
+# Words that are hardly meant as a list one after the other, but as a set.
 ACTIONS = {b"read", b"write", b"get", b"put", b"post", b"delete", b"list", b"create", b"update", b"execute", b"admin", b"push", b"pull"}
-# The octets of tags, times those of others, that are compared at most.
+# The work of comparing tags is the octets of one times the octets of the other. So much is done at most.
 MOST_PRODUCTS = 50_000_000
 
 
 def holds(tag: Value, request: Value) -> bool:
-    """Whether a tag contains a request."""
+    """Whether a tag contains a request. The tag must be one that `read_tag` accepts."""
     if tag == [b"*"]:
         return True
     if headed(tag, b"*"):
@@ -33,7 +34,8 @@ def holds(tag: Value, request: Value) -> bool:
 
 
 def lacks(tag: Value, request: Value, place: str = "the request") -> str | None:
-    """Why a tag does not contain a request, which is called `place`: the first member that differs. None if it contains it."""
+    """Why a tag does not contain a request: the first member that differs. None if it contains it. `place` is what the request is called in the
+    words, and for a member of it as "member 2 of the request"."""
     if holds(tag, request):
         return None
     asked = in_short(request)
@@ -73,6 +75,7 @@ def covers(wide: Value, narrow: Value) -> bool:
     if headed(narrow, b"*") and members(narrow)[:1] == [b"set"]:
         return all(covers(wide, it) for it in members(narrow)[1:])
     if not headed(wide, b"*"):
+        # (`members` leaves out the head, so one is put in front)
         are_lists = isinstance(wide, list) and isinstance(narrow, list) and len(narrow) >= len(wide)
         return are_lists and not headed(narrow, b"*") and all(map(covers, members([b"", *wide]), members([b"", *narrow])))
     if members(wide)[0] == b"set":
@@ -83,7 +86,8 @@ def covers(wide: Value, narrow: Value) -> bool:
 
 
 def contains(wide: Terms, narrow: Terms, keys: Keys) -> bool:
-    """Whether the entry `wide` gives all that `narrow` gives."""
+    """Whether the entry `wide` gives all that the entry `narrow` gives. As by `covers`, it may be False for ranges although
+    one contains the other."""
     is_for = wide.names == narrow.names and keys.are_one(wide.principal, narrow.principal) and wide.delegates >= narrow.delegates
     is_as_long = (wide.begins or b"") <= (narrow.begins or b"") and (wide.ends or b"~") >= (narrow.ends or b"~")
     return is_for and is_as_long and covers(wide.tag or b"", narrow.tag or b"")
@@ -171,5 +175,5 @@ def remarks_on_range(node: Node, ordering: bytes, limits: list[bytes]) -> Iterat
 
 
 def is_everything(tag: Value) -> bool:
-    """Whether a tag is `(*)`, also in a set."""
+    """Whether a tag is `(*)`, or a set with such a member."""
     return tag == [b"*"] or headed(tag, b"*") and members(tag)[:1] == [b"set"] and any(map(is_everything, members(tag)[1:]))

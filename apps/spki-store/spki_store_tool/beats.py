@@ -18,6 +18,7 @@ class Beats:
 
     def __init__(self, store: Store) -> None:
         self.store, self.hosts = store, store.each_host()
+        # (the connections that are being made, by the settings of their hosts)
         self.opening: dict[str, Future[psycopg.Connection[Any]]] = {}
         self.pool = ThreadPoolExecutor(len(self.hosts))
 
@@ -47,6 +48,7 @@ class Beats:
         (self.store.at, self.store.connection), *others = found.items()
         for _, connection in others:
             connection.close()
+        # (those that are still being made are not used when they come)
         for late in self.opening.values():
             late.add_done_callback(close_late)
 

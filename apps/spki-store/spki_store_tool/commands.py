@@ -22,6 +22,7 @@ exit status: 0 done, 1 something differs or is wrong, 2 a word, a text or a chan
 DIGEST = re.compile(r"[0-9a-f]{64}\Z")
 
 
+# Writes a line to standard output.
 def put(line: str) -> None:
     print(line)
 
@@ -37,7 +38,7 @@ def init(store: Store, given: argparse.Namespace) -> int:
 
 
 def import_(store: Store, given: argparse.Namespace) -> int:
-    """Adds the entries of a list, or goes on with an import that was stopped."""
+    """Adds the entries of a list, or goes on with an import that was stopped. With --again it begins anew, also after a whole import."""
     if given.again:
         forget(store, given.file)
     added, before = import_list(store, given.file, sys.stderr.isatty() or given.progress)
@@ -67,7 +68,7 @@ def remove(store: Store, given: argparse.Namespace) -> int:
 
 
 def end(store: Store, given: argparse.Namespace) -> int:
-    """Ends certificates by their digests."""
+    """Ends certificates by their SHA-256 digests, and says how many had not ended before. Raises Wrong before any is ended if a digest is none."""
     if wrong := [digest for digest in given.digests if not DIGEST.match(digest)]:
         raise Wrong(f"{wrong[0]!r} is no digest of 64 hexadecimal digits in small letters")
     put(f"certificates ended: {sum(store.end(bytes.fromhex(digest), given.remark) for digest in given.digests)}")
@@ -75,7 +76,8 @@ def end(store: Store, given: argparse.Namespace) -> int:
 
 
 def check(store: Store, given: argparse.Namespace) -> int:
-    """Says which rows are no entries, and which have another principal than their texts."""
+    """Says which rows are no entries, and which have another principal than their texts. The status is FOUND if there is one. The texts are tested
+    together, and one by one only where some of them are no entries."""
     count, wrong = 0, 0
     for page in batches(((row, len(row.text)) for row in store.all()), MOST_AT_ONCE):
         count += len(page)
@@ -102,7 +104,7 @@ def log(store: Store, given: argparse.Namespace) -> int:
 
 
 def diff(store: Store, given: argparse.Namespace) -> int:
-    """Writes the entries that only the store (-) or only the list (+) has."""
+    """Writes the entries that only the store (-) or only the list (+) has. The status is FOUND if there are some."""
     count = 0
     for row, text in differences(store, given.file):
         count += 1
@@ -147,6 +149,7 @@ def parser_of_commands() -> argparse.ArgumentParser:
     parser.add_argument("--schema", default="spki", help="the schema of the store, by default spki")
     commands = parser.add_subparsers(metavar="COMMAND", required=True)
 
+    # (adds a command: its name, its function, and what the help says of it)
     def command(name: str, does: Callable[[Store, argparse.Namespace], int], about: str) -> argparse.ArgumentParser:
         made = commands.add_parser(name, help=about, description=about)
         made.set_defaults(does=does)
@@ -194,5 +197,6 @@ def main(words: Sequence[str] | None = None) -> int:
         return FAILED
 
 
+# The program.
 def run() -> None:
     sys.exit(main())

@@ -62,7 +62,7 @@ def value_of(connection: PGconn, text: bytes, seconds: float) -> bytes:
 
 @dataclass(frozen=True)
 class Row:
-    """An entry of the store."""
+    """An entry of the store. `principal` is the digest by which it is found, and `text` the entry in canonical form."""
 
     number: int
     principal: bytes
@@ -79,7 +79,7 @@ class Store:
         self.connect()
 
     def each_host(self) -> list[str]:
-        """The settings for each host alone, in their order."""
+        """The settings of libpq for each host of `settings` alone, in their order. What they do not say of PATIENCE is added."""
         given = {**PATIENCE, **conninfo_to_dict(self.settings)}
         hosts, ports = (str(given.get(each, "")).split(",") for each in ("host", "port"))
         return [make_conninfo(**{**given, "host": host, "port": ports[place % len(ports)]}) for place, host in enumerate(hosts)]

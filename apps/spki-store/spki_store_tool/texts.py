@@ -24,6 +24,7 @@ class Wrong(Exception):
 
 def end_of(text: mmap.mmap | bytes, at: int) -> int:
     """The offset behind the list in canonical form that begins at an offset. Raises Wrong if there is none."""
+    # (how many lists are open; a string is passed by its length)
     depth = 0
     while at < len(text):
         octet = text[at]
@@ -129,6 +130,7 @@ def fault_of_one(text: bytes) -> str | None:
 def principal_of(text: bytes) -> bytes:
     """What an entry in canonical form is found by: the digest of its hash, or the SHA-256 digest of its key. Raises Wrong."""
     import spki
+    # (behind `(5:entry`, and for a name behind `(4:name`)
     at = 15 if text[8:15] == b"(4:name" else 8
     principal = text[at:end_of(text, at)]
     if spki.string_at(principal, 0) not in (b"public-key", b"hash"):

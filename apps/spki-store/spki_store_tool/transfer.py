@@ -46,6 +46,7 @@ def import_list(store: Store, path: str, is_shown: bool) -> tuple[int, int]:
     how far the import is are one transaction: nothing is added twice. `is_shown` says whether to show the progress."""
     with open_list(path) as text:
         digest, octets, before = digest_of(text), 0, 0
+        # (at most one row: how far an import of this file is)
         for octets, before, is_done in store.rows("SELECT octets, entries, is_done FROM {imports} WHERE file = %s", digest):
             if is_done:
                 raise Wrong(f"{path}: this list was imported before, {before} entries: `spki-store import --again` adds them once more")
@@ -66,13 +67,13 @@ def import_list(store: Store, path: str, is_shown: bool) -> tuple[int, int]:
 
 
 def note(store: Store, digest: bytes, octets: int, entries: int, is_done: bool) -> None:
-    """Notes how far a file was imported: up to an offset, and how many entries."""
+    """Notes how far the file with a digest was imported: up to the offset `octets`, and how many entries. `is_done` says that it is all of it."""
     store.rows("INSERT INTO {imports} (file, octets, entries, is_done) VALUES (%s, %s, %s, %s) ON CONFLICT (file) DO UPDATE"
                " SET octets = excluded.octets, entries = excluded.entries, is_done = excluded.is_done", digest, octets, entries, is_done)
 
 
 def forget(store: Store, path: str) -> None:
-    """Forgets that a file was imported."""
+    """Forgets that a file was imported, wholly or in part, so that the next import begins anew. Its entries stay in the store."""
     with open_list(path) as text:
         store.rows("DELETE FROM {imports} WHERE file = %s", digest_of(text))
 
