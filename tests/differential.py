@@ -150,7 +150,7 @@ def shown(said: Answer) -> str:
 
 @dataclass
 class Comparison:
-    """What is compared: the model, the library if there is one, and the program."""
+    """What is compared with the model: the library if there is one, and the program, on the cases of a seed."""
 
     library: Library | None
     program: str
@@ -224,6 +224,7 @@ def work(comparison: Comparison, numbers: range, at: MutableSequence[int], job: 
 def compare(comparison: Comparison, first: int, cases: int, jobs: int) -> tuple[list[int], list[int], Counter]:
     """Compares so many cases from the number `first` on, in `jobs` processes. Returns the numbers of the cases that differ, the numbers of those that
     ended their process, and how often each row came, by its table and name."""
+    # (the number of the case that each process is at)
     at = multiprocessing.Array("q", jobs)
     workers = []
     for job in range(jobs):

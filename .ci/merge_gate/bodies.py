@@ -7,6 +7,8 @@ from typing import Any
 
 from merge_gate import toolchain
 
+# The head of a function: its spaces and its name. The head of an `impl`: its trait, if it has one, and its type. What errors say of a name that an
+# edit has removed.
 HEAD = re.compile(r'^(\s*)(?:pub(?:\([a-z]+\))?\s+)?(?:const\s+)?(?:extern\s+"C"\s+)?fn\s+(\w+)')
 IMPL = re.compile(r"^impl(?:<.*?>)? (?:(\w+)(?:<.*?>)? for )?(\w+)")
 NAME_GONE = re.compile(r"has no field|is not in scope|has no `|was not admitted")
@@ -34,8 +36,8 @@ def function_around(file: str, lines: list[str], number: int) -> str | None:
 
 
 def functions_changed(file: str, old: str, new: str) -> set[str | None]:
-    """The functions in which two texts of a file differ; None among them for a line outside of functions. An edit replaces parts of lines, so both
-    texts have equally many."""
+    """The paths of the functions in which two texts of a file differ, with None among them for a line outside of functions. An edit replaces parts of
+    lines, so both texts have equally many lines."""
     lines = old.split("\n")
     pairs = zip(lines, new.split("\n"), strict=True)
     return {function_around(file, lines, number) for number, (one, other) in enumerate(pairs) if one != other}
@@ -52,8 +54,9 @@ def functions_of(folder: str, texts: dict[str, str]) -> list[str]:
 
 
 def refuses(crate: str, path: str, said: str) -> bool:
-    """Whether what a check said means that a function's own contract is unproved: not only that of what it calls, and not only because a proof
-    file names what is gone. A contract rests on those of other functions, and not on their bodies, so each function's line is its own verdict."""
+    """Whether the lines `said` of a check mean that the contract of the function of this path itself is unproved: not only that of what it calls, and
+    not only because a proof file names what is gone. A contract rests on those of other functions, and not on their bodies, so each function's line
+    is its own verdict."""
     name = path.rpartition("::")[2]
     verdicts = re.findall(rf"^fn {crate}::(?:\S+::)?{name}: (.*)$", said, re.MULTILINE)
     errors = re.findall(rf"^(?:\./)?proofs/(?:[\w+]+/)*{name}/\S*: error.*$", said, re.MULTILINE)

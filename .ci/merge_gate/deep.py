@@ -21,8 +21,9 @@ TRIED, REFUSED = re.compile(r"^rt: must-fail (\w+/[\w.-]+)\.edit: (.*)", re.MULT
 
 
 def try_alone(names: list[str], beside: str | None, counts: Counts) -> None:
-    """Tries wrong bodies, given as CRATE/NAME, by checks of the functions alone that they change, over the libraries that `rt ci` has left. If it
-    runs still, and writes its lines to the file `beside`: once it has proved these libraries, and where other processes leave a processor idle."""
+    """Tries wrong bodies, given as CRATE/NAME, by checks of the functions alone that they change, over the libraries that `rt ci` has left.
+    `beside` is the file that `rt ci` writes its lines to while it still runs, or None. Then the bodies of a crate wait until the crates below are
+    proved, and the checks have the lowest priority."""
     by_crate: dict[str, list[str]] = defaultdict(list)
     for crate, _, body in (name.partition("/") for name in names):
         by_crate[crate].append(body)

@@ -11,13 +11,14 @@ from merge_gate.toolchain import TOP
 
 
 def remove_kept_libraries() -> None:
-    """Removes what `rt ci` would give back over what it makes: the library for C would be built over old libraries."""
+    """Removes the libraries that earlier runs have left: `rt ci` would put them back over those that it makes, and the library for C would be built
+    over old ones."""
     for path in [*glob.glob(os.path.join(TOP, "crates", "*", "out", "rlib")), os.path.join(TOP, "crates", "spki_c", "out", "incremental")]:
         shutil.rmtree(path, ignore_errors=True)
 
 
 def land(parts: Parts, counts: Counts) -> None:
-    """Runs all parts of the gate. Stops if a page or a proof fails."""
+    """Runs all parts of the gate. The proofs, the wrong bodies, the tests and the pages begin side by side. Stops if a page or a proof fails."""
     proving = parts.begin("rt", "ci")
     trying = parts.begin(".ci/deep", "--alone", "--beside", proving.log, *(f"{crate}/{name}" for crate in plan.TRIED for name in plan.TRIED[crate]))
     testing = parts.begin("tests/run", "--beside", proving.log, "--cases", str(plan.CASES))

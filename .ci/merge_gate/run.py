@@ -107,7 +107,8 @@ class Parts(contextlib.ExitStack):
 
 
 def wait_until_proved(crates: set[str], log: str) -> set[str]:
-    """Waits until the log of `rt ci` says that each of these crates is proved, or that `rt ci` has ended. Returns those that are not proved."""
+    """Waits until the log of `rt ci` says that each of these crates is proved, or has the counts with which it ends, or so much time has passed as
+    the gate may take. Returns the crates that are not proved."""
     until = time.monotonic() + 60 * plan.MINUTES
     while True:
         said = text_of_log(log)

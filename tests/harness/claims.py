@@ -11,7 +11,7 @@ from harness.support import text_of
 
 SECTION = re.compile(r"^## (.*)\n((?:(?!## ).*\n)*)", re.MULTILINE)
 CLAIM = re.compile(r"^\| .* \| ([^|]*`[^|]*) \|$", re.MULTILINE)
-# What rows name that is of the language, and the sections whose rows name other things.
+# Names in rows that are no clauses: of the language, and the crate of tests. Sections whose rows name other things.
 OF_LANGUAGE, OTHER_SECTIONS = {"Send", "Sync", "test_callers"}, {"How to read a contract", "Only tested"}
 # A function with its contract, a block of functions of one type, and a type.
 FUNCTION = re.compile(r"^( *)(?:pub(?:\([\w:]+\))? |const |unsafe |extern \"C\" )*fn (\w+)((?:.|\n)*?)(?:\n\1| )\{\}?$", re.MULTILINE)
@@ -24,7 +24,8 @@ WORD = re.compile(r"[\w-]+")
 
 
 class Sources:
-    """The contracts of functions by name, also with the name of a type before it, and what each definition cites."""
+    """What sources have: `contracts` of functions by name, also with the name of a type before it, and [] for a type; the same contracts `of_crate`
+    by crate; and which words each definition of the specifications has (`cited`)."""
 
     def __init__(self, sources: Iterable[str], specs: Iterable[str]) -> None:
         self.contracts: dict[str, list[str]] = {}
@@ -45,7 +46,8 @@ class Sources:
                 self.cited.setdefault(name, set()).update(WORD.findall(body), [])
 
     def contracts_of(self, name: str) -> list[str] | None:
-        """The contracts of the functions with a name, [] for a type. None if there is no such function and no such type."""
+        """The contracts of the functions with a name, [] for a type. Where no function has the name with the type before it, those of all functions
+        with the bare name. None if there is no such function and no such type."""
         return self.contracts.get(name, self.contracts.get(name.split("::")[-1]))
 
     def leads_to(self, contracts: list[str], wanted: str) -> bool:

@@ -33,7 +33,7 @@ def program(name: str) -> str:
 
 
 def mount(folder: str, mib: int) -> None:
-    """Makes a folder a file system of its own, of so many MiB in memory."""
+    """Makes a folder a file system of its own, of so many MiB in memory, which a test can fill. Only root can."""
     subprocess.run(["mount", "-t", "tmpfs", "-o", f"size={mib}m", "tmpfs", folder], check=True)
 
 

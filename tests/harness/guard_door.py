@@ -48,7 +48,7 @@ class Decision(Structure):
 
 
 class Listed(Structure):
-    """`struct spki_signed`, whose octets may have any value."""
+    """`struct spki_signed`, with addresses as numbers: ctypes would end the octets of a `c_char_p` at the first 00."""
 
     _fields_ = [(name + part, c_size_t) for name in ("key", "message", "value", "octets") for part in ("", "_length")]
 
@@ -59,7 +59,7 @@ def text_of(octets: bytes) -> Text:
 
 
 def rows_of(question: GuardQuestion) -> list[cases.Row]:
-    """The signatures that the verifier accepts."""
+    """The rows of a question: the signatures that count as valid."""
     return cases.read_rows(forms.read(question.rows))
 
 
@@ -77,9 +77,11 @@ def parts_of(question: GuardQuestion) -> Parts:
 
 
 class GuardDoor:
-    """The calls for guards, of a library that is loaded."""
+    """The calls for guards, of a library that is loaded. The `oddity` of a question is what is wrong or null in its calls: a row of MISUSES or
+    ALLOWED of model/guard.py, or empty."""
 
     def __init__(self, loaded: ctypes.CDLL) -> None:
+        # (of `spki_asked_granted` and `spki_asked_possible`; empty if nothing was decided)
         self.truths: tuple[bool, ...] = ()
         """Whether the last decision is a yes, and whether it can be one, as the library says."""
         self.until = guard.NEVER
@@ -146,8 +148,8 @@ class GuardDoor:
         return None if is_right else "a call for guards writes where there is too little room, or tells another length or status"
 
     def answered(self, question: GuardQuestion, handle: c_void_p, asked: c_void_p) -> tuple[Answer, list[Signed] | None]:
-        """The answer, and the signatures that are listed, or None if the question is not read. Opens the guard and the question in the handles,
-        and closes the guard before the question is answered. Where a call is misuse, it returns the status of that call."""
+        """The answer, and the signatures that are listed, or None if they are not listed. Opens the guard and the question in the handles, which the
+        caller closes, but closes the guard itself before the question is answered. Where a call is misuse, the answer is the status of that call."""
         status, line = self.opened(question, handle, ROOM)
         if status != DONE:
             return (status, line), None

@@ -13,7 +13,8 @@ from typing import Any
 
 @dataclass(frozen=True)
 class Need:
-    """A command, a header of C, a file or a module of Python, its Debian package, and what is left out without it."""
+    """A command, a header of C, a file or a module of Python, its Debian package, and what is left out `without` it. The form of the name says what
+    it is: a header ends with `.h`, a module is behind `import `, and a path has `/`."""
 
     name: str
     package: str
@@ -137,6 +138,7 @@ def has_header(name: str) -> bool:
     return bool(shutil.which("cc")) and not subprocess.run(words, stdout=subprocess.DEVNULL, stderr=subprocess.DEVNULL).returncode
 
 
+# Which needs this machine has, looked for once, when the tests start.
 THERE = {need.name: need.is_found() for need in NEEDS}
 
 

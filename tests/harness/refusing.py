@@ -43,7 +43,7 @@ def compiled(folder):
 
 
 def descriptor_of(text):
-    """A descriptor from which a text is read: a pipe if the text fits into one, else a file."""
+    """A descriptor from which a text is read: a pipe if the text fits into one, so that writing it does not block, else a file."""
     if len(text) <= PIPE:
         reader, writer = os.pipe()
         os.write(writer, text)
@@ -91,6 +91,7 @@ class Program:
         for end, _ in places:
             os.close(end)
         out, err, report = (read_to_end(reader) for reader, _ in ends)
+        # (the report has asked and refused for each of NAMES, and the requests for memory before the first read; nothing if a signal ended the run)
         *counts, before_reads = [int(word) for word in report.split()[:7]] or [0] * 7
         status = os.waitstatus_to_exitcode(os.waitpid(child, 0)[1])
         return Ended(status, out, err, dict(zip(NAMES, counts[::2])), sum(counts[1::2]), before_reads)

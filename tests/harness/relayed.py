@@ -29,7 +29,8 @@ def numbers(*of: int) -> bytes:
 
 
 class Request:
-    """What one call is given: blocks of memory, links (block, place, block to point to) and arguments (is a block, its number or a value)."""
+    """What one call is given: blocks of memory, links (block, its octet where an address is put, block of this address), and arguments (whether it is
+    a block, and its number or a value)."""
 
     def __init__(self) -> None:
         self.blocks: list[bytes] = []
@@ -56,7 +57,7 @@ class Request:
             self.arguments.append((False, (value.value if isinstance(value, SIMPLE) else value) or 0))
 
     def lend(self, value: Any) -> None:
-        """Adds an argument that is the address of a value, which the call may write."""
+        """Adds an argument that is the address of a value. What the call writes there is copied back, except to a question, which no call writes."""
         block = self.question(value) if isinstance(value, Asked) else self.block(bytes(value))
         self.arguments.append((True, block))
         if not isinstance(value, Asked):
@@ -100,7 +101,8 @@ class Call:
         self.restype: Any = c_int
 
     def decided(self, *given: Any) -> Decision:
-        """A decision, whose last second `relay.c` writes to an address."""
+        """What `spki_asked_decide` returns. A call by `relay.c` returns one number, so it writes the last second of the decision to an address that
+        is added to the arguments."""
         until, call = c_int64(), Call(self.relayed, self.number)
         call.argtypes = [*self.argtypes, POINTER(c_int64)]
         return Decision(call(*given, byref(until)), until.value)
@@ -125,7 +127,8 @@ class Call:
 
 
 def address_here(address: int | None, request: Request, blocks: list[tuple[int, bytes]]) -> int | None:
-    """An address of the other machine as one of this process, if it is in a block that was lent. Else itself."""
+    """An address of the other machine as one of this process, if it is in or at the end of an array that was lent. Any other address, as that of a
+    guard, is returned as it is: only the other machine uses it."""
     for block, value in request.written:
         at, octets = blocks[block]
         if address is not None and at <= address <= at + len(octets) and isinstance(value, Array):
@@ -167,7 +170,7 @@ class Relayed:
         return returned, [(number(), exactly(taken, len(octets))) for octets in request.blocks]
 
     def fetch(self, listed: Listed) -> None:
-        """Copies the texts of a signature from the other machine, and sets its addresses to those of the copies."""
+        """Copies the texts of a signature from the other machine, by call 0, which copies memory, and sets its addresses to those of the copies."""
         copies = []
         for name in ("key", "message", "value", "octets"):
             at, length, request = getattr(listed, name), getattr(listed, f"{name}_length"), Request()

@@ -64,7 +64,7 @@ def goes_by(test: unittest.TestCase, name: str) -> bool:
 
 
 class Result(unittest.TestResult):
-    """Gathers the results of tests. A test that fails, or of which parts fail, counts once."""
+    """Gathers the results of tests into an outcome. A test that fails, or of which several subtests fail, counts once."""
 
     def __init__(self, outcome: Outcome, is_fast: bool) -> None:
         super().__init__()
@@ -94,7 +94,7 @@ class Result(unittest.TestResult):
         self.add(test, "it passes, and it is marked as one that fails")
 
     def add(self, test, text: str) -> None:
-        """Adds a fault of a test."""
+        """Adds a fault of a test, behind those that it has. If `is_fast` was true, no further test of this part begins."""
         name = short_name(test) if isinstance(test, unittest.TestCase) else str(test)
         self.outcome.failed[name] = self.outcome.failed.get(name, "") + text.rstrip() + "\n"
         if self.failfast:
@@ -190,7 +190,8 @@ def line_of_class(name: str, outcomes: list[Outcome]) -> str:
 
 
 class Report:
-    """The outcomes so far, printed by classes as they end. `command`, with the name of a test behind it, runs this test alone."""
+    """The outcomes so far, printed by classes as they end. `command`, with the name of a test behind it, runs this test alone. `left` counts the
+    parts of each class that have not ended."""
 
     def __init__(self, parts: Iterable[tuple[str, list[unittest.TestCase]]], command: str) -> None:
         self.left, self.command = Counter(name for name, _ in parts), command
@@ -206,7 +207,7 @@ class Report:
 
 
 def outcome_of(future: Future, name: str) -> Outcome:
-    """The outcome of a part. If its process ended, that is a fault of the class."""
+    """The outcome of a part. If its process died, or `run_part` raised there, that is a fault of the class."""
     fault = future.exception()
     return future.result() if fault is None else Outcome(name, failed={name: f"its process ended: {fault!r}\n"})
 

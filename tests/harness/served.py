@@ -37,7 +37,7 @@ def daemon_built(folder: str) -> str:
 
 
 def free_port() -> int:
-    """A port of loopback that nobody listens at."""
+    """The number of a port of loopback that nobody listens at now."""
     with socket.socket() as taken:
         taken.bind(("127.0.0.1", 0))
         return int(taken.getsockname()[1])

@@ -135,7 +135,8 @@ replace conguraki/spki => {module}
 
 
 def built(language, source, room, library):
-    """Builds a program in a folder of its own below `room`. Returns the words that run it, or None if the compiler fails."""
+    """Builds a program in C, Rust, Python or Go from its source, in a folder of its own below `room`. `library` is the static library. Returns the
+    words that run the program, or None if the compiler fails."""
     folder = os.path.join(room, language)
     os.makedirs(os.path.join(folder, "src"), exist_ok=True)
     names = {"C": "snippet.c", "Rust": os.path.join("src", "main.rs"), "Python": "snippet.py", "Go": "snippet.go"}
@@ -161,7 +162,8 @@ def built(language, source, room, library):
 
 
 def fault_of_snippet(language, snippet, room, program, library):
-    """What is wrong with a snippet, None if nothing is. It must grant the request of delegation.sexp to its key, and deny it to another."""
+    """What is wrong with a snippet, None if nothing is. It must grant the request of delegation.sexp to the key of this
+    case, and deny it to another. `program` is `spki`, which reads the case, and `library` the static library."""
     words = built(language, PROGRAMS[language].replace("SNIPPET", textwrap.indent(snippet, "    ").rstrip("\n")), room, library)
     if words is None:
         return f"the snippet in {language} is not compiled"

@@ -34,7 +34,8 @@ __all__ = ["ARM", "BENCH", "COMMANDS", "EXAMPLES", "LIBRARY", "ON_ARM", "PROGRAM
 
 
 def given_program(place=1):
-    """The program that is the argument of this script at a place, or the built one. Ends the script if it is not there."""
+    """The path of the program that is the argument of this script at a place, from 1, or the built one if there are fewer. Ends the script if the
+    program is not there."""
     program = os.path.abspath(sys.argv[place] if len(sys.argv) > place else PROGRAM)
     if not os.access(program, os.X_OK):
         sys.exit(f"{program} is not there: build it by rt run in crates/spki")
@@ -75,7 +76,7 @@ def group(*members):
 
 
 def braced(octets):
-    """A text in the transport form, of one in canonical form."""
+    """The transport form of a text in canonical form."""
     return b"{" + base64.b64encode(octets) + b"}"
 
 

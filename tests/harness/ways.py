@@ -12,7 +12,8 @@ MOST_ROWS, EXPORTED = 25, "spki_c_"
 
 
 def bodies_of(paths: Iterable[str]) -> dict[str, list[str]]:
-    """The texts of the functions of these files, each by its name and by its path: its type or module, and its name."""
+    """The texts of the functions of these files, from head to last line, each by its name and by its path: its type or module, and its name. A name
+    has several texts if several functions have it."""
     found: dict[str, list[str]] = {}
     for path in paths:
         lines = text_of(path).split("\n")

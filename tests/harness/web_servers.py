@@ -32,13 +32,14 @@ class Behind(served.Site):
     files: tuple[str, ...] = ()
     # Lines of other sites by what they do. `error pages` and `a cache` are columns of the table of attacks.
     sites: dict[str, More] = {}
-    # Lines by which a request is not decided.
+    # Lines by which some requests are not decided: `spki-authd -probe` must find this hole.
     hole: More = []
     # What is replaced, and by what, where the daemon is on a port with TLS: what the pages say. A server that cannot ask there has nothing.
     on_port: list[tuple[str, str, str]] = []
 
     def prepare(self) -> None:
-        """Writes the files that the server reads: those of its example, for this site."""
+        """Writes the files that the server reads: those of its example, for this site. `kept` has the texts of the files that are changed now, as
+        they were before."""
         self.kept: dict[str, str] = {}
         self.write(f"files{SORRY}", SORRY_TEXT)
         self.write("etc/authd.json", self.text("etc/authd.json").replace('"server": "nginx"', f'"server": "{self.name}"'))

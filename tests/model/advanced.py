@@ -198,4 +198,5 @@ def base64_at(text: bytes, at: int) -> tuple[bytes, int]:
     return octets, found.end()
 
 
+# By the mark that begins a string: the row of WAYS, and what reads the octets behind the mark.
 MARKS = {ord('"'): ("quoted", quoted_at), ord("#"): ("hexadecimal", hexadecimal_at), ord("|"): ("base64", base64_at)}

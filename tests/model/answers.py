@@ -116,7 +116,7 @@ def read_text(text: bytes, within_limit: bool = True) -> Value:
 
 
 def read_case(text: bytes) -> Case:
-    """The case of a text."""
+    """The case of a text. Raises Refused."""
     value = read_text(text)
     try:
         return cases.read(value)
@@ -212,7 +212,8 @@ def folded(command: str, case: Case, entry: Entry, steps: Steps) -> tuple[Author
 
 
 def try_brackets(entry: Authorization, steps: list[evidence.Tuple], case: Case, is_granted: bool) -> None:
-    """Raises ModelDisagrees unless some bracketing of the tuples grants the request exactly if the left fold does."""
+    """Tries every bracketing of the tuples of an entry and of certificates. `is_granted` is the answer of the left fold. Raises ModelDisagrees if it
+    grants the request and no bracketing does, or the other way around."""
     some_tree = derivations.grants([entry, *steps], case.key, case.request, case.moment, case.strict)
     BRACKETS.count_use(f"{len(steps)} certificates")
     if some_tree:

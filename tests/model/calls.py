@@ -23,7 +23,8 @@ Pointer = tuple[bool, int]
 
 
 def of_library(command: str, said: Answer) -> Answer:
-    """The library's answer, given the program's. Only decisions return GRANTED or NO; other calls return DONE for both statuses."""
+    """The answer of the library, where the program's is `said`. For a command that decides YES becomes GRANTED, and NO stays. For other commands
+    both become DONE. Other statuses stay."""
     status, octets = said
     if status in (YES, NO):
         status = DONE if command not in DECISIONS else GRANTED if status == YES else NO

@@ -42,7 +42,8 @@ class Case:
 
 
 def has_outer_structure(value: Value) -> bool:
-    """Whether a value has the members of a case, by their heads, with one member behind `key`, `request` and `at`."""
+    """Whether a value is a list `(case ..)` with members of the heads PARTS, each of `key`, `request` and `at` with exactly one member behind its
+    head, and then `(policy strict)` or nothing. What is inside is not read."""
     if head_of(value) != b"case":
         return False
     assert isinstance(value, tuple)

@@ -46,7 +46,7 @@ def all_contain(leaves: list[Tuple], request: Value, moment: bytes) -> bool:
 
 
 def is_for(root: Node, key: Key, strict: bool) -> bool:
-    """Whether a root is an authorization of the key by the keeper of the list."""
+    """Whether a root is an authorization of the key by the keeper of the list: it has no issuer, defines no name, and its subject names the key."""
     return root.issuer is None and root.name is None and not root.subject.names and names(root.subject.principal, key, strict)
 
 

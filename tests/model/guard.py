@@ -47,8 +47,9 @@ FIRST_SECOND, LAST_SECOND = 0, 253_402_300_799
 # as the last second of a decision: that of no yes, and of one that nothing ends
 NEVER, NO_END = -2**63, 2**63 - 1
 UNTIL = Rows("question to a guard, what ends a yes", ["nothing", "a window"])
-# the Gregorian calendar is the same again
+# after so many years, which are so many days, the Gregorian calendar is the same again
 CYCLE_YEARS, CYCLE_DAYS = 400, 146_097
+# a date in canonical form
 DATE_OCTETS = 22
 
 
@@ -150,7 +151,8 @@ def part(name: str, reader: Any, text: bytes) -> Any:
 
 
 def read(name: str, reader: Any, value: Value) -> Any:
-    """What a reader returns for a part's value. Raises Refused with the part's name."""
+    """What a reader returns for a part's value. Raises Refused with the part's name, and with the number of the item for a sequence: 0 if the
+    sequence itself is wrong."""
     try:
         return reader(value)
     except ItemFault as fault:
@@ -251,7 +253,7 @@ def compare_with_check(case: Case, decided: Answer) -> None:
 
 
 def misused(row: str) -> tuple[Answer, list[Signed]]:
-    """The answer to a call that is misuse, and no signatures. Counts a row of MISUSES."""
+    """The answer to a call that is misuse, and an empty list of signatures. Counts a row of MISUSES."""
     MISUSES.count_use(row)
     return of_library("", (MISUSED, b"")), []
 
@@ -303,7 +305,7 @@ def answer(wish: str, list_text: bytes, question: Parts, rows: list[Row], policy
 
 
 def is_possible(list_text: bytes, question: Parts, policy: int, limits: Limits) -> bool:
-    """Whether a question that is read would be granted if all its signatures were valid."""
+    """Whether a question would be granted if all its signatures were valid. The list and the question must be ones that are read."""
     guard = open_guard(list_text, policy == STRICT, limits)
     case = case_of(guard, question, [])
     rows = [Row(structures.read_key(forms.read(key)), hashlib.sha256(message).digest(), value) for key, message, value in signatures_to_verify(case)]

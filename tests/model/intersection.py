@@ -23,14 +23,16 @@ LIMITS = Rows("intersection, limits", [
 REFUSED = Rows("intersection, refused", ["TooLarge", "the product is 1,000,000"])
 
 
+# What the context `limited` sets: the most that a product of nodes may be, and how much work is left, None without a limit.
 most_product = MOST_PRODUCT
 most_work: int | None = None
-# The work of a chain with a product of at most this is not counted.
+# The work of a chain that `is_small` by this number is not counted. It is 0 for a guard, which counts all work.
 uncounted = 0
 
 
 class TooLarge(Exception):
-    """The product of the nodes is over the limit, or the work is. `is_of_guard`: the limit is the lower one of a guard, not that of a case."""
+    """The product of the nodes is over the limit, or the work is (`is_work`). `is_of_guard`: the limit is the lower one of a guard. A case
+    would allow this product, or, for work, the context is that of a guard."""
 
     def __init__(self, product: int = 0, is_work: bool = False) -> None:
         super().__init__(product)
@@ -52,7 +54,8 @@ def limited(most: int, work: int | None = None, small: int = 0) -> Iterator[None
 
 @contextmanager
 def counting_work(own: Tag, others: list[Tag | None]) -> Iterator[None]:
-    """A context in which an entry's tag and those of certificates (None: a name's definition) are folded. The work counts unless it is small."""
+    """A context in which an entry's tag and those of certificates (None: a name's definition) are folded. The work of a small chain is not counted:
+    within the context it has no limit."""
     global most_work
     before = most_work
     if is_small(own, others):
@@ -64,8 +67,9 @@ def counting_work(own: Tag, others: list[Tag | None]) -> Iterator[None]:
 
 
 def is_small(own: Tag, others: list[Tag | None]) -> bool:
-    """Whether the numbers of nodes show that no two tags are too large for each other. Either the product of all is at most `uncounted`; or no
-    tag has a set, and the sum of all times the largest of the certificates' is."""
+    """Whether the numbers of nodes alone show that no intersection in a chain is too large, so that its work need not be counted. The product of all
+    numbers is at most `uncounted`. Or no tag has a set, and the sum of all, times the largest of a certificate, is at most `uncounted`. A name's
+    definition counts as one node."""
     sizes = [1 if it is None else nodes(it) for it in others]
     if nodes(own) * math.prod(sizes) <= uncounted:
         return True
@@ -94,7 +98,7 @@ def spend_work(cost: int) -> None:
 
 
 def together(a: Tag, b: Tag) -> Tag:
-    """What two tags have in common, by the first rule that fits."""
+    """The intersection of two tags, by the first rule that fits. It does not look at the number of nodes, so the rules call it for members."""
     if isinstance(a, Star) or isinstance(b, Star):
         RULES.count_use("(*) and any")
         return b if isinstance(a, Star) else a
@@ -151,7 +155,7 @@ def of_string(string: Text, other: Tag) -> Tag:
 
 
 def of_prefixes(a: Prefix, b: Prefix) -> Tag:
-    """The longer one, if it starts with the shorter one."""
+    """The longer prefix, if it starts with the shorter one, else NOTHING."""
     shorter, longer = sorted((a, b), key=lambda it: len(it.start))
     starts = longer.start.startswith(shorter.start)
     RULES.count_use("two prefixes: the longer" if starts else "two prefixes: (* set)")
@@ -159,7 +163,9 @@ def of_prefixes(a: Prefix, b: Prefix) -> Tag:
 
 
 def as_range(prefix: Prefix) -> Range:
-    """The range that a prefix counts as: from itself to below the least string above all that start with it."""
+    """The range that a prefix counts as: the strings from the prefix itself up to, and without, the least string that is greater than all that begin
+    with it. That one is the prefix with its last octet raised by one. FF has no successor, so octets FF at the end are left out, and the octet before
+    them is raised. A prefix of octets FF alone, or of none, has no upper limit."""
     kept = prefix.start.rstrip(b"\xff")
     if kept != prefix.start:
         RULES.count_use("a prefix and a range: octets FF at the end")
@@ -169,7 +175,8 @@ def as_range(prefix: Prefix) -> Range:
 
 
 def of_ranges(a: Range, b: Range) -> Tag:
-    """The range with the greater lower limit and the lesser upper limit, or NOTHING."""
+    """The range with the greater lower limit and the lesser upper limit, or NOTHING if that lower one is above the upper one, or equal to it while
+    one of them is strict. NOTHING too for times and dates. The ordering `alpha`, which has all strings, gives way to another one."""
     orderings = {a.ordering, b.ordering}
     if orderings == {b"time", b"date"}:
         RULES.count_use("two ranges: time and date")

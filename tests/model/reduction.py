@@ -1,4 +1,7 @@
-"""What an entry and the certificates become, joined from the left (section "Evidence and decision"; RFC 2693, 6.3 and 6.4)."""
+"""What an entry and the certificates become, joined from the left (section "Evidence and decision"; RFC 2693, 6.3 and 6.4).
+
+What a join costs is the row "work" of section "Questions to a guard".
+"""
 from .coverage import Rows
 from .evidence import Authorization, Definition, Tuple, names
 from .intersection import counting_work, intersection, spend_work
@@ -86,7 +89,7 @@ def resolved(left: Authorization, name: Definition, strict: bool) -> Authorizati
 
 
 def common_window(a: Window, b: Window) -> Window | None:
-    """The moments within both windows, None if there are none."""
+    """The window of the moments within both windows, None if there are none. The later `not_before` and the earlier `not_after` hold."""
     not_before = max((it for it in (a.not_before, b.not_before) if it), default=None)
     not_after = min((it for it in (a.not_after, b.not_after) if it), default=None)
     if not_before and not_after and not_before > not_after:

@@ -67,7 +67,7 @@ def fault_at(kind: str, place: str) -> StructureFault:
 
 @dataclass(frozen=True, slots=True)
 class Key:
-    """A key: the octets of its canonical text."""
+    """A key: the octets of its canonical text, by which keys are compared, and the value as it was read, which `reduce` prints."""
 
     octets: bytes
     value: Value = field(compare=False)
@@ -314,7 +314,7 @@ def read_propagate(value: Value) -> bool:
 
 
 def read_ignored(value: Value) -> None:
-    """Reads a field of any content, which has no effect."""
+    """Reads a field of any content, as `(comment ..)`, which has no effect."""
     FORMS.count_use("ignored field")
 
 
@@ -350,7 +350,8 @@ CERTIFICATE: Readers = {
 
 
 def read_fields(fields: Iterable[Value], readers: Readers) -> dict[bytes, Any]:
-    """What the reader of each field returns, by the field's head. Fields may have any order, each at most once."""
+    """What the reader of each field returns, by the field's head. Fields may have any order, each at most once. Raises Shape for a field that
+    has no reader or comes twice, and Online for `(online ..)`."""
     said: dict[bytes, Any] = {}
     for value in fields:
         head = head_of(value)

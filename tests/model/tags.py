@@ -190,7 +190,7 @@ def limit(members: tuple[Value, ...], strict: bytes, other: bytes) -> tuple[Limi
 
 
 def normal_list(members: tuple[Tag, ...]) -> Tag:
-    """The normal form of a list. Its members are in normal form."""
+    """The normal form of a list whose members are in normal form: NOTHING if one of them is."""
     if NOTHING in members:
         NORMAL.count_use("a list with a member (* set)")
         return NOTHING
@@ -198,7 +198,8 @@ def normal_list(members: tuple[Tag, ...]) -> Tag:
 
 
 def normal_set(members: tuple[Tag, ...]) -> Tag:
-    """The normal form of a set. Its members are in normal form."""
+    """The normal form of a set whose members are in normal form: a set inside gives its members, `(*)` among them makes it `(*)`, and a set of one
+    member is that member."""
     flat: list[Tag] = []
     for member in members:
         if isinstance(member, AnyOf):
@@ -226,7 +227,7 @@ def has_set(tag: Tag) -> bool:
 
 
 def weight(tag: Tag) -> int:
-    """A measure of size: the number of tags inside, where a list and its head are one, plus the octets of all strings."""
+    """The nodes of a tag but heads of lists, plus the octets of all its strings: a part of `node_cost`."""
     if isinstance(tag, Plain):
         return weight(tag.members[0]) + sum(map(weight, tag.members[1:]))
     if isinstance(tag, AnyOf):
@@ -242,7 +243,7 @@ def ranges(tag: Tag) -> int:
 
 
 def node_cost(tag: Tag) -> int:
-    """What it costs to intersect a node with the tag."""
+    """What it costs to intersect one node with the tag, beside the 32 of the node: see the row "work" of section "Questions to a guard"."""
     return 15 * nodes(tag) + 48 * ranges(tag) + weight(tag)
 
 

@@ -34,7 +34,7 @@ class FormFault(Exception):
 
 
 def octet_at(text: bytes, at: int) -> int:
-    """The octet at an offset. If the text ends there, the value is not whole: Short."""
+    """The octet at an offset. Raises the FormFault Short if the text ends there, since then the value is not whole."""
     if at >= len(text):
         raise FormFault("Short")
     return text[at]

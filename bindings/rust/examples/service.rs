@@ -11,7 +11,7 @@ use std::time::{Duration, SystemTime, UNIX_EPOCH};
 
 const MOST_OCTETS: u64 = 65_536;
 
-/// Says that the key which has signed a request may read what it asks for. Nothing is returned for all others.
+/// Whether the key that has signed a request may read what it asks for: `Some` if it may, and `None` for all else.
 fn grant(guard: &Guard, requests: &Requests, head: &str) -> Option<()> {
     let head = Head::read(head)?;
     let now = SystemTime::now();

@@ -6,9 +6,11 @@ use std::sync::Arc;
 use std::thread;
 
 const LIST: &[u8] = b"(acl (entry (public-key (test b)) (tag (ftp))))";
+/// How many threads there are, and how often each decides in each of two ways.
 const THREADS: usize = 4;
 const TURNS: usize = 50;
 
+/// A question of a key that the list grants.
 fn question<'q>(key: &'q ProvenKey) -> Question<'q> {
     Question::new(
         b"(sequence)",

@@ -10,7 +10,7 @@ use spki::{Signature, Verifier};
 use std::error::Error;
 use std::io::{self, Read};
 
-/// The first string of a text, and what is behind it. `None` at the end.
+/// The first string LENGTH:OCTETS of a text, and what is behind it. `None` at the end.
 fn next(text: &[u8]) -> Option<(&[u8], &[u8])> {
     let colon = text.iter().position(|octet| *octet == b':')?;
     let length: usize = std::str::from_utf8(&text[..colon]).ok()?.parse().ok()?;

@@ -17,6 +17,7 @@ const END: &str = "0.3";
 const PLACES: [&str; 2] = ["PKG_CONFIG_PATH", "PKG_CONFIG_LIBDIR"];
 const PERMISSIONS: [&str; 2] = ["PKG_CONFIG_SYSROOT_DIR", "PKG_CONFIG_ALLOW_CROSS"];
 
+/// Prints the lines that link the library. docs.rs makes pages and no program, and has no library, so nothing is linked there.
 fn main() {
     if variable("DOCS_RS").is_some() {
         return;
@@ -77,7 +78,8 @@ fn link_lines(folder: &Path) -> Result<Vec<String>, String> {
     ])
 }
 
-/// The folder in which `pkg-config` has the library, with the root of the target's system before it. The error says what to do.
+/// The folder in which `pkg-config` has the library. `pkg-config` puts the root of the target's system before it. The variables of PLACES and
+/// PERMISSIONS that are set for the target are given to it without the target's name. The error says what to do.
 fn folder_by_pkg_config() -> Result<PathBuf, String> {
     let set = |name: &&'static str| variable_for_target(name).map(|value| (*name, value));
     let places: Vec<_> = PLACES.iter().filter_map(set).collect();
@@ -106,7 +108,7 @@ fn folder_by_pkg_config() -> Result<PathBuf, String> {
     }
 }
 
-/// A fault, and what to do.
+/// The text of an error: what to do, and the fault that `pkg-config` or the system has named.
 fn advice(fault: &str) -> String {
     format!(
         "libspki_c is not found: install it, or name its folder in SPKI_LIB_DIR\n{}",

@@ -26,7 +26,8 @@ pub struct Refusal {
 }
 
 impl Refusal {
-    /// The refusal of a call that failed, by its status and its answer.
+    /// The refusal of a call that failed, by its status and its answer. For a status other than `REFUSED` and `NO_MEMORY`,
+    /// which no right call returns, the line begins with `misused`.
     pub(crate) fn of(status: Status, answer: &[u8]) -> Refusal {
         let line = match status {
             sys::REFUSED => line_of(answer),
@@ -51,7 +52,8 @@ impl Refusal {
         &self.line
     }
 
-    /// What is wrong.
+    /// What is wrong: the last word of the line with a capital letter, such as `Trailing` in `refused sequence Trailing 11`. `Fault::Misused` for a
+    /// call that was made wrongly.
     #[must_use]
     pub fn fault(&self) -> Fault {
         let is_name = |word: &&str| word.starts_with(|first: char| first.is_ascii_uppercase());
@@ -61,7 +63,7 @@ impl Refusal {
         }
     }
 
-    /// What is refused. `None` if the line names no part, as `refused Memory`.
+    /// What is refused. `None` if the line names no part, as `refused Memory`, or the call was made wrongly.
     #[must_use]
     pub fn part(&self) -> Option<Part> {
         let word = self.line.strip_prefix("refused ")?.split_once(' ')?.0;
@@ -84,7 +86,8 @@ pub(crate) fn line_of(answer: &[u8]) -> &str {
         .trim_end_matches('\n')
 }
 
-/// Makes a call that writes one line. `call` gets a buffer, its room, and where the length goes; `made` gets what `call` returns, and the line.
+/// Makes a call that writes one line. `call` gets a buffer, its room, and where the length goes. `made` gets what `call` returns, and the line.
+/// Returns what `made` returns.
 pub(crate) fn with_line<A, T>(
     call: impl FnOnce(*mut c_void, usize, *mut usize) -> A,
     made: impl FnOnce(A, &[u8]) -> T,
@@ -94,7 +97,8 @@ pub(crate) fn with_line<A, T>(
     made(returned, &buffer[..needed.min(LINE)])
 }
 
-/// Makes a call that writes at most `most` octets, or one line. Returns its status and the answer, which is empty if it does not fit.
+/// Makes a call that writes at most `most` octets, or one line. Returns its status and the answer, which is empty if it does not fit. If there is
+/// no memory for the buffer, the call is not made, and the status is `NO_MEMORY`.
 pub(crate) fn with_answer(
     most: usize,
     call: impl FnOnce(*mut c_void, usize, *mut usize) -> Status,

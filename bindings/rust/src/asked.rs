@@ -26,7 +26,9 @@ use std::slice;
 /// ```
 pub struct Asked {
     handle: NonNull<sys::Asked>,
+    /// How many signatures are to be verified.
     count: usize,
+    /// The most octets that `explain` and `reduce` write.
     most_answer: usize,
 }
 
@@ -62,7 +64,7 @@ impl Asked {
         }
     }
 
-    /// The number of the signatures.
+    /// How many signatures are to be verified.
     pub(crate) fn count(&self) -> usize {
         self.count
     }
@@ -132,7 +134,8 @@ impl Asked {
         Refusal::misused(&why)
     }
 
-    /// Marks each signature of which a function says that it is valid, in order. It is not called after the first that is not valid.
+    /// Calls a function with each signature, in order, and marks those that it says are valid. After the first that is not valid the function is
+    /// called no more: no entry can grant the request then.
     ///
     /// To explain why a request is denied, verify also where the request [cannot be granted](Asked::is_possible).
     ///
@@ -201,7 +204,7 @@ impl Asked {
         self.lines(sys::spki_asked_reduce)
     }
 
-    /// The lines of a call that decides nothing, without the last line feed.
+    /// The lines that `explain` or `reduce` writes, without the last line feed. `call` is that call of the library.
     fn lines(&self, call: sys::Answers) -> Result<String, Refusal> {
         let (status, lines) = with_answer(self.most_answer, |buffer, room, needed| {
             self.call(call, (buffer, room, needed)).status
@@ -212,7 +215,7 @@ impl Asked {
         }
     }
 
-    /// Makes a call with a buffer, its room, and where the length of the answer goes.
+    /// Makes the call `call` of the library for this question, with a buffer, its room, and where the length of the answer goes.
     fn call<A>(
         &self,
         call: sys::Answers<A>,
@@ -223,7 +226,7 @@ impl Asked {
     }
 }
 
-/// The grant of a line `yes entry N`, until a second. Another line is a refusal: the library is not the one that was expected.
+/// The grant of a line `yes entry N`, until a second since 1970. Another line is a refusal: the library is not the one that was expected.
 fn grant_of(line: &[u8], until: i64) -> Result<Grant, Refusal> {
     line_of(line)
         .strip_prefix("yes entry ")

@@ -29,8 +29,8 @@ impl Grant {
         Grant { entry, until }
     }
 
-    /// Whether a grant that was kept still holds at a time, which must not precede the question's moment. It does not before 1970: such a time is
-    /// that of a clock that failed.
+    /// Whether a grant that was kept still holds at a time, which must not precede the question's moment. No grant holds before 1970: such a
+    /// time is that of a clock that failed.
     ///
     /// It does not know of a list that was read anew, nor of a certificate that its verifier would reject by now.
     #[must_use]

@@ -16,7 +16,7 @@ pub struct Explanation {
 pub struct Reason<'e> {
     /// The number of the entry that the line is about, from 1. `None` if the certificate stops all entries.
     pub entry: Option<usize>,
-    /// The number of the certificate that stops it, among the items of the sequence, from 1.
+    /// The number of the certificate that stops it, among the items of the sequence, from 1. `None` if no certificate does.
     pub item: Option<usize>,
     /// What the line says.
     pub cause: Cause,
@@ -55,7 +55,7 @@ impl fmt::Display for Explanation {
     }
 }
 
-/// The number after a word at the beginning of a line, and what follows; the whole line if the word is not there.
+/// The number after a word at the beginning of a line, and what follows. `None` and the whole line if the word is not there.
 fn numbered<'l>(word: &str, line: &'l str) -> (Option<usize>, &'l str) {
     let found = line
         .strip_prefix(word)

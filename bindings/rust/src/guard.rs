@@ -12,7 +12,7 @@ use std::fmt;
 use std::mem::size_of;
 use std::ptr::{self, NonNull};
 
-/// Which hashes name keys.
+/// Which hashes name keys: an issuer, a signer or a subject may be the hash of a key.
 #[non_exhaustive]
 #[derive(Clone, Copy, Debug, Default, PartialEq, Eq, Hash)]
 pub enum Policy {
@@ -33,7 +33,8 @@ impl Policy {
     }
 }
 
-/// Limits on each question. One that is not set is the library's own, which `spki.h` names: those are for questions of strangers. So is one of 0.
+/// Limits on each question. A limit that is not set, or is set to 0, is the library's own, which `spki.h` names. The library's own limits are for
+/// questions of strangers.
 #[derive(Clone, Copy, Debug)]
 pub struct Limits {
     values: sys::Limits,
@@ -48,7 +49,7 @@ impl Limits {
         all.nodes(most).work(most).answer(most)
     }
 
-    /// No limit is set.
+    /// The limits of which none is set: each is 0.
     const fn none() -> Limits {
         Limits {
             values: sys::Limits {
@@ -63,7 +64,7 @@ impl Limits {
         }
     }
 
-    /// The most octets of an answer.
+    /// The most octets of the lines of `explain` and `reduce`: the limit that is set, or else the library's own.
     const fn most_answer(&self) -> usize {
         match self.values.answer {
             0 => sys::USUAL_ANSWER,
@@ -71,7 +72,7 @@ impl Limits {
         }
     }
 
-    /// Whether no limit is set.
+    /// Whether no limit is set, so that the library may be given null.
     const fn is_none(&self) -> bool {
         let all = &self.values;
         all.octets | all.certificates | all.words | all.nodes | all.work | all.answer == 0
@@ -112,8 +113,8 @@ impl Limits {
         self
     }
 
-    /// The most nodes of one tag times nodes of another for which `explain` and `reduce` compute their intersection. A number above
-    /// the library's highest sets the highest.
+    /// The most that the nodes of one tag times the nodes of another may be, where `explain` and `reduce` compute their intersection. A number
+    /// above the library's highest sets the highest.
     #[must_use]
     pub const fn nodes(mut self, most: usize) -> Limits {
         self.values.nodes = at_most(most, sys::MOST_NODES);
@@ -158,9 +159,10 @@ impl Default for Limits {
 /// request cannot be granted, whatever is valid, it calls `verify` not at all. `verify` returns whether the signature is valid, as a `bool` or as a
 /// `Result`.
 ///
-/// A thread that calls has 256 KiB of stack left. No call is made in a child that a process with several threads forked.
+/// A thread that calls must have 256 KiB of stack left. No call may be made in a child that a process with several threads forked.
 pub struct Guard {
     handle: NonNull<sys::Guard>,
+    /// The most octets of the lines of `explain` and `reduce`, which each opened question gets.
     most_answer: usize,
 }
 

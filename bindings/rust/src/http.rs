@@ -36,17 +36,20 @@ use message::{authority_of, is_target};
 /// The seconds from `created` to `expires` at most, and those that a client's clock may be ahead.
 const MOST_WINDOW: u64 = 300;
 const MOST_AHEAD: u64 = 60;
-/// The characters of a nonce.
+/// How many characters a nonce has.
 const NONCE: std::ops::RangeInclusive<usize> = 16..=64;
 
 /// Says which key has made a request to one service. Several threads may share it.
 #[derive(Debug)]
 pub struct Requests<N = Nonces> {
+    /// The names of the service, as `authority_of` has them.
     names: Vec<String>,
     nonces: N,
+    /// The second since 1970 before which no signature may be created.
     start: u64,
     sha256: fn(&[u8]) -> [u8; 32],
     scheme: &'static str,
+    /// The name of the field with the certificates.
     sequence: String,
 }
 
@@ -63,8 +66,8 @@ pub struct Proof {
 }
 
 impl<N: TakeNonce> Requests<N> {
-    /// Requests to a service of these names, with ports that are not those of https. `start` is the time in seconds since 1970 before which
-    /// nothing may be created, since its nonce may be forgotten: the start of the process, or 0 if the nonces outlast it.
+    /// Checks requests to a service of these names, each with its port behind it unless it is that of https. `start` is the time in seconds since
+    /// 1970 before which nothing may be created, since its nonce may be forgotten: the start of the process, or 0 if the nonces outlast it.
     ///
     /// `sha256` is the hash function of your crypto library: of the crate `openssl` it is `openssl::sha::sha256`. The hash of a request's key is
     /// compared with `keyid`, and used for nothing else. A wrong function refuses the requests of clients. It proves no key that has not signed:
@@ -103,7 +106,8 @@ impl<N: TakeNonce> Requests<N> {
         Ok(proof)
     }
 
-    /// Uses up the nonce of a proof. NO PROOF COUNTS WITHOUT IT: `check` leaves that to its caller, who may decide first.
+    /// Uses up the nonce of a proof at a time, in seconds since 1970. NO PROOF COUNTS WITHOUT IT: `check` leaves that to its caller, who may decide
+    /// first. The nonce is kept for as long as its signature may be accepted.
     ///
     /// # Errors
     /// If the nonce was used before, or there is no room for it.
@@ -146,13 +150,14 @@ impl<N: TakeNonce> Requests<N> {
         }
     }
 
-    /// The certificates that a request shows, or a sequence of none. Their field was checked before: it has one line at most.
+    /// The certificates that a request shows, or a sequence of none. The field has one line at most: `check_message` has required that it is
+    /// covered, and a covered field is in one line.
     fn sequence_of(&self, message: &Message) -> Vec<u8> {
         let shown = message.values(&self.sequence).next();
         shown.unwrap_or(b"(sequence)").to_vec()
     }
 
-    /// Tests the tag, the length of the nonce, and the times.
+    /// Tests the tag, the length of the nonce, and the times. Fails with the first of these that is wrong.
     fn check_parameters(&self, input: &Input, now: u64) -> Result<(), Unproved> {
         let faults = [
             (input.tag != fields::TAG, Unproved::OtherTag),
@@ -174,7 +179,8 @@ impl<N: TakeNonce> Requests<N> {
         }
     }
 
-    /// Tests a message. Returns its signed text, and the digest of its body if one is covered.
+    /// Tests the method, the target and the authority of a message, and that its authorization, certificates and digest are covered, as far as it has
+    /// them. Returns the signed text, and the digest of the body if one is covered.
     fn check_message(
         &self,
         message: &Message,
@@ -206,7 +212,7 @@ impl<N: TakeNonce> Requests<N> {
         Ok((text, Some(digest)))
     }
 
-    /// The key of a request, which must be that of `keyid` and `alg`, and its kind.
+    /// The canonical text of the key in a request's field, and its kind. Its SHA-256 in hexadecimal digits must be `keyid`, and its algorithm `alg`.
     fn signer_of(&self, message: &Message, input: &Input) -> Result<(Vec<u8>, Kind), Unproved> {
         let (key, kind) = form::key_of(&message.field(PUBLIC_KEY)?)?;
         let hash = (self.sha256)(&key);

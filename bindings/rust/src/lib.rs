@@ -28,8 +28,8 @@
 //! # Ok::<(), Box<dyn std::error::Error>>(())
 //! ```
 //!
-//! `SPKI_LIB_DIR` names the folder of `libspki_c`, if `pkg-config` does not know the library. A thread that calls has 256 KiB of stack left,
-//! and no call is made in a child that a process with several threads forked.
+//! `SPKI_LIB_DIR` names the folder of `libspki_c`, if `pkg-config` does not know the library. A thread that calls must have 256 KiB of stack left,
+//! and no call may be made in a child that a process with several threads forked.
 
 #![deny(missing_docs)]
 #![deny(unsafe_op_in_unsafe_fn)]

@@ -12,7 +12,8 @@ pub fn library_version() -> &'static str {
     version.to_str().unwrap_or_default()
 }
 
-/// Ensures that the library is of a version that has the calls of this crate.
+/// Ensures that the library is of a version that has the calls of this crate: a shared library may be another than at the build. The version is
+/// compared once. `Guard::read` and the functions on texts call this first, and all else needs a guard.
 ///
 /// # Panics
 ///

@@ -30,7 +30,7 @@ pub struct Question<'q> {
 pub enum Request<'q> {
     /// As a text.
     Text(&'q [u8]),
-    /// As its strings, each as octets that may come from anywhere: the list of them, or the string where there is one.
+    /// As its strings, each as octets that may come from anywhere. The request is the list of them, or, if there is one string only, that string.
     Words(&'q [&'q [u8]]),
 }
 
@@ -46,7 +46,8 @@ pub enum Moment<'q> {
 }
 
 impl From<SystemTime> for Moment<'_> {
-    /// The second that a time is in.
+    /// The second that a time is in: half a second before 1970 is in -1. A time that no `i64` can hold becomes `i64::MIN` or `i64::MAX`,
+    /// which are refused.
     fn from(time: SystemTime) -> Self {
         let seconds = match time.duration_since(UNIX_EPOCH) {
             Ok(after) => i64::try_from(after.as_secs()).unwrap_or(i64::MAX),
@@ -77,7 +78,8 @@ impl<'q> Question<'q> {
         }
     }
 
-    /// Makes a call with the question as the library takes it. What it points to lasts for this call.
+    /// Calls `call` with the question as the library takes it, and returns what it returns. The pointers in the question are valid during this
+    /// call only: up to `WORDS` strings of a request lie on the stack, and more in a vector.
     pub(crate) fn lend<T>(&self, call: impl FnOnce(&sys::Question) -> T) -> T {
         let Request::Words(words) = self.request else {
             return call(&self.with(ptr::null(), 0));

@@ -39,14 +39,14 @@ const FRONTS: [(&[u8], Scheme); 3] = [
 ];
 
 impl<'a> Signature<'a> {
-    /// How the signature is made, by the form of its key. `None` for a key of another form.
+    /// How the signature is made, by the form of its key. `None` for a key of another form, such as one of P-384.
     #[must_use]
     pub fn scheme(&self) -> Option<Scheme> {
         let found = FRONTS.iter().find(|(front, _)| self.key.starts_with(front));
         found.map(|(_, scheme)| *scheme)
     }
 
-    /// The octets of a value that is one string. `None` for a list.
+    /// The octets of a value that is one string. `None` for a list, and for a string with a display hint.
     #[must_use]
     pub fn octets(&self) -> Option<&'a [u8]> {
         let colon = self.value.iter().position(|octet| *octet == b':')?;
@@ -68,6 +68,7 @@ impl<'a> Signature<'a> {
 /// ```
 #[derive(Clone, Debug, PartialEq, Eq, Hash)]
 pub struct ProvenKey<'k> {
+    /// `(public-key ..)`, as it was given.
     text: Cow<'k, [u8]>,
 }
 
@@ -88,8 +89,8 @@ impl<'k> ProvenKey<'k> {
         ProvenKey { text: key.into() }
     }
 
-    /// The key that has signed a message which the service itself made, with a nonce that it takes once. A certificate is none: it
-    /// proves nothing about who shows it.
+    /// The key that has signed a message which the service itself made, with a nonce that the service accepts only once. A certificate is no such
+    /// message: it proves nothing about who shows it.
     ///
     /// # Errors
     ///

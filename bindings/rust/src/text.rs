@@ -92,7 +92,7 @@ pub fn transport(text: &[u8]) -> Result<Vec<u8>, Refusal> {
 /// A text in another form: `command` is `sys::CANONICAL`, `sys::ADVANCED` or `sys::TRANSPORT`.
 fn converted(command: c_int, text: &[u8]) -> Result<Vec<u8>, Refusal> {
     library::check();
-    // (an octet that is printed in base64 takes 7 for the 3 of its canonical text)
+    // (the most that a text grows: of `1:x`, where x is not printable, the 3 octets become the 7 of `|AA==|` and a space)
     let (status, answer) = with_answer(3 * text.len() + 64, |buffer, room, needed| {
         // SAFETY: each pointer is to as many octets as its length says, or to one value of its type, and they do not overlap.
         unsafe {

@@ -1,6 +1,6 @@
 //! The words of the library's lines, as types.
 
-/// Makes an enum of the words of one kind.
+/// Makes an enum of the words of one kind that lines have, and `Other` for those that a later library may add.
 macro_rules! words {
     ($(#[$about:meta])* $kind:ident { $($(#[$when:meta])* $word:ident,)* }) => {
         $(#[$about])*
@@ -15,7 +15,7 @@ macro_rules! words {
         impl $kind {
             /// The variant for a word of a line. A word that is not known is `Other`.
             pub(crate) fn of(word: &str) -> $kind {
-                // (the words of parts and `grants` are in small letters)
+                // (lines have the words of parts and `grants` in small letters)
                 $(if word.eq_ignore_ascii_case(stringify!($word)) {
                     return $kind::$word;
                 })*

@@ -34,7 +34,7 @@ fn guard(list: &[u8]) -> Guard {
     Guard::read(list, Policy::Strict, Limits::highest()).expect("a list")
 }
 
-/// A question that shows a sequence.
+/// A question by KEY, at NOW, that shows a sequence.
 fn shows(sequence: &[u8]) -> Question<'_> {
     Question::new(sequence, held(KEY), WORDS, NOW)
 }
@@ -54,12 +54,12 @@ fn valid(_: Signature) -> bool {
     true
 }
 
-/// A key that is taken as proved.
+/// A key that is taken as proved. It is never freed, so that questions may borrow it.
 fn held(key: &'static [u8]) -> &'static ProvenKey<'static> {
     Box::leak(Box::new(ProvenKey::assume(key)))
 }
 
-/// The line of a refusal.
+/// The line of a refusal. Panics if there is none.
 fn refused<T: std::fmt::Debug>(result: Result<T, Denied>) -> String {
     match result {
         Err(Denied::Refused(refusal)) => refusal.to_string(),

@@ -35,7 +35,7 @@ struct Row {
     gives: String,
 }
 
-/// The octets of a line, in which a backslash escapes some.
+/// The octets of a line of the table, which writes some as `\t`, `\n`, `\r` or `\xHH`. Behind another backslash is the octet itself.
 fn unescaped(text: &str) -> Vec<u8> {
     let mut made = Vec::new();
     let mut rest = text.bytes();
@@ -58,6 +58,7 @@ fn unescaped(text: &str) -> Vec<u8> {
     made
 }
 
+/// The octets of hexadecimal digits.
 fn hexadecimal(digits: &str) -> Vec<u8> {
     let pairs = (0..digits.len()).step_by(2);
     pairs
@@ -196,6 +197,8 @@ fn the_published_signature_is_valid() {
     assert!(!verifies(&RESPONSE.as_bytes()[1..]));
 }
 
+/// A row has a nonce, the second at which it comes, and the refusal, empty if the nonce is taken. Each set has room for 2, and a nonce is kept for
+/// 360 seconds.
 #[test]
 fn nonces_are_kept_in_two_sets() {
     let store = Nonces::new(2);

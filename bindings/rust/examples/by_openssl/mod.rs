@@ -11,7 +11,9 @@ use std::process::Command;
 use std::sync::atomic::{AtomicUsize, Ordering};
 use std::{env, fs, io, process};
 
+/// The octets of a point of Ed25519, and of each half of a signature.
 const HALF: usize = 32;
+/// How many bits the modulus of RSA may have, and its exponent at most.
 const BITS: std::ops::RangeInclusive<usize> = 2048..=4096;
 const MOST_EXPONENT_BITS: usize = 31;
 /// A canonical text of more octets is no key and no value of a signature.
@@ -32,7 +34,8 @@ const BIT_STRING: u8 = 3;
 const INTEGER: u8 = 2;
 const SEQUENCE: u8 = 0x30;
 
-/// A curve of ECDSA: its key, the beginning of the key in DER, the octets of a coordinate, the prime, the order, and the digest of the message.
+/// A curve of ECDSA: the canonical form of its keys, the beginning of a key in DER, the octets of a coordinate, the prime, the order, and the words
+/// by which `openssl` makes the digest of the message.
 struct Curve {
     form: &'static [u8],
     begin: &'static [u8],
@@ -61,7 +64,7 @@ const CURVES: [Curve; 2] = [
     },
 ];
 
-/// A key and a signature, as OpenSSL reads them, and how it makes the digest of the message.
+/// A key in DER and a signature, as OpenSSL reads them, and the words by which it makes the digest of the message: none for Ed25519.
 struct Signed {
     key: Vec<u8>,
     signature: Vec<u8>,
@@ -127,6 +130,7 @@ struct Room {
 }
 
 impl Room {
+    /// Makes a folder, whose name has the number of this process and a count.
     fn new() -> io::Result<Room> {
         static COUNT: AtomicUsize = AtomicUsize::new(0);
         let number = COUNT.fetch_add(1, Ordering::Relaxed);
@@ -164,7 +168,8 @@ fn ed25519(key: &[u8], value: &[u8]) -> Option<Signed> {
     })
 }
 
-/// Whether the coordinate y in a text of Ed25519 rules out a small order and a second text of the point. That it is a point is not tested.
+/// Whether the coordinate y of a point of Ed25519 is from 2^192 to below p - 1, and not that of a point of order 8. Then the point has no small
+/// order and no second text. That it is a point is not tested.
 fn is_of_large_order(point: &[u8]) -> bool {
     let mut y = reversed(point);
     y[0] &= 0x7f;

@@ -37,8 +37,8 @@ use std::time::UNIX_EPOCH;
 pub mod limits;
 pub mod policy;
 
-/// Writes a decision: whether the request is granted, and the entry that grants it and the second since 1970 until which it does, or the refusal,
-/// or why the verifier failed.
+/// Writes a decision as a map. `granted` says whether the request is granted. A yes has also `entry`, the entry that grants it, and `until`, the last
+/// second since 1970, or null if no window ends. A refusal has `refused`, its line, and a verifier that failed has `failed`.
 ///
 /// # Errors
 ///

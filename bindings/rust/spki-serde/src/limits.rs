@@ -23,7 +23,7 @@ pub fn deserialize<'de, D: Deserializer<'de>>(from: D) -> Result<Limits, D::Erro
     from.deserialize_map(Named)
 }
 
-/// Reads limits by their names.
+/// Reads a map of limits by their names, for `deserialize`.
 struct Named;
 
 impl<'de> Visitor<'de> for Named {

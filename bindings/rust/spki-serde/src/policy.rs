@@ -33,7 +33,7 @@ pub fn deserialize<'de, D: Deserializer<'de>>(from: D) -> Result<Policy, D::Erro
     from.deserialize_str(Word)
 }
 
-/// Reads the word of a policy.
+/// Reads the word of a policy, for `deserialize`.
 struct Word;
 
 impl Visitor<'_> for Word {

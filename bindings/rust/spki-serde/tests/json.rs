@@ -10,6 +10,7 @@ use std::time::{Duration, UNIX_EPOCH};
 const LIST: &[u8] =
     b"(acl (entry (public-key (test a)) (tag (ftp))) (entry (public-key (test b)) (tag (ftp)) (not-after \"2026-06-30_23:59:59\")))";
 
+/// The limits of a value in JSON, or the text of the error.
 fn limits_of(value: Value) -> Result<Limits, String> {
     limits::deserialize(value).map_err(|error| error.to_string())
 }

@@ -131,7 +131,7 @@ pub struct Signed {
     pub message: Text,
     /// The value, in canonical form.
     pub value: Text,
-    /// The octets of a value that is one string.
+    /// The octets of a value that is one string. Null if it is a list.
     pub octets: Text,
 }
 

@@ -2,12 +2,16 @@
 
 use super::Unproved;
 
+// The label of the signature, and the value of its parameter `tag`.
 pub(super) const LABEL: &str = "spki";
 pub(super) const TAG: &str = "spki";
+// The most octets of a field that is taken apart, names of components in it, and digits of a number.
 const MOST_INPUT: usize = 8192;
 const MOST_COMPONENTS: usize = 32;
 const MOST_DIGITS: usize = 15;
+/// The components that are not fields.
 const DERIVED: [&str; 5] = ["@method", "@authority", "@target-uri", "@path", "@query"];
+/// How many parameters there are, each of which is required.
 const PARAMETERS: usize = 6;
 /// The field with the key that signs, which is always covered.
 pub(super) const PUBLIC_KEY: &str = "x-spki-public-key";
@@ -21,7 +25,8 @@ pub struct ContentDigest {
     pub octets: Vec<u8>,
 }
 
-/// The value of `Signature-Input`. `text` is that of `@signature-params`, as it was sent.
+/// The value of `Signature-Input`: the names of the covered components, and the parameters. `text` is all behind the label, as it was sent: the
+/// value of `@signature-params`. `created` and `expires` are seconds since 1970.
 #[derive(Default)]
 pub(super) struct Input<'a> {
     pub(super) text: &'a str,
@@ -102,7 +107,7 @@ impl<'a> Parser<'a> {
         Ok(text)
     }
 
-    /// A number of seconds.
+    /// A number of seconds, of at most `MOST_DIGITS` digits, without zeros before it.
     fn integer(&mut self) -> Result<u64, Unproved> {
         let digits = self.take_while(|it| it.is_ascii_digit());
         if digits.len() > MOST_DIGITS || digits.len() > 1 && digits.starts_with('0') {
@@ -120,7 +125,7 @@ impl<'a> Parser<'a> {
         Ok(octets)
     }
 
-    /// Fails with the refusal of what follows the first member, unless nothing does.
+    /// Succeeds if nothing follows the first member. Fails with `TwoSignatures` if a comma does, and else with `Malformed`.
     fn expect_end(&self) -> Result<(), Unproved> {
         if self.rest.is_empty() && !self.is_cut {
             return Ok(());
@@ -155,7 +160,8 @@ impl<'a> Parser<'a> {
 }
 
 impl<'a> Input<'a> {
-    /// Reads the parameters up to the end of the field. Then nothing that the profile requires may be missing.
+    /// Reads the parameters, each `;name=value`, up to the end of the field. Then no component and no parameter that the profile requires may be
+    /// missing. The components are read before.
     fn read_parameters(&mut self, parser: &mut Parser<'a>) -> Result<(), Unproved> {
         let mut seen = Vec::new();
         while parser.try_skip(";") {
@@ -251,6 +257,7 @@ pub(super) fn decode_base64(text: &[u8]) -> Option<Vec<u8>> {
     if text.len() % 4 != 0 {
         return None;
     }
+    // (the lowest `count` of `bits` are those that are not in an octet yet, and the others are 0; those behind the last octet must be 0 too)
     let (mut made, mut bits, mut count) = (Vec::with_capacity(text.len() / 4 * 3), 0u32, 0);
     for octet in &text[..text.len() - padding] {
         let six = match octet {

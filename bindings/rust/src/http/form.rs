@@ -3,7 +3,9 @@
 use super::fields::decode_base64;
 use super::Unproved;
 
+/// The most octets of a key in transport form.
 const MOST_KEY: usize = 4096;
+/// The canonical text of a signature value by ECDSA, with `%` for each of its two strings.
 const ECDSA: &str = "(7:sig-val(5:ecdsa(1:r%)(1:s%)))";
 /// The algorithms, the canonical texts of their keys and of the values of their signatures, with `%` for each string, and the octets of a signature:
 /// 0 where the key says it.
@@ -61,7 +63,8 @@ impl Kind {
     }
 }
 
-/// The canonical text of a key in transport form, and its kind.
+/// The canonical text of a key that is given in transport form, and its kind. A signature of RSA has as many octets as the modulus, the first string
+/// of the key. Fails with `BadKey`.
 pub(super) fn key_of(text: &[u8]) -> Result<(Vec<u8>, Kind), Unproved> {
     let bare = text
         .strip_prefix(b"{")
@@ -102,7 +105,7 @@ fn first_string<'a>(mut text: &'a [u8], form: &str) -> Option<&'a [u8]> {
     first.filter(|_| text.is_empty())
 }
 
-/// The string that a canonical text begins with, and the rest. `None` if it begins with none.
+/// The string that a canonical text begins with, and the rest. `None` if it begins with none, or with a length of more than four digits.
 fn string_of(text: &[u8]) -> Option<(&[u8], &[u8])> {
     let colon = text.iter().take(5).position(|octet| *octet == b':')?;
     let digits = std::str::from_utf8(&text[..colon]).ok()?;

@@ -3,6 +3,7 @@
 use super::fields::Input;
 use super::Unproved;
 
+/// The field with the digest of the body.
 pub(super) const DIGEST: &str = "content-digest";
 
 /// A request, as it was sent.
@@ -59,14 +60,15 @@ impl<'a> Message<'a> {
         Ok(value.to_vec())
     }
 
-    /// Whether it may have a body, so that a digest must be covered.
+    /// Whether the request may have a body, so that a digest must be covered.
     pub(super) fn may_have_body(&self) -> bool {
         !matches!(self.method, "GET" | "HEAD")
             || self.values("content-length").any(|value| value != b"0")
             || self.values("transfer-encoding").next().is_some()
     }
 
-    /// The signature base: the text that is signed. The authority is one of `authority_of`.
+    /// The signature base: the text that is signed. `authority` is as `authority_of` returns it. Fails if `field` refuses one of the
+    /// covered fields.
     pub(super) fn base(
         &self,
         scheme: &str,

@@ -19,6 +19,7 @@ pub trait TakeNonce {
 /// hash, the second is refused.
 #[derive(Debug)]
 pub struct Nonces {
+    /// How many each of the two sets may have.
     most: usize,
     hasher: RandomState,
     sets: Mutex<Sets>,
@@ -61,7 +62,8 @@ impl TakeNonce for Nonces {
 }
 
 impl Sets {
-    /// Makes the young set the old one once it is `seconds` old. If the clock went back, nothing is forgotten.
+    /// Makes the young set the old one once it is `seconds` old, and forgets it too if it is twice as old. If the clock went back, nothing is
+    /// forgotten.
     fn turn(&mut self, now: u64, seconds: u64) {
         let age = now.saturating_sub(self.turned);
         if age < seconds {
