@@ -25,7 +25,7 @@ cmake=$libraries/cmake/spki
 # The modules of spki-cert, and those that it shares with services in Python.
 modules=(apps/spki-cert/spki_cert_tool/{*.py,py.typed} bindings/python/spki{,_http,_verify}/{*.py,py.typed})
 
-# The place of a module under the prefix.
+# place_of MODULE: prints the place of a module of spki-cert under the prefix.
 place_of() {
     local path=${1#apps/spki-cert/}
     echo "share/spki-cert/${path#bindings/python/}"
@@ -62,7 +62,7 @@ if [[ $uninstalls ]]; then
     exit
 fi
 
-# Puts a file at a place under the prefix, with this mode.
+# placed MODE FILE PLACE: puts a file at a place under the prefix, and says so.
 placed() {
     install -D -m "$1" "$2" "$prefix/$3"
     echo "installed $prefix/$3"

@@ -38,7 +38,7 @@ room=$(mktemp -d)
 trap 'rm -rf "$room"' EXIT
 mkdir "$room/made"
 
-# The folder of an architecture's libraries, below /usr.
+# libraries_of ARCHITECTURE: prints the folder of its libraries, below /usr.
 libraries_of() {
     case $1 in
         amd64) echo lib/x86_64-linux-gnu ;;
@@ -47,7 +47,7 @@ libraries_of() {
     esac
 }
 
-# What the packages of a program or a shared library depend on. Nothing but the C library may be linked.
+# libc_of FILE: prints what the package of this program or shared library depends on: the C library that it needs. Nothing else may be linked.
 libc_of() {
     local others newest
     others=$(readelf -dW "$1" | sed -n 's/.*(NEEDED).*\[\(.*\)\]/\1/p' | grep -vE '^(libc\.so\.6|libresolv\.so\.2|ld-linux.*)$' || true)
@@ -56,18 +56,20 @@ libc_of() {
     echo "libc6${newest:+ (>= $newest)}"
 }
 
-# Takes out of a program or a library what is only for debuggers. The section .comment stays, which says by which logic it was proved.
+# stripped TOOLS HOW FILE: takes out of a program or a library what is only for debuggers. TOOLS is how the name of `strip` begins, such as
+# aarch64-linux-gnu- or nothing, and HOW its option. The section .comment stays, which says by which logic the file was proved.
 stripped() {
     local tools=$1 how=$2 file=$3
     "${tools}strip" "$how" "$file"
 }
 
-# Puts a file of this repository into a package.
+# put MODE FILE PACKAGE PLACE: puts a file of this repository into the folder of a package.
 put() {
     install -D -m "$1" "$here/$2" "$room/$3/$4"
 }
 
-# Makes a package of the folder of its name: its architecture, section, further fields, and descriptions, the short one first.
+# package NAME ARCHITECTURE SECTION FIELDS SHORT LONG: makes a package of the folder NAME in $room. FIELDS are further lines of its control file, as
+# Depends, and SHORT and LONG its descriptions.
 package() {
     local name=$1 architecture=$2 section=$3 fields=$4 short=$5 long=$6 folder=$room/$1 size
     install -d "$folder/DEBIAN" "$folder/usr/share/doc/$name"
@@ -93,7 +95,8 @@ END
     dpkg-deb --root-owner-group --threads-max=1 --build "$folder" "$room/made/${name}_${version}_$architecture.deb"
 }
 
-# Makes the packages of the library for an architecture, of which all but the libraries is in `all`, with the tools whose names begin so.
+# package_library ARCHITECTURE STATIC TOOLS: makes the two packages of the library for an architecture, of the static library STATIC and of the shared
+# one beside it. The headers and the files for pkg-config and CMake are those in $room/all. TOOLS is as for `stripped`.
 package_library() {
     local architecture=$1 static=$2 tools=$3 own place depends
     own=$(libraries_of "$(dpkg --print-architecture)") place=usr/$(libraries_of "$1")
@@ -120,7 +123,8 @@ Depends: $shared (= $version), libc6-dev" "decide requests by access lists and c
  that is linked with the static library needs no other package where it runs."
 }
 
-# Builds the daemon over a static library. No path of this machine gets into it.
+# build_daemon LIBRARY PROGRAM: builds the daemon as PROGRAM over a static library. No path of this machine gets into it. (The hash in the flags is
+# there so that Go builds anew for another library.)
 build_daemon() {
     local flags
     flags="-g -O2 -DSPKI_OF_LIBRARY_$(sha256sum < "$1" | cut -c 1-64)"
@@ -129,12 +133,13 @@ build_daemon() {
         -ldflags '-s -w -buildid= -linkmode=external -extldflags "-Wl,-z,relro -Wl,-z,now"' -o "$2" .)
 }
 
-# The place of a page or an example below the folder of documents.
+# place_in_doc FILE: prints the place of a page or an example below the daemon's folder of documents.
 place_in_doc() {
     local place=${1#apps/spki-authd/}
     echo "${place#docs/}"
 }
 
+# Builds the daemon over $library, and makes its package: the program, its units, its pages and examples, and its scripts.
 package_daemon() {
     local units=() unit page depends
     install -d "$room/spki-authd/usr/bin" "$room/spki-authd/lib/systemd/system" "$room/spki-authd/DEBIAN"

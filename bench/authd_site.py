@@ -27,6 +27,8 @@ UNIT = {"GLIBC_TUNABLES": "glibc.malloc.tcache_count=100"}
 SYNC = os.environ.get("SYNC", "seconds")
 PORTS = 3
 SECONDS_TO_START = 30
+# The script of wrk. Nine of ten requests show the HOT chains in turn, and each tenth shows one of the COLD ones. It is completed by HOT, by the file
+# of the chains, and by the most ms that a connection waits before a request.
 LUA = """local shown, hot = {}, %d
 for line in io.lines("%s") do shown[#shown + 1] = "SPKI " .. line end
 local turn, cold = 0, 0
@@ -101,7 +103,8 @@ def free_ports(count):
 
 
 class Site:
-    """The files and the programs in the folder `room`. `nginx` has the ports for nginx alone, with the handler, and with the daemon."""
+    """The files and the programs in the folder `room`. `nginx` has the ports for nginx alone, with the handler, and with the daemon. `list` is the
+    path of the access list, and `running` has the processes that `end` ends."""
 
     def __init__(self, room, library):
         self.room, self.library, self.running = room, library, []
@@ -161,7 +164,9 @@ class Site:
             "log": self.path("grants.log"), "log_sync": SYNC}))
 
     def start(self, *words, at, **environment):
-        """Starts a program, and waits until it listens at a port of loopback or at a Unix socket."""
+        """Starts the program that the words name, with these variables added to its environment. Returns its process as soon as something listens at
+        `at`, the number of a port of loopback or the path of a Unix socket. Ends the whole bench, with what the program wrote, if nothing listens
+        there after SECONDS_TO_START."""
         with open(self.path(f"{os.path.basename(words[0])}.out"), "ab") as out:
             process = subprocess.Popen(words, stdin=subprocess.DEVNULL, stdout=out, stderr=out, env={**os.environ, **environment})
         self.running.append(process)
@@ -172,7 +177,7 @@ class Site:
         sys.exit(f"{words[0]} does not listen: {self.said(words[0])}")
 
     def said(self, program):
-        """The end of what a program wrote."""
+        """The end of what the program at this path has written, at most 2,000 characters."""
         with open(self.path(f"{os.path.basename(program)}.out"), encoding="utf-8", errors="replace") as file:
             return file.read()[-2000:]
 
@@ -233,5 +238,5 @@ def processor_seconds(process):
 
 
 def reload(process):
-    """Has the daemon read its list again."""
+    """Tells the daemon, which is this process, to read its list again. Does not wait until it has."""
     process.send_signal(signal.SIGHUP)

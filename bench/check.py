@@ -33,7 +33,7 @@ def case(entries, request):
 
 
 def entry(name, tag):
-    """An entry for a tag, for the key of a name."""
+    """An entry that grants a tag to the key of this name."""
     return group(string("entry"), key(name), group(string("tag"), tag))
 
 
@@ -101,7 +101,8 @@ def no_value(size):
 
 
 def run(text, wanted, timeout=None):
-    """The processor time of a decision in seconds. Ends the script if the answer does not begin as wanted."""
+    """The processor time of a decision of the text, in seconds. Ends the script if the answer does not begin with `wanted`. After `timeout` seconds
+    on the clock the run is ended, and `subprocess.TimeoutExpired` is raised."""
     done, took = processor_seconds([PROGRAM, "check"], input=text, stdout=subprocess.PIPE, timeout=timeout)
     if not done.stdout.startswith(wanted):
         sys.exit(f"wrong answer: {done.stdout!r}, wanted {wanted!r}")

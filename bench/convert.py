@@ -36,6 +36,8 @@ def filled(size, piece):
     return b"(" + piece * ((size - 2) // len(piece)) + b")"
 
 
+# Each of the next functions makes a text of at most `size` octets, of the kind that its name says.
+
 def short_tokens(size):
     return filled(size, b"a ")
 

@@ -1,8 +1,8 @@
 #!/usr/bin/env python3
 """Draws docs/pictures/dashboard.svg from a run of spki-authd behind nginx, by what `spki-authd -metrics` says each second.
 
-The run is that of authd.py under half of its load: a list of 10,000 entries, and chains of three certificates. After a third the client's issuer is
-taken from the list, after two thirds the list is put back, and in between a reload is refused.
+The run is that of authd.py under half of its load: a list of 10,000 entries, and chains of three certificates. After a quarter the client's issuer
+is taken from the list, after a half a reload is refused, and after three quarters the list is put back.
 
 Needs what authd.py needs. Usage: bench/dashboard.py [--seconds N] [LIBRARY]
 """
@@ -35,7 +35,8 @@ def metrics(site):
 
 
 def changes(site, seconds):
-    """Takes the issuer from the list, has a broken list refused, and puts the list back."""
+    """Takes the issuer from the list after a quarter of `seconds`, has a broken list refused after a half, and puts the list back after three
+    quarters. The daemon reads the list after each change."""
     with open(site.list, "rb") as file:
         whole = file.read()
     without = whole[:whole.rindex(b"(5:entry")] + b")"
@@ -62,13 +63,14 @@ def sampled(site, seconds):
 
 
 def rates(samples, name, labels):
-    """By how much a metric grew in each second: the sum of all with this name whose labels contain a text."""
+    """By how much a metric grew in each second. Its value is the sum of all values of this name whose labels contain the text `labels`."""
     values = [sum(value for key, value in sample.items() if key[0] == name and labels in key[1]) for sample in samples]
     return [after - before for before, after in zip(values, values[1:])]
 
 
 def quantile(samples, share):
-    """For each second the bound, in milliseconds, below which a share (0.99) of its answers was."""
+    """For each second the least bound of the daemon's histogram, in milliseconds, up to which a share (0.99) of its answers took. The greatest bound
+    if fewer did."""
     bounds = sorted({float(labels[4:-1]) for name, labels in samples[0] if name == "seconds_bucket" and "Inf" not in labels})
     grown = [rates(samples, "seconds_bucket", f'le="{bound:g}"') for bound in bounds]
     counts = rates(samples, "seconds_count", "")

@@ -103,7 +103,8 @@ def is_wrong(each, removed, stale):
 
 
 class Site:
-    """Servers, daemons, and those who ask them. Where something is to be cut, each server is at a node of a network, and the heartbeat too."""
+    """Servers, daemons, and those who ask them. `nodes` are those of a network at which the primary, the two replicas and the heartbeat run, in this
+    order, if the primary is to be cut off; otherwise each is None. `number` is that of the entry that is removed."""
 
     def __init__(self, stack, room, program, stale, is_cut):
         self.nodes, self.stale = nodes_of(stack) if is_cut else [None] * 4, stale

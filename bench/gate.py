@@ -20,6 +20,7 @@ from collections import defaultdict
 
 ROOT = os.path.realpath(os.path.join(os.path.dirname(__file__), ".."))
 TICKS = os.sysconf("SC_CLK_TCK")
+# The parts of a crate's checks: the proofs, the proofs of its tests, and the wrong bodies, which are edits of it.
 PARTS = ("proofs", "tests", "edits")
 FIXED = ["rt", "selftest"]
 
@@ -52,7 +53,8 @@ def is_ours(process):
 
 
 def part_of(process, words):
-    """The crate and the part of the gate that a check belongs to, or None for another process."""
+    """The crate that a process checks, and the part of its checks (PARTS), by the process's number and the words of its command line. None if the
+    process is no check of a crate."""
     if "--crate-name" not in words:
         return None
     crate = words[words.index("--crate-name") + 1]
@@ -64,7 +66,8 @@ def part_of(process, words):
 
 
 class Sampled:
-    """The processor time of each process that was seen, by crate and part."""
+    """The processor time of each check that was seen. `seen` has its crate and part, and its ticks so far, by the number of its process and when that
+    began."""
 
     def __init__(self):
         self.seen = {}

@@ -43,7 +43,8 @@ def with_signature(octets, signer, value=string("sig")):
 
 
 def case_of(entries, rows, items, asks=OTHER):
-    """A case of these parts. By default a key asks that nothing is granted to, so that every entry is tried."""
+    """A case of these entries, rows of accepted signatures and items of its sequence. By default the key OTHER asks, to which nothing is granted, so
+    that every entry is tried."""
     return group(
         string("case"), group(string("acl"), *entries), group(string("accepted"), *rows), group(string("sequence"), *items),
         group(string("key"), asks), group(string("request"), string("ftp")), group(string("at"), string("2024-01-01_00:00:00")))
@@ -55,12 +56,14 @@ def row(octets, signer, value=string("sig")):
 
 
 def repeated(entries, cert, certificates, before=()):
-    """A case with one certificate of the owner so many times, behind others."""
+    """A case of these entries. Its sequence has the certificates of `before`, and behind them the certificate `cert` as often as `certificates` says.
+    The owner has signed all."""
     return case_of(entries, [row(octets, OWNER) for octets in (*before, cert)],
                    [with_signature(octets, OWNER) for octets in before] + [with_signature(cert, OWNER)] * certificates)
 
 
-# Each shape makes a case of so many entries and certificates. The third number is the most members of a set or list.
+# Each of the next functions makes the cases of a shape, by a number of entries, a number of certificates, and the most members of a set or list.
+# Those that do not need a number take it too.
 
 def chain(entries, certificates, members):
     """A case of one entry and a chain of so many certificates by keys."""
@@ -145,7 +148,8 @@ def long_key(entries, octets, members):
 
 
 def long_issuer(entries, certificates, members):
-    """A case of entries for the hash of a long key, and one certificate many times, from this hash to itself."""
+    """A case of entries for the hash of a long key, and one certificate many times, from this hash to itself. The key has 148 octets for each
+    certificate, so that it grows with the text."""
     long = key("k" * (148 * certificates))
     cert = certificate(digest(long), digest(long))
     return case_of([entry(digest(long))] * entries, [row(cert, long)], [long] + [with_signature(cert, digest(long))] * certificates)
@@ -208,8 +212,9 @@ def strangers(entries, certificates, members):
 
 @dataclass(frozen=True)
 class Shape:
-    """A kind of text: `what` it is, with the two counts, and what makes it. `listed` is the part of its octets that the list takes.
-    `is_product`: it has many entries and many certificates."""
+    """A kind of text. `make` returns one, by a number of entries, a number of certificates and the most members of a set or list. `what` says in
+    words what it is, with places for the first two numbers. `listed` is the part of a text's octets that its access list may take. `is_product`: it
+    has many entries and many certificates."""
 
     what: str
     make: Callable
@@ -221,11 +226,13 @@ class Shape:
         return self.make.__name__
 
     def entries(self, octets, members):
-        """How many entries have at most so many octets in the list."""
+        """The largest number of entries with which a text's list has at most `octets` octets, where a set or list has at most `members` members. The
+        list does not depend on the number of certificates, so the texts that are measured have two."""
         return largest_count(lambda count: lengths_in_case(self.make(count, 2, members))[0], octets)
 
     def fitting(self, size):
-        """The counts of entries and certificates in the largest text of at most so many octets."""
+        """The numbers of entries and certificates in the largest text of at most `size` octets: first as many entries as the list's part allows, and
+        then as many certificates as fit into what is left."""
         entries = self.entries(int(size * self.listed), MEMBERS)
         others = lengths_in_case(self.make(1, 2, MEMBERS))[1]
         listed = len(self.make(entries, 2, MEMBERS)) - others
@@ -238,13 +245,14 @@ class Shape:
 
 
 def largest_count(octets_of, octets):
-    """The largest count for which `octets_of(count)` is at most `octets`, if it grows by the same for each; 1 if it does not grow."""
+    """The largest count for which `octets_of(count)` is at most `octets`, if it grows by the same for each; 1 if it does not grow. The growth is that
+    from the count 2 to the count 12. 16 octets are left free."""
     few, many = octets_of(2), octets_of(12)
     return max(1, 2 + (octets - 16 - few) * 10 // (many - few)) if many > few else 1
 
 
 def lengths_in_case(text):
-    """How many octets a case's list has, and how many all else."""
+    """The number of octets of a case's list, and that of all other octets of the case."""
     listed = len(parts_of(text)[0])
     return listed, len(text) - listed
 
@@ -296,7 +304,7 @@ def timed(shape, sizes=SIZES):
 
 
 def faults_of(shape, count):
-    """The limits that a shape exceeds, where `count` counts instructions."""
+    """Measures a shape and prints the figures. Yields a line for each limit that it exceeds. `count` is a counter of instructions (counting.py)."""
     def instructions(text):
         return counted(count, [PROGRAM, "check"], text)
 

@@ -72,7 +72,7 @@ static int verifies(void)
     return failed == 0;
 }
 
-/* The µs of a call, of many in a row. Negative if one does not say yes. */
+/* The mean µs of CALLS calls of one way in a row. -1 if one of them does not grant. */
 static double time_of(int (*call)(void))
 {
     struct timespec from, to;

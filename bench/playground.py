@@ -32,7 +32,7 @@ KEYSTROKE = """
 
 
 class Timed(InChromium):
-    """The browser of the tests."""
+    """The browser of the page's tests, in which the page is timed. `engine` says what decides: the library if it is built, else the program."""
 
     engine = "library" if os.path.exists(f"{LIBRARY[:-2]}.so") else "program"
 

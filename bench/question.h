@@ -57,7 +57,7 @@ static inline enum spki_status list_signed(struct held *held)
     return status;
 }
 
-/* A call that answers an opened question. */
+/* A call that answers an opened question: it writes the answer to a buffer, sets how long that is, and returns the status. */
 typedef enum spki_status wish(const spki_asked *, void *, size_t, size_t *);
 
 /* The status of a call that answers the opened question. */

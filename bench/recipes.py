@@ -18,13 +18,15 @@ LEAVES = ("string", "prefix", "range", "limits")
 
 
 def named(count: int) -> bytes:
-    """The owner, or a name of the owner of so many strings. The first one is that which a definition defines, and the others are empty."""
+    """The owner if `count` is 0, otherwise a name of the owner with `count` strings. The first string is `n`, which the certificates define, and the
+    others are empty."""
     return name(OWNER, "n", *[""] * (count - 1)) if count else OWNER
 
 
 @dataclass(frozen=True)
 class Tag:
-    """A tag: lists or sets in one another, of which the innermost has so many members of the kind `of`, each with so many octets; or one leaf."""
+    """A tag of a kind of KINDS. Of a list or a set `depth` are in one another, and the innermost has `members` leaves of the kind `of`. The
+    strings in a leaf have `octets` octets or a few more, and the leaf's number is in them unless `are_equal`. Any other kind is `(*)` or one leaf."""
 
     kind: str = "star"
     members: int = 1
@@ -92,7 +94,8 @@ class Link:
 
 @dataclass(frozen=True)
 class Recipe:
-    """A list and a question. `grown` is the place of the certificate of which a number grows, and `grows` the field that has this number."""
+    """A list and a question. `grown` is the place of the certificate of which a number grows, and `grows` the field that has this number, empty if
+    none grows. The request has `words` strings of `word_octets` octets each. `is_by_other`: a key asks that nothing is granted to."""
 
     entries: Entries = Entries()
     links: tuple[Link, ...] = ()
@@ -110,7 +113,8 @@ class Recipe:
         return group(string("acl"), *[one] * its.count)
 
     def certificates(self) -> Iterator[bytes]:
-        """The certificates, in order."""
+        """The certificates, in order. Each continues from the subject of the one before, or of the entries."""
+        # (how many strings the name of that subject has: a definition replaces the first by its own subject)
         names = self.entries.names
         for link in self.links:
             for _ in range(link.repeats):
@@ -182,8 +186,8 @@ def greatest(fits: Callable[[int], bool], most: int = 1 << 20) -> int:
 
 
 def fitted(recipe: Recipe, listed: int, asked: int, certificates: int) -> Recipe | None:
-    """The recipe with its growing numbers as great as can be: the list has at most `listed` octets, the question `asked`. None if the smallest
-    are larger."""
+    """The recipe with its growing numbers as great as can be: the list has at most `listed` octets, the question at most `asked` octets and
+    `certificates` certificates. None if even the number 1 makes more."""
     def asks(number: int) -> bool:
         """Whether the question is read and small enough with this as its growing number."""
         made = recipe.with_links(number)
@@ -205,8 +209,8 @@ def fitted(recipe: Recipe, listed: int, asked: int, certificates: int) -> Recipe
 
 @dataclass(frozen=True)
 class Form:
-    """A text for the conversions: so many times side by side, lists in one another to a depth, of which the innermost has `count` strings of one kind
-    with so many octets."""
+    """A text for the conversions: a list with the same member `lists` times. The member is `depth` lists in one another, of which the innermost has
+    `count` strings of one kind of FORMS. `octets` is how long a string is, where its kind has a length. `is_braced`: in transport form."""
 
     kind: str = "token"
     count: int = 1
@@ -266,7 +270,7 @@ def changed_link(chance: random.Random, link: Link) -> Link:
 
 
 def changed(chance: random.Random, recipe: Recipe) -> Recipe:
-    """A recipe of which one part is another."""
+    """The recipe with one part changed by chance: its entries, a link, which number grows, or who asks for what. It gets at most four links."""
     its, links, what = recipe.entries, recipe.links, chance.choice(("entries", "entries", "link", "link", "links", "grows", "request", "by"))
     if what == "entries":
         made = chance.choice((replace(its, tag=changed_tag(chance, its.tag)), replace(its, names=chance.choice((0, 0, 1, 2, 50))),

@@ -15,11 +15,14 @@ import math
 import random
 from collections import OrderedDict
 
-# Measured: bench/store.py, in seconds of a processor, octets. A decision whose rows are read is on the clock, and so more. Over HTTP a request has a
-# TLS certificate, a line in the log, and a decision, nine of ten by kept rows.
+# Measured by bench/store.py. In seconds of a processor: a decision by kept rows (HIT), one whose rows are read, which is on the clock and so more
+# (MISS), the rows of a decision in PostgreSQL (ROWS), and a request over HTTP (HTTP), which has a TLS certificate, a line in the log, and a decision,
+# nine of ten by kept rows. OCTETS are those of an entry in all tables, and ADDS the changes a second of one primary.
 HIT, MISS, ROWS, HTTP = 6e-6, 163e-6, 150e-6, 45e-6
 OCTETS, ADDS = 469, 217
-# Assumed.
+# Assumed: the octets of a key that a daemon keeps; the entries, the decisions a second and Zipf's exponent; the cores of a machine, the share of
+# them in use, the octets of a daemon's cache and the fewest replicas; the median delay of a replica in seconds and its log-normal spread; and the
+# days that an entry stays.
 KEPT = 2560
 ENTRIES, RATE, SKEW = 10 ** 9, 10 ** 6, 1.0
 CORES, BUSY, CACHE, LEAST = 16, 0.6, 32 << 30, 3
@@ -49,7 +52,8 @@ def bands(count, skew):
 
 
 def hits_of(count, skew, kept):
-    """The share of requests whose key is among those kept, of a cache that drops what was asked for longest ago."""
+    """The share of requests whose key is among those kept, of a cache that drops what was asked for longest ago, by Che's approximation. `time` is
+    the number of requests after which a key is dropped: it is narrowed down until so many keys are kept."""
     if kept >= count:
         return 1.0
     spread = list(bands(count, skew))
@@ -101,8 +105,8 @@ def last_poll(chosen, daemons, replicas):
 
 
 def after_loss(chosen, count, kept, daemons):
-    """The share of hits before a third of the daemons is lost, and those of ten parts of the requests after it. Each of `count` keys has its daemon,
-    whose cache keeps at most `kept`. `chosen` is the source of chance."""
+    """The share of hits before a third of the daemons is lost, and a list of those in ten parts of the requests after it. Each of `count` keys has
+    its daemon, whose cache keeps at most `kept`. `chosen` is the source of chance."""
     caches = [Kept(kept) for _ in range(daemons)]
     lost = daemons // 3
 

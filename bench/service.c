@@ -37,14 +37,14 @@ static double now(void)
     return time_by(CLOCK_MONOTONIC);
 }
 
-/* Keeps the least of some times. 0 is none yet. */
+/* Sets `least` to `took` if that is less, or if `least` is 0, which means that no time was taken yet. */
 static void keep_least(double *least, double took)
 {
     if (*least == 0 || took < *least)
         *least = took;
 }
 
-/* The µs of a call, of many in a row. Ends the program if one has another status. */
+/* The mean µs of CALLS calls in a row. Ends the program if one returns another status than `wanted`. */
 static double time_of(enum spki_status (*call)(struct held *), struct held *held, enum spki_status wanted)
 {
     double begun = now();
@@ -66,6 +66,7 @@ static void decide_file(const char *path)
     printf("%.2f %.2f\n", listing, deciding);
 }
 
+/* Reads a file, at most its first 2 MiB. Ends the program if it cannot. */
 static struct spki_text whole_file(const char *path)
 {
     struct spki_text text = {malloc(2 << 20), 0};
@@ -102,11 +103,13 @@ static void forget_peak(void)
     }
 }
 
+/* `spki_asked_explain` as a `wish` of question.h: returns the status alone. */
 static enum spki_status status_of_explanation(const spki_asked *asked, void *buffer, size_t room, size_t *needed)
 {
     return spki_asked_explain(asked, buffer, room, needed).status;
 }
 
+/* `spki_asked_reduce` as a `wish` of question.h: returns the status alone. */
 static enum spki_status status_of_reduction(const spki_asked *asked, void *buffer, size_t room, size_t *needed)
 {
     return spki_asked_reduce(asked, buffer, room, needed).status;
@@ -204,6 +207,7 @@ static struct rate rate_of(void *(*work)(void *), size_t threads)
     return (struct rate){total / (now() - begun) * 1e6, waited * 1e3 / (total + 1)};
 }
 
+/* Sets `fastest` to `met` if threads did their work more often in a second there. */
 static void keep_fastest(struct rate *fastest, struct rate met)
 {
     if (met.by_time > fastest->by_time)

@@ -275,7 +275,7 @@ def through_python(driver):
 
 
 def question_of(text):
-    """The octets of the parts of a case that a client sends."""
+    """The number of octets of a case's question: of all parts but the list, which the service has."""
     return sum(map(len, parts_of(text)[1:]))
 
 
@@ -326,7 +326,7 @@ def key_of_lists(entries, lists):
 
 
 def only_entry(*parts):
-    """A case of one entry, which has these further fields, each as Python has it. Its key asks."""
+    """A case of one entry, which has these further fields, each as nested lists of octets (`read` returns such). Its key asks."""
     made = read(entry(keys_of(0)[0]))
     made.extend(parts)
     return case([canonical(made)], [], asks=keys_of(0)[0])

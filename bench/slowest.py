@@ -42,7 +42,8 @@ MANY = 1 << 30
 
 class Call(NamedTuple):
     """A call, and the most seconds and MiB that it may take. A guard's call has a word and limits of slowest.c; a command has no limits. `listed`
-    and `asked` are the most octets of the list and the question, `marks` which signatures are valid. `is_by_entry`: entries add seconds."""
+    and `asked` are the most octets of the list and the question, `certificates` the most certificates, and `marks` says which signatures are valid.
+    `is_by_entry`: each entry may add SECONDS_AN_ENTRY."""
 
     what: str
     word: str
@@ -84,7 +85,7 @@ FORMED = ("canonical", "advanced", "transport")
 
 
 def rows() -> list[str]:
-    """The rows of the table in docs/PERFORMANCE.md."""
+    """The rows that the table of docs/PERFORMANCE.md must have. A test compares the page with them."""
     limits = dict.fromkeys(call.limit for call in CALLS)
     return [f"| {', '.join(call.what for call in CALLS if call.limit == limit)} | {limit} |" for limit in limits]
 
@@ -104,7 +105,8 @@ NESTED = Tag("set", 960, depth=57)
 
 
 class Named(NamedTuple):
-    """A recipe that was slow once: of these calls, with so many octets of the list and the question, unless the call allows fewer."""
+    """A recipe that was slow once, for the calls whose names begin with one of `words`. The list has at most `listed` octets and the question
+    `asked`, or fewer if the call allows only fewer."""
 
     what: str
     words: tuple[str, ...]
@@ -217,7 +219,8 @@ class Measure:
 
 
 def size_of(call: Call, recipe: Any) -> int:
-    """The octets of the text of a recipe."""
+    """The number of octets that a recipe makes for a call: of the text to be converted, of two tags, or of the list and the question together. For a
+    conversion the recipe is a Form."""
     if call.word in FORMED:
         return len(recipe.text())
     return len(recipe.tags()) if call.word == "intersect" else sum(map(len, recipe.parts()))

@@ -121,7 +121,8 @@ def heartbeat(address, *before):
 
 
 def start_daemon(program, server, room, number, **more):
-    """Starts a daemon with the store of a server, and waits until it listens. Returns its process and the path of its socket."""
+    """Starts a daemon with the store of a server, and waits for the first line that it writes, by which it listens. Returns its process and the path
+    of its socket. `number` distinguishes its files in the folder `room`, and `more` are further settings of its store."""
     rules = [{"prefix": "/", "methods": {"GET": "read"}, "request": ["files", "{method}", "{path}"]}]
     path, config = os.path.join(room, f"daemon-{number}"), os.path.join(room, f"config-{number}")
     with open(config, "w", encoding="utf-8") as file:
@@ -133,8 +134,9 @@ def start_daemon(program, server, room, number, **more):
 
 
 def asked_by_people(server, library, count, program, number, rate, share=0.0):
-    """The line about what so many daemons answer, and the MiB of one and of PostgreSQL. `rate` is that of the questions to each, 0 for as many
-    as they answer, and `share` that of a processor that each has, 0 for no limit."""
+    """Has people ask `number` daemons with a store of `count` entries. Returns the line about what these answer, and the MiB of one and of
+    PostgreSQL. `rate` is the number of questions to each in a second, 0 for as many as it answers, and `share` the part of a processor that each
+    has, 0 for no limit."""
     with added_entries_removed(server), contextlib.ExitStack() as running:
         made, room = [], running.enter_context(tempfile.TemporaryDirectory())
         for each in range(number):

@@ -21,6 +21,7 @@ static void *counted(void *block)
     return block;
 }
 
+/* What --wrap calls in place of malloc, and the next functions in place of realloc and free. */
 void *__wrap_malloc(size_t size)
 {
     return counted(__real_malloc(size));

@@ -68,7 +68,7 @@ def spki(command, text):
 
 
 def check(access_list, key, request=b"login", policy=b""):
-    """The answer of `spki check` on a case without certificates, of canonical texts."""
+    """The answer of `spki check` on a case without certificates, as a line. The parts are texts in any form but transport form."""
     case = b"(case %s (accepted) (sequence) (key %s) (request %s) (at \"2026-03-01_12:00:00\") %s)"
     return spki("check", case % (access_list, key, request, policy)).decode().strip()
 

@@ -51,7 +51,7 @@ KNOWN = {
 
 
 def by_spki(form, text):
-    """What `spki` writes for a text, None where it refuses it."""
+    """What `spki` writes for a text in a form of FORMS. None if it refuses the text. Ends the script if it does neither."""
     status, output = run(PROGRAM, form, text, SECONDS)
     if status not in (0, 2):
         sys.exit(f"{PROGRAM} {form} ended with status {status}")
@@ -59,13 +59,13 @@ def by_spki(form, text):
 
 
 def by_peer(syntax, text):
-    """What `sexp-conv` writes for a text, None where it gives up."""
+    """What `sexp-conv` writes for a text in a syntax of SYNTAXES. None if it gives up."""
     done = subprocess.run([PEER, "-s", syntax], input=text, stdout=subprocess.PIPE, stderr=subprocess.DEVNULL, timeout=SECONDS)
     return done.stdout if done.returncode == 0 else None
 
 
 def there_and_back(written, read, forms, text):
-    """For each form that one program writes of a text: whether the other one reads it as the same canonical form.
+    """A list of truth values, one for each of `forms` that one program writes of a text: whether the other one reads it as the same canonical form.
 
     `written` and `read` are `by_spki` and `by_peer`, or the reverse.
     """
@@ -85,7 +85,8 @@ def shown(octets):
 
 
 def compare(name, text):
-    """The line of a text, and whether the programs agree on it or differ as is known."""
+    """The line that is printed about a text, and whether it is as wanted: both programs read it alike, or differ as KNOWN says, and each reads what
+    the other one writes."""
     ours, theirs = by_spki("canonical", text), by_peer("canonical", text)
     marks = there_and_back(by_spki, by_peer, FORMS, text) if ours is not None else []
     if name in KNOWN:

@@ -35,7 +35,7 @@ def text_of(name: str) -> str:
 
 
 def moment() -> datetime:
-    """The time of the sources."""
+    """The time of the sources, SOURCE_DATE_EPOCH."""
     return datetime.fromtimestamp(int(os.environ["SOURCE_DATE_EPOCH"]), timezone.utc)
 
 
@@ -88,14 +88,14 @@ def files_in(package: str) -> Iterator[tuple[str, bytes]]:
 
 
 def fields_of(package: str) -> dict[str, str]:
-    """The fields of a package that are lines."""
+    """The package's name, version, architecture and short description, by the names of these fields."""
     said = subprocess.run(["dpkg-deb", "-f", package, "Package", "Version", "Architecture", "Description"], stdout=subprocess.PIPE, check=True,
                           text=True).stdout
     return dict(line.split(": ", 1) for line in said.splitlines() if not line.startswith(" "))
 
 
 def described(package: str, maintainer: str) -> tuple[Row, list[Row], set[tuple[str, str]]]:
-    """A package and its files, as SPDX has them, and what is linked into them."""
+    """The package at a path, its files, each as SPDX has it, and what is linked into them, by names and versions."""
     with open(package, "rb") as file:
         octets = file.read()
     fields = fields_of(package)

@@ -40,7 +40,8 @@ OF_C = ["-std=c11", "-O2", "-fPIC", "-Wall", "-Wextra", "-Wpedantic", "-Werror"]
 
 
 def toolchain(path):
-    """The toolchain's own commands."""
+    """The module `rtlib` of the toolchain, by the path of its program `rt`. `built_over_gate` builds by it, since `rt lib` does not accept what
+    `rt ci` leaves."""
     loader = importlib.machinery.SourceFileLoader("rt", path)
     made = importlib.util.module_from_spec(importlib.util.spec_from_loader("rt", loader))
     loader.exec_module(made)
@@ -48,7 +49,8 @@ def toolchain(path):
 
 
 def built_over_gate(rt, flags, to):
-    """Whether the library is built over what `rt ci` left of the libraries below it."""
+    """Builds the proved code as the file `to`, over what `rt ci` left of the libraries below. Returns whether it is built: if false, `rt lib` must
+    build it. It is not tried if these libraries are built already, or if `rt ci` has not left all of them."""
     crate = next(it for it in rt.crates_below(ROOT) if it.name == "spki_c")
     below = crate.below()
     if all(it.is_built() for it in below) or not all(os.path.isdir(it.rlib) for it in below):
@@ -59,7 +61,7 @@ def built_over_gate(rt, flags, to):
 
 @contextlib.contextmanager
 def put_aside(path):
-    """Keeps a file that a command would write over."""
+    """A context in which a command may write to a path. Afterwards the file that was there before, if any, is there again."""
     aside = f"{path}.aside"
     if os.path.exists(path):
         os.replace(path, aside)
@@ -71,7 +73,7 @@ def put_aside(path):
 
 
 def build_proved(rt, asked, to):
-    """Builds the proved code for the target, and keeps it apart from what is linked of it."""
+    """Builds the proved code for the target as the file `to`, which --again links anew. `rt` is the path of the toolchain's program."""
     flags = [] if asked.target == OWN else [f"--target={asked.target}"]
     os.makedirs(os.path.dirname(to), exist_ok=True)
     if asked.over_gate and built_over_gate(toolchain(rt), flags, to):
@@ -88,7 +90,7 @@ def exports():
 
 
 def interface():
-    """The version of the calls: they may change where the version's second number does."""
+    """The version of the calls, which is the first two numbers of VERSION, such as 0.2: the calls may change where the second number does."""
     with open(os.path.join(ROOT, "VERSION"), encoding="ascii") as version:
         return ".".join(version.read().split(".")[:2])
 
@@ -99,7 +101,8 @@ def versioned():
 
 
 def link(target, kit, proved):
-    """Links the proved code and the C code into one object, and this into both libraries."""
+    """Links the proved code, the archive at the path `proved`, and the C code into one object, and this into both libraries. `kit` is the folder of
+    the toolchain."""
     def run(*words):
         subprocess.run(words, check=True)
 

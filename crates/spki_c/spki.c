@@ -15,6 +15,8 @@ struct texts { struct spki_signed signature; bool is_string; };
 #define ANSWER void *buffer, size_t buffer_length, size_t *needed
 #define TO buffer, buffer_length, needed
 
+/* The functions of the proved library, in src/. Each pointer is to a value. Behind a pointer to several values, or to one that may be missing, is
+ * their count. `back` receives the handle that a function has taken over and gives back. */
 uint32_t spki_c_answer(uint32_t command, struct spki_text text, ANSWER);
 uint32_t spki_c_check_accepted(struct spki_text text, struct spki_text rows, ANSWER);
 uint32_t spki_c_guard_open(struct spki_text list, uint32_t policy, const struct spki_limits *limits, size_t count, struct handle *guard, ANSWER);
@@ -75,6 +77,7 @@ enum spki_status spki_guard_open(const void *list, size_t list_length, enum spki
                                  spki_guard **guard, ANSWER)
 {
     struct handle handle = {0};
+    /* (a limit of 0 stands for the usual one) */
     struct spki_limits some = {0};
     enum spki_status status = SPKI_MISUSED;
     if (BEGINS && guard && (!limits || READ(some, struct spki_limits, answer, limits)))
@@ -95,6 +98,7 @@ enum spki_status spki_guard_ask(const spki_guard *guard, const struct spki_quest
     struct handle handle = {0};
     struct spki_question q;
     enum spki_status status = SPKI_MISUSED;
+    /* (the last of the parts is whether strings are given) */
     if (BEGINS && guard && asked && READ(q, struct spki_question, seconds, question) && !is_misuse(q.words, q.word_count, sizeof *q.words))
         status = spki_c_guard_ask(LENT(guard), (struct parts){q.sequence, q.key.text, q.request, q.moment, q.words},
                                   q.words ? q.words : &(struct spki_text){0}, q.word_count, q.seconds ? q.seconds : &(int64_t){0},

@@ -7,7 +7,7 @@
 
 enum { MOST = 65536 };
 
-/* The first octets of a file, at most `most`. None if it cannot be read. */
+/* The first octets of a file, at most `most`, in `room`. An empty text if it cannot be read. */
 static struct spki_text octets_of(const char *path, void *room, size_t most)
 {
     FILE *file = fopen(path, "rb");

@@ -14,7 +14,8 @@ static const char *const derived[] = {"@method", "@authority", "@target-uri", "@
 static const char malformed[] = "malformed", chained[] = "authorization", sequence[] = "x-spki-sequence", body_digest[] = "content-digest";
 static const char public_key[] = "x-spki-public-key";
 
-/* The value of `Signature-Input`. `text` is that of `@signature-params`, as it was sent. */
+/* The value of `Signature-Input`. `text` is that of `@signature-params`, as it was sent. `components` has `count` names. `strings` has the values of
+ * the parameters from NONCE to TAG at their places, and those of the first two are `created` and `expires`. */
 struct input {
     struct spki_text text, components[MOST_COMPONENTS], strings[PARAMETERS];
     size_t count;

@@ -15,7 +15,8 @@ ALGORITHMS = ("sha1", "sha256", "sha512")
 
 
 def places_of(key):
-    """The digests by which the store finds the principals that can name a key, in canonical form. If it finds others too, that does no harm."""
+    """The digests by which the store finds the principals that can name a key. `key` is its text in canonical form. If the store finds other
+    principals too, that does no harm."""
     return [hashlib.new(algorithm, key).digest() for algorithm in ALGORITHMS]
 
 

@@ -9,7 +9,8 @@ asks() {
     echo "$who $method $path: $status"
 }
 
-# shows FILE: the header that shows a sequence of certificates, on one line in braces
+# shows FILE: prints the header by which a client shows the certificates in FILE, for `asks .. -H "$(shows FILE)"`. They are a sequence in transport
+# form, which is base64 in braces on one line.
 shows() {
     echo "Authorization: SPKI $(spki-cert show --braces "$1")"
 }

@@ -42,6 +42,7 @@ static int refuses(void)
     return 1;
 }
 
+/* What --wrap calls in place of malloc, and the next function in place of realloc. */
 void *__wrap_malloc(size_t size)
 {
     return refuses() ? NULL : __real_malloc(size);
@@ -97,6 +98,7 @@ static struct answer done(call *calls, const void *with, size_t size)
     return answer;
 }
 
+/* Whether an answer's octets are those of a C string. */
 static int is(const struct answer *answer, const char *wanted)
 {
     return answer->length == strlen(wanted) && !memcmp(answer->octets, wanted, answer->length);
@@ -144,6 +146,7 @@ struct of_text {
     struct spki_text text, rows;
 };
 
+/* Each of the next two is a `call` with a struct of_text: a command's answer to its text, and the answer to a case by rows apart. */
 static enum spki_status answers_text(const void *with, void *buffer, size_t length, size_t *needed)
 {
     const struct of_text *it = with;
@@ -168,7 +171,7 @@ static struct spki_text lent(const struct text *text)
     return given;
 }
 
-/* Writes a text in another form, where it is one value. Its canonical form must stay the same. */
+/* Replaces a text by the same value in another form, if it is one value. Its canonical form must stay the same. */
 static void convert(struct input *in, struct text *text)
 {
     struct of_text with = {SPKI_CANONICAL, lent(text), {0}}, again = with;
@@ -213,6 +216,7 @@ struct of_guard {
     spki_guard **guard;
 };
 
+/* A `call` with a struct of_guard: opens a guard. */
 static enum spki_status opens(const void *with, void *buffer, size_t length, size_t *needed)
 {
     const struct of_guard *it = with;
@@ -228,6 +232,7 @@ struct of_question {
     spki_asked **asked;
 };
 
+/* A `call` with a struct of_question: opens a question. */
 static enum spki_status asks(const void *with, void *buffer, size_t length, size_t *needed)
 {
     const struct of_question *it = with;
@@ -242,12 +247,14 @@ struct of_asked {
     enum spki_status (*answers)(const spki_asked *, void *, size_t, size_t *);
 };
 
+/* A `call` with a struct of_asked: answers an opened question. */
 static enum spki_status answers_asked(const void *with, void *buffer, size_t length, size_t *needed)
 {
     const struct of_asked *it = with;
     return it->answers(it->asked, buffer, length, needed);
 }
 
+/* Each of the next two is a call for `answers` of struct of_asked: it returns the status alone. */
 static enum spki_status explains(const spki_asked *asked, void *buffer, size_t length, size_t *needed)
 {
     return spki_asked_explain(asked, buffer, length, needed).status;

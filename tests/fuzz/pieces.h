@@ -57,6 +57,7 @@ static void put(struct text *to, const void *octets, size_t length)
     to->length += length;
 }
 
+/* Adds a string of these octets in canonical form. */
 static void put_string(struct text *to, const void *octets, size_t length)
 {
     char head[24];
@@ -142,6 +143,7 @@ static void put_subject(struct input *in, struct text *to, unsigned which)
     end(to);
 }
 
+/* Adds a tag that is a range, with no limit, a lower one, or a lower and an upper one. */
 static void put_range(struct input *in, struct text *to)
 {
     static const char *const orders[] = {"alpha", "numeric", "time", "binary", "date"};
@@ -253,6 +255,7 @@ static void put_certificate(struct input *in, struct text *to, unsigned place)
     end(to);
 }
 
+/* Adds an entry for a key, for its hash, or for a name of one: mostly the key that begins the chain. */
 static void put_entry(struct input *in, struct text *to)
 {
     begin(to, "entry");

@@ -33,7 +33,9 @@ def word(name: str) -> Value:
 
 
 class Builder:
-    """Builds one case. Each step of it goes wrong by a small chance."""
+    """Builds one case. Each step of it goes wrong by a small chance. `keys` are those from which its issuers and subjects are drawn. The chain has as
+    many certificates as one of `lengths` says, and more to define what names are left. `items` and `rows` are what the sequence and the list of
+    accepted signatures get, and `hashed` the keys that an issuer's hash names, which the sequence must show."""
 
     def __init__(self, rng: random.Random) -> None:
         self.rng = rng
@@ -46,7 +48,7 @@ class Builder:
         self.rows: list[Value] = []
 
     def wrong(self, chance: float = FAULTY) -> bool:
-        """Whether something goes wrong here, or anything else that has this chance."""
+        """Whether something happens that has this chance: mostly a mistake, but also what is right and seldom."""
         return self.rng.random() < chance
 
     # ---- parts
@@ -88,7 +90,8 @@ class Builder:
         return (word("tag"), tags.tag_for(self.request, self.rng) if not self.wrong() else tags.tag(self.rng))
 
     def fields(self, *needed: Value, propagate: bool, ignored: tuple[str, ...]) -> list[Value]:
-        """Fields in some order: the needed ones, a validity, `(propagate)` if asked, and ignored ones of these heads by chance."""
+        """Fields in some order: the needed ones, by chance a validity, `(propagate)` if `propagate` is true, and by chance fields with the heads
+        `ignored`, which every reader of a certificate or an entry skips."""
         fields = [*needed, *self.window()]
         if propagate:
             fields.append((word("propagate"),))
@@ -172,12 +175,12 @@ class Builder:
         return entries
 
     def entry(self, subject: Subject, propagate: bool) -> Value:
-        """An entry."""
+        """An entry for a subject, with a tag that mostly contains the request."""
         fields = self.fields(self.tag(), propagate=propagate and not self.wrong(), ignored=("comment",))
         return (word("entry"), self.subject(subject), *fields)
 
     def case(self) -> Value:
-        """The case."""
+        """The whole case: an entry and a chain from it to the key that asks, mostly. To be called once."""
         subject = self.next_subject(0.3)
         length = self.rng.choice(self.lengths)
         last = self.chain(subject, length)

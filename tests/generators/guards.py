@@ -51,8 +51,8 @@ def guard_question(rng: random.Random) -> GuardQuestion:
 
 
 def limits_for(wish: str, rng: random.Random) -> Limits:
-    """Limits, some of them low by chance. None is 0, which stands for the usual limit."""
-    # with so few nodes the case of one decision in ten is too large, which the guard decides
+    """Limits, some of them low by chance. No low limit is 0, since that stands for the usual limit."""
+    # (a low limit on nodes is below `few`: with 8 one decision in ten is of parts that as a case would be too large, and that the guard decides)
     few, chance = (8, 0.4) if wish == "decide" else (60, 0.15)
     return Limits(rng.randrange(1, 1200) if rng.random() < 0.05 else USUAL.octets, rng.randrange(1, 3) if rng.random() < 0.1 else USUAL.certificates,
                   rng.randrange(1, 4) if rng.random() < 0.1 else USUAL.words, rng.randrange(1, few) if rng.random() < chance else USUAL.nodes,

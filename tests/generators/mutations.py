@@ -116,7 +116,7 @@ def places(value: Value, path: Path = ()) -> list[Path]:
 
 
 def some_place(value: Value, rng: random.Random) -> Path:
-    """A path by going down from the whole. So a part is found as often in a small list as in a large one."""
+    """A path to a part, by going down from the whole by chance. Each member of a list is as likely as another, whether it has few parts or many."""
     path: Path = ()
     while isinstance(value, tuple) and value and rng.random() < 0.85:
         number = rng.randrange(len(value))

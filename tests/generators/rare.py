@@ -51,6 +51,7 @@ class LargeTags(Builder):
 
     def __init__(self, rng: random.Random) -> None:
         super().__init__(rng)
+        # (the tags of up to 1,001 nodes contain this request)
         self.request = (Atom(b"f"), *1010 * (Atom(b"x"),))
         self.lengths = (1, 1, 2)
 

@@ -17,7 +17,7 @@ from .mutations import FIRST, NEARLY, SNIPPETS, part, places, replaced
 from .rare import many_strings
 
 Made = Question | GuardQuestion | Call | StringQuestion
-# makes the question of one number
+# makes the question of one number (`questions.question`)
 Maker = Callable[[random.Random], Made]
 OF_CASES = ("check", "explain", "reduce", "check_accepted")
 KEY, OTHER = (advanced.read(b"(public-key (test %s))" % name) for name in (b"a", b"b"))

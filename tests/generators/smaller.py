@@ -33,7 +33,7 @@ def smaller(question: Asked, shows: Callable[[Asked], bool], seconds: float = 20
 
 
 def candidates(question: Asked) -> Iterator[Asked]:
-    """Questions of the same command in which one thing is smaller."""
+    """Questions of the same command in which one thing is smaller. There are none for a `Call`, which is small already."""
     if isinstance(question, Call):
         return
     if isinstance(question, StringQuestion):

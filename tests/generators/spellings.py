@@ -49,7 +49,8 @@ def with_whitespace(body: bytes, rng: random.Random) -> bytes:
 
 
 def advanced(value: Value, rng: random.Random, wild: float) -> bytes:
-    """A text of a value in advanced form. `wild` is the chance that a string is not written as it would be printed."""
+    """A text of a value in advanced form. `wild` is the chance that a string is not written as it would be printed. Between two members there is
+    whitespace where they would run together, and elsewhere by chance."""
     if isinstance(value, Atom):
         body = string(value.body, rng, wild)
         if value.hint is None:

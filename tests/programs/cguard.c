@@ -362,7 +362,7 @@ static void strings_without_memory(size_t most)
     }
 }
 
-/* Answers an opened question by the call with this number. */
+/* Answers an opened question: by a decision if `call` is 0, an explanation if it is 1, otherwise a reduction. */
 static enum spki_status answered_by(int call, const spki_asked *asked, unsigned char *line, size_t length, size_t *needed)
 {
     switch (call) {

@@ -29,6 +29,7 @@ static int refuses(void)
     return 1;
 }
 
+/* What --wrap calls in place of malloc, and the next function in place of realloc. */
 void *__wrap_malloc(size_t size)
 {
     return refuses() ? NULL : __real_malloc(size);
@@ -49,12 +50,14 @@ static void expect(int holds, const char *what)
     exit(BROKEN);
 }
 
+/* A C string as a text, which borrows its octets. */
 static struct spki_text text(const char *octets)
 {
     struct spki_text made = {octets, strlen(octets)};
     return made;
 }
 
+/* Whether octets are those of a C string. */
 static int is(const void *octets, size_t length, const char *wanted)
 {
     return length == strlen(wanted) && !memcmp(octets, wanted, length);

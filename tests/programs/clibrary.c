@@ -16,6 +16,7 @@
 
 enum { MOST = 10000, CHECK_ACCEPTED = 7, CANARIES = 16, CANARY = 0xa5, UNTOUCHED = 0x5a, STACK = 256 * 1024, BROKEN = 99 };
 
+/* A question, as it was read, and the status and the `length` octets of its answer. */
 struct question {
     unsigned command;
     size_t lengths[2];
@@ -44,6 +45,7 @@ static int refuses(void)
     return 1;
 }
 
+/* What --wrap calls in place of malloc, and the next function in place of realloc. */
 void *__wrap_malloc(size_t size)
 {
     return refuses() ? NULL : __real_malloc(size);
@@ -61,7 +63,7 @@ static void fail(const char *what)
     exit(BROKEN);
 }
 
-/* Memory, which must be there. */
+/* A block of at least one octet. Ends the program if there is no memory. */
 static void *allocate(size_t length)
 {
     void *block = malloc(length ? length : 1);
@@ -78,6 +80,7 @@ static enum spki_status ask(const struct question *it, void *buffer, size_t size
     return spki_answer((enum spki_command)it->command, it->texts[0], it->lengths[0], buffer, size, needed).status;
 }
 
+/* Whether each of these octets is the wanted one. */
 static int are_all(const unsigned char *octets, size_t length, unsigned char wanted)
 {
     while (length && *octets == wanted)
@@ -85,7 +88,8 @@ static int are_all(const unsigned char *octets, size_t length, unsigned char wan
     return !length;
 }
 
-/* Asks with a buffer of this size between canaries. The answer must be the known one where it fits, and nothing else written. */
+/* Asks with a buffer of this size between canaries. The answer must be the known one if it fits. If not, only the first octet may be written: it must
+ * be 0. */
 static void ask_with(const struct question *it, size_t size)
 {
     size_t needed = 12345, written = it->length <= size ? it->length : 0;

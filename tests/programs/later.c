@@ -9,6 +9,7 @@ static struct spki_limits limits_seen;
 static struct parts parts_seen;
 static size_t limits_count;
 
+/* In place of the proved library's function: keeps the limits that spki.c has read, and opens a guard. */
 uint32_t spki_c_guard_open(struct spki_text list, uint32_t policy, const struct spki_limits *limits, size_t count, struct handle *guard, ANSWER)
 {
     (void)list, (void)policy, (void)buffer, (void)buffer_length, (void)needed;
@@ -18,6 +19,7 @@ uint32_t spki_c_guard_open(struct spki_text list, uint32_t policy, const struct 
     return SPKI_DONE;
 }
 
+/* In place of the proved library's function: keeps the parts of the question that spki.c has read, and opens a question. */
 uint32_t spki_c_guard_ask(struct handle *guard, struct parts parts, const struct spki_text *words, size_t word_count, const int64_t *seconds,
                           size_t count, struct handle *asked, ANSWER)
 {
@@ -27,7 +29,8 @@ uint32_t spki_c_guard_ask(struct handle *guard, struct parts parts, const struct
     return SPKI_DONE;
 }
 
-/* The calls that no structure goes to. */
+/* The other functions of the proved library that spki.c passes on to. They do nothing, and are here so that this program links: main does not call
+ * them. A new one belongs here too, unless its call reads a caller's structure that has a size: then it keeps what it is given, as those above. */
 uint32_t spki_c_answer(uint32_t c, struct spki_text t, void *b, size_t l, size_t *n) { return (void)c, (void)t, (void)b, (void)l, (void)n, 0; }
 uint32_t spki_c_check_accepted(struct spki_text t, struct spki_text r, void *b, size_t l, size_t *n)
 {
@@ -62,7 +65,8 @@ _Static_assert(sizeof(struct spki_text) == 2 * sizeof(size_t) && sizeof(struct s
                    && sizeof(struct spki_proven_key) == sizeof(struct spki_text),
                "a structure that has no size has another one");
 
-/* The fields of 0.2.0: the sizes of its structures must be read by each library of this interface. */
+/* The octets of the limits and of a question as 0.2.0 has them: each library of this interface must read these sizes. MORE is the most fields that
+ * main adds to them. */
 enum { LIMITS = 7 * sizeof(size_t), QUESTION = 12 * sizeof(size_t), MORE = 4 };
 
 /* Opens a guard by spki.c with limits that are an array of numbers, of which the first is their size. */

@@ -1,4 +1,5 @@
 // Writes what C++ gets of explain and reduce: of a list, a sequence and a key, in files, for the request ftp. Every signature is valid.
+// Usage: long_answers LIMITS LIST SEQUENCE KEY        LIMITS are `highest`, or else the usual ones
 #include <spki.hpp>
 
 #include <fstream>

@@ -24,6 +24,7 @@ static bool read_string(struct spki_text *string)
     return true;
 }
 
+/* Reads `count` strings. False if one of them is not there. */
 static bool read_strings(struct spki_text *strings, size_t count)
 {
     for (size_t i = 0; i < count; i++)

@@ -19,7 +19,7 @@ CONTENTS = {"web/index.html": b"<p>the web</p>", "web/out/main.js": b"main();", 
 STATUS = re.compile(rb"^HTTP/1\.[01] (\d{3})", re.MULTILINE)
 
 
-# Who asks for what.
+# Who asks, None without a certificate for TLS; by which method; for which path.
 Asked = tuple[Optional[str], str, str]
 # What nobody gets of these, of which the gate asks for the first ones, and what Ann is granted.
 ALL_ASKED: list[Asked] = [
@@ -54,7 +54,7 @@ def faults_of(site: Site, asked: Asked, must: set[int]) -> list[str]:
 
 
 def statuses(answer: bytes) -> list[int]:
-    """The statuses of all answers on a connection."""
+    """The HTTP statuses of all answers in the octets that a connection has received."""
     return [int(found) for found in STATUS.findall(answer)]
 
 
@@ -64,7 +64,8 @@ def in_braces(value: Any) -> str:
 
 
 def sequence(site: Site, by: str, to: str, tag: str, *, days: int = 9, begins: int = 0, chain: Value | None = None) -> Any:
-    """The sequence with a certificate from one to another, behind a chain if there is one. It does not delegate. Days count from now."""
+    """The sequence with a certificate by the key of `by` for the key of `to`, behind the sequence `chain` if it is given. The certificate does not
+    delegate. It is valid from `begins` to `days`, in days from now."""
     signer, key = (signer_at(site.at(f"keys/{who}")) for who in (by, to))
     fields = fields_of(read_text(tag.encode())[1].value, now(begins), now(days))
     return signed_sequence(certificate_of(signer.key, key.key, fields), signer, chain)

@@ -344,7 +344,7 @@ def explained():
 
 
 def answer_of_check(lines):
-    """The status and the line of `check` for a case, by the lines of `explain`."""
+    """The status and the line that `check` must answer to a case, by the lines of its explanation: the first entry that grants, else a no."""
     granted = re.search(r"^entry (\d+) grants$", lines, re.MULTILINE)
     return (0, f"yes entry {granted[1]}\n") if granted else NO
 

@@ -17,7 +17,7 @@ def strings(count, each="a"):
 
 
 def numbered(count):
-    """So many different strings, with spaces between."""
+    """The strings n0, n1 and so on, so many, with spaces between."""
     return " ".join(f"n{place}" for place in range(count))
 
 

@@ -27,8 +27,8 @@ def intersection(one, other):
 
 
 def rows(intersected):
-    """Yields (place, command, text, status, answer) of each pair. `intersected` starts the program on a text, and returns a future of its status
-    and answer."""
+    """Yields (place, command, text, status, answer) of each pair of sets. The wanted answer is composed of what the program answers to each pair of
+    members. `intersected` starts the program on a text, and returns a future of its status and answer."""
     started = {pair: intersected(intersection(*pair)) for pair in product(MEMBERS, MEMBERS)}
     met = {pair: run.result()[1].rstrip(b"\n") for pair, run in started.items()}
     for ones, others in product(sets(), sets()):

@@ -41,7 +41,7 @@ class Row:
     code: str
 
     def function(self) -> str:
-        """The function of this row."""
+        """The source of the function of this row, in its language."""
         head, front, end = FUNCTIONS[self.language]
         return "\n".join([head.format(self.place), *(front + line for line in self.code.splitlines()), end, ""])
 
