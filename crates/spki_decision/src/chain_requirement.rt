@@ -66,8 +66,8 @@ impl<'a> ChainRequirement<'a> {
     }
 
     /// What certificates require of an entry, as `of`. A tick is a certificate, a tag or a name that is looked at, or an octet that is
-    /// compared. There are at most three for each certificate, and one for each tag, name and octet in its tag and its subject.
-    /// `prove_well_formed` is only for the prover.
+    /// compared. There are at most three for each certificate (for its tag and window, for its step, and for a name that it defines),
+    /// and one for each tag, name and octet in its tag and its subject. `prove_well_formed` is only for the prover.
     ///
     /// # Errors
     ///
@@ -184,7 +184,7 @@ fn end_with(limit: &Option<Date>, step: &Step) -> Option<Date>
 }
 
 /// The earlier of a limit and the not-after of a window. A missing one does not limit: None only if both are missing. The window
-/// `so_far` only serves to compare the two.
+/// `so_far` only serves to compare the two: it ends at the limit, and holds the other end if that is not later.
 fn earlier_end(limit: &Option<Date>, window: &Window) -> Option<Date>
     ensures { (windows : List Window) → IsLeastEnd windows limit.now → IsLeastEnd (windows ++ window.now ∷ []) result }
 {

@@ -66,13 +66,13 @@ pub fn decide<V: Verifier>(alloc: Global, case: &Case, verifier: &V) -> Result<D
 }
 
 /// The first entry, from 1, of a case's access list that grants the request with certificates whose tuples are `steps`.
-/// `No` if there is none. `ChainRequirement` decides without intersections, so `require_small` tests each entry up to the first
-/// that grants, and no later one, for tags that are too large. `blank` opens a count, which exists only in contracts and is
-/// dropped afterwards.
+/// `No` if no entry does. `ChainRequirement` decides without intersections, and refuses nothing. But `decide` must refuse an entry that is
+/// too large (its clause `within_limit`), so `require_small` tests each entry up to the first that grants, and no later one. `blank`
+/// opens a count, which exists only in contracts and is dropped afterwards.
 ///
 /// # Errors
 ///
-/// Those of `decide`.
+/// `TooLarge` at the first entry that `require_small` refuses, if no entry before it grants the request. `Memory` if memory ran out.
 fn first_within_limit<'a, L: Ledger>(
     alloc: Global,
     case: &Case<'a>,

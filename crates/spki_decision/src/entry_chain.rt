@@ -14,8 +14,9 @@ use std::alloc::{AllocError, Global};
 use std::sync::ledger::Ledger;
 
 /// Joins an entry's 5-tuple with the steps after it, as `fold_owned_counted` does, under the policy and the limits of the case. The work
-/// of the steps is taken from the budget, which must be one for these steps. If the entry is spared (`Sizes::are_small`), its work has no
-/// bound and the budget stays the same. Err is `TooLarge` if a tag is too large or the budget too little, or `Memory`.
+/// of the steps is taken from the budget, which must be one for these steps. If the entry is spared (`Sizes::are_small`), it does not
+/// count as work (`Case::uncounted`): its work has no bound, and the budget stays the same. Err is `TooLarge` if a tag is too large or the
+/// budget too little, or `Memory`.
 pub(crate) fn fold_entry<'a, L: Ledger>(
     alloc: Global,
     entry: &Entry<'a>,

@@ -38,8 +38,9 @@ pub enum Evidence<'a> {
     },
 }
 
-/// Returns the evidence of a sequence: the tuples of its certificates, or the first that fails one of the four tests (RFC 2693, section 6). Each
-/// certificate must be followed by its signature. The message that the verifier is passed is a certificate's canonical form.
+/// Returns the evidence of a sequence: the tuples of its certificates, or the first that fails one of the four tests (RFC 2693, section 6).
+/// Each certificate must be followed by its signature. The message that the verifier is passed is a certificate's canonical form. The
+/// verifier is asked only about certificates before the one that `examine` finds to fail, so a refused signature is the first failure.
 ///
 /// # Errors
 ///
@@ -87,7 +88,8 @@ pub fn first_refused<V: Verifier>(
 }
 
 /// Whether the verifier accepts a signature. A digest by SHA-256 is passed to the verifier, so that a certificate is
-/// digested once. With another algorithm the verifier gets only the message. Err if memory ran out in the verifier.
+/// digested once. With another algorithm the verifier gets only the message, since `accepts_digested` takes no other digest.
+/// Err if memory ran out in the verifier.
 fn is_accepted<V: Verifier>(
     alloc: Global,
     verifier: &V,

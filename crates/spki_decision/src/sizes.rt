@@ -8,7 +8,8 @@ ghost use Rattle.spki_decision.specs.{Requirements.{AreSizes, ArePlain}, Spared.
 use spki_reduce::Step;
 use spki_tag::Tag;
 
-/// The greatest number of nodes, or product of such numbers, that is counted. It is the greatest limit that `are_small` may be asked about.
+/// The greatest number of nodes, or product of such numbers, that is counted. It is the greatest limit that `are_small` may be asked about,
+/// so a greater number is over every limit, and is kept as None.
 const MOST_NODES: usize = 1_000_000;
 
 /// What is kept of the numbers of nodes of the certificates' tags.
@@ -41,11 +42,14 @@ impl Sizes {
     }
 
     /// Whether, by the numbers of nodes alone, each intersection in the chain of an entry with this tag stays within `limit`, which is for
-    /// the product of the nodes of the two tags. An intersection has at most the product of the nodes of both tags, and without sets at
-    /// most their sum. So it stays within the limit if the product of the nodes of all tags does; or if no tag has a set, and the nodes of
-    /// all tags together, times those of the largest tag of a certificate, do. With `Case::uncounted` as the limit, such an entry is
-    /// spared: it takes no work from the budget. `limit` must be at most 1,000,000. `steps` are those that `of` counted; only the contract
-    /// uses them.
+    /// the product of the nodes of the two tags. Either of two tests is enough:
+    ///
+    /// - The product of the nodes of all tags is within the limit. An intersection has at most the product of the nodes of both tags.
+    /// - No tag has a set, and the nodes of all tags together, times those of the largest tag of a certificate, are within the limit.
+    ///   Without sets an intersection has at most the sum of the nodes of both tags, so never more than all tags together.
+    ///
+    /// With `Case::uncounted` as the limit, such an entry is spared: it takes no work from the budget. `limit` must be at most 1,000,000.
+    /// `steps` are those that `of` counted; only the contract uses them.
     pub(crate) fn are_small<'a>(&self, tag: &Tag, steps: &[Step<'a>], limit: usize) -> bool
         requires sizes { AreSizes (tuples_of steps.now) self.now }
         requires limit { limit ≤ 1000000 }
@@ -54,7 +58,8 @@ impl Sizes {
         self.have_small_product(tag, steps, limit) || self.are_plain(tag, steps, limit)
     }
 
-    /// Whether the product of the nodes of all tags is at most `limit`. Only the contract uses `_steps`.
+    /// Whether the product of the nodes of all tags is at most `limit`: `are_small` says why this is enough. If `product` is None, it is
+    /// over 1,000,000, and so over `limit`. Only the contract uses `_steps`.
     fn have_small_product<'a>(&self, tag: &Tag, _steps: &[Step<'a>], limit: usize) -> bool
         requires sizes { AreSizes (tuples_of _steps.now) self.now }
         requires limit { limit ≤ 1000000 }
@@ -66,8 +71,9 @@ impl Sizes {
         tag.nodes() * nodes <= limit
     }
 
-    /// Whether no tag has a set, and the nodes of all tags together, times those of the largest one of a certificate, are at most `limit`. Only the
-    /// contract uses `_steps`.
+    /// Whether no tag has a set, and the nodes of all tags together, times those of the largest one of a certificate, are at most `limit`:
+    /// `are_small` says why this is enough. If `plain` is None, a certificate's tag has a set, or the nodes of all certificates' tags are
+    /// over 1,000,000, and so over `limit`. Only the contract uses `_steps`.
     fn are_plain<'a>(&self, tag: &Tag, _steps: &[Step<'a>], limit: usize) -> bool
         requires sizes { AreSizes (tuples_of _steps.now) self.now }
         requires limit { limit ≤ 1000000 }

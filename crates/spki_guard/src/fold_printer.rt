@@ -46,6 +46,7 @@ impl FoldPrinter {
 
     /// The answer with all lines, or `no entries` if nothing was put. The verdict is `Done` if some entry becomes an
     /// authorization, otherwise `No`. `most` must be that of `new`, the number of octets that the answer may have.
+    /// Only the contract and the line `no entries` use it: for the other lines, `put` has subtracted from `room`.
     ///
     /// # Errors
     ///

@@ -138,7 +138,7 @@ fn write_words_fault<W: Write, E: Write>(
 }
 
 /// Resets the writer's meter, writes octets, and flushes the writer. If the writer fails, a beginning of the octets is written, which
-/// may be none or all of them, and the failure is ignored.
+/// may be none or all of them, and the failure is ignored: the `return` does nothing else.
 fn say<W: Write>(writer: &mut Metered<W>, octets: &[u8])
     ensures { IsSaid W.contents writer.old writer.new octets.now }
 {

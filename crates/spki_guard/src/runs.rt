@@ -18,7 +18,8 @@ use spki_words::Command;
 use std::alloc::Global;
 use std::io::{Read, Write};
 
-/// The largest number of calls of a writer, in addition to one for each octet.
+/// The largest number of calls of a writer, in addition to one for each octet. Without a bound, a writer that is always interrupted would
+/// be called forever. It is the bound of `write_whole` too.
 const WRITER_ASKS: u64 = 2_097_152;
 
 /// Reads a text, in any of the three forms, does the command with it, and writes the answer. The status says what the

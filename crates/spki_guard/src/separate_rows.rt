@@ -1,4 +1,5 @@
 //! Decisions on cases by separate accepted lists.
+//! A value with many parts is freed by a call of `drop`, so that the proof does not go through its parts at each exit.
 ghost use Rattle.std.specs.Prelude.{◌≡◌, ◌≢◌, ◌<◌, ℕ, List, length, IfOk, IfErr, IsErrOf};
 ghost use Rattle.sexpr_text.specs.{AdvancedForm.{IsTextWithin}, CanonicalTexts.{IsReadAs, RefusesForm}};
 ghost use Rattle.spki_case.specs.View.{model, rows_of};

@@ -43,7 +43,8 @@ pub(crate) fn source_of<'a>(
 }
 
 /// Reads the text of a case. Err is `Form(TooLong)` if it has more than 1,048,576 octets, or `Memory`. A text with any other fault
-/// is Ok here, also one whose canonical form alone is longer: `case_in` returns the fault.
+/// is Ok here, also one whose canonical form alone is longer: `case_in` returns the fault. The length is tested here, since `case_in`
+/// cannot tell the two apart, and answers `Case` for both.
 pub(crate) fn short_text<'a>(alloc: Global, text: &'a [u8]) -> Result<CanonicalText<'a>, Refusal>
     ensures read { IfOk result (IsShortText text.entry.now) }
     ensures refused { IfErr result (RefusesCase text.entry.now) }
@@ -69,7 +70,8 @@ pub(crate) fn case_in<'a>(alloc: Global, text: &'a CanonicalText<'_>) -> Result<
     }
 }
 
-/// The form in which a command needs a value: advanced for `advanced`, canonical for all others.
+/// The form in which a command needs a value: advanced for `advanced`, canonical for all others. `source_of` asks only about commands that
+/// do not read a case.
 fn form_of(command: Command) -> Form
     ensures { result ≡ form_of command }
 {

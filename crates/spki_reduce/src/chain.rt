@@ -1,4 +1,5 @@
 //! Joins chains of tuples from the left (RFC 2693, section 6.3).
+//! A value with many parts is freed by a call of `drop`, so that the proof does not go through its parts at each exit.
 
 ghost use Rattle.std.specs.Prelude.{◌≡◌, ◌∷◌, [], ◌+◌, ◌*◌, ◌<◌, ◌≤◌, ◌⊎◌, ℕ, length, IfOk, OnOk, IsErrOf};
 ghost use Rattle.spki_tag.specs.Tag.{set, none};

@@ -10,8 +10,8 @@ use thiserror::Error;
 /// Why tuples were not reduced, although they may join.
 #[derive(Clone, Copy, Debug, PartialEq, Eq, Error)]
 pub enum ReduceFault {
-    /// The product of the nodes of two tags is over the limit: 1,000,000, or what the caller set. Or all such products together are over
-    /// the caller's bound on the work.
+    /// The product of the nodes of two tags is over the limit: 1,000,000, or what the caller set. Or a step costs more than the caller's
+    /// `Work` has left.
     #[error("the tags are too large")]
     TooLarge,
     /// Memory ran out.

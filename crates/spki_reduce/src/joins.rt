@@ -17,7 +17,8 @@ use std::alloc::{AllocError, Global};
 use std::marker::Brand;
 use std::sync::ledger::{Blank, Ledger};
 
-/// The greatest product of the numbers of nodes of two tags that `Five::then` and `fold_chain` intersect.
+/// The greatest product of the numbers of nodes of two tags that `Five::then` and `fold_chain` intersect. It is also the greatest limit
+/// (`most`) that the other functions take.
 pub(crate) const MOST_NODES: usize = 1_000_000;
 
 impl<'a> Five<'a> {
@@ -59,10 +60,12 @@ impl<'a> Five<'a> {
         }
     }
 
-    /// Like `then`, but consumes `self`, so its tag is not copied if that of `next` is `(*)`. And with `most`, which must be
-    /// at most 1,000,000, as the greatest product of the nodes of both tags. A tick is one of `Tag::into_meet_counted`, or a name of
-    /// the next subject. There are at most three for each unit of `cost_with`, so none if they do not join for another reason than their
-    /// tags.
+    /// Like `then`, with two differences. It consumes `self`, so its tag is not copied if that of `next` is `(*)`. The greatest product of
+    /// the nodes of both tags is `most`, which must be at most 1,000,000. Err is `TooLarge` if they join except for their tags, and the
+    /// product is over `most`; or `Memory`.
+    ///
+    /// A tick is one of `Tag::into_meet_counted`, or a name of the next subject. There are at most three for each unit of `cost_with`, so
+    /// none if they do not join for another reason than their tags.
     pub(crate) fn into_then<L: Ledger>(
         self,
         alloc: Global,

@@ -9,8 +9,8 @@ use spki_cert::{Date, Window};
 
 /// The last second, since 1970-01-01 00:00:00 UTC, that is not after a date: until when a grant holds, for a caller whose clock has
 /// seconds. It is the date's own second, and negative before 1970. If the month does not have the date's day (`constrain` lowers it), it is
-/// the last second of the month. Otherwise a second 60 counts as 59. The window is only for `prove_limits`, a fact for the prover: the
-/// octets are a date.
+/// the last second of the month, number 86,399 of its day. Otherwise a second 60 counts as 59. The offsets are those of a date such as
+/// `2024-01-01_00:00:00`. The window is only for `prove_limits`, a fact for the prover: the octets are a date.
 pub fn last_second(date: &Date) -> i64
     ensures { result ≡ last_second date.now }
 {

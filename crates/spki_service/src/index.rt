@@ -228,7 +228,8 @@ fn rows_of(
     Ok(rows)
 }
 
-/// The last eight octets as a number, in little-endian order. 0 if there are fewer. Rows are compared by it first, which is fast.
+/// The last eight octets as a number, in little-endian order. 0 if there are fewer. Rows are compared by it first, which is fast. Any
+/// other order of the octets would do as well.
 fn tail_of(octets: &[u8]) -> u64
     ensures { result ≡ tail_of octets.now }
 {
@@ -249,7 +250,8 @@ fn compare(principals: &TextList, row: &Row, tail: u64, octets: &[u8]) -> Orderi
     }
 }
 
-/// The octets of a row's principal. `principals` must have those of all entries, in their order: entry number n is at place n - 1.
+/// The octets of a row's principal. `principals` must have those of all entries, in their order: entry number n is at place n - 1. No row
+/// has the number 0, and `saturating_sub` needs no contract that says so.
 fn row_octets<'p>(principals: &'p TextList, row: &Row) -> &'p [u8]
     ensures { result.now ≡ row_octets principals.now row.now }
 {

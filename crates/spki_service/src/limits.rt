@@ -25,7 +25,9 @@ pub struct Limits {
 }
 
 impl Limits {
-    /// These limits, or `None` if `octets` is over 1,048,576, `nodes` over 1,000,000 or `work` over 1,000,000,000.
+    /// These limits, or `None` if `octets` is over 1,048,576, `nodes` over 1,000,000 or `work` over 1,000,000,000. The longest text
+    /// that is read has 1,048,576 octets, `spki_reduce` intersects tags up to a product of 1,000,000 nodes, and 1,000,000,000 of work takes
+    /// up to some 5 s.
     pub fn new(
         octets: usize,
         certificates: usize,
@@ -70,7 +72,8 @@ impl Limits {
 }
 
 /// 65,536 octets of a question, 16 certificates, 64 strings of a request, 1,000,000 nodes of an intersection, 2,000,000 of work,
-/// and 1,048,576 octets of an answer.
+/// and 1,048,576 octets of an answer. For comparison: an entry and five certificates for sets of 100 short strings take some
+/// 1,000,000 of work.
 impl Default for Limits {
     ghost is_default = { λ limits. (limits.octets ≡ 65536) × (limits.certificates ≡ 16) × (limits.words ≡ 64)
         × (limits.nodes ≡ 1000000) × (limits.work ≡ 2000000) × (limits.answer ≡ 1048576) };

@@ -70,7 +70,7 @@ impl OwnedQuestion {
     }
 
     /// Says that the signature is valid that `signed` lists at this place, from 0, as `PreparedQuestion::mark` does. Returns false, and changes
-    /// nothing, if nothing is listed there.
+    /// nothing, if nothing is listed there. `mark_at` makes the same test of the place again.
     pub fn mark(&mut self, place: usize) -> bool
         ensures listed { IsTrue result ↔ (place < length self.old.marks.items) }
         ensures marked { IsTrue result → HasMark self.old place self.new }

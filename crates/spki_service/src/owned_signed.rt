@@ -9,7 +9,7 @@ use std::alloc::{AllocError, Global};
 use std::marker::Model;
 use std::sync::Arc;
 
-/// How many octets of two keys `is_before` compares at once.
+/// How many octets of two keys `is_before` compares at once. The order is the same by any number over 0: this one is only for speed.
 const PIECE: usize = 1024;
 
 /// A signature that a verifier is asked about, with texts of its own. A key that several signatures have is in memory once.

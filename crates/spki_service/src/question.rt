@@ -110,7 +110,7 @@ impl From<AllocError> for AskFault {
 impl<T: Drop> From<AllocFailed<T>> for AskFault {
     ghost from_gives = { λ _ fault. fault ≡ Memory };
 
-    /// An allocation that failed is the fault `Memory`.
+    /// A value that could not be stored, for want of memory, is the fault `Memory`. The error has the value, which is dropped.
     fn from(_error: AllocFailed<T>) -> AskFault {
         AskFault::Memory
     }

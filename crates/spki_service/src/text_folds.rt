@@ -18,6 +18,8 @@ use std::alloc::Global;
 /// Puts into `sink` what each entry of an access list becomes with the certificates of the case. `texts` are the canonical texts of the
 /// entries, and `steps` the tuples of all certificates, in order: one for each. An entry is read just before it is joined with them, and
 /// nothing of it is kept. The case's own access list, which is empty in a question, is not examined. All entries share one budget of work.
+/// `fold_texts_counted` repeats this loop with a count. `reduce_into` has no count and cannot open one: the toolchain picks no ledger for a
+/// call that takes a sink.
 ///
 /// # Errors
 ///
