@@ -51,7 +51,7 @@ class Pages(unittest.TestCase):
             self.assertIn(page.removeprefix("apps/spki-authd/"), text_of("apps/spki-authd/README.md"))
 
     def test_rows(self) -> None:
-        # Each server has at least 600 rows, and each row a name of its own.
+        """Each server has at least 600 rows, and each row a name of its own."""
         for kind in web_servers.SERVERS:
             names = [name for column in columns_of(kind) for name, _ in rows_of(kind, column)]
             self.assertGreaterEqual(len(names), 600, kind.name)

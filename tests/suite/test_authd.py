@@ -107,7 +107,7 @@ class OfDaemon(test_go.OfGo):
 
     @staticmethod
     def lines(path: str) -> list[str]:
-        # The lines of a file that end, without their ends: not one that is half written.
+        """The lines of a file that end, without their ends: not one that is half written."""
         with open(path, encoding="utf-8") as file:
             return file.read().split("\n")[:-1]
 
@@ -241,7 +241,7 @@ class Manager:
         return self.told.recv(4096).decode()
 
     def close(self) -> None:
-        # Closes both sockets. It does not end a daemon.
+        """Closes both sockets. It does not end a daemon."""
         self.socket.close()
         self.told.close()
 
@@ -265,7 +265,7 @@ class Started(OfDaemon):
     """The daemon under a service manager."""
 
     def test_what_the_manager_is_told(self) -> None:
-        # At a reload, at one that is refused since the list has a fault, and at the end. The daemon does not remove the manager's socket.
+        """At a reload, at one that is refused since the list has a fault, and at the end. The daemon does not remove the manager's socket."""
         with managed(self.daemon_program, self.access_list) as manager:
             process = manager.start()
             try:

@@ -441,7 +441,7 @@ class InRust(Binding):
             self.assertEqual(packed, {f"{name}-{text_of('VERSION').strip()}.crate" for name in ("spki", "spki-sys")})
 
     def test_documents(self):
-        # The documents are made without warnings.
+        """The documents are made without warnings."""
         self.does("doc", "--quiet", "--workspace", "--no-deps")
 
     @needs.needs("cargo-clippy")

@@ -98,7 +98,7 @@ class Lengths(unittest.TestCase):
     """The lines of each cache."""
 
     def test_lines(self) -> None:
-        # No file of FILES has more lines with text than its number there.
+        """No file of FILES has more lines with text than its number there."""
         for path, most in FILES.items():
             with open(path, encoding="utf-8") as file:
                 count = sum(bool(line.strip()) for line in file)

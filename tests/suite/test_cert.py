@@ -92,7 +92,7 @@ class Case(unittest.TestCase):
         return os.path.join(self.room, name)
 
     def write(self, name, text):
-        # Writes a file in the folder. `text` is a string or octets.
+        """Writes a file in the folder. `text` is a string or octets."""
         with open(self.at(name), "wb") as file:
             file.write(text.encode() if isinstance(text, str) else text)
 
@@ -129,7 +129,7 @@ class Case(unittest.TestCase):
 
 
 class OfKeys(Case):
-    # `spki-cert key`, which converts keys of OpenSSH and PEM to keys of SPKI, and makes new ones.
+    """`spki-cert key`, which converts keys of OpenSSH and PEM to keys of SPKI, and makes new ones."""
     @needs_ssh
     def test_keys_of_openssh_are_read_and_written(self):
         for kind in TYPES:
@@ -156,7 +156,7 @@ class OfKeys(Case):
 
     @needs.needs("openssl")
     def test_pkcs1_is_read(self):
-        # A private key of RSA in its older form of PEM.
+        """A private key of RSA in its older form of PEM."""
         self.pem_key("key.pem", "rsa")
         quiet("openssl", "rsa", "-traditional", "-in", self.at("key.pem"), "-out", self.at("old.pem"))
         self.assertIn(b"BEGIN RSA PRIVATE KEY", octets_in(self.at("old.pem")))
@@ -172,14 +172,14 @@ class OfKeys(Case):
 
     @needs_ssh
     def test_numbers_have_the_form_of_libgcrypt(self):
-        # The 2,048 bits of n are 256 octets. A zero octet precedes them, since the first bit would be a sign.
+        """The 2,048 bits of n are 256 octets. A zero octet precedes them, since the first bit would be a sign."""
         self.ssh_key("key", "rsa")
         key = value_in(self.done("key", "key.pub").encode()).value
         self.assertEqual([it[0] for it in key[1][1:]], [b"n", b"e"])
         self.assertEqual((len(key[1][1][1]), key[1][1][1][0], key[1][2][1]), (257, 0, b"\1\0\1"))
 
     def test_keys_that_are_not_used_are_named(self):
-        # A key of a kind or length that `spki-cert` does not use is refused, and the refusal says what it may be.
+        """A key of a kind or length that `spki-cert` does not use is refused, and the refusal says what it may be."""
         for pem, words in {"rsa": "1024 bits", "p521": "P-256 or P-384"}.items():
             self.write("key.pem", self.weak(pem))
             self.assertIn(words, self.done("key", "key.pem", wanted=2))
@@ -194,7 +194,7 @@ class OfKeys(Case):
         return made.public_key().public_bytes(Encoding.PEM, PublicFormat.SubjectPublicKeyInfo)
 
     def test_another_form_of_a_key_does_not_verify(self):
-        # `shorter` is the same key, without the zero octet before n. Signature values of other forms do not verify either.
+        """`shorter` is the same key, without the zero octet before n. Signature values of other forms do not verify either."""
         signer = keys.FileSigner(keys.new_private(keys.RSA))
         value, key = signer.sign(b"x"), signer.key
         self.assertTrue(keys.verifies(key, b"x", value))
@@ -225,7 +225,7 @@ class OfKeys(Case):
 
 
 class OfPassphrases(Case):
-    # Encrypted private keys, whose passphrase `spki-cert` asks for on the terminal.
+    """Encrypted private keys, whose passphrase `spki-cert` asks for on the terminal."""
     def on_a_terminal(self, words, typed):
         """Runs `spki-cert` by `words` on a terminal, where the passphrase `typed` is typed as often as it is asked for. Returns the status, and what
         it writes."""
@@ -245,7 +245,7 @@ class OfPassphrases(Case):
 
     @needs.needs("openssl")
     def test_an_encrypted_key_is_asked_for(self):
-        # With a wrong passphrase nothing is signed. A passphrase is not shown on the terminal.
+        """With a wrong passphrase nothing is signed. A passphrase is not shown on the terminal."""
         self.pem_key("key.pem", "ed25519", "-aes-256-cbc", "-pass", "pass:sesame")
         self.write("b.sexp", sexp.laid_out(keys.FileSigner(keys.new_private("ed25519")).key))
         words = ("sign", "--by", "key.pem", "--to", "b.sexp", "--tag", TAG, "--days", "30", "-o", "c.sexp")
@@ -258,7 +258,7 @@ class OfPassphrases(Case):
 
     @needs.needs("openssl")
     def test_without_a_terminal_it_is_refused(self):
-        # Neither an encrypted key is read nor a new one encrypted.
+        """Neither an encrypted key is read nor a new one encrypted."""
         self.pem_key("key.pem", "ed25519", "-aes-256-cbc", "-pass", "pass:sesame")
         done = subprocess.run([sys.executable, COMMAND, "key", "key.pem"], cwd=self.room, stdin=subprocess.DEVNULL, capture_output=True,
                               text=True, start_new_session=True)
@@ -280,7 +280,7 @@ class OfPassphrases(Case):
 
 @needs_ssh
 class OfCertificates(Case):
-    # `spki-cert sign`, `name`, `entry` and `show`, with keys of Alice and Bob.
+    """`spki-cert sign`, `name`, `entry` and `show`, with keys of Alice and Bob."""
     def setUp(self):
         super().setUp()
         self.ssh_key("alice")
@@ -299,7 +299,7 @@ class OfCertificates(Case):
             self.assertEqual(each.terms.tag, value_in(TAG.encode()).value)
 
     def test_the_agent_signs(self):
-        # By a public key, whose private key only ssh-agent holds: its file is removed.
+        """By a public key, whose private key only ssh-agent holds: its file is removed."""
         agent = quiet("ssh-agent", "-s").decode()
         agent_settings = dict(part.split("=", 1) for part in agent.replace(";", "\n").splitlines() if "=" in part)
         self.addCleanup(os.kill, int(agent_settings["SSH_AGENT_PID"]), 15)
@@ -314,7 +314,7 @@ class OfCertificates(Case):
         self.assertIn("SSH_AUTH_SOCK is not set", self.sign("--days", "30", by="alice.pub", wanted=2))
 
     def test_subjects(self):
-        # The subject may be the hash of a key, a name of another issuer, or without --to a name of the issuer's own.
+        """The subject may be the hash of a key, a name of another issuer, or without --to a name of the issuer's own."""
         digest = self.done("key", "--hash", "bob.pub").strip()
         self.sign("--days", "1", "-o", "hash.sexp", to=digest)
         self.sign("--days", "1", "--named", "team", "-o", "name.sexp")
@@ -330,7 +330,7 @@ class OfCertificates(Case):
         self.assertEqual((each.terms.name, each.terms.tag), (b"builders", None))
 
     def test_what_is_probably_a_mistake_needs_yes(self):
-        # Without --yes the status is 4, and nothing is written.
+        """Without --yes the status is 4, and nothing is written."""
         for words, tag, said in [
                 ((), TAG, "it has no end"), (("--days", "1"), "(*)", "every request"),
                 (("--days", "1"), "(packages (read write))", "(* set read write)"),
@@ -345,7 +345,7 @@ class OfCertificates(Case):
                 os.remove(self.at("c.sexp"))
 
     def test_what_a_service_refuses_is_refused(self):
-        # Malformed tags and dates, dates that no calendar has, and a key that is not there end with status 2.
+        """Malformed tags and dates, dates that no calendar has, and a key that is not there end with status 2."""
         for tag, said in [("(* prefx a)", "line 1, column 4"), ("(packages ()", "a `)` is missing"), ("(packages ())", "EmptyList"), ("~", "Bad")]:
             self.assertIn(said, self.sign("--days", "1", tag=tag, wanted=2))
         for words in (("--until", "2026"), ("--until", "2026-02-31"), ("--until", "2026-1-1_0:0:0"), ("--days", "9999999")):
@@ -388,7 +388,7 @@ class OfCertificates(Case):
         self.assertIn("needs --tag", self.done("entry", "--to", "bob.pub", wanted=2))
 
     def test_entries_need_yes_and_are_refused(self):
-        # What is probably a mistake ends with status 4, and what a service would refuse with 2. The list stays as it is.
+        """What is probably a mistake ends with status 4, and what a service would refuse with 2. The list stays as it is."""
         self.write("acl.sexp", "(acl)")
         to, into = ("entry", "--to", "bob.pub"), ("--acl", "acl.sexp")
         sha1 = f"(hash sha1 #{'00' * 20}#)"
@@ -406,7 +406,7 @@ class OfCertificates(Case):
         self.assertIn("acl.sexp: refused", self.done(*to, "--tag", TAG, *into, wanted=2))
 
     def test_no_file_is_half_written(self):
-        # A file that is there stays as it is if `spki-cert` fails. No temporary file is left.
+        """A file that is there stays as it is if `spki-cert` fails. No temporary file is left."""
         self.write("c.sexp", "before")
         os.mkdir(self.at("folder"))
         self.assertIn("nothing was written", self.sign("--days", "1", "-o", "folder", wanted=2))
@@ -433,7 +433,7 @@ class OfCertificates(Case):
 
 
 class OfMistakes(Case):
-    # `spki-cert check`, which says where a file has a fault. rows/mistakes.py has files, the first place, and words of the remark.
+    """`spki-cert check`, which says where a file has a fault. rows/mistakes.py has files, the first place, and words of the remark."""
     def test_each_leads_to_its_place(self):
         self.assertGreaterEqual(len(MISTAKES), 75)
         for what, name, text, place, is_refused, words in MISTAKES:
@@ -444,14 +444,14 @@ class OfMistakes(Case):
                 self.assertIn(words, said[0].text)
 
     def test_what_is_refused_is_what_the_model_refuses(self):
-        # An access list that `check` calls refused is refused by the model too when a guard is opened with it, and no other one.
+        """An access list that `check` calls refused is refused by the model too when a guard is opened with it, and no other one."""
         for what, name, text, _, is_refused, _ in MISTAKES:
             if name == "acl.sexp":
                 with self.subTest(what), self.assertRaises(guard.Refused) if is_refused else contextlib.nullcontext():
                     guard.open_guard(text.encode() if isinstance(text, str) else text, True, guard.USUAL)
 
     def test_a_folder(self):
-        # `check` reads the files in a folder that are S-expressions or keys. The status is 1 for remarks, and 2 for what is refused.
+        """`check` reads the files in a folder that are S-expressions or keys. The status is 1 for remarks, and 2 for what is refused."""
         os.mkdir(self.at("folder"))
         self.write("folder/acl.sexp", "(acl)")
         self.write("folder/notes.txt", "(acl")
@@ -472,7 +472,7 @@ class OfMistakes(Case):
         return keys.new_private("ed25519").private_bytes(Encoding.PEM, PrivateFormat.PKCS8, NoEncryption())
 
     def test_files_are_checked_in_linear_time(self):
-        # Ten times the files take at most MOST_TIMES the processor time.
+        """Ten times the files take at most MOST_TIMES the processor time."""
         signer = keys.FileSigner(keys.new_private("ed25519"))
         self.write("key.sexp", sexp.laid_out(signer.key))
         self.write("signer", keys.file_of(signer.private, b""))
@@ -496,7 +496,7 @@ def used_since(before):
 
 
 class OfTags(Case):
-    # `tag_words.lacks`, which says why a tag does not contain a request. It returns None if the tag contains it.
+    """`tag_words.lacks`, which says why a tag does not contain a request. It returns None if the tag contains it."""
     def test_the_difference_is_that_of_the_model(self):
         rng, met = random.Random("spki-cert"), {True: 0, False: 0}
         for _ in range(3000):
@@ -520,9 +520,9 @@ class OfTags(Case):
 
 
 class OfWords(Case):
-    # What `spki-cert ask` says of a reason.
+    """What `spki-cert ask` says of a reason."""
     def test_each_reason_of_the_model_has_words(self):
-        # Of generated cases, `met` gets the words of the reasons that are chosen. It must have these five at least.
+        """Of generated cases, `met` gets the words of the reasons that are chosen. It must have these five at least."""
         met = set()
         for asked in (question("spki-cert", number) for number in range(1500)):
             if asked.command not in ("check", "explain", "reduce"):
@@ -548,7 +548,7 @@ class OfWords(Case):
 
 @needs.needs("ssh-keygen", *needs.LIBRARY)
 class OfAnswers(Case):
-    # `spki-cert ask`, which asks the library that is tested, and the commands of pages.
+    """`spki-cert ask`, which asks the library that is tested, and the commands of pages."""
     def setUp(self):
         super().setUp()
         self.settings["SPKI_LIBRARY"] = built.shared()
@@ -639,7 +639,7 @@ class OfAnswers(Case):
         self.assertNotIn("--sequence", self.done(*asks, "picked.sexp", *request))
 
     def test_why_certificates_do_not_join(self):
-        # What `ask` says if a certificate defines another name than the entry's subject, has another issuer, or is valid at another time.
+        """What `ask` says if a certificate defines another name than the entry's subject, has another issuer, or is valid at another time."""
         for name in ("alice", "bob", "carol"):
             self.ssh_key(name)
         alice = self.done("key", "alice.pub")
@@ -668,7 +668,7 @@ class OfAnswers(Case):
 
 
 class OfOtherPrograms(Case):
-    # What other programs do with keys and files of `spki-cert`: libgcrypt, Python, install.sh, pip and mypy.
+    """What other programs do with keys and files of `spki-cert`: libgcrypt, Python, install.sh, pip and mypy."""
     GCRYPT = r"""
 #include <gcrypt.h>
 #include <stdio.h>
@@ -695,7 +695,7 @@ int main(int count, char **words)
 
     @needs.needs("cc", "/usr/include/gcrypt.h")
     def test_libgcrypt_verifies(self):
-        # libgcrypt verifies a signature value of `spki-cert` of each kind of key, and rejects one of another message.
+        """libgcrypt verifies a signature value of `spki-cert` of each kind of key, and rejects one of another message."""
         self.write("verify.c", self.GCRYPT)
         quiet("cc", "-o", self.at("verify"), self.at("verify.c"), "-lgcrypt")
         message = b"(4:cert)"
@@ -709,7 +709,7 @@ int main(int count, char **words)
                 self.assertEqual(done.returncode, status, kind)
 
     def test_it_loads_few_modules(self):
-        # So that `spki-cert` starts fast, it loads fewer than MOST_MODULES beyond those of Python itself, and none that is slow to load.
+        """So that `spki-cert` starts fast, it loads fewer than MOST_MODULES beyond those of Python itself, and none that is slow to load."""
         def loaded(*words):
             """The names of the modules that Python loads when it is run with these words."""
             lines = subprocess.run([sys.executable, "-X", "importtime", *words], capture_output=True, text=True, check=True).stderr.splitlines()
@@ -727,7 +727,7 @@ int main(int count, char **words)
         self.done("nothing", wanted=2)
 
     def test_the_manual_has_each_option(self):
-        # docs/spki-cert.1 has each command and each of its options.
+        """docs/spki-cert.1 has each command and each of its options."""
         commands_of, plain = arguments.commands_with_options(), MANUAL.replace("\\-", "-")
         self.assertEqual([word for name, options in commands_of.items() for word in (f".B {name}\n", *options)
                           if word not in ("-h", "--help") and word not in plain], [])
@@ -738,7 +738,8 @@ int main(int count, char **words)
         self.assertEqual(output_of(*words, cwd=os.path.join(TOP, "apps", "spki-cert"), seconds=SECONDS)[0], 0)
 
     def test_it_is_installed(self):
-        # install.sh takes a program and libraries that are built; empty files do here. --uninstall leaves no file, nor is one made beside the prefix.
+        """install.sh takes a program and libraries that are built; empty files do here. --uninstall leaves no file, nor is one made beside the
+        prefix."""
         for name in ("prog", "lib.a", "lib.so"):
             self.write(name, "")
         before = set(os.listdir(self.room))
@@ -752,7 +753,7 @@ int main(int count, char **words)
 
     @needs.needs("import pip", "import setuptools", "import wheel")
     def test_pip_installs_it_offline(self):
-        # With the package of bindings/python, which it needs, and without a library in that.
+        """With the package of bindings/python, which it needs, and without a library in that."""
         for folder in ("apps/spki-cert", "bindings/python"):
             shutil.copytree(os.path.join(TOP, folder), self.at(folder), ignore=shutil.ignore_patterns("build", "*.egg-info"))
         words = ("-m", "pip", "install", "-q", "--no-build-isolation", "--no-deps", "--no-index", "--target", self.at("target"))
@@ -772,7 +773,7 @@ def into(name):
 
 
 def version():
-    # The version in the file VERSION.
+    """The version in the file VERSION."""
     return octets_in(os.path.join(TOP, "VERSION")).decode().strip()
 
 

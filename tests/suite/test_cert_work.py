@@ -58,14 +58,14 @@ def counted() -> Iterator[None]:
     from spki_cert_tool import asking, certificates, checking, making, sexp
 
     def trace(frame, event, _):
-        # Python calls this for each function that begins, and what it returns for each line there.
+        """Python calls this for each function that begins, and what it returns for each line there."""
         if "spki_cert_tool" in frame.f_code.co_filename:
             SEEN[0] += 1
             return trace
         return None
 
     def made(value):
-        # `canonical`, counted.
+        """`canonical`, counted."""
         octets = sexp.canonical(value)
         SEEN[0] += len(octets)
         return octets
@@ -157,7 +157,7 @@ class OfCheck(unittest.TestCase):
         self.assertLess(met[1] / met[0], MOST_TIMES, met)
 
     def test_texts(self) -> None:
-        # The work of `check` on each text of CHECKED.
+        """The work of `check` on each text of CHECKED."""
         from spki_cert_tool import checking
         checking.remarks_on("/dev/null", NOW)
         for make in CHECKED:

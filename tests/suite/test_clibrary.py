@@ -291,7 +291,7 @@ class Links(OfC):
     """The symbols, and how programs link."""
 
     def test_symbols_of_the_archive(self):
-        # The archive is the static library.
+        """The archive is the static library."""
         self.has_its_symbols(self.library)
 
     def test_symbols_of_the_shared_object(self):
@@ -429,7 +429,8 @@ class Until(OfC):
     ASKED = range(253_402_300_799)
 
     def test_rows(self):
-        # until.c prints the status of a yes, 9, and its last second. If seconds can be asked, 1 and 0 follow: this one is a yes, the next is none.
+        """until.c prints the status of a yes, 9, and its last second. If seconds can be asked, 1 and 0 follow: this one is a yes, the next is
+        none."""
         to = os.path.join(self.room, "until")
         self.assertTrue(is_compiled("cc", *STRICT, "-o", to, os.path.join(TESTS, "programs", "until.c"), self.library), "until.c is not compiled")
         for name, *limits, moment, until in ROWS:
@@ -508,7 +509,7 @@ class Fuzzed(OfC):
         self.assertEqual(done.returncode, 0, done.stdout[-4000:])
 
     def test_corpus(self):
-        # The files of fuzz/corpus/, without any change.
+        """The files of fuzz/corpus/, without any change."""
         self.check_fuzzing("-runs=0")
 
     def test_for_ten_minutes(self):

@@ -33,12 +33,12 @@ REQUEST = (b"packages", b"read", b"/a")
 
 
 def key_of(name):
-    # The value of a public key with this name. No signature is made by it: see `is_right`.
+    """The value of a public key with this name. No signature is made by it: see `is_right`."""
     return [b"public-key", [b"test", name]]
 
 
 def hash_of(value, algorithm="sha256"):
-    # The value `(hash ..)` that names another value by the digest of its canonical form.
+    """The value `(hash ..)` that names another value by the digest of its canonical form."""
     return [b"hash", algorithm.encode(), hashlib.new(algorithm, canonical(value)).digest()]
 
 
@@ -68,7 +68,7 @@ class Maker:
         return self.random.choice([key, key, hash_of(key), hash_of(key), hash_of(key, "sha512"), hash_of(key, "sha1")])
 
     def tag(self):
-        # A tag. All but `(packages write)` contain REQUEST.
+        """A tag. All but `(packages write)` contain REQUEST."""
         return [b"tag", self.random.choice([[b"*"], [b"packages"], [b"packages", b"read"], [b"packages", [b"*", b"set", b"read", b"write"]],
                                             [b"packages", b"write"]])]
 
@@ -204,7 +204,7 @@ class Entries(built.OfLibrary):
     """What makes no entry is refused before it is in a table."""
 
     def test_entries_refused(self):
-        # `is_right_so` is whether `entries.entry` refused these arguments, as it must.
+        """`is_right_so` is whether `entries.entry` refused these arguments, as it must."""
         for name, is_right_so in entries_refused().items():
             with self.subTest(name):
                 self.assertTrue(is_right_so)
@@ -233,7 +233,7 @@ class Stores(built.OfLibrary):
         self.assertTrue(agrees_with_whole_list(self.opened(), 0, spki.Policy.STRICT))
 
     def test_open(self):
-        # Under `ALLOW_SHA1` hashes by SHA-1 name keys too.
+        """Under `ALLOW_SHA1` hashes by SHA-1 name keys too."""
         self.assertTrue(agrees_with_whole_list(self.opened(), 1, spki.Policy.ALLOW_SHA1))
 
     def test_several_clients(self):

@@ -151,7 +151,7 @@ class Documents(unittest.TestCase):
         self.assertEqual(list(ways.faults("docs/ARCHITECTURE.md", ways.bodies_of(below_crates("src/**/*.rt")))), [])
 
     def test_calls_for_c(self) -> None:
-        # Each function `spki_c_..` has a row in docs/PROOFS.md, and the page explains each call of spki.h.
+        """Each function `spki_c_..` has a row in docs/PROOFS.md, and the page explains each call of spki.h."""
         self.assertEqual(list(claims.unclaimed("docs/PROOFS.md", "crates/spki_c/spki.h", "crates/spki_c/spki.c")), [])
 
     def is_whole(self, page: str) -> None:

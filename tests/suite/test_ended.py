@@ -99,7 +99,7 @@ class Case(unittest.TestCase):
 
     @classmethod
     def octets(cls, name: str) -> bytes:
-        # The octets of a file in the folder.
+        """The octets of a file in the folder."""
         with open(cls.at(name), "rb") as file:
             return file.read()
 
@@ -369,8 +369,8 @@ class Adopts(Case):
     """How a file that people have written or changed becomes whole."""
 
     def test_taken(self) -> None:
-        # `--adopt` takes digests in capitals or with spaces around them, other ends of lines, and a last line that is wrong or missing. It writes the
-        # file as the command itself does. `lines` are those before the new last line.
+        """`--adopt` takes digests in capitals or with spaces around them, other ends of lines, and a last line that is wrong or missing. It writes
+        the file as the command itself does. `lines` are those before the new last line."""
         for name, octets, lines in (
                 ("old", f"#old\n\n{A.upper()}\n {B} #  x\n{C}#\xfc\n".encode(), ["#old", "", A, f"{B} # x", f"{C} # \xfc"]),
                 ("nothing in a comment", f"{A} #\n#\n{B}\t# \n".encode(), [A, "#", B]),

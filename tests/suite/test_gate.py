@@ -85,7 +85,7 @@ class Verdicts(unittest.TestCase):
         self.assertFalse(self.is_refused("fn low::names::tried: needs other, which is not proved"))
 
     def test_names_gone(self) -> None:
-        # A proof that only names what the wrong body took away is no refusal. A second fault in the proof is one.
+        """A proof that only names what the wrong body took away is no refusal. A second fault in the proof is one."""
         gone = "./proofs/names/tried/Answers.antt:4:1: error: `c` has no field `push-2`"
         self.assertFalse(self.is_refused(gone, "fn low::names::tried: not proved"))
         self.assertTrue(self.is_refused(gone, gone.replace("`c` has no field `push-2`", "`search`: no proof"), "fn low::names::tried: not proved"))
@@ -117,8 +117,8 @@ class Logs(unittest.TestCase):
         return counts.passed, counts.failed, counts.left_out
 
     def test_counts(self) -> None:
-        # The counts are those of the last line. Without such a line, or with a status other than 0 and no failure, one has failed. A command that
-        # never writes counts is one test.
+        """The counts are those of the last line. Without such a line, or with a status other than 0 and no failure, one has failed. A command that
+        never writes counts is one test."""
         for said, status, wanted in [
                 ("a\n3 passed, 0 failed\n", 0, (3, 0)), ("3 passed, 2 failed", 1, (3, 2)), ("3 passed, 0 failed (ok)\n", 0, (3, 0)),
                 ("3 passed, 0 failed\n", 1, (3, 1)), ("3 passed, 0 failed\nand more\n", 0, (0, 1)), ("", 0, (0, 1)), ("", -9, (0, 1))]:
@@ -152,12 +152,12 @@ class Commands(unittest.TestCase):
         self.assertEqual((counts.passed, counts.failed), (0, 1))
 
     def test_still_running(self) -> None:
-        # Every SECONDS_BETWEEN_LINES seconds it is printed which commands still run.
+        """Every SECONDS_BETWEEN_LINES seconds it is printed which commands still run."""
         with mock.patch.object(run, "SECONDS_BETWEEN_LINES", 0.1):
             self.assertIn("still running:\n    sleep 1, for 0 minutes\n", self.shown("sleep", "1")[2])
 
     def test_ended(self) -> None:
-        # The end of the context of `Parts` ends a command that still runs.
+        """The end of the context of `Parts` ends a command that still runs."""
         with contextlib.redirect_stdout(io.StringIO()), run.Parts(1) as parts:
             part = parts.begin("sleep", "1000")
         self.assertIsNotNone(part.process.poll())

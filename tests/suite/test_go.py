@@ -74,8 +74,8 @@ class InGo(OfGo):
         self.does(golang.MODULE, "test", "-race", "./...", GODEBUG="cgocheck=2")
 
     def test_questions(self) -> None:
-        # A program in Go answers all questions of the tables as `spki` does. It reads them as `test_bindings.framed` writes them, and writes its
-        # answers as strings in canonical form.
+        """A program in Go answers all questions of the tables as `spki` does. It reads them as `test_bindings.framed` writes them, and writes its
+        answers as strings in canonical form."""
         asked = test_bindings.all_questions(self.program)
         lines = self.does(golang.MODULE, "run", "./examples/asked", given=b"".join(map(test_bindings.framed, asked)))
         fault = test_bindings.faults_of_answers(asked, [line + b"\n" for line in test_bindings.strings_in(lines)])

@@ -72,7 +72,7 @@ class Layout(unittest.TestCase):
         self.assertEqual([line for line in git("ls-files", "-s").stdout.splitlines() if line.startswith("120000")], [])
 
     def test_last_deep_run(self) -> None:
-        # In a whole clone the commit must be in the history. How many wrong bodies were added since is only printed.
+        """In a whole clone the commit must be in the history. How many wrong bodies were added since is only printed."""
         commits = LINE.findall(text_of("CONTRIBUTING.md"))
         self.assertEqual(len(commits), 1, "CONTRIBUTING.md has not one line on the last run of .ci/deep, with 0 failed, and the seed of 1,000,000 "
                                           "texts or 'wrong bodies only'")

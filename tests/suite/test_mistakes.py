@@ -156,8 +156,8 @@ class OfWriting(Room):
         self.assertEqual(before, os.stat(self.at("c.sexp")))
 
     def test_a_list_is_edited_in_its_place(self):
-        # The file of a list keeps its mode and its owner. An entry that gives nothing new needs `--yes`, and a list that is read-only is not
-        # changed.
+        """The file of a list keeps its mode and its owner. An entry that gives nothing new needs `--yes`, and a list that is read-only is not
+        changed."""
         adds = ("entry", "--to", "bob.pub", "--tag", "(packages read)", "--acl", "acl.sexp")
         os.chmod(self.at("acl.sexp"), 0o640)
         with contextlib.suppress(PermissionError):
@@ -179,7 +179,7 @@ class OfWriting(Room):
         self.assertEqual(len(value_in(octets_in(self.at("new.sexp"))).value), 5)
 
     def test_a_dash_is_a_stream(self):
-        # For a file that is read `-` is standard input, which is read once. For one that is written it is standard output.
+        """For a file that is read `-` is standard input, which is read once. For one that is written it is standard output."""
         for words, name in [(("key", "-"), "bob.pub"), (("show", "-"), "to-bob"), (("check", "-"), "acl.sexp"),
                             (("key", "-o", "-", "bob.pub"), "bob.pub"),
                             (("sign", "--by", "-", "--to", "bob.pub", "--tag", TAG, "--days", "1"), "alice"),
@@ -247,7 +247,7 @@ class OfArguments(Room):
         self.sign("-o", "c.sexp", tag="(* set (packages read) (packages write))")
 
     def test_what_is_not_meant_is_not_made(self):
-        # No mistake of `mistakes.OF_WORDS` makes the file c.sexp. Each ends with the status and the words of its row.
+        """No mistake of `mistakes.OF_WORDS` makes the file c.sexp. Each ends with the status and the words of its row."""
         for row in mistakes.OF_WORDS:
             self.write("authorized_keys", b"".join(public + b"\n" for _, public in self.pairs.values()))
             self.write("braces", b"{%s}" % base64.b64encode(sexp.canonical(value_in(octets_in(self.at("to-bob"))).value)))
@@ -368,7 +368,7 @@ class OfTheRightOfAChain(OfChains):
         return self.sign("--chain", chain, "--force", "-o", "c.sexp", *words, by=by, to=to, tag=tag, wanted=wanted, days=("--days", "5"))
 
     def test_what_the_issuer_has_is_signed(self):
-        # Bob gives on a tag that his chain gives him, or a part of it, also where Alice gave it to a name that is his.
+        """Bob gives on a tag that his chain gives him, or a part of it, also where Alice gave it to a name that is his."""
         for tag in ("(packages read)", "(packages read (* set b a))", "(packages read (* prefix /web/))"):
             self.chained(tag=tag)
             self.assertEqual(len(self.verified("c.sexp")), 2)
@@ -379,7 +379,7 @@ class OfTheRightOfAChain(OfChains):
         self.chained(chain="both", tag="(packages (* set read write))")
 
     def test_what_the_issuer_cannot_give_is_not_signed(self):
-        # Neither as it is nor by `--yes`. With `--anyway` it is signed, and the reason is still said.
+        """Neither as it is nor by `--yes`. With `--anyway` it is signed, and the reason is still said."""
         text = octets_in(self.at("to-bob"))
         self.write("changed", text.replace(b"(packages read)", b"(packages)"))
         self.write("tampered", re.sub(rb"\(s\s+#..", lambda it: it[0][:-2] + b"%02x" % (int(it[0][-2:], 16) ^ 1), text))
@@ -423,7 +423,7 @@ class OfTheRightOfAChain(OfChains):
                 self.assertEqual("item 1 of the chain ends earlier" in said, is_told, said)
 
     def test_certificates_of_a_key_for_itself_are_no_burden(self):
-        # Many such certificates do not keep the search from the right chain. Where it stops at a bound of steps or chains, that is said.
+        """Many such certificates do not keep the search from the right chain. Where it stops at a bound of steps or chains, that is said."""
         os.mkdir(self.at("many"))
         for number, one in enumerate(self.signed(12)):
             self.write(f"many/{number}", sexp.laid_out(one))
@@ -654,7 +654,7 @@ class OfRandomWords(Room):
         return bytes(octets)
 
     def test_nothing_is_lost(self):
-        # With random words, files and streams, in children of this process. `check_run` has what must hold.
+        """With random words, files and streams, in children of this process. `check_run` has what must hold."""
         rng, before = random.Random(SEED), self.contents()
         for number in range(RUNS):
             words, wild = self.words(rng), {name: self.wild(rng) for name in ("wild", "wild.pub", "wild.sexp")}
@@ -667,7 +667,7 @@ class OfRandomWords(Room):
                 self.check_run(words, status, said, {**before, **wild})
 
     def test_nothing_is_lost_by_the_program(self):
-        # The same with the program itself, and so in fewer runs.
+        """The same with the program itself, and so in fewer runs."""
         rng, before = random.Random(SEED + " starts"), self.contents()
         for number in range(STARTS):
             words, wild = self.words(rng), {"wild": self.wild(rng)}

@@ -45,7 +45,7 @@ class Model(unittest.TestCase):
     """The model beside the tables and the document."""
 
     def test_tables(self) -> None:
-        # The model answers each row of the tables as the row says.
+        """The model answers each row of the tables as the row says."""
         for row in (row for table in tables_here() for row in rows_of(table)):
             with self.subTest(row.place, command=row.command):
                 try:

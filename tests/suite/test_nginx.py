@@ -135,7 +135,7 @@ class Sites(OfSite):
             self.assertEqual(faults_of(self.site, each, must), [])
 
     def test_denied(self) -> None:
-        # No lines of other sites turn a denial into a grant, and Ann still gets what she may.
+        """No lines of other sites turn a denial into a grant, and Ann still gets what she may."""
         for name, of_all, of_server in SITES:
             self.restart_nginx(of_all, of_server)
             with self.subTest(name):
@@ -159,7 +159,7 @@ class Sites(OfSite):
                 self.get_nothing([each for each in ASKED if each[2] != "/web/"], DENIED | UNDECIDED)
 
     def test_daemon_stopped(self) -> None:
-        # While no daemon answers, nobody gets anything, not even Ann what she may.
+        """While no daemon answers, nobody gets anything, not even Ann what she may."""
         self.grants_ann()
         self.site.stop_daemon()
         self.addCleanup(self.site.start_daemon)

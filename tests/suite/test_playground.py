@@ -148,7 +148,7 @@ class Answers(OfPage):
         self.assertEqual([sum(example["wanted"].endswith(f" {word}") for example in EXAMPLES) for word in words], [1] * len(words))
 
     def test_the_case_is_of_what_was_typed(self) -> None:
-        # The case of an answer has what was typed. It has nothing else but signatures that the page has made up.
+        """The case of an answer has what was typed. It has nothing else but signatures that the page has made up."""
         for example in EXAMPLES[:14]:
             question = example["question"]
             answer = self.page.ask("question", **question)
@@ -192,7 +192,7 @@ class Answers(OfPage):
         self.assertEqual(text[place["begin"]:place["end"]], "(subjekt")
 
     def test_places_are_counted_as_a_page_counts(self) -> None:
-        # In units of UTF-16, as JavaScript counts: the key in the comment is two of them.
+        """In units of UTF-16, as JavaScript counts: the key in the comment is two of them."""
         text = STORY["acl"].replace("(propagate)", '(comment "\U0001f511 \u00fc") (taag x)')
         place = self.page.ask("question", **{**STORY, "acl": text})["faults"]["acl"]["places"][0]
         units = text.encode("utf-16-le")[2 * place["begin"]:2 * place["end"]]
@@ -213,7 +213,7 @@ class Answers(OfPage):
             self.assertEqual(why, f"{says}; choose a date and a time of day, in UTC")
 
     def test_a_request_on_one_line(self) -> None:
-        # A request that is one string with spaces, where several words were meant, is denied with a hint.
+        """A request that is one string with spaces, where several words were meant, is denied with a hint."""
         for answer in (self.page.ask("question", **{**STORY, "request": ["packages read /builds/web/index.html"]}),
                        self.page.ask("case", text=text_of("examples/guide/granted.sexp").replace("(packages read /builds", '"packages read /builds')
                                      .replace('index.html)', 'index.html"'))):
@@ -231,8 +231,8 @@ class Answers(OfPage):
                 self.assertIn(why, place["why"])
 
     def test_a_certificate_has_one_number(self) -> None:
-        # `item` and `line` count the items of the case, in which the page has added signatures. `certificate` and `shown` count what was typed: the
-        # certificates, or all items for one that is none.
+        """`item` and `line` count the items of the case, in which the page has added signatures. `certificate` and `shown` count what was typed: the
+        certificates, or all items for one that is none."""
         example = next(it for it in EXAMPLES if it["wanted"] == "entry 1 item 3 NoDelegation")
         reason = self.page.ask("question", **example["question"])["reasons"][0]
         self.assertEqual((reason["item"], reason["certificate"], reason["line"]), (3, 2, "entry 1 item 3 NoDelegation"))
@@ -252,7 +252,7 @@ class Answers(OfPage):
         self.assertEqual(self.page.ask("question", **{**STORY, "request": ["x" * 65_537]})["line"], "refused question TooLong")
 
     def test_times(self) -> None:
-        # The spans of time in which the answer is the same, and where each begins and ends.
+        """The spans of time in which the answer is the same, and where each begins and ends."""
         times = self.page.ask("times", **STORY)
         limit = {"word": "after", "moment": "2026-06-30 23:59:59"}
         self.assertEqual(times["spans"], [{"answer": "yes entry 1", "begin": None, "end": limit}, {"answer": "no", "begin": limit}])
@@ -263,7 +263,7 @@ class Answers(OfPage):
                                  {"answer": "no", "begin": limit}])
 
     def test_tags(self) -> None:
-        # Whether each of two tags and their intersection contain a request. A mistake in a tag has its place.
+        """Whether each of two tags and their intersection contain a request. A mistake in a tag has its place."""
         answer = self.page.ask("tags", first="(packages (* set read write))", second="(packages read (* prefix /a/))", request=["packages", "write"])
         self.assertEqual((answer["first"]["contains"], answer["second"]["contains"], answer["both"]["contains"]), (True, False, False))
         self.assertEqual(answer["both"]["text"], "(packages read (* prefix /a/))")
@@ -278,7 +278,7 @@ class Answers(OfPage):
                          [run(built.program(), name, text.encode())[1].decode().rstrip("\n") for name in ("canonical", "advanced", "transport")])
 
     def test_labels_and_comments(self) -> None:
-        # The text of a reason has the label of a key and the comment of an entry. A line of the labels that is none is told by its number.
+        """The text of a reason has the label of a key and the comment of an entry. A line of the labels that is none is told by its number."""
         text = STORY["acl"].replace("(entry (public-key (test bob))", '(entry (public-key (test bob)) (comment "The cook")')
         answer = self.page.ask("question", **{**STORY, "acl": text, "labels": "Carol of Web (public-key (test carol))\nnobody"})
         said = " ".join(reason["says"] for reason in answer["reasons"])
@@ -292,7 +292,7 @@ class Answers(OfPage):
         self.assertEqual(met, ("no", "item 1 NotAccepted", False))
 
     def test_what_is_no_question(self) -> None:
-        # Whatever object is sent gets an answer, and is no fault of the server.
+        """Whatever object is sent gets an answer, and is no fault of the server."""
         for question in ({}, {"acl": 5, "request": "x", "refused": "x"}, {"request": [1, None]}, {"acl": "(" * 100_000}, {"acl": "\ud800"}):
             self.assertEqual(self.page.ask("question", **question)["kind"], "refused")
         for job in ("case", "tags", "forms", "times"):
@@ -458,11 +458,11 @@ class InChromium(OfPage):
                                     "it.dispatchEvent(new Event('input', {bubbles: true}))", name, text)
 
     def choose(self, tab):
-        # Opens a tab of the page: `question`, `case`, `tags` or `forms`.
+        """Opens a tab of the page: `question`, `case`, `tags` or `forms`."""
         self.browser.execute_script("document.getElementById(`tab-${arguments[0]}`).click()", tab)
 
     def keys(self, *keys):
-        # Presses keys, which go to the element that has the focus.
+        """Presses keys, which go to the element that has the focus."""
         from selenium.webdriver.common.action_chains import ActionChains
         ActionChains(self.browser, duration=0).send_keys(*keys).perform()
 
@@ -532,7 +532,7 @@ class InChromium(OfPage):
         self.until("return document.getElementById('both').textContent === '(packages read (* prefix /builds/web/))'")
 
     def test_everything_has_a_name(self) -> None:
-        # In each tab, each element that can be used has a name for those who hear the page.
+        """In each tab, each element that can be used has a name for those who hear the page."""
         for tab in ("question", "case", "tags", "forms"):
             self.choose(tab)
             self.browser.execute_script("document.querySelectorAll('details').forEach((it) => it.open = true)")
@@ -552,7 +552,7 @@ class InChromium(OfPage):
         self.until("return document.getElementById('kind').textContent === 'Yes'")
 
     def test_a_tick_stands_for_a_signature(self) -> None:
-        # Without its tick a signature is not valid. The tick of all sets each again.
+        """Without its tick a signature is not valid. The tick of all sets each again."""
         self.until("return document.querySelector('#signatures input')").click()
         self.until("return document.getElementById('line').textContent === 'no, certificate 1 NotAccepted'")
         self.assertFalse(self.browser.execute_script("return document.getElementById('all').checked"))
@@ -620,8 +620,8 @@ class InChromium(OfPage):
         self.shows_nothing_else()
 
     def test_an_answer_to_an_earlier_text(self) -> None:
-        # `held` has functions that answer the questions to the server, in their order. An answer to the first text is not shown once the second is
-        # typed; the last answer is.
+        """`held` has functions that answer the questions to the server, in their order. An answer to the first text is not shown once the second is
+        typed; the last answer is."""
         answer = '{"kind": "no", "line": "no", "title": "an earlier answer", "reasons": [], "chain": null}'
         self.instead_of_server("question", f"new Promise((done) => (window.held ??= []).push(() => done(new Response('{answer}'))))")
         self.put("request", "packages\nwrite")
@@ -659,8 +659,8 @@ class Starting(built.OfProgram):
     """The page right after a clone, and after `tests/run --quick`."""
 
     def test_starts_or_says_how(self) -> None:
-        # In a copy of the sources without anything built, it ends with status 2 and names the command. With the program that `tests/run --quick`
-        # leaves, it starts.
+        """In a copy of the sources without anything built, it ends with status 2 and names the command. With the program that `tests/run --quick`
+        leaves, it starts."""
         with tempfile.TemporaryDirectory() as room:
             for name in ("apps/playground", "apps/spki-cert", "bindings/python", "examples/guide"):
                 shutil.copytree(os.path.join(TOP, name), os.path.join(room, name))

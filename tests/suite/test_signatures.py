@@ -57,7 +57,7 @@ class Handler(http.server.BaseHTTPRequestHandler):
     do_GET = do_HEAD = do_PUT = do_DELETE = answer_it
 
     def log_message(self, *words: object) -> None:
-        # Writes no log.
+        """Writes no log."""
         pass
 
 

@@ -172,15 +172,15 @@ class WithRsync(web_servers.HAProxy):
                                         f"--port={self.inner}", f"--log-file={self.at('log/rsyncd')}"], stdin=subprocess.DEVNULL)
 
     def replaced(self, text: str) -> str:
-        # The text of a file of the example, also with free ports in the place of 874, where HAProxy listens, and 873, where rsync does.
+        """The text of a file of the example, also with free ports in the place of 874, where HAProxy listens, and 873, where rsync does."""
         return super().replaced(text).replace("bind :874", f"bind 127.0.0.1:{self.settings['RSYNC_PORT']}").replace(":873", f":{self.inner}")
 
     def command(self) -> list[str]:
-        # The command that starts HAProxy, also with the file for rsync.
+        """The command that starts HAProxy, also with the file for rsync."""
         return [*super().command(), "-f", self.at("etc/rsync.cfg")]
 
     def end(self) -> None:
-        # Ends the daemon of rsync, and the site.
+        """Ends the daemon of rsync, and the site."""
         self.rsyncd.terminate()
         self.rsyncd.wait()
         super().end()
