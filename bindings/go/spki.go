@@ -19,7 +19,7 @@ type Signature struct {
 type Scheme int
 
 const (
-	// Unknown is a key of another form.
+	// Unknown is the scheme of each other key, also of one with P-384, which package verify knows.
 	Unknown Scheme = iota
 	// Ed25519 is EdDSA.
 	Ed25519
@@ -34,7 +34,7 @@ var schemes = map[Scheme]string{
 	Ed25519: "(10:public-key(3:ecc(5:curve7:Ed25519)(5:flags5:eddsa)", RSA: "(10:public-key(3:rsa(", P256: "(10:public-key(3:ecc(5:curve10:NIST P-256)",
 }
 
-// Scheme says how the signature is made, by the form of its key: docs/FORMATS.md, "Keys and signatures of services".
+// Scheme says how the signature is made, by what the text of its key begins with: docs/FORMATS.md, "Keys and signatures of services".
 func (s Signature) Scheme() Scheme {
 	for scheme, front := range schemes {
 		if bytes.HasPrefix(s.Key, []byte(front)) {
@@ -59,8 +59,9 @@ func AssumeKey(key []byte) ProvenKey {
 	return ProvenKey{string(key)}
 }
 
-// ProveKey returns the key that has signed a message which the service itself made, with a nonce that it takes once, as that of a signed request.
-// The error is ErrNotProved if the signature is not valid, or its message is a certificate, which proves nothing about who shows it.
+// ProveKey returns the key that has signed a message. The service itself must have made the message, with a nonce that it takes once, as that of a
+// signed request. The error is ErrNotProved if the signature is not valid, or if its message is a certificate: anyone can show a certificate, and
+// that does not prove who holds the key that signed it.
 func ProveKey(signed Signature, verify func(Signature) bool) (ProvenKey, error) {
 	if bytes.HasPrefix(signed.Message, []byte("(4:cert")) || !verify(signed) {
 		return ProvenKey{}, ErrNotProved

@@ -25,16 +25,18 @@ import spki
 from spki import _library
 
 LIST = b"(acl (entry (public-key (test a)) (propagate) (tag (*))))"
+# A certificate of a for b, with its signature. Keys and signatures are words: the verifier of each test says which are valid.
 PAIR = (b"(cert (issuer (public-key (test a))) (subject (public-key (test b))) (tag (*)))"
         b" (signature (hash sha256 #d71ecfb335b8e4b04cb035426566a94e817a12cfcfa4dbf5b704b6cd670c7ad2#) (public-key (test a)) sig)")
 SHOWN = b"(sequence " + PAIR + b")"
-# By which a lets itself do everything: such a certificate may stand in front of another one, also twice.
+# A certificate by which a lets itself do everything. It may stand in front of another one, also twice, and each signature is still needed.
 OWN = (b"(cert (issuer (public-key (test a))) (subject (public-key (test a))) (propagate) (tag (*)))"
        b" (signature (hash sha256 #b26a73c3cdcb26bbb71fa21531b5b6a1745fc316ddfcf53862a174f5dccebfb6#) (public-key (test a)) sig)")
 # A certificate for c in the name of a, whose signature is not valid.
 FORGED = (b"(sequence (cert (issuer (public-key (test a))) (subject (public-key (test c))) (tag (*)))"
           b" (signature (hash sha256 #b0c7e53153c3b09dad60263b3b4738aa1ae756cc4642305bcf4fdc4114ff0d5d#) (public-key (test a)) forged))")
 KEY = b"(public-key (test b))"
+# The signature of PAIR, as a verifier gets it.
 SIGNED = spki.Signature(key=b"(10:public-key(4:test1:a))", value=b"3:sig",
                         message=b"(4:cert(6:issuer(10:public-key(4:test1:a)))(7:subject(10:public-key(4:test1:b)))(3:tag(1:*)))")
 NOW, EPOCH = (datetime(year, 1, 1, tzinfo=timezone.utc) for year in (2024, 1970))
@@ -74,6 +76,7 @@ class Verifiers(unittest.TestCase):
         self.assertEqual(self.guard.decide(asked(), lambda it: calls.append(it) is None), spki.Grant(1))
         self.assertEqual(calls, [SIGNED])
 
+    # Every other answer of a verifier is a `TypeError`, also one that Python takes for true.
     def test_answers_true_or_false(self):
         self.assertFalse(self.guard.decide(asked(), wrong))
         for answer in (None, 1, 0, -255, 0x101, "yes", object(), [True]):
@@ -90,6 +93,7 @@ class Verifiers(unittest.TestCase):
             with self.assertRaises(TypeError):
                 self.guard.decide(asked(), verify)
 
+    # Of three certificates the second has a wrong signature. It is item 3, since each signature is an item too.
     def test_is_not_called_behind_the_first_wrong_one(self):
         calls = []
 
@@ -106,6 +110,7 @@ class Verifiers(unittest.TestCase):
             with self.assertRaises(ZeroDivisionError):
                 ask(asked(), lambda it: 1 / 0)
 
+    # Of 40 times PAIR the second is `NotIssuer`: the subject is b by then. With 39 times OWN in front, one PAIR is granted.
     def test_is_called_for_each_of_many(self):
         calls = []
         guard = spki.Guard(LIST, limits=HIGHEST)
@@ -124,6 +129,7 @@ class Verifiers(unittest.TestCase):
             with self.assertRaises(ZeroDivisionError):
                 guard.explain(question, lambda it: 1 / 0)
 
+    # A verifier may call the same guard: no lock is held meanwhile.
     def test_may_ask_the_guard_itself(self):
         def verify(signature):
             return bool(self.guard.decide(asked(), right))
@@ -199,6 +205,7 @@ class Opened(unittest.TestCase):
             opened.mark(1 - place)
             self.assertEqual(opened.decide(), spki.Grant(1))
 
+    # The verifier accepts the first signature and fails at the second. The first is not marked, so a mark of the second grants nothing.
     def test_a_verifier_that_fails_marks_nothing(self):
         with self.guard.ask(asked(b"(sequence " + OWN + OWN + b")", b"(public-key (test a))")) as opened:
             answers = iter((True,))
@@ -264,6 +271,7 @@ class Opened(unittest.TestCase):
         endless = self.guard.decide(asked(), right)
         self.assertEqual((endless.until, endless.holds_at(last + second), endless.holds_at(BEFORE)), (None, True, False))
 
+    # The library is replaced by calls that return an end beyond the years of `datetime`.
     def test_ends_that_python_does_not_have(self):
         opened, most = self.guard.ask(asked()), datetime.max.replace(microsecond=0, tzinfo=timezone.utc)
         last, first = (limit.replace(tzinfo=timezone.utc) for limit in (datetime.max, datetime.min))
@@ -280,6 +288,7 @@ class Opened(unittest.TestCase):
         opened.verify(lambda it: kept.append(it.key) is None)
         self.assertEqual(({id(key) for key in kept}, len(kept)), ({id(kept[0])}, 40))
 
+    # The signatures behind the first, or behind the first wrong one, are never copied from the library.
     def test_signatures_are_listed_one_by_one(self):
         opened, places = spki.Guard(LIST, limits=HIGHEST).ask(asked(b"(sequence " + PAIR * 40 + b")")), []
         signature = _library.signature
@@ -326,6 +335,7 @@ class Copies(unittest.TestCase):
         self.assertEqual(len({asked(), asked(words=list(WORDS)), asked(moment=NOW + timedelta(seconds=1))}), 2)
         self.assertNotEqual(asked(), None)
 
+    # The `repr` of a guard and of an opened question, open and closed.
     def test_names(self):
         met = [repr(self.guard), repr(self.opened)]
         self.guard.close()
@@ -378,6 +388,7 @@ class Keys(unittest.TestCase):
         with self.assertRaises(spki.NotProved):
             spki.ProvenKey.by(signature, right)
 
+    # A `ProvenKey` is made by `by` or `assume` alone, does not change, and may be copied.
     def test_there_is_no_other_way(self):
         key = spki.ProvenKey.assume(KEY)
         for call in (spki.ProvenKey, lambda: spki.ProvenKey(KEY), lambda: spki.ProvenKey.assume("key")):
@@ -389,6 +400,7 @@ class Keys(unittest.TestCase):
             self.assertEqual((made, hash(made), asked().key), (key, hash(key), key))
         self.assertNotEqual(key, KEY)
 
+    # The three parts of a `Signature` are given by name, so that none is taken for another.
     def test_texts_have_names(self):
         for given in ((b"key", b"message", b"value"), ()):
             with self.assertRaises(TypeError):
@@ -402,6 +414,7 @@ class Keys(unittest.TestCase):
 
 
 class Parts(unittest.TestCase):
+    """A string with spaces, parentheses or a length in it stays one string of the request."""
     def test_strings_are_strings(self):
         guard = spki.Guard(b"(acl (entry (public-key (test b)) (tag (cache (* prefix /cache/team1/) read))))")
         for words, is_granted in [((b"cache", b"/cache/team1/a.o", b"read"), True), ((b"cache", b"/cache/team1/a.o read", b"write"), False),
@@ -416,6 +429,7 @@ class Parts(unittest.TestCase):
         self.assertTrue(guard.decide(asked(b"(sequence)", text=b"ftp"), right))
         self.assertFalse(guard.decide(asked(b"(sequence)", text=b"(ftp)"), right))
 
+    # The tag is a list of 40 strings. It contains each request that begins with them.
     def test_many_strings(self):
         guard = spki.Guard(b"(acl (entry (public-key (test b)) (tag (" + 40 * b"w " + b"))))", limits=HIGHEST)
         for count in (39, 40, 41, 1000, 3):
@@ -471,6 +485,7 @@ class Parts(unittest.TestCase):
         with self.assertRaises(TypeError):
             spki.Guard(LIST).decide((SHOWN, KEY, WORDS, NOW), right)
 
+    # The octets of the questions have no other owner, and `garbage` would overwrite what was freed.
     def test_a_question_keeps_its_octets(self):
         guard = spki.Guard(b"(acl (entry (public-key (test b)) (tag (w w10 w11 w12 w13))))")
         questions = [spki.Question(b"(%s)" % b"sequence", spki.ProvenKey.assume(b"(public-key (%s b))" % b"test"),
@@ -527,6 +542,7 @@ class Guards(unittest.TestCase):
             with self.assertRaises(TypeError):
                 spki.Guard(by_sha1, other)
 
+    # What is out of range, what exceeds each limit, and that `nodes`, `work` and `answer` bound explanations alone.
     def test_limits(self):
         for wrong in ({"octets": 1_048_577}, {"nodes": 1_000_001}, {"work": -1}, {"octets": -1}, {"answer": 2 ** 28 + 1},
                       {"certificates": 2 ** 64 + 16}):
@@ -564,6 +580,7 @@ class Guards(unittest.TestCase):
         guard.close()
         opened.close()
 
+    # A verifier closes the guard that calls it. The decision is made all the same.
     def test_closing_while_it_is_asked(self):
         guard = spki.Guard(LIST)
         self.assertTrue(guard.decide(asked(), lambda it: guard.close() is None))
@@ -613,6 +630,7 @@ class Guards(unittest.TestCase):
             thread.join()
         self.assertEqual(granted, [True] * 8)
 
+    # A decision closes its question by `of.close`, also if the verifier raises, and handles close themselves. `closed` has each in order.
     def test_each_handle_is_closed_once(self):
         closed = []
         closing = mock.patch.object(spki._GuardHandle.__del__, "__defaults__", (closed.append,)), \
@@ -661,6 +679,7 @@ class Texts(unittest.TestCase):
             spki.string_at(b"3:abc")
         self.assertEqual(met.exception.fault, "Memory")
 
+    # The library is replaced by calls that return a status which they do not have.
     def test_an_unknown_status_is_no_answer(self):
         opened = spki.Guard(LIST).ask(asked())
         for status in (0, 3, 5, 7, 10):

@@ -32,7 +32,8 @@ except ImportError:
 ROWS = os.path.join(os.path.dirname(os.path.realpath(__file__)), "..", "go", "httpsig", "testdata", "rows")
 ESCAPE = re.compile(r"\\(?:x(..)|(.))")
 CHAIN = "{KDg6c2VxdWVuY2Up}"
-# RFC 9421, appendix B.1.4 and B.2.6, and B.1.3 and B.2.4.
+# The examples of RFC 9421, appendix B.2.6 and B.2.4: a private key (B.1.4), its signature of BASE; a public key (B.1.3), its signature OF_CURVE of
+# RESPONSE.
 PRIVATE = "MC4CAQAwBQYDK2VwBCIEIJ+DYvh6SEqVTm50DFtMDoQikTmiCqirVv9mWG9qfSnF"
 SIGNATURE = "wqcAqbmYJ2ji2glfAMaRy4gruYYnx2nEFN2HN6jrnDnQCK1u02Gb04v9EDgwUPiu4A0w6vuQv5lIp5WPpBKRCw=="
 BASE = """"date": Tue, 20 Apr 2021 02:07:55 GMT
@@ -89,6 +90,7 @@ def string(octets: bytes) -> bytes:
     return b"%d:%s" % (len(octets), octets)
 
 
+# A signer by a key of Ed25519, which sends the certificates CHAIN.
 def ed25519_signer(private: Ed25519PrivateKey) -> spki_http.Signer:
     def sign(message: bytes) -> bytes:
         made = private.sign(message)
@@ -97,6 +99,7 @@ def ed25519_signer(private: Ed25519PrivateKey) -> spki_http.Signer:
     return spki_http.Signer(b"(10:public-key(3:ecc(5:curve7:Ed25519)(5:flags5:eddsa)(1:q%s)))" % string(public), sign, CHAIN)
 
 
+# A signer by a new key of P-256, which sends no certificates.
 def curve_signer() -> spki_http.Signer:
     private = ec.generate_private_key(ec.SECP256R1())
 
@@ -134,6 +137,7 @@ class Handler(http.server.BaseHTTPRequestHandler):
 class Requests(unittest.TestCase):
     """What is accepted and what is refused."""
 
+    # With `again` the same request came so many seconds before, and was valid then.
     def test_rows(self) -> None:
         read = [*rows()]
         self.assertGreater(len(read), 200)
@@ -162,6 +166,7 @@ class Requests(unittest.TestCase):
         self.assertTrue(spki_verify.verify_texts(key=key, message=RESPONSE.encode(),
                                                  value=_fields.value_of("ecdsa-p256-sha256", base64.b64decode(OF_CURVE))))
 
+    # Each nonce is kept for 360 s at least, in two sets of at most 2 nonces. `now` is in seconds.
     def test_nonces(self) -> None:
         store = spki_http.Memory(2)
         for nonce, now, wanted in (
@@ -210,6 +215,7 @@ class Clients(unittest.TestCase):
         self.assertEqual(spki_http.octets_of(b"(7:sig-val(3:rsa(1:s3:\0ab)))", 4), b"\0\0ab")
         self.assertEqual(spki_http.octets_of(value(b"ecdsa", b"\0r", b"ss")), b"\0rss")
 
+    # Requests by `urllib`, also the same one twice with other signers, and one to a name that is not signed for.
     def test_urllib(self) -> None:
         def send(signer: spki_http.Signer, method: str, body: bytes | None) -> bytes:
             opener = urllib.request.build_opener(urllib.request.ProxyHandler({}), spki_http.Handler(signer, self.name))

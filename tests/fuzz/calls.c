@@ -9,8 +9,11 @@
 #include <spki.h>
 #include <stdlib.h>
 
+/* Octets before and behind each buffer, and what each of them is; what each octet of a buffer is before a call; places of `marks`; octets of the
+ * usual buffer; places of `met`. */
 enum { CANARIES = 16, CANARY = 0xa5, UNTOUCHED = 0x5a, MOST_MARKS = 64, ROOM = 256, COUNTERS = 4096 };
 
+/* The answers that were met, by their `count`. libFuzzer reads this section. */
 __attribute__((section("__libfuzzer_extra_counters"))) static uint8_t met[COUNTERS];
 
 int LLVMFuzzerTestOneInput(const uint8_t *data, size_t size);
@@ -24,7 +27,8 @@ static void holds(int is_so, const char *what)
     abort();
 }
 
-/* Which request for memory of the next call is refused, none at 0; what is left of that in a call; and whether one was. */
+/* Which request for memory of the next call of `done` is refused, from 1, or 0 for none; how many requests are left until that one in the call that
+ * is under way; and whether one was refused. */
 static size_t next_refusal, until_refusal;
 static int is_refused;
 
@@ -33,7 +37,7 @@ void *__real_realloc(void *block, size_t size);
 void *__wrap_malloc(size_t size);
 void *__wrap_realloc(void *block, size_t size);
 
-/* Counts a request for memory, and returns whether it is refused. */
+/* Counts a request for memory, and returns whether it is refused. The linker puts the __wrap_ functions below in the place of malloc and realloc. */
 static int refuses(void)
 {
     if (!until_refusal || --until_refusal)
@@ -54,14 +58,14 @@ void *__wrap_realloc(void *block, size_t size)
     return (!block || malloc_usable_size(block) < size) && refuses() ? NULL : __real_realloc(block, size);
 }
 
-/* The answer of a call. */
+/* The answer of a call. With SPKI_TOO_SMALL there is none, and `length` is how many octets it needs. */
 struct answer {
     enum spki_status status;
     size_t length;
     unsigned char *octets;
 };
 
-/* Counts an answer by its status and the letters of its first line. */
+/* Tells libFuzzer of an answer: by its status and the letters of its first line, without numbers, which would make many answers of one. */
 static void count(const struct answer *answer)
 {
     uint32_t sum = (uint32_t)answer->status;
@@ -74,7 +78,8 @@ static void count(const struct answer *answer)
 /* A call whose answer goes to a buffer, and what it is called with. */
 typedef enum spki_status call(const void *with, void *buffer, size_t length, size_t *needed);
 
-/* Does a call with a buffer of this size between canaries. */
+/* Does a call with a buffer of this size between canaries, with the request for memory `next_refusal` refused. Nothing but the answer may be written,
+ * and the first octet must be 0 if there is none. Returns the answer, whose octets the caller frees. */
 static struct answer done(call *calls, const void *with, size_t size)
 {
     struct answer answer = {0};
@@ -98,13 +103,14 @@ static struct answer done(call *calls, const void *with, size_t size)
     return answer;
 }
 
-/* Whether an answer's octets are those of a C string. */
+/* Whether an answer is this line, which is a C string. */
 static int is(const struct answer *answer, const char *wanted)
 {
     return answer->length == strlen(wanted) && !memcmp(answer->octets, wanted, answer->length);
 }
 
-/* Does a call while a request for memory is refused, in one of four cases. If one was, the answer says so. */
+/* In one of four cases does a call while one of its requests for memory is refused. If the call came to that request, its answer must be
+ * `refused Memory`. */
 static void refuse(struct input *in, call *calls, const void *with)
 {
     struct answer answer;
@@ -133,6 +139,7 @@ static struct answer answered(struct input *in, call *calls, const void *with)
     return answer;
 }
 
+/* Whether two answers have the same status and octets. */
 static int are_same(const struct answer *one, const struct answer *other)
 {
     return one->status == other->status && one->length == other->length && !memcmp(one->octets, other->octets, one->length);
@@ -146,19 +153,21 @@ struct of_text {
     struct spki_text text, rows;
 };
 
-/* Each of the next two is a `call` with a struct of_text: a command's answer to its text, and the answer to a case by rows apart. */
+/* The call of spki_answer, with a struct of_text. */
 static enum spki_status answers_text(const void *with, void *buffer, size_t length, size_t *needed)
 {
     const struct of_text *it = with;
     return spki_answer(it->command, it->text.octets, it->text.length, buffer, length, needed).status;
 }
 
+/* The call of spki_check_accepted, with a struct of_text. */
 static enum spki_status answers_rows(const void *with, void *buffer, size_t length, size_t *needed)
 {
     const struct of_text *it = with;
     return spki_check_accepted(it->text.octets, it->text.length, it->rows.octets, it->rows.length, buffer, length, needed).status;
 }
 
+/* Whether two texts have the same octets. */
 static int equals(struct spki_text one, struct spki_text other)
 {
     return one.length == other.length && !memcmp(one.octets, other.octets, one.length);
@@ -171,7 +180,7 @@ static struct spki_text lent(const struct text *text)
     return given;
 }
 
-/* Replaces a text by the same value in another form, if it is one value. Its canonical form must stay the same. */
+/* Writes a text in one of the three forms, where it is one value. Its canonical form must stay the same. Otherwise the text stays. */
 static void convert(struct input *in, struct text *text)
 {
     struct of_text with = {SPKI_CANONICAL, lent(text), {0}}, again = with;
@@ -191,7 +200,7 @@ static void convert(struct input *in, struct text *text)
     free(back.octets);
 }
 
-/* Looks for a string in a text in canonical form. */
+/* Looks for a string at some path in a text in canonical form. There may be none there, and one must be inside the text. */
 static void find(struct input *in, struct spki_text text)
 {
     size_t path[4], depth = below(in, 5), length = 12345;
@@ -216,7 +225,7 @@ struct of_guard {
     spki_guard **guard;
 };
 
-/* A `call` with a struct of_guard: opens a guard. */
+/* The call of spki_guard_open, with a struct of_guard. */
 static enum spki_status opens(const void *with, void *buffer, size_t length, size_t *needed)
 {
     const struct of_guard *it = with;
@@ -232,7 +241,7 @@ struct of_question {
     spki_asked **asked;
 };
 
-/* A `call` with a struct of_question: opens a question. */
+/* The call of spki_guard_ask, with a struct of_question. */
 static enum spki_status asks(const void *with, void *buffer, size_t length, size_t *needed)
 {
     const struct of_question *it = with;
@@ -247,7 +256,7 @@ struct of_asked {
     enum spki_status (*answers)(const spki_asked *, void *, size_t, size_t *);
 };
 
-/* A `call` with a struct of_asked: answers an opened question. */
+/* The call that a struct of_asked names: explains, reduces or decision_of. */
 static enum spki_status answers_asked(const void *with, void *buffer, size_t length, size_t *needed)
 {
     const struct of_asked *it = with;
@@ -265,7 +274,7 @@ static enum spki_status reduces(const spki_asked *asked, void *buffer, size_t le
     return spki_asked_reduce(asked, buffer, length, needed).status;
 }
 
-/* The first place that has a signature equal to that at a place. */
+/* The first place that has a signature equal to that at a place. Equal ones are marked alike, since the rows of a case cannot tell them apart. */
 static size_t first_equal(const spki_asked *asked, size_t place)
 {
     struct spki_signed own, other;
@@ -277,8 +286,8 @@ static size_t first_equal(const spki_asked *asked, size_t place)
     return first;
 }
 
-/* Looks at the signatures of a question, marks some of them, equal ones alike, and writes the rows of those that are marked. Returns how many
- * are not. */
+/* Looks at the signatures of a question, marks some of them, equal ones alike, and writes `(accepted (by ..) ..)` to `rows`, with
+ * a row for each that is marked. Returns how many are not. */
 static size_t mark(struct input *in, spki_asked *asked, struct text *rows)
 {
     static int marks[MOST_MARKS];
@@ -313,7 +322,7 @@ static size_t mark(struct input *in, spki_asked *asked, struct text *rows)
     return unmarked;
 }
 
-/* The explanation must name the entry of the decision. */
+/* Explains and reduces an opened question. The explanation must name the entry of a yes, and no entry with a no. */
 static void explain(struct input *in, struct of_asked *with, const struct answer *decision)
 {
     struct answer lines;
@@ -335,7 +344,7 @@ static void explain(struct input *in, struct of_asked *with, const struct answer
     free(lines.octets);
 }
 
-/* Adds a part to a case, in canonical form. */
+/* Adds a part to a case, in canonical form: in a list with this head, or as it is without a head. */
 static void add(struct input *in, struct text *whole, const char *head, const struct text *part)
 {
     struct of_text with = {SPKI_CANONICAL, lent(part), {0}};
@@ -349,7 +358,8 @@ static void add(struct input *in, struct text *whole, const char *head, const st
     free(canonical.octets);
 }
 
-/* The case of the same parts must be decided alike, if its tags are not too large, by rows apart and by its own. */
+/* Decides the case of the same parts, once by rows that are given apart, and once by rows of its own (`own`). Each answer must be that of the guard,
+ * unless the tags are too large or the case has no room. */
 static void compare(struct input *in, const struct parts *parts, const struct text *rows, enum spki_policy policy, const struct answer *decision)
 {
     static struct text whole[2];
@@ -375,7 +385,7 @@ static void compare(struct input *in, const struct parts *parts, const struct te
     }
 }
 
-/* Decides an opened question. Only a yes has an end. */
+/* Decides an opened question, for a struct of_asked. Only a yes has an end, `until`: otherwise it is INT64_MIN. */
 static enum spki_status decision_of(const spki_asked *asked, void *buffer, size_t length, size_t *needed)
 {
     const struct spki_decision said = spki_asked_decide(asked, buffer, length, needed);
@@ -383,7 +393,7 @@ static enum spki_status decision_of(const spki_asked *asked, void *buffer, size_
     return said.status;
 }
 
-/* Answers an opened question by marks. */
+/* Marks some signatures of an opened question and decides it. Compares the decision with what was possible, the case and the explanation. */
 static void decide(struct input *in, const struct parts *parts, spki_asked *asked, enum spki_policy policy)
 {
     static struct text rows;
@@ -410,7 +420,8 @@ static void decide(struct input *in, const struct parts *parts, spki_asked *aske
     free(decision.octets);
 }
 
-/* The parts as a question, whose texts are copies that change once it is opened. */
+/* Asks a guard the question of these parts, closes the guard, and then decides the question. The texts of the question are copies, which are
+ * overwritten before it is decided. */
 static void ask(struct input *in, const struct parts *parts, spki_guard *guard, enum spki_policy policy)
 {
     static struct parts copy;
@@ -447,6 +458,8 @@ static void ask(struct input *in, const struct parts *parts, spki_guard *guard, 
     spki_asked_close(asked);
 }
 
+/* Makes parts of one input, spoils some of them, writes each in some form, opens a guard with limits by the input, and asks it. A request or moment
+ * whose other form is given to the guard (`others`) is not spoiled: in the case that `compare` makes it must mean the same. */
 int LLVMFuzzerTestOneInput(const uint8_t *data, size_t size)
 {
     static struct parts parts;

@@ -8,6 +8,8 @@
 #include <stdio.h>
 #include <string.h>
 
+/* The most octets of a text, the room for strings of a request (whose usual limit is 64), the number of keys, the most lists in one another in a tag,
+ * and a number over the most members of one such list. */
 enum { MOST_OCTETS = 32768, MOST_WORDS = 66, KEYS = 5, MOST_DEPTH = 3, MEMBERS = 4 };
 
 /* What is left of the input. Behind its end all octets are 0. */
@@ -30,10 +32,10 @@ struct parts {
     unsigned is_worded, is_in_seconds;
 };
 
-/* The question whose parts are made: tags are often those of its request. */
+/* The question whose parts are made. put_requested makes tags of its request. */
 static const struct parts *made;
 
-/* A number below `count` by the next octet of the input, 0 behind its end. */
+/* Returns a number below `count` by the next octet of the input, and takes this; 0 behind the end of the input. */
 static unsigned below(struct input *in, unsigned count)
 {
     if (!in->left)
@@ -42,13 +44,13 @@ static unsigned below(struct input *in, unsigned count)
     return *in->at++ % count;
 }
 
-/* The usual number in three of four cases, and behind the end of the input, otherwise any below a count. */
+/* Returns `usual` in three of four cases, and behind the end of the input; otherwise a number below `count` by the input. */
 static unsigned mostly(struct input *in, unsigned usual, unsigned count)
 {
     return below(in, 4) == 3 ? below(in, count) : usual;
 }
 
-/* Adds octets to a text, or nothing if they have no room. */
+/* Adds octets as they are to a text, or nothing if they have no room. */
 static void put(struct text *to, const void *octets, size_t length)
 {
     if (length > sizeof to->octets - to->length)
@@ -57,7 +59,7 @@ static void put(struct text *to, const void *octets, size_t length)
     to->length += length;
 }
 
-/* Adds a string of these octets in canonical form. */
+/* Adds a string of these octets in canonical form, LENGTH:OCTETS. */
 static void put_string(struct text *to, const void *octets, size_t length)
 {
     char head[24];
@@ -66,7 +68,7 @@ static void put_string(struct text *to, const void *octets, size_t length)
     put(to, octets, length);
 }
 
-/* Adds a string: the octets up to the first 00. */
+/* Adds a string in canonical form: the octets up to the first 00. */
 static void word(struct text *to, const char *octets)
 {
     put_string(to, octets, strlen(octets));
@@ -79,6 +81,7 @@ static void begin(struct text *to, const char *head)
     word(to, head);
 }
 
+/* Ends the list that was begun last. */
 static void end(struct text *to)
 {
     put(to, ")", 1);
@@ -95,7 +98,7 @@ static void put_key(struct text *to, unsigned which)
     end(to);
 }
 
-/* Adds a hash of a text by one of the three algorithms: 0, 1 or 2. */
+/* Adds the hash of a text by the algorithm with this place in `names`. */
 static void put_hash(struct text *to, const struct text *of, unsigned algorithm)
 {
     static const char *const names[] = {"sha256", "sha512", "sha1"};
@@ -113,7 +116,7 @@ static void put_hash(struct text *to, const struct text *of, unsigned algorithm)
     end(to);
 }
 
-/* Adds the key with this number, or in one of three cases its hash. */
+/* Adds the key with this number, or in one of three cases its hash: mostly by SHA-256. */
 static void put_principal(struct input *in, struct text *to, unsigned which)
 {
     struct text key = {0};
@@ -125,10 +128,12 @@ static void put_principal(struct input *in, struct text *to, unsigned which)
     put_hash(to, &key, mostly(in, 0, 3));
 }
 
+/* The strings of requests, tags and names. */
 static const char *const strings[] = {"ftp", "read", "write", "a", "", "10", "9", "/team/", "/team/x", "2024-01-01_00:00:00"};
 enum { STRINGS = sizeof strings / sizeof *strings };
 
-/* Adds the field with the subject of a certificate: the principal of the key with this number, or a name of it. */
+/* Adds the field with the subject of a certificate: the principal of the key with this number, or in some
+ * cases a name of it with up to two strings. */
 static void put_subject(struct input *in, struct text *to, unsigned which)
 {
     unsigned names = mostly(in, 0, 4);
@@ -143,7 +148,7 @@ static void put_subject(struct input *in, struct text *to, unsigned which)
     end(to);
 }
 
-/* Adds a tag that is a range, with no limit, a lower one, or a lower and an upper one. */
+/* Adds a tag `(* range ..)` with up to two limits, first the lower and then the upper one. Not each ordering is one that the library reads. */
 static void put_range(struct input *in, struct text *to)
 {
     static const char *const orders[] = {"alpha", "numeric", "time", "binary", "date"};
@@ -159,6 +164,7 @@ static void put_range(struct input *in, struct text *to)
     end(to);
 }
 
+/* Adds a tag `(* prefix ..)`. */
 static void put_prefix(struct input *in, struct text *to)
 {
     begin(to, "*");
@@ -167,7 +173,7 @@ static void put_prefix(struct input *in, struct text *to)
     end(to);
 }
 
-/* Adds a tag that contains the request: its first strings. */
+/* Adds a tag that contains the request: the list of some of its strings, from the first on, or its one string. */
 static void put_requested(struct input *in, struct text *to)
 {
     size_t count = made->word_count > 1 ? 1 + below(in, 64) % made->word_count : made->word_count;
@@ -179,7 +185,7 @@ static void put_requested(struct input *in, struct text *to)
         end(to);
 }
 
-/* Adds a tag, with lists and sets in one another up to a depth. */
+/* Adds a tag, with lists and sets in one another up to `depth`. At 0 it has none, but may be the request. */
 static void put_tag(struct input *in, struct text *to, unsigned depth)
 {
     static void (*const kinds[])(struct input *, struct text *) = {put_requested, put_prefix, put_range};
@@ -200,6 +206,7 @@ static void put_tag(struct input *in, struct text *to, unsigned depth)
     }
 }
 
+/* Moments, each as seconds since 1970 and as a date: that of most questions, a second earlier, an early one and a late one. */
 static const struct {
     int64_t seconds;
     const char *date;
@@ -215,7 +222,7 @@ static void put_limit(struct input *in, struct text *to, const char *head, unsig
     end(to);
 }
 
-/* Adds what an entry and a certificate have in common: the right to delegate, the tag, the window. */
+/* Adds what an entry and a certificate have in common: mostly the right to delegate, a tag, and in some cases the limits of a window. */
 static void put_fields(struct input *in, struct text *to)
 {
     if (mostly(in, 1, 2)) {
@@ -231,7 +238,8 @@ static void put_fields(struct input *in, struct text *to)
         put_limit(in, to, "not-after", 3);
 }
 
-/* Adds a certificate and its signature. It is mostly from the key with the number `place` to the next one. */
+/* Adds a certificate and its signature. Mostly the issuer is the key with the number `place`, and the subject
+ * the next one, so that the certificates are a chain. The signature is mostly right: a hash of this certificate, by its issuer. */
 static void put_certificate(struct input *in, struct text *to, unsigned place)
 {
     static struct text message;
@@ -255,7 +263,7 @@ static void put_certificate(struct input *in, struct text *to, unsigned place)
     end(to);
 }
 
-/* Adds an entry for a key, for its hash, or for a name of one: mostly the key that begins the chain. */
+/* Adds an entry of the access list, mostly for the key with the number 0, with which the chain begins. */
 static void put_entry(struct input *in, struct text *to)
 {
     begin(to, "entry");
@@ -271,7 +279,7 @@ static void put_entry(struct input *in, struct text *to)
     end(to);
 }
 
-/* Changes an octet, or cuts the text off, in one of sixteen cases. */
+/* In one of sixteen cases changes an octet of a text, or cuts off its end. */
 static void spoil(struct input *in, struct text *text)
 {
     unsigned how = below(in, 32), at = below(in, 256) * 256u + below(in, 256);
@@ -284,7 +292,8 @@ static void spoil(struct input *in, struct text *text)
         text->length = at;
 }
 
-/* Makes the request, as strings and as the text that they mean. */
+/* Makes the request, as strings and as the text that they mean: the list of them, or the string if there is one. Some strings end with octets that
+ * need care in a text, such as 00 and parentheses. */
 static void make_request(struct input *in, struct parts *parts)
 {
     unsigned count = mostly(in, 2, MOST_WORDS);
@@ -305,7 +314,8 @@ static void make_request(struct input *in, struct parts *parts)
         end(&parts->request);
 }
 
-/* Makes all parts of a question from the input. */
+/* Makes all parts of a question from the input. There are mostly up to 3 certificates, and at most 17, from key 0 on. The client's key is
+ * mostly the subject of the last one. */
 static void make(struct input *in, struct parts *parts)
 {
     unsigned certificates = mostly(in, below(in, 4), 18), entries = 1 + below(in, 4), moment = mostly(in, 0, MOMENTS);

@@ -13,7 +13,7 @@ import (
 type Asked struct {
 	held  *heldAsked
 	count int
-	// most is the most octets of an answer.
+	// most is the most octets of the lines of Explain or Reduce.
 	most int
 }
 
@@ -21,13 +21,14 @@ type Asked struct {
 type heldAsked struct {
 	mutex  sync.Mutex
 	handle askedHandle
-	// What Verified returns: the sequence, the policy by which its signatures are listed, and how many of these are marked, from the first.
+	// What Verified returns: the sequence, the policy by which its signatures are listed, and how many of these were marked in order, from the
+	// first. Other marks count for Decide alone.
 	sequence []byte
 	policy   Policy
 	marked   int
 }
 
-// close frees the memory.
+// close frees the memory of the question, if it is open. Go's collector calls it too, once no copy is left.
 func (h *heldAsked) close() {
 	h.mutex.Lock()
 	defer h.mutex.Unlock()
@@ -175,13 +176,15 @@ func (a *Asked) Decide() (Decision, error) {
 	return decide(handle)
 }
 
-// Explain says of each entry why it grants the request or does not, or which certificate stops all of them.
+// Explain says of each entry why it grants the request or does not, or which certificate stops all of them. The error is ErrTooLarge if a limit is
+// exceeded, ErrMemory, or ErrClosed.
 func (a *Asked) Explain() (Explanation, error) {
 	text, err := a.lines(toExplain)
 	return Explanation{text}, err
 }
 
-// Reduce writes which right remains of each entry after all certificates.
+// Reduce returns which right remains of each entry after all certificates: the lines of the program's command reduce. The errors are those of
+// Explain.
 func (a *Asked) Reduce() (string, error) {
 	return a.lines(toReduce)
 }
@@ -203,7 +206,8 @@ func (a *Asked) lines(wish wish) (string, error) {
 	return lines(handle, wish, a.most)
 }
 
-// isWorthVerifying says whether there is a signature, and the request can be granted.
+// isWorthVerifying says whether there is a signature, and the request can be granted. Otherwise the decision is the same whatever is marked, and
+// Guard.Decide calls no verifier.
 func (a *Asked) isWorthVerifying() bool {
 	return a.count > 0 && a.Possible()
 }

@@ -10,6 +10,7 @@ import (
 
 // A Decision says whether a request is granted. The zero value is a no.
 type Decision struct {
+	// The entry is 0 for a no. The end is in seconds since 1970: math.MaxInt64 if no window ends.
 	entry int
 	until int64
 }
@@ -34,8 +35,8 @@ func (d Decision) Until() time.Time {
 }
 
 // HoldsAt says whether a decision that was kept still grants the request at a time, which must not precede the question's. It is false before 1970:
-// such a time is that of a clock that failed. It does not know of a list that was read anew, nor of a certificate that its verifier would reject by
-// now.
+// such a time is that of a clock that failed. It does not see that another list was read since, nor that the
+// verifier would now reject a signature.
 func (d Decision) HoldsAt(now time.Time) bool {
 	return d.Granted() && now.Unix() >= 0 && now.Unix() <= d.until
 }
@@ -48,7 +49,8 @@ func (d Decision) String() string {
 	return "no"
 }
 
-// decisionOf reads the line `yes entry N`, for a grant until a second since 1970: math.MaxInt64 if no window ends.
+// decisionOf returns the grant of a line `yes entry N`, until a second since 1970: math.MaxInt64 if no window ends. It returns an error for each
+// other line.
 func decisionOf(line string, until int64) (Decision, error) {
 	const before = "yes entry "
 	entry, err := strconv.Atoi(strings.TrimPrefix(lineOf(line), before))
@@ -58,7 +60,7 @@ func decisionOf(line string, until int64) (Decision, error) {
 	return Decision{entry, until}, nil
 }
 
-// lineOf returns lines without the last line feed.
+// lineOf returns lines, which the library ends with a line feed, without the last one.
 func lineOf(lines string) string {
 	return strings.TrimSuffix(lines, "\n")
 }

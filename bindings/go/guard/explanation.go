@@ -21,6 +21,7 @@ type Reason struct {
 	Word string
 }
 
+// A line of an explanation: the number of the entry, the number of the item, and the word. The text `no entries` is no such line.
 var reason = regexp.MustCompile(`(?m)^(?:entry (\d+) )?(?:item (\d+) )?(\w+)$`)
 
 // String returns the lines as they are, without the last line feed.
@@ -28,11 +29,11 @@ func (e Explanation) String() string {
 	return e.text
 }
 
-// Reasons returns the lines one by one. There is none if the access list is empty.
+// Reasons returns the lines one by one. There is none if the access list is empty, whose text is `no entries`.
 func (e Explanation) Reasons() []Reason {
 	var reasons []Reason
 	for _, found := range reason.FindAllStringSubmatch(e.text, -1) {
-		// (a number that is not there is 0)
+		// (Atoi returns 0 for a number that the line does not have)
 		entry, _ := strconv.Atoi(found[1])
 		item, _ := strconv.Atoi(found[2])
 		reasons = append(reasons, Reason{entry, item, found[3]})

@@ -41,7 +41,7 @@ const Version = "0.2.0"
 type Guard struct {
 	held *heldGuard
 	log  func(Event)
-	// most is the most octets of an answer.
+	// most is the most octets of the lines of Explain or Reduce.
 	most int
 }
 
@@ -54,8 +54,8 @@ type Event struct {
 	Took time.Duration
 }
 
-// Logged returns the same guard, which calls a function after each Decide, DecideContext, DecideVerified and Require, before they return. Calls may
-// be under way at the same time. If it panics, nothing is granted.
+// Logged returns the same guard, which calls a function after each Decide, DecideContext, DecideVerified and Require, before they return. The
+// function may be called by several goroutines at the same time. If it panics, so does the decision, and nothing is granted.
 func (g *Guard) Logged(log func(Event)) *Guard {
 	return &Guard{g.held, log, g.most}
 }
@@ -67,7 +67,7 @@ type heldGuard struct {
 	policy Policy
 }
 
-// close frees the memory.
+// close frees the memory of the guard, if it is open. Go's collector calls it too, once no copy is left.
 func (h *heldGuard) close() {
 	h.mutex.Lock()
 	defer h.mutex.Unlock()
@@ -113,8 +113,8 @@ func Open(list []byte, policy Policy, limits Limits) (*Guard, error) {
 	return &Guard{held: held, most: limits.mostAnswer()}, nil
 }
 
-// Close frees the memory of the guard, once the questions that it was asked are closed too. Nothing else depends on it. It may be called at
-// any time and more than once. A later question is ErrClosed.
+// Close closes the guard: a later question is ErrClosed. Questions that it was asked stay open, and its memory is freed once they are closed too. It
+// may be called at any time and more than once.
 func (g *Guard) Close() {
 	if g.held != nil {
 		g.held.close()
@@ -142,7 +142,7 @@ func (g *Guard) Ask(question Question) (*Asked, error) {
 	return &asked, nil
 }
 
-// ask is Ask without the finalizer, for a caller that closes the question in any case.
+// ask is Ask without the finalizer, for a caller that closes the question in any case. It takes a pointer, and copies what it keeps of the question.
 func (g *Guard) ask(question *Question) (Asked, error) {
 	handle, err := g.lock()
 	if err != nil {
@@ -163,7 +163,7 @@ func (g *Guard) Decide(question Question, verify Verify) (Decision, error) {
 	return g.decideAndLog(question, func() (Decision, error) { return g.decide(&question, verify) })
 }
 
-// decideAndLog returns what decide returns, and before that calls the function of the log with it, if there is one.
+// decideAndLog returns what the function `decide` returns. If the guard is Logged, the function of the log is called with it before.
 func (g *Guard) decideAndLog(question Question, decide func() (Decision, error)) (Decision, error) {
 	if g.log == nil {
 		return decide()

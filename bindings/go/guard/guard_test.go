@@ -19,20 +19,23 @@ import (
 	"conguraki/spki/guard"
 )
 
-// What the tests ask: key a may do everything, and lets b do it. Keys and signatures are words.
+// What the tests ask: by `list` key a may do everything, and by the certificate `pair` a lets b do it. Keys and signatures are
+// words, such as a and `sig`: the verifier of each test says which signatures are valid.
 const (
 	list = "(acl (entry (public-key (test a)) (propagate) (tag (*))))"
 	pair = `(cert (issuer (public-key (test a))) (subject (public-key (test b))) (tag (*)))
 		(signature (hash sha256 #d71ecfb335b8e4b04cb035426566a94e817a12cfcfa4dbf5b704b6cd670c7ad2#) (public-key (test a)) sig)`
 )
 
+// The key, the message and the value of the signature of `pair`, as a verifier gets them.
 var signed = []string{
 	"(10:public-key(4:test1:a))",
 	"(4:cert(6:issuer(10:public-key(4:test1:a)))(7:subject(10:public-key(4:test1:b)))(3:tag(1:*)))",
 	"3:sig",
 }
 
-// shown returns a question by b, who shows the certificate `pair` so many times.
+// shown returns a question by b, who shows the certificate `pair` so many times. Under `list` it can be granted for 1 alone: behind the first the
+// subject is b, and the next issuer is a.
 func shown(times int) guard.Question {
 	return guard.Question{
 		Sequence: []byte("(sequence " + strings.Repeat(pair, times) + ")"), Key: spki.AssumeKey([]byte("(public-key (test b))")),
@@ -60,7 +63,7 @@ const (
 		(signature (hash sha256 #b0c7e53153c3b09dad60263b3b4738aa1ae756cc4642305bcf4fdc4114ff0d5d#) (public-key (test a)) forged)`
 )
 
-// marked returns a question whose signatures at these places are marked.
+// marked asks a guard a question, marks its signatures at these places, and returns it. It is closed when the test ends.
 func marked(t testing.TB, made *guard.Guard, question guard.Question, places ...int) *guard.Asked {
 	t.Helper()
 	asked, err := made.Ask(question)
@@ -86,8 +89,10 @@ func granted(t testing.TB, asked *guard.Asked) bool {
 	return decision.Granted()
 }
 
+// valid is a verifier for which each signature is valid.
 func valid(guard.Signature) bool { return true }
 
+// invalid is a verifier for which no signature is valid.
 func invalid(guard.Signature) bool { return false }
 
 func TestVerifierIsGivenWhatIsSigned(t *testing.T) {
@@ -105,6 +110,7 @@ func TestVerifierIsGivenWhatIsSigned(t *testing.T) {
 	}
 }
 
+// TestZeroIsNoYes shows that the zero Decision is a no, and that the zero Policy is Strict, under which a hash by SHA-1 names no key.
 func TestZeroIsNoYes(t *testing.T) {
 	if (guard.Decision{}).Granted() {
 		t.Error("no decision grants")
@@ -123,6 +129,8 @@ func TestZeroIsNoYes(t *testing.T) {
 	}
 }
 
+// TestVerifierStopsAtTheFirstWrongOne shows three certificates, of which the second has a wrong signature. The third is not verified. The second
+// is item 3, since each signature is an item too.
 func TestVerifierStopsAtTheFirstWrongOne(t *testing.T) {
 	question, calls := shown(3), 0
 	question.Sequence = []byte("(sequence " + pair + strings.Replace(pair, "sig)", "wrong)", 1) + pair + ")")
@@ -154,7 +162,7 @@ func TestMarks(t *testing.T) {
 	}
 }
 
-// verified returns the Verified of a question in which the signatures at these places are marked.
+// verified asks a guard a question, marks its signatures at these places in order, and returns its Verified. The question is closed.
 func verified(t *testing.T, made *guard.Guard, question guard.Question, places ...int) guard.Verified {
 	t.Helper()
 	asked, err := made.Ask(question)
@@ -357,6 +365,7 @@ func TestSignaturesAreOfTheSequence(t *testing.T) {
 	}
 }
 
+// TestQuestionIsCopied changes the octets of a question after Ask. The answer is still that to the question as it was.
 func TestQuestionIsCopied(t *testing.T) {
 	question := shown(1)
 	asked := marked(t, opened(t, list), question, 0)
@@ -371,6 +380,7 @@ func TestQuestionIsCopied(t *testing.T) {
 	}
 }
 
+// TestStringsAreStrings requests by words that have spaces and parentheses. Each stays one string. In a row the words are joined by commas.
 func TestStringsAreStrings(t *testing.T) {
 	made := opened(t, "(acl (entry (public-key (test b)) (tag (cache (* prefix /cache/team1/) read))))")
 	for words, wanted := range map[string]bool{
@@ -385,6 +395,7 @@ func TestStringsAreStrings(t *testing.T) {
 	}
 }
 
+// TestTexts gives the request and the time as texts. The second request is `(ftp)` in transport form.
 func TestTexts(t *testing.T) {
 	made := opened(t, "(acl (entry (public-key (test b)) (tag (ftp host))))")
 	for text, wanted := range map[string]bool{"(ftp host)": true, "{KDM6ZnRwKQ==}": false, "ftp": false} {
@@ -397,6 +408,7 @@ func TestTexts(t *testing.T) {
 	}
 }
 
+// TestRefusals spoils one part of a question at a time, or the access list.
 func TestRefusals(t *testing.T) {
 	made := opened(t, list)
 	for line, change := range map[string]func(*guard.Question){
@@ -428,6 +440,7 @@ func TestRefusals(t *testing.T) {
 	}
 }
 
+// TestTwoWaysAreMisuse gives a text of the request beside its words, or a text of the time beside Time.
 func TestTwoWaysAreMisuse(t *testing.T) {
 	for name, change := range map[string]func(*guard.Question){
 		"request": func(q *guard.Question) { q.Request = []byte("ftp") }, "time": func(q *guard.Question) { q.Moment = []byte(`"2024-01-01_00:00:00"`) },
@@ -440,6 +453,7 @@ func TestTwoWaysAreMisuse(t *testing.T) {
 	}
 }
 
+// TestUsualLimits exceeds the usual limits of 16 certificates, 64 words and 65,536 octets. The highest limits allow more.
 func TestUsualLimits(t *testing.T) {
 	made := opened(t, list)
 	many, words, long := shown(17), shown(1), shown(1)
@@ -503,6 +517,7 @@ func TestLogged(t *testing.T) {
 	_, _ = made.Logged(func(guard.Event) { panic("the disk is full") }).Decide(shown(1), valid)
 }
 
+// TestLimitsOfZeroAreTheLibrarys sets one limit. The others are the usual ones, such as 16 certificates.
 func TestLimitsOfZeroAreTheLibrarys(t *testing.T) {
 	made, err := guard.Open([]byte(list), guard.Strict, guard.Limits{Answer: 1000})
 	if err != nil {
@@ -527,7 +542,8 @@ func TestLimitsBelowZero(t *testing.T) {
 	}
 }
 
-// TestAClockThatFailed asks at times that no clock gives. An expired right is not granted.
+// TestAClockThatFailed asks at times that no clock gives: before 1970, and from the year 10000 on. An expired right is not granted. By the
+// nanosecond no time is the zero Time.
 func TestAClockThatFailed(t *testing.T) {
 	made := opened(t, `(acl (entry (public-key (test b)) (tag (*)) (not-after "1999-12-31_23:59:59")))`)
 	question := shown(0)
@@ -580,6 +596,7 @@ func TestUntil(t *testing.T) {
 	}
 }
 
+// TestVerifierThatFails decides by verifiers that answer, fail, or do both, and by a context that ends before or between the signatures.
 func TestVerifierThatFails(t *testing.T) {
 	made, away := opened(t, list), errors.New("the key store is away")
 	stopped, stop := context.WithCancel(context.Background())
@@ -677,6 +694,7 @@ func TestSignaturesAreCopiedOneByOne(t *testing.T) {
 	}
 }
 
+// TestEachEndsWithItsQuestion closes a question while its first signature is looked at. Each stops before the second with ErrClosed.
 func TestEachEndsWithItsQuestion(t *testing.T) {
 	asked, err := opened(t, list).Ask(shown(3))
 	if err != nil {
@@ -693,6 +711,7 @@ func TestEachEndsWithItsQuestion(t *testing.T) {
 	}
 }
 
+// TestTooLarge limits the lines of an explanation to 5 octets. A decision needs no such room.
 func TestTooLarge(t *testing.T) {
 	made, err := guard.Open([]byte(list), guard.Strict, guard.Limits{Answer: 5})
 	if err != nil {
@@ -707,6 +726,7 @@ func TestTooLarge(t *testing.T) {
 	}
 }
 
+// TestLongAnswersAreWhole explains and reduces a list of 500 entries.
 func TestLongAnswersAreWhole(t *testing.T) {
 	made := opened(t, "(acl "+strings.Repeat("(entry (public-key (test b)) (tag (*)))", 500)+")")
 	explanation, err := made.Explain(shown(0), valid)
@@ -719,6 +739,7 @@ func TestLongAnswersAreWhole(t *testing.T) {
 	}
 }
 
+// TestPanicOfVerifier shows that a panic of a verifier goes on to the caller, and that the guard can be asked afterwards.
 func TestPanicOfVerifier(t *testing.T) {
 	made := opened(t, list)
 	func() {
@@ -734,6 +755,7 @@ func TestPanicOfVerifier(t *testing.T) {
 	}
 }
 
+// TestForms converts texts among the three forms of RFC 9804.
 func TestForms(t *testing.T) {
 	canonical, err := guard.Canonical([]byte("(a b)"))
 	if err != nil || string(canonical) != "(1:a1:b)" {

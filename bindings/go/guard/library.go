@@ -80,7 +80,7 @@ func lineIn(said *C.struct_library_said) string {
 	return string(unsafe.Slice((*byte)(unsafe.Pointer(&said.line)), int(said.length)))
 }
 
-// errorOf returns the error of a call that failed, by its status and the line that it wrote.
+// errorOf returns the error of a call that failed, by its status, and by the line that it wrote if it is SPKI_REFUSED.
 func errorOf(met status, line string) error {
 	switch met {
 	case C.SPKI_REFUSED:
@@ -119,14 +119,15 @@ func entries(guard guardHandle) int {
 	return int(C.spki_guard_entries(guard))
 }
 
-// A lent is a question as one call takes it: `joined` has its texts but the sequence in one piece, and `lengths` the length of each.
+// A lent is a question as one call takes it: `parts` says how request and time are given, `joined` has all texts but the sequence in one piece, and
+// `lengths` the length of each. Each pointer is an argument by itself: memory of Go's that C is given must have no pointer to other such memory.
 type lent struct {
 	parts            C.struct_library_question
 	sequence, joined *C.char
 	lengths          *C.size_t
 }
 
-// lend returns a question as one call takes it. It borrows the octets of the sequence.
+// lend returns a question as one call takes it. It copies all texts but the sequence, whose octets the call reads where they are.
 func lend(question *Question) lent {
 	joined, lengths := question.joined()
 	made := lent{
@@ -186,14 +187,15 @@ func decide(asked askedHandle) (Decision, error) {
 	return decisionIn(&said)
 }
 
-// decideVerified returns the decision of a question of which the first `valid` signatures are valid. It is ErrMisused unless `listed` are listed.
+// decideVerified returns the decision of a question of which the first `valid` signatures are valid, in one call. It is ErrMisused unless the
+// question has `listed` signatures, as it had when they were verified.
 func decideVerified(guard guardHandle, question *Question, listed, valid int) (Decision, error) {
 	lent := lend(question)
 	said := C.library_decide_verified(guard, lent.parts, lent.sequence, lent.joined, lent.lengths, C.size_t(listed), C.size_t(valid))
 	return decisionIn(&said)
 }
 
-// decisionIn returns the decision that a call has made.
+// decisionIn returns the decision that a call has made, or the error if its status is neither SPKI_YES nor SPKI_NO.
 func decisionIn(said *C.struct_library_said) (Decision, error) {
 	switch said.status {
 	case C.SPKI_YES:
@@ -204,7 +206,8 @@ func decisionIn(said *C.struct_library_said) (Decision, error) {
 	return Decision{}, errorOf(said.status, lineIn(said))
 }
 
-// lines returns the lines of an explanation or of a reduction, whichever is wished for, without the last line feed. They have at most `most` octets.
+// lines returns the lines of an explanation or of a reduction, whichever is wished for, without the last line feed. They have
+// at most `most` octets, or roomForLine if that is more: a refusal must fit.
 func lines(asked askedHandle, wish wish, most int) (string, error) {
 	if most < roomForLine {
 		most = roomForLine

@@ -9,6 +9,8 @@ import (
 	"conguraki/spki/guard"
 )
 
+// TestClose closes a guard before its question, and both twice. The question stays open after its guard. Every call after its own Close is
+// ErrClosed.
 func TestClose(t *testing.T) {
 	made := opened(t, list)
 	asked := marked(t, made, shown(1))
@@ -75,6 +77,7 @@ func TestCopies(t *testing.T) {
 	}
 }
 
+// TestZerosAreClosed calls methods of the zero Guard and the zero Asked. They behave as closed ones.
 func TestZerosAreClosed(t *testing.T) {
 	var made guard.Guard
 	var asked guard.Asked
@@ -88,6 +91,7 @@ func TestZerosAreClosed(t *testing.T) {
 	}
 }
 
+// TestGoroutines uses one guard and one question in eight goroutines.
 func TestGoroutines(t *testing.T) {
 	made := opened(t, list)
 	asked := marked(t, made, shown(1))
@@ -113,6 +117,7 @@ func TestGoroutines(t *testing.T) {
 	all.Wait()
 }
 
+// TestCloseBesideQuestions closes a guard while four goroutines ask it. Each call is answered as before, or is ErrClosed.
 func TestCloseBesideQuestions(t *testing.T) {
 	for turn := 0; turn < 50; turn++ {
 		made := opened(t, list)
@@ -139,6 +144,7 @@ func TestCloseBesideQuestions(t *testing.T) {
 	}
 }
 
+// TestNobodyCloses leaves guards and questions to Go's collector. What is still used is not freed.
 func TestNobodyCloses(t *testing.T) {
 	for turn := 0; turn < 200; turn++ {
 		made, err := guard.Open([]byte(list), guard.Strict, guard.Limits{})

@@ -36,7 +36,7 @@ func Highest() Limits {
 	return Limits{Octets: mostOctets, Certificates: most, Words: most, Nodes: mostNodes, Work: mostWork, Answer: mostAnswer}
 }
 
-// mostAnswer returns the most octets of an answer.
+// mostAnswer returns the most octets of the lines of Explain or Reduce: Answer, or the usual limit if that is 0.
 func (l Limits) mostAnswer() int {
 	if l.Answer == 0 {
 		return usualAnswer
@@ -44,7 +44,7 @@ func (l Limits) mostAnswer() int {
 	return l.Answer
 }
 
-// check returns ErrMisused if a limit is below zero, or that of an answer is over the highest.
+// check returns ErrMisused if a limit is below zero, or that of an answer is over the highest. For the other limits the library does the latter.
 func (l Limits) check() error {
 	for _, limit := range []int{l.Octets, l.Certificates, l.Words, l.Nodes, l.Work, l.Answer} {
 		if limit < 0 {

@@ -19,7 +19,8 @@ type Question struct {
 	Moment []byte
 }
 
-// joined returns the key, the request, the moment and the strings of the request in one piece, and the length of each.
+// joined returns the key, the request, the moment and the strings of the request in one piece, and the length of each: for library.go, since C
+// must not be given memory of Go's that has pointers, as a list of strings does.
 func (q *Question) joined() ([]byte, []uintptr) {
 	key := q.Key.Text()
 	lengths := append(make([]uintptr, 0, 3+len(q.Words)), uintptr(len(key)), uintptr(len(q.Request)), uintptr(len(q.Moment)))

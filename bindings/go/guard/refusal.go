@@ -35,7 +35,8 @@ func (r *Refusal) Error() string {
 	return r.line
 }
 
-// Part returns what is refused: `sequence`, `key`, `request`, `at`, `question`, `acl` or `form`. It is empty for a fault of no part.
+// Part returns what is refused: `sequence`, `key`, `request`, `at`, `question`, `acl` or `form`. It is empty for a fault of no part, as
+// in `refused TooLarge`.
 func (r *Refusal) Part() string {
 	words := strings.Fields(r.line)
 	if len(words) < 3 {
@@ -44,7 +45,8 @@ func (r *Refusal) Part() string {
 	return words[1]
 }
 
-// Fault returns the name of the fault, such as `Shape`, `Bad`, `EmptyList`, `TooLarge` or `Memory`.
+// Fault returns the name of the fault, such as `Shape`, `Bad`, `EmptyList`, `TooLarge` or `Memory`: the last word of the line that begins with a
+// capital letter. A number may follow it, as in `refused form Bad 3`.
 func (r *Refusal) Fault() string {
 	words := strings.Fields(r.line)
 	for place := len(words) - 1; place >= 0; place-- {
@@ -55,7 +57,8 @@ func (r *Refusal) Fault() string {
 	return ""
 }
 
-// Is says whether the refusal is ErrRefused, ErrTooLong, ErrTooLarge or ErrMemory. It is for errors.Is.
+// Is says whether the refusal is of the kind `target`: each is ErrRefused, and some are ErrTooLong, ErrTooLarge or ErrMemory too. It is for
+// errors.Is. Each refusal whose part is `question` is ErrTooLong.
 func (r *Refusal) Is(target error) bool {
 	switch target {
 	case ErrRefused:
@@ -70,7 +73,7 @@ func (r *Refusal) Is(target error) bool {
 	return false
 }
 
-// refusalOf returns the refusal of a line.
+// refusalOf returns the refusal of a line, as the library wrote it, with or without a line feed.
 func refusalOf(line string) error {
 	return &Refusal{lineOf(line)}
 }

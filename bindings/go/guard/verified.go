@@ -28,7 +28,7 @@ func (v Verified) Sequence() []byte {
 	return append([]byte(nil), v.text()...)
 }
 
-// text returns the sequence, which the caller must not change.
+// text returns the octets of the sequence without a copy, so the caller must not change them. For the zero Verified they are noCertificates.
 func (v Verified) text() []byte {
 	if v.sequence == nil {
 		return noCertificates
@@ -36,7 +36,8 @@ func (v Verified) text() []byte {
 	return v.sequence
 }
 
-// First returns the same sequence with the first `most` of its marks, or with all if it has fewer.
+// First returns the same sequence with the first `most` of its marks, or with all if it has fewer. So a service can leave out the mark of a signature
+// that its verifier would now reject, and all behind it.
 func (v Verified) First(most int) Verified {
 	if most < 0 {
 		most = 0

@@ -14,7 +14,7 @@ type digest struct {
 	octets    []byte
 }
 
-// digestOf reads the value of `Content-Digest`: one member, by SHA-256 or SHA-512.
+// digestOf reads the value of `Content-Digest`: one member, by SHA-256 or SHA-512. Everything else is BadDigest.
 func digestOf(value string) (digest, error) {
 	name, rest, _ := strings.Cut(value, "=")
 	length := map[string]int{"sha-256": sha256.Size, "sha-512": sha512.Size}[name]

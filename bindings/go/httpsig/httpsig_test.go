@@ -81,7 +81,7 @@ func unescaped(text string) string {
 	return made
 }
 
-// verifierAt returns a verifier whose clock is a number of seconds, which the test may change.
+// verifierAt returns the verifier of the service in the rows, whose clock is a number of seconds that the test may change.
 func verifierAt(now *int64) *Verifier {
 	made := NewVerifier("example.com")
 	made.Start, made.Now = time.Unix(1792000000, 0), func() time.Time { return time.Unix(*now, 0) }
@@ -100,6 +100,7 @@ func answerOf(proof *Proof, err error) string {
 	return string(refusal)
 }
 
+// TestRows compares what the verifier answers to each row with the answer in the table.
 func TestRows(t *testing.T) {
 	rows := rowsOf(t)
 	if len(rows) < 200 {
@@ -121,7 +122,7 @@ func TestRows(t *testing.T) {
 	}
 }
 
-// octets decodes base64.
+// octets decodes base64, and ends the test if that fails.
 func octets(t testing.TB, text string) []byte {
 	made, err := base64.StdEncoding.DecodeString(text)
 	if err != nil {
@@ -143,6 +144,7 @@ const (
 	curveSignatureRFC = "wNmSUAhwb5LxtOtOpNa6W5xj067m5hFrj0XQ4fvpaCLx0NKocgPquLgyahnzDnDAUy5eCdlYUEkLIj+32oiasw=="
 )
 
+// TestPublishedExamples makes and verifies the signature of B.2.6, verifies that of B.2.4, and tests a digest of RFC 9530.
 func TestPublishedExamples(t *testing.T) {
 	header := http.Header{"Date": {"Tue, 20 Apr 2021 02:07:55 GMT"}, "Content-Type": {"application/json"}, "Content-Length": {"18"}}
 	of := base{&Message{Method: "POST", Target: "/foo?param=Value&Pet=dog", Header: header}, "https", "example.com"}
@@ -197,6 +199,8 @@ func signers(t testing.TB) map[string]*Signer {
 	return made
 }
 
+// TestClientAndServer sends requests by a Transport, with each kind of key. The server answers the hash of the proven key, and keeps the body. A
+// request without a signature is unauthorized.
 func TestClientAndServer(t *testing.T) {
 	verifier := NewVerifier()
 	verifier.Scheme = "http"
@@ -240,6 +244,7 @@ func TestClientAndServer(t *testing.T) {
 	}
 }
 
+// TestOtherNamesLearnNothing sends a request to a server that is not among the names of the Transport. It gets no signature and no certificates.
 func TestOtherNamesLearnNothing(t *testing.T) {
 	server := httptest.NewServer(http.HandlerFunc(func(answer http.ResponseWriter, request *http.Request) {
 		fmt.Fprint(answer, len(request.Header["Signature"])+len(request.Header["X-Spki-Sequence"]))
@@ -258,6 +263,7 @@ func TestOtherNamesLearnNothing(t *testing.T) {
 	}
 }
 
+// TestBody reads bodies, whose signed one is `abc` if there is a digest. `most` is the limit of octets.
 func TestBody(t *testing.T) {
 	digest, _ := digestOf(ContentDigest([]byte("abc")))
 	for _, row := range []struct {
@@ -275,6 +281,7 @@ func TestBody(t *testing.T) {
 	}
 }
 
+// TestNonces takes nonces at times in seconds. Each is kept for 360 s at least, in two sets of at most 2 nonces.
 func TestNonces(t *testing.T) {
 	store := NewMemory(2)
 	for _, row := range []struct {

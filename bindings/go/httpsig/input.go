@@ -78,7 +78,7 @@ func (p *parser) expectEnd() error {
 	return Malformed
 }
 
-// name returns the name of a member or of a parameter. It is empty if none is there.
+// name returns the name of a member or of a parameter, and takes it off the rest. It is empty if none is there.
 func (p *parser) name() string {
 	end := 0
 	for end < len(p.rest) && isNameOctet(p.rest[end], end) {
@@ -89,7 +89,7 @@ func (p *parser) name() string {
 	return name
 }
 
-// isNameOctet says whether an octet may be at a place in a name.
+// isNameOctet says whether an octet may be at a place, from 0, in a name. The first is a small letter or `*`.
 func isNameOctet(octet byte, place int) bool {
 	return 'a' <= octet && octet <= 'z' || octet == '*' ||
 		place > 0 && ('0' <= octet && octet <= '9' || octet == '_' || octet == '-' || octet == '.')
@@ -114,7 +114,7 @@ func (p *parser) string() (string, error) {
 	return text, nil
 }
 
-// integer returns a number of seconds, which is not negative.
+// integer returns a number of seconds: at most 15 digits, without a sign, and without a 0 in front. Everything else is Malformed.
 func (p *parser) integer() (int64, error) {
 	end := 0
 	for end < len(p.rest) && '0' <= p.rest[end] && p.rest[end] <= '9' {
@@ -207,7 +207,8 @@ func inputOf(text string) (*input, error) {
 	return made, nil
 }
 
-// hasComponents says whether all components are there that the profile requires.
+// hasComponents says whether all components are there that the profile requires: the method, the authority, the key, and the target, either whole
+// or as path and query.
 func (i *input) hasComponents() bool {
 	hasTarget := contains(i.components, targetURI) || contains(i.components, path) && contains(i.components, query)
 	return hasTarget && contains(i.components, method) && contains(i.components, authority) && contains(i.components, publicKey)
@@ -220,7 +221,8 @@ func (i *input) places() map[string]any {
 	}
 }
 
-// parameters reads the parameters up to the end of the field, and returns their number.
+// parameters reads the parameters, `;created=1700000000 ..`, up to the end of the field, and returns their number. In `places` the name of one that
+// was read gets nil, so a second one is ParameterTwice.
 func (i *input) parameters(p *parser) (int, error) {
 	places, seen := i.places(), 0
 	for p.trySkip(";") {
@@ -273,7 +275,7 @@ func octetsOf(text string) ([]byte, error) {
 	return octets, p.expectEnd()
 }
 
-// octets returns octets between colons, in base64.
+// octets returns the octets that base64 between two colons encodes. Everything else is Malformed.
 func (p *parser) octets() ([]byte, error) {
 	if !p.trySkip(":") {
 		return nil, Malformed

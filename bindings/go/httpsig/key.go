@@ -19,7 +19,8 @@ const (
 // The most characters of a key.
 const mostKey = 4096
 
-// The canonical texts of keys and of the values of signatures, with `%` for each string, and the octets of signatures where the key does not say it.
+// The canonical texts of keys and of the values of signatures, with `%` for each string, and how many octets a
+// signature has. With RSA it has as many as the modulus.
 var (
 	keyForms = map[string]string{
 		Ed25519: "(10:public-key(3:ecc(5:curve7:Ed25519)(5:flags5:eddsa)(1:q%)))",
@@ -36,7 +37,7 @@ var (
 	signatureOctets = map[string]int{Ed25519: 64, P256: 64, P384: 96}
 )
 
-// transport returns a canonical text in transport form.
+// transport returns a canonical text in transport form: its base64 in braces.
 func transport(canonical []byte) string {
 	return "{" + base64.StdEncoding.EncodeToString(canonical) + "}"
 }
@@ -63,7 +64,8 @@ func keyOf(text string) (key []byte, algorithm string, octets int, err error) {
 	return key, algorithm, octets, nil
 }
 
-// kindOf returns the algorithm of a key, and how many octets a signature by it has. The algorithm of what is no key is empty.
+// kindOf returns the algorithm of a key in canonical form, and how many octets a signature by it has. The algorithm of what is no key is empty. That
+// the numbers of the key are allowed is not tested: the verifier does that.
 func kindOf(key []byte) (algorithm string, octets int) {
 	for algorithm, form := range keyForms {
 		strings, isOne := stringsOf(key, form)
@@ -99,6 +101,7 @@ func valueOf(algorithm string, octets []byte) []byte {
 }
 
 // stringsOf returns the strings of a canonical text that are at the marks `%` of a form, and whether the text has this form.
+// A string of more than 9,999 octets is none.
 func stringsOf(text []byte, form string) (found [][]byte, hasForm bool) {
 	for place := 0; place < len(form); place++ {
 		if form[place] != '%' {

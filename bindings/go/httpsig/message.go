@@ -19,7 +19,7 @@ type Message struct {
 	// The path and the query, as in the first line of HTTP/1.1.
 	Target string
 	Header http.Header
-	// Whether the request has a body. Fields that say so count too.
+	// Whether the request has a body. It may be false where a field, such as Content-Length, says so.
 	HasBody bool
 	// The body, or nil if it is not known: then it is not compared.
 	Body []byte
@@ -48,12 +48,12 @@ func AuthorityOf(scheme, authority string) string {
 	return strings.TrimSuffix(strings.ToLower(authority), usual)
 }
 
-// isToken says whether a text is a token of HTTP, as a method is. The `x-` leaves of isComponent only the test of the octets.
+// isToken says whether a text is a token of HTTP, as a method is. Behind `x-` isComponent tests only the characters: no name that it knows begins so.
 func isToken(text string) bool {
 	return text != "" && isComponent(strings.ToLower("x-"+text))
 }
 
-// isTarget says whether a target is one of a request: a path and perhaps a query, of visible characters.
+// isTarget says whether a target is a path and perhaps a query, of visible ASCII characters other than `#`. A whole URL, as for a proxy, is none.
 func isTarget(target string) bool {
 	if !strings.HasPrefix(target, "/") {
 		return false
@@ -66,7 +66,7 @@ func isTarget(target string) bool {
 	return true
 }
 
-// A base makes the text of a message that is signed. The scheme and the authority are written as they are signed.
+// A base is a message from which the signed text is made. `scheme` is `https` or `http`, and `authority` is what AuthorityOf returns.
 type base struct {
 	*Message
 	scheme, authority string
@@ -86,7 +86,8 @@ func (b *base) text(components []string, parameters string) ([]byte, error) {
 	return append(append(made, `"@signature-params": `...), parameters...), nil
 }
 
-// value returns the value of a component by its name, such as `@path`. For a field the error is AbsentField, RepeatedField or BadValue.
+// value returns the value of a component by its name, such as `@path` or the name of a field. For a field the error is AbsentField, RepeatedField or
+// BadValue. The value of `@query` begins with `?`, also without a query.
 func (b *base) value(name string) (string, error) {
 	sentPath, sentQuery, hasQuery := strings.Cut(b.Target, "?")
 	switch name {

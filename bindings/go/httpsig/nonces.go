@@ -20,7 +20,8 @@ const usualNonces = 1_000_000
 type Memory struct {
 	mutex sync.Mutex
 	seed  maphash.Seed
-	most  int
+	// most is the most nonces of the young set.
+	most int
 	// turned is when the young set began, in seconds.
 	turned     int64
 	old, young map[uint64]struct{}
@@ -37,7 +38,7 @@ func (m *Memory) Take(key []byte, nonce string, now, seconds int64) error {
 	var hash maphash.Hash
 	hash.SetSeed(m.seed)
 	hash.Write(key)
-	// (no key has this octet at its end)
+	// (it separates key and nonce: a nonce has no such octet)
 	hash.WriteByte(0)
 	hash.WriteString(nonce)
 	name := hash.Sum64()
@@ -57,7 +58,8 @@ func (m *Memory) Take(key []byte, nonce string, now, seconds int64) error {
 	return nil
 }
 
-// turn makes the young set the old one once it is `seconds` old. If the clock went back, nothing is forgotten. The mutex is held.
+// turn makes the young set the old one once it is `seconds` old, and forgets it too if it is twice as old. If the clock went back, nothing is
+// forgotten. The caller holds the mutex.
 func (m *Memory) turn(now, seconds int64) {
 	age := now - m.turned
 	if age < seconds {

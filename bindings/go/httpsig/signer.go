@@ -22,13 +22,15 @@ type Signer struct {
 	// The client's certificates in transport form, `{..}`, or nothing.
 	Sequence string
 	private  crypto.Signer
-	key      []byte
-	kind     string
-	now      func() time.Time
-	random   func(octets []byte) (int, error)
+	// The public key in canonical form, and its algorithm, such as Ed25519.
+	key    []byte
+	kind   string
+	now    func() time.Time
+	random func(octets []byte) (int, error)
 }
 
-// NewSigner returns a signer by a private key: an ed25519.PrivateKey, an *ecdsa.PrivateKey of P-256 or P-384, or an *rsa.PrivateKey, or one of a device.
+// NewSigner returns a signer by a private key: an ed25519.PrivateKey, an *ecdsa.PrivateKey of P-256 or P-384, an *rsa.PrivateKey, or one of a device
+// with such a public key. The error is verify.ErrKey for any other.
 func NewSigner(private crypto.Signer) (*Signer, error) {
 	key, err := verify.KeyOf(private.Public())
 	if err != nil {
@@ -38,9 +40,9 @@ func NewSigner(private crypto.Signer) (*Signer, error) {
 	return &Signer{private: private, key: key, kind: kind, now: time.Now, random: rand.Read}, nil
 }
 
-// Sign puts the fields of a signature into the header of a request: also the key, the certificates, and the digest of the body where one is due. The
-// header must be whole otherwise. The scheme is `https` or `http`. `covered` names more fields that the signature covers, in small letters, if the
-// request has them. What is written is for this request alone.
+// Sign puts the fields of a signature into the header of a request: also the key, the certificates, and the digest of the body if it may have one.
+// All other fields must be in the header before. The scheme is `https` or `http`. `covered` names more fields that the signature covers, in small
+// letters, if the request has them. The signature is for this request alone. The error is BadTarget for a method that is no token too.
 func (s *Signer) Sign(scheme string, message Message, covered ...string) error {
 	names := []string{method, authority, path, query, publicKey}
 	message.Header.Set(publicKey, transport(s.key))
@@ -86,7 +88,7 @@ func (s *Signer) parameters(names []string) (string, error) {
 		created+mostWindow, base64.RawURLEncoding.EncodeToString(nonce), hashOf(s.key), s.kind, tag), nil
 }
 
-// signText returns the octets of the signature of a text, as RFC 9421 has them.
+// signText returns the octets of the signature of a text, as RFC 9421 has them: with ECDSA r and s in equal halves. (Go's signer writes ASN.1.)
 func (s *Signer) signText(text []byte) ([]byte, error) {
 	if s.kind == Ed25519 {
 		return s.private.Sign(rand.Reader, text, crypto.Hash(0))
@@ -118,7 +120,7 @@ var (
 	_ crypto.Signer = (*rsa.PrivateKey)(nil)
 )
 
-// isToOneOf says whether a request goes to one of some names.
+// isToOneOf says whether the URL of a client's request has one of some names as its host and port.
 func isToOneOf(names []string, request *http.Request) bool {
 	for _, name := range names {
 		if AuthorityOf(request.URL.Scheme, name) == AuthorityOf(request.URL.Scheme, request.URL.Host) {

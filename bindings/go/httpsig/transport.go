@@ -34,7 +34,8 @@ func (t *Transport) RoundTrip(request *http.Request) (*http.Response, error) {
 	return under.RoundTrip(signed)
 }
 
-// signedCopy returns a signed copy of a request. It reads the whole body, and closes it.
+// signedCopy returns a signed copy of a request, since RoundTrip must not change the request itself. It reads the whole body, closes it, and puts
+// the octets into the copy.
 func (t *Transport) signedCopy(request *http.Request) (*http.Request, error) {
 	signed := request.Clone(request.Context())
 	if signed.Header == nil {

@@ -52,8 +52,9 @@ type Proof struct {
 	// The key, and the certificates that the request shows, as a guard.Question has them.
 	Key      spki.ProvenKey
 	Sequence []byte
-	nonce    string
-	digest   digest
+	// What Take uses up, and what Body compares a body with. The digest has no octets if none is covered.
+	nonce  string
+	digest digest
 }
 
 // Hash returns the SHA-256 digest of the key, in hexadecimal digits.
@@ -62,7 +63,7 @@ func (p *Proof) Hash() string {
 }
 
 // Body reads a body of at most `most` octets, and returns it if it is the signed one. Otherwise it returns an error: OtherDigest, or one of
-// reading. A request without a digest has no body.
+// reading, or that it is too long. If the request has no digest, nil is returned for an empty body, and OtherDigest for any other.
 func (p *Proof) Body(from io.Reader, most int64) ([]byte, error) {
 	body, err := io.ReadAll(io.LimitReader(from, most+1))
 	if err != nil {
@@ -151,7 +152,8 @@ func signerOf(header http.Header, input *input) (key []byte, octets int, err err
 	return key, octets, nil
 }
 
-// sequenceOf returns the certificates that a request shows, or a sequence of none. Their field was checked before: it has one line at most.
+// sequenceOf returns the certificates that a request shows, or a sequence of none. checkMessage was called before: their field is covered if it is
+// there, and so has one line.
 func (v *Verifier) sequenceOf(header http.Header) []byte {
 	if shown := header.Get(v.Sequence); shown != "" {
 		return []byte(shown)
@@ -198,7 +200,8 @@ func (v *Verifier) checkParameters(input *input) error {
 	return nil
 }
 
-// checkMessage tests a message, and returns its signed text and the digest of its body. The digest has no octets if none is covered.
+// checkMessage tests the method, the target, the authority, and that all is covered that must be. It returns the signed text and the digest of the
+// body, which has no octets if none is covered. The error is a Refusal. The body itself is not read.
 func (v *Verifier) checkMessage(message Message, input *input) (text []byte, digest digest, err error) {
 	if !isToken(message.Method) {
 		return nil, digest, BadMethod
@@ -232,7 +235,7 @@ func (v *Verifier) checkMessage(message Message, input *input) (text []byte, dig
 	return text, digest, err
 }
 
-// isOwnName says whether an authority, as it is signed, is one of this service.
+// isOwnName says whether an authority, as it is signed, is one of this service. An empty one never is.
 func (v *Verifier) isOwnName(authority string) bool {
 	for _, name := range v.Authorities {
 		if AuthorityOf(v.Scheme, name) == authority {

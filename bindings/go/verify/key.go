@@ -41,7 +41,7 @@ var curves = []curve{
 	{elliptic.P384(), "(10:public-key(3:ecc(5:curve10:NIST P-384)(1:q", crypto.SHA384},
 }
 
-// curveOf returns the element of `curves` for a curve of package elliptic, or nil if there is none.
+// curveOf returns the element of `curves` for a curve of package elliptic, or nil if there is none, as for P-521.
 func curveOf(of elliptic.Curve) *curve {
 	for place := range curves {
 		if curves[place].Curve == of {
@@ -55,7 +55,7 @@ func curveOf(of elliptic.Curve) *curve {
 var ErrKey = errors.New("no key of Ed25519, of RSA with at least 2048 bits, or of ECDSA with P-256 or P-384")
 
 // KeyOf returns the SPKI key, in canonical form, of an ed25519.PublicKey, an *rsa.PublicKey or an *ecdsa.PublicKey, as a certificate of X.509
-// has it. Its SHA-256 digest is the hash that may name it.
+// has it. The SHA-256 digest of the text is the hash that may name the key. Each other key, also one that is too weak, is ErrKey.
 func KeyOf(public crypto.PublicKey) ([]byte, error) {
 	switch public := public.(type) {
 	case ed25519.PublicKey:
@@ -74,8 +74,8 @@ func KeyOf(public crypto.PublicKey) ([]byte, error) {
 	return nil, fmt.Errorf("%w: %T", ErrKey, public)
 }
 
-// PublicOf returns the ed25519.PublicKey, the *rsa.PublicKey or the *ecdsa.PublicKey of an SPKI key in canonical form. A point of small order
-// is no key.
+// PublicOf returns the ed25519.PublicKey, the *rsa.PublicKey or the *ecdsa.PublicKey of an SPKI key in canonical form. Each other text is
+// ErrKey, also one with a point of small order.
 func PublicOf(key []byte) (crypto.PublicKey, error) {
 	if len(key) > mostOctets {
 		return nil, ErrKey
@@ -84,7 +84,7 @@ func PublicOf(key []byte) (crypto.PublicKey, error) {
 	if public == nil {
 		return nil, ErrKey
 	}
-	// (each key has one text: a number with an octet 00 too many or too few is no other text of the same key)
+	// (each key has one text: the text of a number with an octet 00 too many or too few is refused)
 	again, err := KeyOf(public)
 	if err != nil || !bytes.Equal(again, key) {
 		return nil, ErrKey
@@ -92,7 +92,8 @@ func PublicOf(key []byte) (crypto.PublicKey, error) {
 	return public, nil
 }
 
-// publicOf reads a key. It returns nil if the text is none, or its point or numbers are not allowed.
+// publicOf reads a key for PublicOf, which then tests that KeyOf writes the same text. It returns nil if the text is no key, or if its point or its
+// numbers are not allowed.
 func publicOf(text *reader) crypto.PublicKey {
 	switch {
 	case text.trySkip(beforeEd25519):
@@ -116,8 +117,9 @@ func publicOf(text *reader) crypto.PublicKey {
 	return nil
 }
 
-// The coordinate y of points of Ed25519 that are no keys: those from p - 1 on, whose octets are no number below p or those of the point of
-// order 2, and those of order 8. The others of small order have y below 2^192, as no random key has.
+// Numbers by which isUsablePoint refuses the coordinate y of a point of Ed25519. `lastY` is p - 1, that of the point of order 2: a number over it
+// would be a second text of another y. `eighth` and `other` are those of the four points of order 8. The other points of small order have y below
+// 2^192, as no random key has.
 var (
 	lastY  = numberOf("7fffffffffffffffffffffffffffffffffffffffffffffffffffffffffffffec")
 	eighth = numberOf("05fc536d880238b13933c6d305acdfd5f098eff289f4c345b027b2c28f95e826")
@@ -130,14 +132,14 @@ func numberOf(digits string) *big.Int {
 	return number
 }
 
-// isUsablePoint says whether the coordinate y in a text of Ed25519 rules out a small order and a second text of the point. That it is a point is not
-// tested.
+// isUsablePoint says whether octets may be a key of Ed25519: by their coordinate y, they are not of a point of small order, and not a second text of
+// a point. It does not test that they are a point: ed25519.Verify does.
 func isUsablePoint(q []byte) bool {
 	if len(q) != ed25519.PublicKeySize {
 		return false
 	}
 	if top := q[len(q)-1] &^ 0x80; top != 0 && top != 0x05 && top != 0x7a && top != 0x7f {
-		// (the first octets of the numbers below are others)
+		// (a shorter way for almost all keys: each y that is refused begins with one of these four octets)
 		return true
 	}
 	y := littleEndian(q)
@@ -145,7 +147,7 @@ func isUsablePoint(q []byte) bool {
 	return y.BitLen() > 192 && y.Cmp(lastY) < 0 && y.Cmp(eighth) != 0 && y.Cmp(other) != 0
 }
 
-// littleEndian returns the number of octets, of which the first counts least.
+// littleEndian returns the number that octets write, of which the first counts least.
 func littleEndian(octets []byte) *big.Int {
 	reversed := make([]byte, len(octets))
 	for place, octet := range octets {
@@ -157,7 +159,7 @@ func littleEndian(octets []byte) *big.Int {
 // The most octets of a point: 04 and both coordinates.
 const mostPoint = 1 + 2*48
 
-// pointOf returns the key of a point, or nil if it is none of the curve.
+// pointOf returns the *ecdsa.PublicKey of the octets of a point, 04 and both coordinates, or nil if they are no point of the curve.
 func pointOf(of curve, octets []byte) crypto.PublicKey {
 	x, y := elliptic.Unmarshal(of.Curve, octets)
 	if x == nil {
@@ -166,7 +168,7 @@ func pointOf(of curve, octets []byte) crypto.PublicKey {
 	return &ecdsa.PublicKey{Curve: of.Curve, X: x, Y: y}
 }
 
-// rsaKey returns the key of a modulus and an exponent, or nil if it is not within the limits of isStrong.
+// rsaKey returns the *rsa.PublicKey of a modulus and an exponent, both big-endian, or nil if it is not within the limits of isStrong.
 func rsaKey(modulus, exponent []byte) crypto.PublicKey {
 	e := new(big.Int).SetBytes(exponent)
 	if e.BitLen() > MostExponentBits {
@@ -179,13 +181,15 @@ func rsaKey(modulus, exponent []byte) crypto.PublicKey {
 	return public
 }
 
-// isStrong says whether a key of RSA is within the limits. They are on the values, and not on the lengths of the octets.
+// isStrong says whether a key of RSA has from LeastBits to MostBits bits, an odd modulus, and an odd exponent of at least 3
+// and at most MostExponentBits bits. The limits are on the numbers, so octets 00 in front make no key longer.
 func isStrong(public *rsa.PublicKey) bool {
 	return public.N != nil && public.N.BitLen() >= LeastBits && public.N.BitLen() <= MostBits && public.N.Bit(0) == 1 &&
 		public.E >= 3 && public.E&1 == 1 && big.NewInt(int64(public.E)).BitLen() <= MostExponentBits
 }
 
-// numberOctets returns the octets of a number of a key: big-endian, with an octet 00 in front where the first bit is set.
+// numberOctets returns the octets of a number of a key: big-endian, with an octet 00 in front where the first bit is set. It is
+// the only form that PublicOf accepts.
 func numberOctets(value *big.Int) []byte {
 	return value.FillBytes(make([]byte, value.BitLen()/8+1))
 }

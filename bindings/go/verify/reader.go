@@ -19,7 +19,8 @@ func (r *reader) trySkip(text string) bool {
 	return true
 }
 
-// string returns the string that the rest begins with, and goes behind it. It says whether there is one of at most `most` octets.
+// string returns the octets of the string, LENGTH:OCTETS, that the rest begins with, and goes behind it. It says whether there is one of at most
+// `most` octets, which must not exceed 4,096. Otherwise the rest stays.
 func (r *reader) string(most int) ([]byte, bool) {
 	colon := bytes.IndexByte(r.rest[:min(len(r.rest), len("4096:"))], ':')
 	if colon < 0 {
@@ -34,11 +35,12 @@ func (r *reader) string(most int) ([]byte, bool) {
 	return octets, true
 }
 
-// restIs says whether the rest is a text.
+// restIs says whether the rest equals a text, and nothing follows this.
 func (r *reader) restIs(text string) bool {
 	return string(r.rest) == text
 }
 
+// min returns the lesser number. (Go has it itself only from 1.21 on.)
 func min(a, b int) int {
 	if a < b {
 		return a

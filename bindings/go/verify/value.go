@@ -6,7 +6,7 @@ import (
 	"math/big"
 )
 
-// The octets of half a signature by Ed25519.
+// The octets of each half of a signature by Ed25519: r, and s.
 const half = 32
 
 // The most octets of a key, and of the value of a signature.
@@ -21,12 +21,13 @@ const (
 	afterValue  = ")))"
 )
 
-// The order of the group of Ed25519, and its first octet.
+// `order` is the order of the group of Ed25519. Half s of a signature must be below it. `topOfOrder` is its first octet: an s whose highest octet is
+// less is below the order, and needs no comparison of numbers.
 const topOfOrder = 0x10
 
 var order = numberOf("1000000000000000000000000000000014def9dea2f79cd65812631a5cf5d3ed")
 
-// ed25519Value returns both halves of a signature by Ed25519, one after the other, and whether the value is one.
+// ed25519Value returns r and s of a signature by Ed25519, 32 octets each, one after the other, and whether the value is one. Both are little-endian.
 func ed25519Value(value []byte) ([]byte, bool) {
 	r, s, ok := pair(value, beforeR)
 	if !ok || len(r) != half || len(s) != half || s[half-1] >= topOfOrder && littleEndian(s).Cmp(order) >= 0 {
@@ -35,8 +36,8 @@ func ed25519Value(value []byte) ([]byte, bool) {
 	return append(append(make([]byte, 0, 2*half), r...), s...), true
 }
 
-// rsaValue returns the number of a signature by RSA, with as many octets as the modulus, and whether the value is one. Go does not
-// test that it is below the modulus.
+// rsaValue returns the number of a signature by RSA, with as many octets as the modulus, and whether the value is one. The value may have fewer or
+// more octets 00 in front. The number must be above 0 and below the modulus: Go does not test the latter.
 func rsaValue(value []byte, public *rsa.PublicKey) ([]byte, bool) {
 	text := reader{rest: value}
 	if len(value) > mostOctets || !text.trySkip(beforeRSA) {
@@ -50,7 +51,8 @@ func rsaValue(value []byte, public *rsa.PublicKey) ([]byte, bool) {
 	return s.FillBytes(make([]byte, public.Size())), true
 }
 
-// ecdsaValue returns the numbers r and s of a signature by ECDSA with a curve, and whether the value is one.
+// ecdsaValue returns the numbers r and s of a signature by ECDSA with a curve, and whether the value is one: both are above 0 and below the order of
+// the curve. The numbers mean nothing otherwise.
 func ecdsaValue(value []byte, curve elliptic.Curve) (*big.Int, *big.Int, bool) {
 	first, second, ok := pair(value, beforeECDSA)
 	r, s, order := new(big.Int).SetBytes(first), new(big.Int).SetBytes(second), curve.Params().N

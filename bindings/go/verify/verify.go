@@ -15,7 +15,7 @@ import (
 	"crypto/ed25519"
 	"crypto/rsa"
 
-	// (these are the digests)
+	// (hash.New in digestOf finds the digests that are imported)
 	_ "crypto/sha256"
 	_ "crypto/sha512"
 
@@ -33,18 +33,21 @@ func SignatureOrPSS(signed spki.Signature) bool {
 	return signature(signed, pkcs1v15) || signature(signed, pss)
 }
 
-// A scheme verifies a number by a key of RSA.
+// A scheme verifies the value of a signature by a key of RSA. It returns nil if it is valid for the SHA-256 digest of a message.
 type scheme func(key *rsa.PublicKey, digest, value []byte) error
 
+// pkcs1v15 is the scheme of Signature.
 func pkcs1v15(key *rsa.PublicKey, digest, value []byte) error {
 	return rsa.VerifyPKCS1v15(key, crypto.SHA256, digest, value)
 }
 
+// pss is the scheme that SignatureOrPSS takes too, with a salt of 32 octets.
 func pss(key *rsa.PublicKey, digest, value []byte) error {
 	return rsa.VerifyPSS(key, crypto.SHA256, digest, value, &rsa.PSSOptions{SaltLength: rsa.PSSSaltLengthEqualsHash})
 }
 
-// signature says whether a signature is valid. With a key of RSA it must be by this scheme.
+// signature says whether a signature is valid. With a key of RSA it must be by this scheme, which does not matter with other keys. An empty message
+// has no valid signature.
 func signature(signed spki.Signature, scheme scheme) bool {
 	public, err := PublicOf(signed.Key)
 	if err != nil || len(signed.Message) == 0 {

@@ -18,17 +18,18 @@ import (
 	"conguraki/spki"
 )
 
-// isValid says what Signature does of three texts.
+// isValid says whether Signature accepts a key, a message and a value, all in canonical form.
 func isValid(key, message, value []byte) bool {
 	return Signature(spki.Signature{Key: key, Message: message, Value: value})
 }
 
-// A signed is a certificate with its signature.
+// A signed is a row of testdata/spki-cert.json: a certificate as Message, with its signature. Kind names the kind of key.
 type signed struct {
 	Kind                string
 	Key, Message, Value []byte
 }
 
+// verifies says whether Signature accepts the row.
 func (s signed) verifies() bool {
 	return isValid(s.Key, s.Message, s.Value)
 }
@@ -55,6 +56,7 @@ func TestCertificatesOfSpkiCert(t *testing.T) {
 	}
 }
 
+// TestEachChangedOctet flips one bit of each octet of a key, message or value. None is valid then.
 func TestEachChangedOctet(t *testing.T) {
 	for _, row := range bySpkiCert(t) {
 		for _, octets := range [][]byte{row.Key, row.Message, row.Value} {
@@ -69,6 +71,7 @@ func TestEachChangedOctet(t *testing.T) {
 	}
 }
 
+// TestEachTruncation cuts each key and each value to each lesser length. None is valid then.
 func TestEachTruncation(t *testing.T) {
 	for _, row := range bySpkiCert(t) {
 		for length := range row.Key {
@@ -84,6 +87,7 @@ func TestEachTruncation(t *testing.T) {
 	}
 }
 
+// TestSignaturesOfOthers takes the value, or the key, from another row. None is valid then.
 func TestSignaturesOfOthers(t *testing.T) {
 	rows := bySpkiCert(t)
 	for i, row := range rows {
@@ -95,6 +99,7 @@ func TestSignaturesOfOthers(t *testing.T) {
 	}
 }
 
+// TestOtherTextsOfAKey writes each key in other ways. Nothing is a signature by what results. A replacement that does not change a key is left out.
 func TestOtherTextsOfAKey(t *testing.T) {
 	for _, row := range bySpkiCert(t) {
 		for _, text := range [][]byte{
@@ -112,6 +117,7 @@ func TestOtherTextsOfAKey(t *testing.T) {
 	}
 }
 
+// TestKeysGoThereAndBack reads each key by PublicOf. KeyOf must write the same text.
 func TestKeysGoThereAndBack(t *testing.T) {
 	for _, row := range bySpkiCert(t) {
 		public, err := PublicOf(row.Key)
@@ -124,11 +130,13 @@ func TestKeysGoThereAndBack(t *testing.T) {
 	}
 }
 
-// rsaText writes a key of RSA with these octets.
+// rsaText writes a key of RSA with these octets as its numbers, whether they are allowed or not.
 func rsaText(modulus, exponent []byte) []byte {
 	return canonicalText(beforeModulus, modulus, beforeE, exponent, afterKey)
 }
 
+// TestWeakKeysOfRSA refuses each key that is beyond the limits of isStrong, or whose numbers are not as numberOctets writes them. `strong` has 2048
+// bits, the fewest, `short` one bit less, and `long` one more than the most.
 func TestWeakKeysOfRSA(t *testing.T) {
 	strong := new(big.Int).SetBit(new(big.Int).SetBit(new(big.Int), LeastBits-1, 1), 0, 1)
 	short := new(big.Int).Rsh(strong, 1)
@@ -153,6 +161,7 @@ func TestWeakKeysOfRSA(t *testing.T) {
 	}
 }
 
+// TestPointsOffTheCurve refuses octets that are no point of P-256 in the form 04 and both coordinates.
 func TestPointsOffTheCurve(t *testing.T) {
 	private, err := ecdsa.GenerateKey(elliptic.P256(), rand.Reader)
 	if err != nil {
@@ -175,6 +184,7 @@ func TestPointsOffTheCurve(t *testing.T) {
 	}
 }
 
+// TestKeysOfOtherKinds gives KeyOf what is none of the three kinds of key, or is too weak. Each is ErrKey.
 func TestKeysOfOtherKinds(t *testing.T) {
 	other, err := ecdsa.GenerateKey(elliptic.P521(), rand.Reader)
 	if err != nil {
@@ -194,6 +204,7 @@ func TestKeysOfOtherKinds(t *testing.T) {
 	}
 }
 
+// TestPSS signs with three lengths of salt, of which 32 octets alone are valid, and for SignatureOrPSS alone.
 func TestPSS(t *testing.T) {
 	private, err := rsa.GenerateKey(rand.Reader, LeastBits)
 	if err != nil {
@@ -253,6 +264,7 @@ func TestFewerZerosInFront(t *testing.T) {
 	t.Error("no signature begins with an octet 00")
 }
 
+// FuzzSignature fails if three texts are valid whose key and message are not those of a row: only a holder of a private key could make them.
 func FuzzSignature(f *testing.F) {
 	for _, row := range bySpkiCert(f) {
 		f.Add(row.Key, row.Message, row.Value)

@@ -13,7 +13,7 @@ import spki_verify
 
 
 async def is_granted(guard: spki.Guard, sequence: bytes, key: spki.ProvenKey, words: list[bytes], now: datetime) -> bool:
-    """Whether a request is granted."""
+    """Whether a request is granted. All signatures are verified at the same time. The valid ones are marked, and the marks decide."""
     question = spki.Question(sequence, key, words=words, moment=now)
     with guard.ask(question) as asked:
         signatures = asked.signatures() if asked.is_possible else []
@@ -24,6 +24,7 @@ async def is_granted(guard: spki.Guard, sequence: bytes, key: spki.ProvenKey, wo
         return bool(asked.decide())
 
 
+# Prints `granted` or `denied` for the arguments ACL SEQUENCE KEY WORD ..
 async def main() -> None:
     if len(sys.argv) < 5:
         sys.exit("usage: asynchronous.py ACL SEQUENCE KEY WORD ..")

@@ -20,6 +20,7 @@ def is_granted(guard: spki.Guard, sequence: bytes, key: spki.ProvenKey, words: l
     return bool(guard.decide(question, spki_verify.verify))
 
 
+# Prints `granted` or `denied` for the arguments ACL SEQUENCE KEY WORD ..
 def main() -> None:
     if len(sys.argv) < 5:
         sys.exit("usage: decide.py ACL SEQUENCE KEY WORD ..")

@@ -12,7 +12,7 @@ MOST, ACTIONS = 65_536, {"GET": b"read", "PUT": b"write"}
 
 
 class Handler(http.server.BaseHTTPRequestHandler):
-    def answer(self) -> None:
+    def answer(self) -> None:  # (200 and the number of the entry, or 403 and why not; a body over MOST octets is cut, so its digest differs)
         body = self.rfile.read(min(int(self.headers.get("Content-Length", 0)), MOST))
         host, status = ", ".join(self.headers.get_all("Host", [])), 403
         try:

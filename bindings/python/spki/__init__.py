@@ -66,14 +66,15 @@ class _Alone:
 
 
 class _Handle(c_void_p, _Alone):
-    """What the library has opened in this process."""
+    """The address of a guard or an opened question of the library. `process` is the id of the process that has opened it."""
 
     def __init__(self, address: int | None = None) -> None:
         super().__init__(address)
         self.process = os.getpid()
 
     def free(self, close: Callable[[c_void_p], None], current_process: Callable[[], int] = os.getpid) -> None:
-        """Frees its memory by `close`, in the process that has opened it. A child that was forked has a copy of the memory, which ends with it."""
+        """Frees the memory by `close`, in the process that has opened it. A child that was forked has a copy of the memory, which ends with it.
+        `current_process` is a default, as `close` is for `__del__`: the names of modules may be gone when the interpreter ends."""
         if self.process == current_process():
             close(self)
 
@@ -95,10 +96,12 @@ class _AskedHandle(_Handle):
 class _Open(_Alone):
     """A guard or an opened question: it can be used until `close` is called."""
 
+    # `None` once it is closed. The handle itself is freed when no call refers to it.
     _handle: c_void_p | None
 
     def _held(self) -> c_void_p:
-        """The handle, which the caller keeps as long as it calls the library. Raises `ValueError` if it is closed."""
+        """The open handle. The caller keeps it in a variable as long as it calls the library, so that `close` in another thread does not free it.
+        Raises `ValueError` after `close`."""
         handle = self._handle
         if handle is None:
             raise ValueError(f"the {type(self).__name__} is closed")
@@ -111,7 +114,7 @@ class _Open(_Alone):
         self.close()
 
     def close(self) -> None:
-        """Frees its memory. Calls that are under way in other threads end as usual; later ones raise `ValueError`."""
+        """Closes it. Calls that are under way in other threads end as usual, and then its memory is freed. Later calls raise `ValueError`."""
         self._handle = None
 
 
@@ -123,7 +126,7 @@ class Asked(_Open, NoDecision):
     """
 
     def __init__(self, guard: c_void_p, question: Question, most: int) -> None:
-        """`Guard.ask` makes it. Its explanation and its reduction have at most `most` octets."""
+        """Opens a question of a guard, given by its handle, for `Guard.ask`. Its explanation and its reduction have at most `most` octets."""
         self._handle, self._most = _AskedHandle(_opened(guard, question)), most
         self._count = of.count(self._handle)
         self._calls = threading.Lock()
@@ -211,6 +214,7 @@ class Guard(_Open):
         if not isinstance(policy, Policy) or not isinstance(limits, Limits):
             raise TypeError("a guard has a `Policy` and `Limits`")
         text, self._policy, self._most = octets_of(access_list), policy, limits.answer or of.USUAL_ANSWER
+        # (no structure of limits means the usual ones)
         values = of.Limits(ctypes.sizeof(of.Limits), *(getattr(limits, field.name) for field in fields(limits))) if limits != Limits() else None
         self._handle = handle = _GuardHandle()
         _expect(*_answered(_LINE, library.spki_guard_open, text, len(text), policy.value, values, byref(handle)))
@@ -272,6 +276,7 @@ def string_at(text: bytes, *path: int) -> bytes | None:
     `(public-key (rsa (n ..) (e #010001#)))` the path 1, 1, 1 is that of the modulus.
     """
     octets, length, text, places = c_void_p(), c_size_t(), octets_of(text), list(map(int_of, path))
+    # (`c_size_t` would cut other numbers, and a text has fewer members than octets)
     if any(place not in range(len(text)) for place in places):
         return None
     status = library.spki_string(text, len(text), (c_size_t * len(places))(*places), len(places), byref(octets), byref(length))
@@ -316,7 +321,7 @@ class _Room:
         self.at_signed = c_void_p(addressof((c_char * of.SIGNED.size).from_buffer(self.signed)))
 
     def answer(self) -> bytes:
-        """What the last call has written."""
+        """The line that the last call has written into the buffer."""
         # (a slice of this array is bytes, which its declared type does not say)
         return cast(bytes, self.buffer[:self.needed.value])
 
@@ -330,7 +335,8 @@ class _Lines:
         self.at_buffer = c_void_p(addressof(self.first))
 
 
-# Rooms that no call uses: at most as many as calls were under way at the same time. Making one takes some microseconds.
+# Rooms that no call uses: at most as many as calls were under way at the same time. Making one takes some microseconds. Behind them, the small
+# numbers that `_number` returns.
 _spare: list[_Room] = []
 _spare_lines: list[_Lines] = []
 _numbers = [c_size_t(number) for number in range(64)]
@@ -358,8 +364,8 @@ def _number(number: int) -> c_size_t:
 
 
 def _answered(most: int, call: Callable[..., int], *given: object) -> tuple[int, bytes]:
-    """Makes a call whose answer has at most `most` octets, or one line. `given` are its arguments before those of the answer. Returns its status and
-    the answer. The memory is large enough, so no call is made twice."""
+    """Makes a call with memory for an answer of `most` octets, or of the usual limit if that is more. `given` are its arguments before those of the
+    answer. Returns its status and the answer. The answer is empty with `of.TOO_SMALL`, and with `of.NO_MEMORY` where no memory could be had."""
     is_usual = most <= of.USUAL_ANSWER
     try:
         room = _take_lines() if is_usual else _Lines(most)
@@ -373,7 +379,8 @@ def _answered(most: int, call: Callable[..., int], *given: object) -> tuple[int,
 
 
 def _opened(guard: c_void_p, question: Question) -> int | None:
-    """Opens a question and returns its address, which the caller must free by `of.close`. Raises `Refused`, or `TypeError`."""
+    """Opens a question and returns its address, which the caller must free by `of.close`. Raises `Refused` if a part of it cannot be read or exceeds
+    a limit, and `TypeError` if it is no `Question`."""
     if not isinstance(question, Question):
         raise TypeError(f"a guard is asked a `Question`, and not {type(question).__name__}")
     room = _take_room()
@@ -462,7 +469,7 @@ def _expect(status: int, answer: bytes) -> None:
 
 
 def _refused(status: int, answer: bytes) -> Exception:
-    """The exception of a call that failed, by its status and its answer."""
+    """The exception of a call that failed, by its status. With `of.REFUSED` the answer is the line that says why. Otherwise it does not matter."""
     if status == of.NO_MEMORY:
         return Refused("refused Memory")
     if status != of.REFUSED:

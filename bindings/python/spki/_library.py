@@ -70,11 +70,13 @@ class Memory(Protocol):
         """A copy of the octets from one address to another, as ctypes.string_at makes it in more steps."""
 
 
+# All addresses as one array, of which a slice copies octets. Only slices that the library has named may be taken.
 memory = cast(Memory, (ctypes.c_char * sys.maxsize).from_address(0))
 
 
 def of_this_version() -> str | None:
-    """The file name of the library of this version, or None if the loader does not find it. Other versions may be installed beside it."""
+    """The file name of the library of this version, `libspki_c.so.0.2`, or None if the loader does not find it. Other versions may be installed
+    beside it."""
     name = f"libspki_c.so.{VERSION}"
     try:
         ctypes.CDLL(name)
@@ -84,7 +86,8 @@ def of_this_version() -> str | None:
 
 
 def library_path() -> str:
-    """What SPKI_LIBRARY names, else the file beside this module, else what the loader finds. Raises ImportError if there is none."""
+    """The file that SPKI_LIBRARY names, else the file beside this module, else what the loader finds: a library of this version, else any. `load`
+    tests the version. Raises ImportError if there is none."""
     beside = os.path.join(os.path.dirname(os.path.abspath(__file__)), "libspki_c.so")
     path = os.environ.get("SPKI_LIBRARY") or (beside if os.path.exists(beside) else of_this_version() or ctypes.util.find_library("spki_c"))
     if path is None:

@@ -13,6 +13,7 @@ from typing import NamedTuple, NoReturn, Union
 from . import _library as of
 from ._words import Cause, Fault, Part
 
+# The last word of a line that begins with a capital letter; and a line of an explanation: the numbers of the entry and of the item, and the word.
 FAULT = re.compile(r".*\b([A-Z]\w*)")
 REASON = re.compile(r"^(?:entry (\d+) )?(?:item (\d+) )?(\w+)$", re.MULTILINE)
 EPOCH, SECOND = datetime(1970, 1, 1, tzinfo=timezone.utc), timedelta(seconds=1)
@@ -38,7 +39,7 @@ class Refused(Exception):
 
     @property
     def fault(self) -> Fault:
-        """What is wrong."""
+        """What is wrong. `Fault.OTHER` if the line names nothing that this module knows."""
         found = FAULT.match(self.line)
         return Fault(found[1] if found else "")
 
@@ -70,6 +71,7 @@ class Limits:
     answer: int = 0
     """The most octets of the lines: a call takes address space for as many, of which only those of the answer are used."""
 
+    # Raises `TypeError` for a limit that is no `int`, and `ValueError` for one below 0 or over the highest.
     def __post_init__(self) -> None:
         for field in fields(self):
             mosts = {"octets": of.MOST_OCTETS, "nodes": of.MOST_NODES, "work": of.MOST_WORK, "answer": of.MOST_ANSWER}
@@ -85,7 +87,8 @@ class Limits:
 
 
 class Scheme(enum.Enum):
-    """How a signature is made, by the form of its key: docs/FORMATS.md, "Keys and signatures of services"."""
+    """How a signature is made, by the form of its key: docs/FORMATS.md, "Keys and signatures of services". The value of a member is what the
+    canonical text of such a key begins with."""
 
     ED25519 = b"(10:public-key(3:ecc(5:curve7:Ed25519)(5:flags5:eddsa)"
     RSA = b"(10:public-key(3:rsa("
@@ -105,12 +108,12 @@ class Signature:
 
     @property
     def scheme(self) -> Scheme | None:
-        """How it is made, by the form of its key. `None` for a key of another form."""
+        """How the signature is made, by the form of its key. `None` for each other key, also one with P-384, which `spki_verify` knows."""
         return next((it for it in Scheme if self.key.startswith(it.value)), None)
 
     @property
     def octets(self) -> bytes | None:
-        """The octets of a value that is one string. `None` for a list."""
+        """The octets of a value that is one string: `sig` of `3:sig`. `None` for a list, such as `(7:sig-val..)`."""
         length, colon, octets = self.value.partition(b":")
         return octets if colon and length.isdigit() else None
 
@@ -119,7 +122,8 @@ _new, _set = object.__new__, object.__setattr__
 
 
 def signature_of(key: bytes, message: bytes, value: bytes) -> Signature:
-    """The signature of these texts, without the calls by which a frozen dataclass sets its fields."""
+    """The `Signature` with these texts. It is made for each signature of a question, so it avoids the slow calls by which a frozen dataclass sets
+    its fields."""
     made = _new(Signature)
     _set(made, "__dict__", {"key": key, "message": message, "value": value})
     return made
@@ -173,6 +177,7 @@ class ProvenKey:
     def __hash__(self) -> int:
         return hash(self._text)
 
+    # How `copy` and `pickle` make the key again: `__init__` always raises, and no attribute can be set.
     def __reduce__(self) -> tuple[Callable[[bytes], ProvenKey], tuple[bytes]]:
         return ProvenKey.assume, (self._text,)
 
@@ -197,6 +202,7 @@ class Question:
         if not isinstance(key, ProvenKey):
             raise TypeError(f"a question has a `ProvenKey`, and not {type(key).__name__}: use ProvenKey.by or ProvenKey.assume")
         sequence, proven = octets_of(sequence), key.text
+        # (the structure that the library is given, by its address `_at`; equality, copies and `repr` use `_parts`)
         self._given = given = of.Question(ctypes.sizeof(of.Question), of.Text(sequence, len(sequence)), of.Text(proven, len(proven)))
         if text is not None:
             text = octets_of(text)
@@ -227,6 +233,7 @@ class Question:
     def __hash__(self) -> int:
         return hash(self._parts)
 
+    # How `copy` and `pickle` make the question again: the structure for the library cannot be copied, since it has addresses.
     def __reduce__(self) -> tuple[Callable[..., Question], _Parts]:
         return _question_of, self._parts
 
@@ -245,7 +252,7 @@ def _question_of(sequence: bytes, key: ProvenKey, words: Sequence[bytes] | None,
 
 
 class NoDecision:
-    """What grants nothing, and so is false."""
+    """What grants nothing, and so is false: an `Asked`, an `Explanation` or a `Reduction` that is tested like a decision is no yes."""
 
     def __bool__(self) -> bool:
         return False
@@ -340,7 +347,8 @@ def int_of(number: int) -> int:
 
 
 def moment_of(seconds: int) -> datetime:
-    """The moment of seconds since 1970, or the last or the first moment that Python has."""
+    """The moment of seconds since 1970, which may be negative. Before the year 1 it is the first moment of a `datetime`, and past the year 9999 the
+    last one."""
     last, first = (limit.replace(tzinfo=timezone.utc) for limit in (datetime.max, datetime.min))
     return last if seconds > seconds_of(last) else first if seconds < seconds_of(first) else EPOCH + seconds * SECOND
 

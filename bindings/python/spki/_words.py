@@ -12,7 +12,7 @@ class _Word(str, enum.Enum):
 
     @classmethod
     def _missing_(cls, value: object) -> _Word:
-        """Called by `enum` for a word of no member."""
+        """The member `OTHER`. `enum` calls it for a word that no member has, instead of raising `ValueError`."""
         return cls["OTHER"]
 
 

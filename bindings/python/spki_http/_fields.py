@@ -13,6 +13,8 @@ DERIVED = ("@method", "@authority", "@target-uri", "@path", "@query")
 # The field with the key that signs, which is always covered.
 PUBLIC_KEY = "x-spki-public-key"
 NUMBERS, STRINGS = ("created", "expires"), ("nonce", "keyid", "alg", "tag")
+# The name of a member or of a parameter, the name of a field, a string in quotes without escapes, a number of at most 15 digits, base64 between
+# colons, and what is before a second member.
 NAME = re.compile(r"[a-z*][a-z0-9_.*-]*")
 FIELD = re.compile(r"[a-z0-9!#$%&'*+.^_`|~-]+")
 STRING = re.compile(r'"([ !#-\[\]-~]*)"')
@@ -72,12 +74,12 @@ class Parser:
         return found
 
     def expect(self, text: str) -> None:
-        """Skips a text, with which the rest must begin."""
+        """Skips a text, with which the rest must begin: otherwise the field is `malformed`."""
         if not self.skip_if(text):
             raise Refused("malformed")
 
     def take(self, pattern: re.Pattern[str]) -> re.Match[str]:
-        """Reads what matches a pattern at the beginning of the rest."""
+        """Reads what matches a pattern at the beginning of the rest, and returns the match. Otherwise the field is `malformed`."""
         found = pattern.match(self.text, self.at)
         if not found:
             raise Refused("malformed")
@@ -85,7 +87,7 @@ class Parser:
         return found
 
     def expect_end(self) -> None:
-        """Raises `Refused` if something follows, such as a second signature."""
+        """Raises `Refused` if something follows: `two-signatures` for a second member, and otherwise `malformed`."""
         if self.at != len(self.text):
             raise Refused("two-signatures" if MORE.match(self.text, self.at) else "malformed")
 
@@ -205,8 +207,9 @@ def value_of(algorithm: str, octets: bytes) -> bytes:
 
 
 def octets_of(value: bytes, length: int = 0) -> bytes:
-    """The octets of a signature with a canonical value: its strings joined. With the length of all, each number gets its share of it, since a signer
-    may write fewer or more octets 00 in front. Without, those of a pair must be equally long. Raises `ValueError`."""
+    """The octets of a signature, as RFC 9421 sends them, from its canonical value: the strings of the value, joined. `length` is how many octets they
+    have together: each number is brought to its share of them by fewer or more octets 00 in front, since signers write these differently. With 0 the
+    strings stay as they are, and the two of ECDSA must be equally long. Those of Ed25519 always stay. Raises `ValueError` for any other text."""
     for name, (_, template, _) in FORMS.items():
         if strings := strings_of(value, template):
             share = 0 if name == "ed25519" else length // len(strings)

@@ -7,6 +7,7 @@ from dataclasses import dataclass
 
 from ._fields import Refused
 
+# The fields that must be covered wherever a request has them, besides the one with the certificates.
 CHAINED, DIGEST = "authorization", "content-digest"
 METHOD = re.compile(r"[A-Za-z0-9!#$%&'*+.^_`|~-]+")
 TARGET = re.compile(r"/[!\"$-~]*")
@@ -18,7 +19,7 @@ PORTS = {"https": ":443", "http": ":80"}
 class Message:
     """A request: its method, the name that the client asks, its target as in the first line of HTTP/1.1, and its fields in their order.
 
-    `body` is None if it is not known. `has_body` is for servers that do not pass on the fields that say so.
+    `body` is None if it is not known. `has_body` is for servers that do not pass on the fields that say that there is a body.
     """
 
     method: str
@@ -33,7 +34,7 @@ class Message:
         return [value.strip(" \t") for known, value in self.fields if known.lower() == name]
 
     def may_have_body(self) -> bool:
-        """Whether it may have a body, so that a digest must be covered."""
+        """Whether the request may have a body, so that its digest must be covered. Each method but GET and HEAD may have one."""
         lengths = [it for it in self.values("content-length") if it != "0"]
         return self.method not in ("GET", "HEAD") or self.has_body or bool(self.body or lengths or self.values("transfer-encoding"))
 
@@ -51,7 +52,8 @@ def base_of(message: Message, scheme: str, components: list[str], parameters: st
 
 
 def value_of(message: Message, scheme: str, name: str) -> str:
-    """The value of a component by its name. Raises `Refused` if it is a field that is absent, repeated or not printable ASCII."""
+    """The value of a component by its name, such as `@path` or the name of a field. That of `@query` begins with `?`, also without a query.
+    Raises `Refused` if the component is a field that is absent, repeated or not printable ASCII."""
     path, mark, query = message.target.partition("?")
     authority = authority_of(scheme, message.authority)
     match name:

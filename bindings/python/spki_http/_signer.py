@@ -20,7 +20,7 @@ class Signer:
     """Makes the fields of signed requests.
 
     `key` is the SPKI key in canonical form. `sign` returns the canonical value of a signature of a message, `(7:sig-val..)`. `sequence` has the
-    client's certificates in transport form, `{..}`.
+    client's certificates in transport form, `{..}`, or is empty. `algorithm` is that of the key, and `length` how many octets a signature by it has.
     """
 
     def __init__(self, key: bytes, sign: Callable[[bytes], bytes], sequence: str = "") -> None:
@@ -34,6 +34,7 @@ class Signer:
         if parts.scheme not in ("https", "http") or not parts.hostname or parts.username is not None:
             raise ValueError("no address of https or http, or one with a name and a password")
         target = (parts.path or "/") + (f"?{parts.query}" if "?" in url.partition("#")[0] else "")
+        # (`own` are the fields that are set, `given` those of the request, and `kept` those of them that are not replaced)
         own, given = {KEY: in_braces(self.key), **({SEQUENCE: self.sequence} if self.sequence else {})}, [*fields]
         if Message(method, parts.netloc, target, given, body).may_have_body():
             own["Content-Digest"] = content_digest(body)
@@ -64,7 +65,8 @@ class Auth:
         self.signer, self.names = signer, {name.lower() for name in names}
 
     def __call__(self, request: Any) -> Any:
-        """Adds the fields to a request, which it returns. Raises `TypeError` for a body that is a stream."""
+        """Adds the fields to a request to one of the names, and returns the request. `requests` and `httpx` call it for each request. Raises
+        `TypeError` for a body that is a stream."""
         url = str(request.url)
         if urllib.parse.urlsplit(url).netloc.lower() in self.names:
             body = request.content if hasattr(request, "content") else request.body
@@ -79,13 +81,15 @@ class Auth:
 class Handler(urllib.request.BaseHandler):
     """Signs the requests of `urllib`, as `Auth` does: `urllib.request.build_opener(Handler(signer, "files.example.org"))`."""
 
+    # (behind urllib's own handlers, of 500, which add fields first)
     handler_order = 900
 
     def __init__(self, signer: Signer, *names: str) -> None:
         self.signer, self.names = signer, {name.lower() for name in names}
 
     def https_request(self, request: urllib.request.Request) -> urllib.request.Request:
-        """Adds the fields to a request, which it returns. `urllib` calls it for each request."""
+        """Adds the fields to a request to one of the names, and returns the request. `urllib` calls it for each request. Raises `TypeError` for a
+        body that is a stream. A redirection does not take the fields along."""
         if urllib.parse.urlsplit(request.full_url).netloc.lower() in self.names:
             body = request.data or b""
             if not isinstance(body, bytes):

@@ -12,9 +12,12 @@ from ._fields import PUBLIC_KEY, TAG, Input, Refused, digest_of, hash_of, input_
 from ._message import CHAINED, DIGEST, METHOD, TARGET, Message, authority_of, base_of
 from ._message import value_of as component_of
 
+# The seconds from `created` to `expires` at most, and those that a client's clock may be ahead.
 MOST_WINDOW, MOST_AHEAD = 300, 60
+# The characters of a nonce, and how many nonces each set of a `Memory` has at most.
 LEAST_NONCE, MOST_NONCE = 16, 64
 USUAL_NONCES = 100_000
+# The sequence of a request that shows no certificates.
 NOTHING_SHOWN = b"(sequence)"
 
 
@@ -42,7 +45,7 @@ class Nonces(Protocol):
 
 class Memory:
     """Nonces in two sets of at most `most` each, as digests of key and nonce. When the young set is as old as a nonce is kept, it replaces the old
-    one."""
+    one. `turned` is when the young set began, in seconds since 1970."""
 
     def __init__(self, most: int = USUAL_NONCES) -> None:
         self.most, self.turned, self.lock = most, 0, threading.Lock()
@@ -75,13 +78,15 @@ class Proof:
     digest: tuple[str, bytes] | None
 
     def covers(self, body: bytes) -> bool:
-        """Whether a body is the signed one, which is empty if no digest is covered."""
+        """Whether a body is the signed one, by its digest. If no digest is covered, the empty body alone is."""
         return body == b"" if self.digest is None else hashlib.new(self.digest[0].replace("-", ""), body).digest() == self.digest[1]
 
 
 class Verifier:
     """Verifies requests to a service of these names, with ports that are not the scheme's own.
 
+    `scheme` is `https` or `http`. `sequence` is the name of the field with the certificates, in small letters. `nonces` keeps the used nonces, in a
+    `Memory` if it is None. `now` is the clock, in seconds since 1970, and `verify` says whether a signature is valid: `spki_verify` if it is None.
     `start` is 0 if the nonces outlast the process: otherwise what was created before it is refused, since its nonce may be forgotten.
     """
 
@@ -107,6 +112,7 @@ class Verifier:
 
     def check(self, message: Message) -> Proof:
         """The proof of a request, whose nonce is not used up: `take` must follow. Raises `Refused`."""
+        # (the fields may be an iterator, which can be read once)
         message = replace(message, fields=[*message.fields])
         inputs, signatures = message.values("signature-input"), message.values("signature")
         if not inputs and not signatures:
@@ -143,8 +149,8 @@ class Verifier:
                 raise Refused(name)
 
     def _check_message(self, message: Message, given: Input) -> tuple[bytes, tuple[str, bytes] | None]:
-        """Tests what is covered. Returns the signed text, and the algorithm and octets of the body's digest, or None if none is covered. Raises
-        `Refused`."""
+        """Tests the method, the target, the authority, and that all is covered that must be. Returns the signed text,
+        and the algorithm and octets of the body's digest, or None if none is covered. Raises `Refused`."""
         if not METHOD.fullmatch(message.method):
             raise Refused("bad-method")
         if not TARGET.fullmatch(message.target):

@@ -21,13 +21,15 @@ __all__ = ["Public", "Signed", "LEAST_BITS", "MOST_BITS", "MOST_EXPONENT_BITS", 
 
 Public = Union[Ed25519PublicKey, RSAPublicKey, EllipticCurvePublicKey]
 
+# The bits of a modulus of RSA, and of an exponent. All verifiers of this repository have these limits.
 LEAST_BITS, MOST_BITS, MOST_EXPONENT_BITS = 2048, 4096, 31
+# The octets of a key of Ed25519, and of each half of a signature by it.
 HALF = 32
 # A canonical text of more octets is no key and no value of a signature.
 MOST_OCTETS = 4096
 # The prime and the order of Ed25519.
 P_25519, ORDER_25519 = 2**255 - 19, 2**252 + 27742317777372353535851937790883648493
-# The coordinate y of the four points of order 8.
+# The two coordinates y of the four points of order 8.
 EIGHTHS = (0x05FC536D880238B13933C6D305ACDFD5F098EFF289F4C345B027B2C28F95E826, 0x7A03AC9277FDC74EC6CC392CFA53202A0F67100D760B3CBA4FD84D3D706A17C7)
 # The templates of keys and of values of signatures: canonical texts with `%` for each string that differs.
 ED25519_KEY = b"(10:public-key(3:ecc(5:curve7:Ed25519)(5:flags5:eddsa)(1:q%)))"
@@ -104,7 +106,8 @@ def number(value: int) -> bytes:
 
 
 def _is_of_large_order(q: bytes) -> bool:
-    """Whether the coordinate y in a text of Ed25519 rules out a small order and a second text of the point. That it is a point is not tested."""
+    """Whether octets may be a key of Ed25519: by their coordinate y, they are not of a point of small order, and not a second text of a point. No y
+    below 2^192 is that of a random key. That they are a point is not tested."""
     y = int.from_bytes(q, "little") % 2**255
     return len(q) == HALF and 2**192 <= y < P_25519 - 1 and y not in EIGHTHS
 
@@ -116,7 +119,7 @@ def _are_coordinates(curve: Curve, q: bytes) -> bool:
 
 
 def _rsa(modulus: bytes, exponent: bytes) -> RSAPublicKey | None:
-    """The key of a modulus and an exponent. None if one is not as `number` writes it, or is even or out of bounds."""
+    """The key of a modulus and an exponent. None if one is not as `number` writes it, or is even, or is beyond the limits at the top of this file."""
     n, e = int.from_bytes(modulus, "big"), int.from_bytes(exponent, "big")
     is_written = (modulus, exponent) == (number(n), number(e))
     is_within = LEAST_BITS <= n.bit_length() <= MOST_BITS and 3 <= e < 2**MOST_EXPONENT_BITS

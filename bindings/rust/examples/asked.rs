@@ -1,12 +1,13 @@
 //! Answers the questions of a test, so that another program can compare the answers.
 //!
 //! Reads strings from standard input, each as LENGTH:OCTETS, and writes each answer as one string, without its last line feed.
-//! A list of strings is its number of strings, and the strings. A question is these, in this order:
+//! A list of strings is first the number of its strings, itself a string, and then these. A question is, in this order:
 //!
-//! - the strings COMMAND, POLICY, LIMITS (`usual` or `highest`), ACL, SEQUENCE and KEY
-//! - `text` or `words`, and a list of strings
-//! - `text` or `seconds`, and a string
-//! - a list of what the verifier accepts, three strings each: a key, a message and a value
+//! - the strings COMMAND (`check`, `explain` or `reduce`), POLICY (`strict`, or any other word for `AllowSha1`), LIMITS (`usual` or
+//!   `highest`), ACL, SEQUENCE and KEY
+//! - the request: `text` and a list of one string, its text, or `words` and the list of its strings
+//! - the moment: `text` and a date, or `seconds` and the number of seconds since 1970
+//! - a list of the signatures that the verifier accepts, three strings each: a key, a message and a value
 
 use spki::{
     Denied, Grant, Guard, Limits, Moment, Policy, ProvenKey, Question, Reason, Refusal, Request,
@@ -15,13 +16,14 @@ use spki::{
 use std::error::Error;
 use std::io::{self, Read, Write};
 
+/// The whole input, and how many of its octets are read.
 struct Input {
     octets: Vec<u8>,
     at: usize,
 }
 
 impl Input {
-    /// The next string, or `None` at the end.
+    /// Reads the next string, LENGTH:OCTETS, and returns its octets. `None` at the end of the input.
     fn next(&mut self) -> Option<&[u8]> {
         let rest = &self.octets[self.at..];
         let colon = rest.iter().position(|octet| *octet == b':')?;
@@ -30,12 +32,12 @@ impl Input {
         Some(&self.octets[self.at - length..self.at])
     }
 
-    /// The next string as a text.
+    /// Reads the next string. `None` at the end of the input, or if it is not UTF-8.
     fn text(&mut self) -> Option<String> {
         String::from_utf8(self.next()?.to_vec()).ok()
     }
 
-    /// The next list of strings.
+    /// Reads the number of strings, and then these. `None` at the end of the input.
     fn list(&mut self) -> Option<Vec<Vec<u8>>> {
         let count = self.text()?.parse().ok()?;
         (0..count)
@@ -44,7 +46,7 @@ impl Input {
     }
 }
 
-/// The line of an explanation as the program writes it.
+/// The line of an explanation as the program `spki` writes it, put together from its parts, so that the test compares these too.
 fn spelled(reason: Reason) -> String {
     let entry = reason.entry.map(|number| format!("entry {number} "));
     let item = reason.item.map(|number| format!("item {number} "));
@@ -88,7 +90,8 @@ fn answer(input: &mut Input) -> Option<Result<String, Refusal>> {
     Some(guard.and_then(|guard| answer_to(&command, &guard, &question, &accepted)))
 }
 
-/// Verifies by the rows of three that are accepted, and answers by a command: `check`, `explain` or `reduce`.
+/// Asks the guard the question, and answers by the command: `reduce`, `explain`, or else `check`, which decides. A signature is valid if its key,
+/// message and value are three strings of `accepted`, one after the other. A refusal alone is an error: a denial is the answer `no`.
 fn answer_to(
     command: &str,
     guard: &Guard,

@@ -1,12 +1,13 @@
 // Command asked answers the questions of a test, so that another program can compare the answers.
 //
 // It reads strings from standard input, each as LENGTH:OCTETS, and writes each answer as one string, without its last line feed.
-// A list of strings is its number of strings, and the strings. A question is these, in this order:
+// A list of strings is first the number of its strings, itself a string, and then these. A question is, in this order:
 //
-//   - the strings COMMAND, POLICY, LIMITS (`usual` or `highest`), ACL, SEQUENCE and KEY
-//   - `text` or `words`, and a list of strings
-//   - `text` or `seconds`, and a string
-//   - a list of what the verifier accepts, three strings each: a key, a message and a value
+//   - the strings COMMAND (`check`, `explain` or `reduce`), POLICY (`strict`, or any other word for AllowSHA1), LIMITS (`usual` or
+//     `highest`), ACL, SEQUENCE and KEY
+//   - the request: `text` and a list of one string, its text, or `words` and the list of its strings
+//   - the moment: `text` and a date, or `seconds` and the number of seconds since 1970
+//   - a list of the signatures that the verifier accepts, three strings each: a key, a message and a value
 package main
 
 import (
@@ -23,13 +24,13 @@ import (
 	"conguraki/spki/guard"
 )
 
-// An input reads strings. `fault` is that of the last one, such as io.EOF.
+// An input reads strings. `fault` is the error of the last read, such as io.EOF at the end of the input, or nil.
 type input struct {
 	*bufio.Reader
 	fault error
 }
 
-// next reads a string. It is empty if that fails.
+// next reads a string, LENGTH:OCTETS. If the input ends or LENGTH is no number, i.fault says so, and what it returns is no string of the input.
 func (i *input) next() string {
 	digits, err := i.ReadString(':')
 	if i.fault = err; err != nil {
@@ -44,7 +45,7 @@ func (i *input) next() string {
 	return string(octets)
 }
 
-// list reads a list of strings.
+// list reads the number of strings, and then these. It returns nil if the number cannot be read.
 func (i *input) list() []string {
 	count, err := strconv.Atoi(i.next())
 	if err != nil {
@@ -57,14 +58,15 @@ func (i *input) list() []string {
 	return list
 }
 
-// A task is a question with what is asked of the guard.
+// A task is one question of the input. `list` is the text of the ACL, and `accepted` has the key, the message and the value of each signature that
+// its verifier accepts.
 type task struct {
 	command, policy, limits, list string
 	question                      guard.Question
 	accepted                      map[[3]string]bool
 }
 
-// task reads the next question.
+// task reads the next question. At the end of the input it returns one without meaning, and i.fault is io.EOF.
 func (i *input) task() task {
 	made := task{command: i.next(), policy: i.next(), limits: i.next(), list: i.next(), accepted: map[[3]string]bool{}}
 	made.question.Sequence = []byte(i.next())
@@ -77,7 +79,8 @@ func (i *input) task() task {
 	}
 	clock, moment := i.next(), i.next()
 	if seconds, err := strconv.ParseInt(moment, 10, 64); clock == "seconds" && err == nil {
-		// (the first second of the year 1 would be a time that is not set)
+		// (with 1 nanosecond, which a guard ignores. Without it, the seconds of the first moment of the year 1 would give the zero Time, and a
+		// question with the zero Time is one whose Moment is given)
 		made.question.Time = time.Unix(seconds, 1)
 	} else {
 		made.question.Moment = []byte(moment)
@@ -89,7 +92,8 @@ func (i *input) task() task {
 	return made
 }
 
-// answer asks a guard of the list, and returns the lines of the answer.
+// answer opens a guard of the ACL and asks it the question, by the command. It returns the lines of the answer without the last line feed, or the
+// error of a refusal, whose text is its line.
 func (t task) answer() (string, error) {
 	policy, limits := guard.AllowSHA1, guard.Limits{}
 	if t.policy == "strict" {
@@ -117,7 +121,8 @@ func (t task) answer() (string, error) {
 	return decision.String(), err
 }
 
-// spelled returns the lines of an explanation, each put together from its parts.
+// spelled returns the lines of an explanation, each put together from the parts of its Reason, so that the test compares these too. The line for an
+// empty ACL is `no entries`.
 func spelled(explanation guard.Explanation) string {
 	lines := make([]string, 0)
 	for _, reason := range explanation.Reasons() {
@@ -129,6 +134,7 @@ func spelled(explanation guard.Explanation) string {
 	return strings.Join(lines, "\n")
 }
 
+// main answers each question until the input ends.
 func main() {
 	given, out := &input{Reader: bufio.NewReader(os.Stdin)}, bufio.NewWriter(os.Stdout)
 	defer out.Flush()

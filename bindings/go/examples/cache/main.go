@@ -15,7 +15,7 @@ import (
 	"conguraki/spki/verify"
 )
 
-func must[T any](value T, err error) T {
+func must[T any](value T, err error) T { // (it returns the value, or ends the program if there is an error)
 	if err != nil {
 		log.Fatal(err)
 	}
@@ -29,11 +29,11 @@ func main() {
 	list := must(guard.Open(must(os.ReadFile(os.Args[1])), guard.Strict, guard.Limits{}))
 	client, sequence, kept, last := spki.AssumeKey(must(os.ReadFile(os.Args[3]))), must(os.ReadFile(os.Args[4])), guard.Decision{}, ""
 	for lines := bufio.NewScanner(os.Stdin); lines.Scan(); {
-		words := append(strings.SplitN(lines.Text(), " ", 3), "", "")
+		words := append(strings.SplitN(lines.Text(), " ", 3), "", "") // (action, path and text, of which some may be empty)
 		file, isNormal := os.Args[2]+words[1], words[1] != "/" && path.Clean("/"+words[1]) == words[1]
 		if asked := words[0] + " " + words[1]; asked != last || !kept.HoldsAt(time.Now()) {
 			question := guard.Question{Key: client, Sequence: sequence, Words: []string{"cache", words[0], words[1]}, Time: time.Now()}
-			last = asked
+			last = asked                                      // (while its grant `kept` holds, the same request is not decided again)
 			kept, _ = list.Decide(question, verify.Signature) // a refusal is no grant
 		}
 		if !isNormal || !kept.HoldsAt(time.Now()) {

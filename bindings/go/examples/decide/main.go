@@ -27,7 +27,7 @@ func isGranted(list *guard.Guard, sequence []byte, key spki.ProvenKey, words []s
 	return decision.Granted(), nil
 }
 
-// run prints the answer to the words ACL SEQUENCE KEY WORD ..
+// run prints `granted` or `denied` for the arguments ACL SEQUENCE KEY WORD .. It returns an error if a file cannot be read or a text is refused.
 func run(given []string) error {
 	if len(given) < 4 {
 		return errors.New("usage: decide ACL SEQUENCE KEY WORD [WORD ..]")

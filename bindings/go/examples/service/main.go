@@ -23,7 +23,7 @@ func main() {
 		log.Fatal(fileError, listError, portError)
 	}
 	fmt.Println(listener.Addr().(*net.TCPAddr).Port)
-	verifier := httpsig.NewVerifier(os.Args[2])
+	verifier := httpsig.NewVerifier(os.Args[2]) // (the name by which clients ask for the service; a granted request gets 200 and an empty body)
 	log.Fatal(http.Serve(listener, http.HandlerFunc(func(answer http.ResponseWriter, request *http.Request) {
 		var decision guard.Decision
 		proof, err := verifier.Request(request)

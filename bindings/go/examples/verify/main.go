@@ -14,7 +14,7 @@ import (
 	"conguraki/spki/verify"
 )
 
-// next reads a string.
+// next reads a string, LENGTH:OCTETS. The error is one of reading, also at the end of the input.
 func next(given *bufio.Reader) ([]byte, error) {
 	var length int
 	if _, err := fmt.Fscanf(given, "%d:", &length); err != nil {
