@@ -162,7 +162,9 @@ def long_name(names, certificates, members):
 
 
 def large_tag(entries, certificates, members, other=string("a")):
-    """A case of two sets whose intersection has the most strings, and so many times a certificate for the tag `other`, which goes over them."""
+    """A case of an entry and a certificate for the same set of `members` strings, and then `certificates` certificates for the tag `other`. With
+    MEMBERS the intersection of the two sets has as many strings as the limit of nodes allows, and each further certificate is intersected with
+    all of them."""
     large = a_set(string("a"), members)
     return repeated([entry(OWNER, large)], certificate(OWNER, OWNER, other), certificates, [certificate(OWNER, OWNER, large)])
 

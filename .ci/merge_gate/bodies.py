@@ -65,8 +65,9 @@ def refuses(crate: str, path: str, said: str) -> bool:
 
 
 def tried(crate: Any, name: str, over: str) -> tuple[bool, str]:
-    """Tries a wrong body in wrong/: by the functions that it changes, over what the folder `over` has, and if these do not refuse it by the whole
-    crate. Returns whether it is refused, as it must be, and what is said of it."""
+    """Tries a wrong body in wrong/. First only the functions that it changes are checked, beginning with the proofs that the folder `over` keeps. If
+    that does not show that it is refused, as where the check did not end, the whole crate is checked. Returns whether it is refused, as it must
+    be, and the line to print."""
     path = os.path.join(crate.folder, "wrong", f"{name}.edit")
     texts, why = toolchain.applied(path, crate.folder)
     functions = functions_of(crate.folder, texts)

@@ -234,7 +234,7 @@ def names(principal, key, is_strict):
 
 
 def row(signed):
-    """The row of an accepted list that accepts a signature."""
+    """The row `(by KEY (hash sha256 DIGEST) VALUE)` of the part `accepted` of a case, which says that this signature is valid."""
     return b"(2:by" + signed.key + b"(4:hash6:sha256" + string(hashlib.sha256(signed.message).digest()) + b")" + signed.value + b")"
 
 

@@ -28,8 +28,8 @@ var (
 	errSubject = fmt.Errorf("%w: the subject of the last one is not the key that has signed the request", errUnkept)
 )
 
-// isPut says whether a request leaves certificates in place of asking. Where a web server asks by GET, each PUT does. Envoy asks by the client's
-// method, so there only a PUT to the path of certificates does.
+// isPut says whether leftOf is to read a request, and not askedOf. A web server that names the client's method in a header asks by GET, so there each
+// PUT leaves certificates. Envoy asks by the client's method, so there only a PUT to the path of certificates does.
 func (c *config) isPut(request *http.Request) bool {
 	return request.Method == http.MethodPut && (c.Headers.Method != "" || c.isPlace(request))
 }

@@ -232,15 +232,17 @@ class Clients(unittest.TestCase):
         met.exception.close()
 
     def test_requests(self) -> None:
-        """The object for `requests` and `httpx`, by a request of the form that each has."""
+        """`Auth` signs a request like that of `requests`, which has `body`, and one like that of `httpx`, which has `content`."""
         class Prepared:
             def __init__(self, method: str, url: str, body: bytes | None, has_content: bool) -> None:
+                # (99 is wrong: a length is not signed)
                 self.method, self.url, self.headers = method, url, {"Accept": "*/*", "Content-Length": "99"}
                 setattr(self, "content" if has_content else "body", body)
 
         for has_content in (False, True):
             def send(signer: spki_http.Signer, method: str, body: bytes | None) -> bytes:
                 prepared = spki_http.Auth(signer, self.name)(Prepared(method, self.url, body, has_content))
+                # (urllib sets the right one)
                 del prepared.headers["Content-Length"]
                 opener = urllib.request.build_opener(urllib.request.ProxyHandler({}))
                 with opener.open(urllib.request.Request(prepared.url, body, prepared.headers, method=method)) as response:

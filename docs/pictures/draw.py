@@ -113,17 +113,18 @@ def of_case(name, program):
 def main():
     words = sys.argv[1:]
     is_check = words[:1] == ["--check"]
+    # (the program is the argument behind --check)
     program, wrong = given_program(1 + is_check), 0
     pictures = {make.__name__: make() for make in (chain, crates, octets)}
     pictures.update({name: of_case(name, program) for name in CASES})
     for name, lines in pictures.items():
-        path, drawn = os.path.join(HERE, f"{name}.svg"), "\n".join(lines) + "\n"
+        path, svg = os.path.join(HERE, f"{name}.svg"), "\n".join(lines) + "\n"
         if not is_check:
             with open(path, "w", encoding="utf-8") as file:
-                file.write(drawn)
+                file.write(svg)
             continue
         with open(path, encoding="utf-8") as file:
-            if file.read() != drawn:
+            if file.read() != svg:
                 print(f"{path} is not as it is drawn: run docs/pictures/draw.py")
                 wrong += 1
     return 1 if wrong else 0

@@ -75,11 +75,13 @@ def part_text(value: Value, rng: random.Random) -> bytes:
 
 
 def strings_of(request: Value, rng: random.Random) -> tuple[bytes, ...] | None:
-    """The strings of a request, or by chance others. None if the request goes as a text, as one must that has lists inside."""
+    """The strings of a request, or by chance others. None if the request goes as a text: by chance, and always if strings cannot say it. They cannot
+    say a list of one member, since one string stands for itself, nor a list inside, nor a display hint."""
     if rng.random() < 0.06:
         return tuple(rng.choice(STRINGS) for _ in range(rng.randrange(4)))
     members = request if isinstance(request, tuple) else (request,)
-    if len(members) == 1 and isinstance(request, tuple) or rng.random() < 0.5:
+    is_list_of_one = len(members) == 1 and isinstance(request, tuple)
+    if is_list_of_one or rng.random() < 0.5:
         return None
     strings = [it.body for it in members if isinstance(it, Atom) and it.hint is None]
     return tuple(strings) if len(strings) == len(members) else None

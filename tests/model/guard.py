@@ -151,8 +151,8 @@ def part(name: str, reader: Any, text: bytes) -> Any:
 
 
 def read(name: str, reader: Any, value: Value) -> Any:
-    """What a reader returns for a part's value. Raises Refused with the part's name, and with the number of the item for a sequence: 0 if the
-    sequence itself is wrong."""
+    """What a reader, such as `structures.read_key`, returns for a part's value. Raises Refused with the part's name, and for a sequence, whose reader
+    alone raises ItemFault, with the number of the item: 0 if the sequence itself is wrong."""
     try:
         return reader(value)
     except ItemFault as fault:

@@ -58,7 +58,8 @@ def counted() -> Iterator[None]:
     from spki_cert_tool import asking, certificates, checking, making, sexp
 
     def trace(frame, event, _):
-        """Python calls this for each function that begins, and what it returns for each line there."""
+        """Adds 1 to SEEN for each event in `spki_cert_tool`: a call, a line or a return. Python calls this where a function begins, and then what it
+        returns, which is this again, for what follows there."""
         if "spki_cert_tool" in frame.f_code.co_filename:
             SEEN[0] += 1
             return trace

@@ -77,6 +77,7 @@ class Generated(built.OfProgram):
 
     @classmethod
     def setUpClass(cls) -> None:
+        """Compares all cases once, with a new seed. The tests of the commands look at those that differ."""
         super().setUpClass()
         cls.seed = secrets.token_hex(4)
         with tempfile.TemporaryDirectory() as folder:

@@ -380,9 +380,10 @@ class Doors(OfPage):
             self.assertEqual(self.posted(path), 403, path)
 
     def test_only_files_of_the_page(self) -> None:
+        """GET gives only files of page/, and no job, such as `question`. POST does only jobs."""
         for name in ("../server.py", "..%2fserver.py", "/etc/passwd", "page.js/", "question", "./page.js"):
             self.assertEqual(self.page.reply("GET", self.page.address.path + name)[0], 404, name)
-        self.assertEqual(self.posted(self.page.address.path + "engine"), 404)
+        self.assertEqual(self.posted(self.page.address.path + "no-such-job"), 404)
 
     def test_bodies(self) -> None:
         # The page answers before the body is sent.

@@ -21,7 +21,7 @@ def files_here() -> Iterator[str]:
 
 @needs.needs("codespell")
 class Spelling(unittest.TestCase):
-    """The spelling of all files."""
+    """The spelling of the files of KINDS, and of those in specs/, which have no ending in common."""
 
     def test_spelling(self) -> None:
         files = [path for path in files_here() if path.endswith(KINDS) or path in WITHOUT_END or "/specs/" in path]

@@ -83,7 +83,8 @@ function measure(text, kind) {
   return measuring.measureText(text).width;
 }
 
-/** A text in at most `most` lines that fit a width in a font of FONTS. A line breaks at a space, else anywhere. What is too long ends in dots. */
+/** A text in at most `most` lines of `width` pixels. `kind` is a font of FONTS. A line breaks at a space or behind a slash, else anywhere. What is too
+ * long ends in dots. */
 function wrapped(text, width, kind, most) {
   const lines = [];
   let rest = text.slice(0, MOST_LETTERS);
