@@ -338,14 +338,13 @@ class Answers(OfC):
 
 
 class UnderAddressSanitizer(OfC):
-    """The answers to short questions of each library, under AddressSanitizer, and in one thread alone: the others have small stacks, and its frames
-    are large."""
+    """The answers to short questions of each library, under AddressSanitizer."""
 
     def test_static(self):
-        self.check_answers(short_of(self.program), "static", *SANITIZED, threads=0, refusals=REFUSALS)
+        self.check_answers(short_of(self.program), "static", *SANITIZED, refusals=REFUSALS)
 
     def test_shared(self):
-        self.check_answers(short_of(self.program), "shared", *SANITIZED, threads=0)
+        self.check_answers(short_of(self.program), "shared", *SANITIZED)
 
 
 @needs.needs("valgrind")
