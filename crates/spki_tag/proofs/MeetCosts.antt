@@ -70,6 +70,12 @@ members_cost-less b h = absurd (true≢false (sym h))
 node_cost-some : (b : Tag) → 1 ≤ node_cost b
 node_cost-some b = omega (arith, nodes-some b)
 
+-- an intersection costs something
+pub meet_cost-some : (a b : Tag) → 1 ≤ meet_cost a b
+meet_cost-some a b =
+    let least : 1 * 1 ≤ nodes a * node_cost b = mul-le 1 1 (nodes a) (node_cost b) (nodes-some a) (node_cost-some b) in
+    omega (arith, least)
+
 -- where one is a set, its members cost less than it does
 pub members-cost : (a b : Tag) (s t : Bool) → is_set a ≡ s → is_set b ≡ t → (s || t) ≡ true
     → 1 + 3 * (nodes_all (members_of a) * node_costs (members_of b)) ≤ 3 * meet_cost a b

@@ -1,9 +1,14 @@
 -- The members of a tag, one after the other, as loops visit them. Where members differ, the tags do.
 use Rattle.std.proofs.Common.{◌≡◌, ℕ, zero, suc, ◌≤◌, ◌<◌, false, List, [], ◌∷◌, length, get_or, refl, arith, rules, ◌≢◌, ◌↔◌, IsTrue, sym, ap, ◌∙◌}
 use Rattle.std.proofs.{Math.Bool.{and-false}, lemmas.List.{get_or_default}}
-use Rattle.spki_tag.{specs.{Request.{Request, requests}, Tag.{Tag, tags, contain_each, nodes, nodes_all}, Meet.{items}}, proofs.Exact.{items_tags}}
+use Rattle.spki_tag.{specs.{Request.{Request, requests}, Tag.{Tag, tags, contain_each, nodes, nodes_all}, Meet.{items}}, proofs.{Exact.{items_tags}, MeetSizes.{nodes-some}}}
 
 -- ---- the members of a tag one after the other, as loops visit them
+
+-- each member has a node
+pub fewer_than_nodes : (ts : List Tag) → length ts ≤ nodes_all (tags ts)
+fewer_than_nodes [] = omega arith
+fewer_than_nodes (t ∷ ts) = omega (arith, nodes-some t, fewer_than_nodes ts)
 
 -- a member has no more nodes than all of them
 pub nodes_le-nodes_all : (ts : List Tag) (i : ℕ) (d : Tag) → i < length ts

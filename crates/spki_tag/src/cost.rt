@@ -4,6 +4,7 @@ ghost use Rattle.std.specs.{Prelude.{◌≡◌, ◌^◌, ◌<◌}, Option.{SomeI
 ghost use Rattle.spki_tag.specs.{Cost.{limit_octets, node_cost, node_costs}, Leaves.{leaf_tag}, Limits.{limit_of}, Tag.{tags}};
 
 use crate::leaf::{Leaf, Limit};
+use crate::shared_tags::tags_in;
 use crate::tag::{Node, Tag};
 
 /// What a string, a set or `(*)` costs, without its octets and members: 15 for a node, and 1 for a tag.
@@ -26,11 +27,11 @@ impl Tag {
         match &self.node {
             Node::Leaf(leaf) => leaf.node_cost(),
             Node::List(head, further, _) => {
-                let members = costs_of(further)?;
+                let members = costs_of(tags_in(further))?;
                 let octets = head.as_slice().len();
                 members.checked_add(octets)?.checked_add(LIST)
             }
-            Node::Set(members, _) => costs_of(members)?.checked_add(PLAIN),
+            Node::Set(members, _) => costs_of(tags_in(members))?.checked_add(PLAIN),
         }
     }
 }

@@ -4,6 +4,7 @@ ghost use Rattle.std.specs.Prelude.{◌≡◌, ◌↔◌, IsTrue};
 ghost use Rattle.spki_tag.specs.{Leaves.{leaf_tag}, Limits.{limit_of, ordering_of}, Nodes.{node_tag}, Tag.{tags}};
 
 use crate::leaf::{Leaf, Limit, RangeOrdering};
+use crate::shared_tags::tags_in;
 use crate::tag::{Node, Tag};
 
 impl Tag {
@@ -18,14 +19,15 @@ impl Tag {
             Node::List(head, further, _) => match &other.node {
                 Node::Leaf(_) => false,
                 Node::List(second, others, _) => {
-                    head.as_slice() == second.as_slice() && all_same(further, others)
+                    head.as_slice() == second.as_slice()
+                        && all_same(tags_in(further), tags_in(others))
                 }
                 Node::Set(_, _) => false,
             },
             Node::Set(members, _) => match &other.node {
                 Node::Leaf(_) => false,
                 Node::List(_, _, _) => false,
-                Node::Set(others, _) => all_same(members, others),
+                Node::Set(others, _) => all_same(tags_in(members), tags_in(others)),
             },
         }
     }

@@ -5,6 +5,7 @@ ghost use Rattle.spki_tag.specs.{Leaves.{leaf_tag}, Limits.{limit_of}, TagForms.
 ghost use Rattle.spki_tag.specs.Tag as spec;
 
 use crate::leaf::{Leaf, Limit, RangeOrdering};
+use crate::shared_tags::tags_in;
 use crate::tag::{Node, Tag};
 
 /// A limit of a range.
@@ -86,10 +87,10 @@ impl Tag {
             Node::Leaf(leaf) => leaf_form(leaf),
             Node::List(head, further, _) => TagForm::List {
                 head: head.as_slice(),
-                further: further.as_slice(),
+                further: tags_in(further),
             },
             Node::Set(members, _) => TagForm::Set {
-                members: members.as_slice(),
+                members: tags_in(members),
             },
         }
     }
@@ -115,7 +116,7 @@ impl Tag {
         match &self.node {
             Node::Leaf(_) => false,
             Node::List(_, _, _) => false,
-            Node::Set(members, _) => members.is_empty(),
+            Node::Set(members, _) => tags_in(members).is_empty(),
         }
     }
 }

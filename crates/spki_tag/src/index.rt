@@ -6,6 +6,7 @@ ghost use Rattle.spki_tag.specs.{Meet.{kind, may_share, members, places_where}, 
 
 use crate::leaf::Leaf;
 use crate::merge::merged;
+use crate::shared_tags::tags_in;
 use crate::tag::{Node, Tag};
 use std::alloc::{AllocError, Global};
 use std::collections::BTreeMap;
@@ -21,7 +22,7 @@ impl Tag {
         match &self.node {
             Node::Leaf(_) => slice::from_ref(self),
             Node::List(_, _, _) => slice::from_ref(self),
-            Node::Set(members, _) => members.as_slice(),
+            Node::Set(members, _) => tags_in(members),
         }
     }
 }

@@ -12,6 +12,7 @@ use crate::form::has_set;
 use crate::index::Index;
 use crate::leaf::SharedOctets;
 use crate::parts::{leaf_or_nothing, push_copies, push_kept};
+use crate::shared_tags::tags_in;
 use crate::tag::{Node, Tag};
 use crate::ticks::Ticks;
 use std::alloc::{AllocError, Global};
@@ -36,9 +37,9 @@ fn meet_tags<L: Ledger>(
 {
     ticks.tick();
     if one.is_everything() {
-        other.copy_counted(ticks)
+        other.clone()
     } else if other.is_everything() {
-        one.copy_counted(ticks)
+        one.clone()
     } else if has_set(one, other) {
         meet_members(alloc, one.members(), other.members(), ticks)
     } else {
@@ -64,16 +65,21 @@ fn meet_single<L: Ledger>(
 {
     match &one.node {
         Node::Leaf(leaf) => match &other.node {
-            Node::Leaf(second) => {
-                Ok(leaf_or_nothing(alloc, leaf.meet_counted(alloc, second, ticks)?))
-            },
-            Node::List(_, _, _) => Ok(Tag::nothing(alloc)),
+            Node::Leaf(second) => { Ok(leaf_or_nothing(leaf.meet_counted(alloc, second, ticks)?)) },
+            Node::List(_, _, _) => Ok(Tag::nothing()),
             Node::Set(_, _) => unreachable!(),
         },
         Node::List(head, further, _) => match &other.node {
-            Node::Leaf(_) => Ok(Tag::nothing(alloc)),
+            Node::Leaf(_) => Ok(Tag::nothing()),
             Node::List(second, others, _) => {
-                meet_lists(alloc, head, further, second, others, ticks)
+                meet_lists(
+                    alloc,
+                    head,
+                    tags_in(further),
+                    second,
+                    tags_in(others),
+                    ticks,
+                )
             }
             Node::Set(_, _) => unreachable!(),
         },
@@ -104,11 +110,11 @@ fn meet_lists<L: Ledger>(
 {
     ticks.read(other.as_slice().len());
     if head.as_slice() != other.as_slice() {
-        return Ok(Tag::nothing(alloc));
+        return Ok(Tag::nothing());
     }
     match meet_each(alloc, further, others, ticks)? {
-        None => Ok(Tag::nothing(alloc)),
-        Some(members) => Ok(Tag::list(head.clone()?, members)),
+        None => Ok(Tag::nothing()),
+        Some(members) => Tag::list(head.clone()?, members),
     }
 }
 
@@ -172,7 +178,7 @@ fn meet_members<L: Ledger>(
         pushed?;
     }
     drop(index);
-    Ok(Tag::gathered(met))
+    Tag::gathered(met)
 }
 
 /// Appends to `met` the intersections of `one` with those of `others` at these places, counted from 1, which the index of `others` has

@@ -24,6 +24,7 @@ mod ranges;
 mod reader;
 mod request;
 mod sets;
+mod shared_tags;
 mod string_octets;
 mod tag;
 mod ticks;

@@ -5,6 +5,7 @@ ghost use Rattle.spki_tag.specs.{Tag.{tags, contains, contain_each, some_contain
 ghost use Rattle.spki_tag.specs.Request as spec;
 
 use crate::request::{Ground, GroundNode};
+use crate::shared_tags::tags_in;
 use crate::tag::{Node, Tag};
 use crate::ticks::Ticks;
 use std::marker::Brand;
@@ -50,10 +51,11 @@ impl Tag {
                 GroundNode::String(_) => false,
                 GroundNode::List(other, others) => {
                     ticks.read(head.as_slice().len());
-                    head.as_slice() == other.as_slice() && each_holds(further, others, ticks)
+                    head.as_slice() == other.as_slice()
+                        && each_holds(tags_in(further), others, ticks)
                 }
             },
-            Node::Set(members, _) => some_holds(members, request, ticks),
+            Node::Set(members, _) => some_holds(tags_in(members), request, ticks),
         }
     }
 }

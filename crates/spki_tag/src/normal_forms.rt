@@ -1,12 +1,14 @@
 //! Makes tags in normal form, from the inside out. In normal form no set has a member that is a set or `(*)`, or only one member, and no
 //! list has a member `(* set)`. A tag and its normal form contain the same requests.
 
-ghost use Rattle.std.specs.{Prelude.{◌≡◌, ◌≤◌, ◌++◌, OnOk}, Arc.{arc_slice_items}};
+ghost use Rattle.std.specs.{Prelude.{◌≡◌, ◌≤◌, ◌++◌, IfOk, OnOk}, Arc.{arc_slice_items}};
 ghost use Rattle.spki_tag.specs.{Request.{IsHead}, Tag.{IsNormalTag, tags, list, nodes, most_nodes}, Reading.{AreNormal, set_of}};
 ghost use Rattle.spki_tag.specs.Meet.{listed, members as in_place};
 
 use crate::form::{has_everything, has_nothing};
 use crate::leaf::SharedOctets;
+use crate::parts::push_shared;
+use crate::shared_tags::tags_in;
 use crate::tag::{Node, Tag};
 use std::alloc::AllocError;
 
@@ -21,38 +23,35 @@ pub(crate) fn push_member(members: &mut Vec<Tag>, tag: Tag) -> Result<(), AllocE
         Node::List(head, further, nodes) => members.push(Tag {
             node: Node::List(head, further, nodes),
         })?,
-        Node::Set(inner, _) => {
-            let mut inner = inner;
-            members.append(&mut inner)?;
-        }
+        Node::Set(inner, _) => push_shared(members, tags_in(&inner))?,
     }
     Ok(())
 }
 
 impl Tag {
     /// The set of these members, none of which is a set, in normal form. With a member `(*)` it is `(*)`, with one member it is that
-    /// member, and without members it is `(* set)`.
-    pub(crate) fn set_of(members: Vec<Tag>) -> Tag
+    /// member, and without members it is `(* set)`. Err if memory ran out.
+    pub(crate) fn set_of(members: Vec<Tag>) -> Result<Tag, AllocError>
         requires { IsNormalTag (set_of members.items) }
-        ensures { result ≡ set_of members.items }
+        ensures { IfOk result (λ t. t ≡ set_of members.items) }
     {
         if has_everything(&members) {
-            return Tag::everything();
+            return Ok(Tag::everything());
         }
         Tag::gathered(members)
     }
 
     /// The list of a head and these tags, in normal form. If one of the tags is `(* set)`, which `Tag::list` does not allow, the list is
-    /// `(* set)` too.
+    /// `(* set)` too. Err if memory ran out.
     #[tactic(auto, using(crate::proofs::NormalForms::any_nothing))]
-    pub(crate) fn list_of(head: SharedOctets, further: Vec<Tag>) -> Tag
+    pub(crate) fn list_of(head: SharedOctets, further: Vec<Tag>) -> Result<Tag, AllocError>
         requires head { IsHead (arc_slice_items head) }
         requires room { nodes (list (arc_slice_items head) (tags further.items)) ≤ most_nodes }
         requires normal { AreNormal further.items }
-        ensures { result ≡ listed (arc_slice_items head) further.items }
+        ensures { IfOk result (λ t. t ≡ listed (arc_slice_items head) further.items) }
     {
         if has_nothing(&further) {
-            Tag::nothing(*further.allocator())
+            Ok(Tag::nothing())
         } else {
             Tag::list(head, further)
         }

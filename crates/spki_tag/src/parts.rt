@@ -6,15 +6,15 @@ ghost use Rattle.spki_tag.specs.{Leaves.{leaf_or_nothing}, Meet.{kept}, Tag.{tag
 use crate::leaf::Leaf;
 use crate::tag::Tag;
 use crate::ticks::Ticks;
-use std::alloc::{AllocError, Global};
+use std::alloc::AllocError;
 use std::sync::ledger::Ledger;
 
 /// The tag of `leaf`, or `(* set)` for None.
-pub(crate) fn leaf_or_nothing(alloc: Global, leaf: Option<Leaf>) -> Tag
+pub(crate) fn leaf_or_nothing(leaf: Option<Leaf>) -> Tag
     ensures { result ≡ leaf_or_nothing leaf }
 {
     match leaf {
-        None => Tag::nothing(alloc),
+        None => Tag::nothing(),
         Some(leaf) => Tag::leaf(leaf),
     }
 }
@@ -31,7 +31,8 @@ pub(crate) fn push_kept(met: &mut Vec<Tag>, tag: Tag) -> Result<(), AllocError>
 }
 
 /// Appends a copy of each of `members`, which only the longer of two lists has, to `met`, the members of their intersection so far. A tick
-/// is a tag that is copied, also inside of a member. Err if memory ran out.
+/// is such a member. Err if memory ran out.
+#[tactic(auto, using(crate::proofs::Members::fewer_than_nodes))]
 pub(crate) fn push_copies<L: Ledger>(
     met: &mut Vec<Tag>,
     members: &[Tag],
@@ -42,8 +43,16 @@ pub(crate) fn push_copies<L: Ledger>(
     ensures grows { ticks.old ≤ ticks.new }
     ensures each { OnOk result (ticks.old + length members.now ≤ ticks.new) }
 {
-    for member in members {
-        met.push(member.copy_counted(ticks)?)?;
+    ticks.read(members.len());
+    push_shared(met, members)
+}
+
+/// Appends the tags of `others` to `tags`. What they have is shared and not copied. Err if memory ran out.
+pub(crate) fn push_shared(tags: &mut Vec<Tag>, others: &[Tag]) -> Result<(), AllocError>
+    ensures { OnOk result (tags.new.items ≡ tags.old.items ++ others.now) }
+{
+    for other in others {
+        tags.push(other.clone()?)?;
     }
     Ok(())
 }

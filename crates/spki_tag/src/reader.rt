@@ -162,7 +162,7 @@ fn read_set(alloc: Global, further: Members<'_, '_>, used: usize) -> Result<(Tag
     let mut members = Vec::with_capacity(alloc, further.len().min(MOST_READ - used))?;
     let after = put_members(alloc, further, used + 1, &mut members)?;
     members.shrink_to_fit();
-    Ok((Tag::set_of(members), after))
+    Ok((Tag::set_of(members)?, after))
 }
 
 /// The members after `*` and `set` of a value that is written as a set. None for every other value.
@@ -251,7 +251,7 @@ fn read_plain_list(
     }
     let (members, after) = read_members(alloc, further, used + 2)?;
     let octets = ArcSlice::from_slice(alloc, head)?;
-    Ok((Tag::list_of(octets, members), after))
+    Ok((Tag::list_of(octets, members)?, after))
 }
 
 /// Reads each of the members of a list as a tag. Returns the tags, in order, and `used` plus their nodes. `used`, the count before them,

@@ -3,6 +3,7 @@
 ghost use Rattle.std.specs.Prelude.{◌≡◌};
 ghost use Rattle.spki_tag.specs.Tag.{tags, nests_set, some_nests_set};
 
+use crate::shared_tags::tags_in;
 use crate::tag::{Node, Tag};
 
 impl Tag {
@@ -14,7 +15,7 @@ impl Tag {
     {
         match &self.node {
             Node::Leaf(_) => false,
-            Node::List(_, further, _) => some_nests_set(further),
+            Node::List(_, further, _) => some_nests_set(tags_in(further)),
             Node::Set(_, _) => true,
         }
     }

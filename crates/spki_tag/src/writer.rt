@@ -6,6 +6,7 @@ ghost use Rattle.spki_tag.specs.{Leaves.{leaf_tag, range_tag}, Limits.{ordering_
 
 use crate::leaf::{Leaf, Limit, RangeOrdering};
 use crate::range::Range;
+use crate::shared_tags::tags_in;
 use crate::tag::{Node, Tag};
 use sexpr_core::Sexp;
 use std::alloc::{AllocError, Global};
@@ -101,12 +102,12 @@ impl Tag {
             Node::List(head, further, _) => {
                 let mut out = Vec::new(alloc);
                 out.push(Sexp::plain(alloc, head.as_slice())?)?;
-                push_each(alloc, &mut out, further)?;
+                push_each(alloc, &mut out, tags_in(further))?;
                 Ok(Sexp::list(out))
             }
             Node::Set(members, _) => {
                 let mut out = starred(alloc, b"set")?;
-                push_each(alloc, &mut out, members)?;
+                push_each(alloc, &mut out, tags_in(members))?;
                 Ok(Sexp::list(out))
             }
         }

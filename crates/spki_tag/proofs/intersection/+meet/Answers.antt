@@ -2,9 +2,9 @@ use Rattle.std.proofs.Common.{◌≡◌, ℕ, ◌+◌, ◌*◌, ◌<◌, ◌≤�
 use Rattle.std.proofs.lemmas.{Nat.{mul-le}, List.{take_all}, Grind.{common_steps}}
 use Rattle.std.specs.{Prelude.{All}, Arc.{arc_slice_items}}
 use Rattle.spki_tag.specs.{Tag.{Tag, tags, nodes, nodes_all, list, most_nodes}, Meet.{meet, each_meet, pairs, row, may_share, places_where, tags_at}}
-use Rattle.spki_tag.specs.{Nodes.{node_tag}, Cost.{node_cost, node_costs, meet_cost}}
+use Rattle.spki_tag.specs.{Nodes.{node_tag, shared_items}, Cost.{node_cost, node_costs, meet_cost}}
 use Rattle.spki_tag.proofs.{Places.{places_where-within, row_at_places}, Members.{nodes_le-of_read}}
-use Rattle.spki_tag.proofs.MeetCosts.{each-step, rest-nodes, place-step, row-step, members-met, lists-met}
+use Rattle.spki_tag.proofs.MeetCosts.{each-step, rest-nodes, place-step, row-step, members-met, lists-met, meet_cost-some}
 use Rattle.spki_tag.proofs.MeetSteps.{tags-members, members_meet, pairs-step, each_meet-last, meet_steps}
 use Rattle.spki_tag.proofs.intersection.+meet.Goals as goal
 
@@ -144,14 +144,14 @@ meet_members-returns-in_err-pushed-clause-cost g t c =
 
 pub meet_single-returns-in-List-node-2-clause-cost : goal.meet_single-returns-in-List-node-2-clause-cost
 meet_single-returns-in-List-node-2-clause-cost g t c =
-    let ts = c.in-List.further.items in
-    let us = c.in-List-node-2.others.items in
+    let ts = shared_items c.in-List.further in
+    let us = shared_items c.in-List-node-2.others in
     let one : c.args.one.now ≡ list (arc_slice_items c.in-List.head) (tags ts) =
     sym c.one.view_is ∙ ap node_tag c.in-List.is in
     let other : c.args.other.now ≡ list (arc_slice_items c.in-List-node-2.second) (tags us) =
     sym c.other.view_is ∙ ap node_tag c.in-List-node-2.is in
     lists-met c.args.one.now c.args.other.now _ _ ts us _ _ one other
-    (rw (c.deref.ensures.value, c.deref-in-List-node-2.ensures.value) at c.meet_lists.ensures.cost)
+    (rw (c.tags_in.ensures, c.tags_in-in-List-node-2.ensures) at c.meet_lists.ensures.cost)
 
 pub meet_tags-returns-then-has_set-clause-cost : goal.meet_tags-returns-then-has_set-clause-cost
 meet_tags-returns-then-has_set-clause-cost g t c =
@@ -180,3 +180,7 @@ push_row-returns-in_err-push_kept-clause-cost g t c =
       place-step c.args.one.now c.args.others.now c.args.places.now c.loop-place.place-index c.index-others-place.result c.loop-place.ticks
           c.meet_tags.new.ticks _ c.loop-place-test.true c.requires.places c.index-others-place.is c.meet_tags.ensures.cost c.loop-place.invariant.1,
     )
+
+pub meet_tags-returns-then-is_everything-clause-cost : goal.meet_tags-returns-then-is_everything-clause-cost
+meet_tags-returns-then-is_everything-clause-cost g t c =
+    omega (arith, c.tick.ensures, meet_cost-some c.args.one.now c.args.other.now)

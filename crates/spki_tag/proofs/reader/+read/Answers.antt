@@ -103,3 +103,9 @@ read_members-returns-in_err-tags-clause-named t c = search (rules, tags_read, me
 
 pub read_set-returns-in_err-members-clause-named : goal.read_set-returns-in_err-members-clause-named
 read_set-returns-in_err-members-clause-named t c = search (rules, tags_read, members_read)
+
+pub read_plain_list-returns-in_err-list_of-clause-named : goal.read_plain_list-returns-in_err-list_of-clause-named
+read_plain_list-returns-in_err-list_of-clause-named t c = search (rules, tags_read, members_read)
+
+pub read_set-returns-in_err-set_of-clause-named : goal.read_set-returns-in_err-set_of-clause-named
+read_set-returns-in_err-set_of-clause-named t c = search (rules, tags_read, members_read)
