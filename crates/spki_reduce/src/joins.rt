@@ -64,7 +64,7 @@ impl<'a> Five<'a> {
     /// the nodes of both tags is `most`, which must be at most 1,000,000. Err is `TooLarge` if they join except for their tags, and the
     /// product is over `most`; or `Memory`.
     ///
-    /// A tick is one of `Tag::into_meet_counted`, or a name of the next subject. There are at most three for each unit of `cost_with`, so
+    /// A tick is one of `Tag::meet_counted`, or a name of the next subject. There are at most three for each unit of `cost_with`, so
     /// none if they do not join for another reason than their tags.
     pub(crate) fn into_then<L: Ledger>(
         self,
@@ -100,7 +100,7 @@ impl<'a> Five<'a> {
             }
         };
         let Five { issuer, tag, .. } = self;
-        let tag = tag.into_meet_counted(alloc, &next.tag, most, ticks)?;
+        let tag = tag.meet_counted(alloc, &next.tag, most, ticks)?;
         ticks.read(next.subject.names.len());
         Ok(narrowed(issuer, tag, next, window)?)
     }

@@ -2,7 +2,7 @@
 use Rattle.std.proofs.Common.{◌≡◌, ℕ, zero, suc, ◌+◌, ◌*◌, ◌<◌, ◌≤◌, Bool, true, false, ◌||◌, List, [], ◌∷◌, length, take, drop, get_or, refl, sym, subst, ◌∙◌, ◌-◌, arith, true≢false}
 use Rattle.std.proofs.lemmas.{Nat.{mul-le}, List.{drop_more, get_or_default}}
 use Rattle.std.specs.Prelude.{All}
-use Rattle.spki_tag.specs.Tag.{Tag, Tags, tags, star, string, prefix, range, list, set, none, more, is_set, nodes, nodes_all}
+use Rattle.spki_tag.specs.Tag.{Tag, tags, star, range, list, set, is_set, nodes, nodes_all}
 use Rattle.spki_tag.specs.{Cost.{node_cost, node_costs, meet_cost}, Meet.{members, may_share, places_where, tags_at}}
 use Rattle.spki_tag.proofs.{MeetSizes.{nodes-some}, MeetSteps.{members_of, members-le, members-less, cut, tags-members}, Places.{at_places-le}}
 

@@ -40,16 +40,6 @@ one_row : (f g : Tag → Tag) (bs : Tags) → ((b : Tag) → is_set_or_star b �
     → is_normal (set bs) ≡ true → gather (row f bs) ≡ gather (row g bs ++ [])
 one_row f g bs e n = search (rules, row-same f g bs e (and_parts (is_none_or_many bs) (each_normal is_set_or_star bs) n).1, append-nil)
 
--- `(*)` leaves the other tag as it is
-pub meet_star : (a b : Tag) → is_star b ≡ true → (meet a b ≡ a) × (nodes b ≡ 1)
-meet_star star star h = (refl, refl)
-meet_star (string s) star h = (refl, refl)
-meet_star (prefix s) star h = (refl, refl)
-meet_star (range o l u) star h = (refl, refl)
-meet_star (list head ts) star h = (refl, refl)
-meet_star (set ms) star h = (refl, refl)
-meet_star a b h = absurd (true≢false (sym h))
-
 -- Where one is a set, the members of each are met with those of the other.
 pub meet-by_members : (a b : Tag) → is_star a ≡ false → is_star b ≡ false → (is_set a || is_set b) ≡ true
     → is_normal b ≡ true → gather (pairs (members_of a) (members_of b)) ≡ meet a b

@@ -1,6 +1,6 @@
 -- Tags in normal form: sets and lists of such tags have one, and what two tags in normal form leave together is in
 -- normal form, so that two tags of the type leave a tag of the type, where it isn't too large.
-use Rattle.std.proofs.Common.{◌≡◌, ℕ, zero, suc, max, ◌≤◌, Bool, true, false, ◌||◌, List, [], ◌∷◌, ◌++◌, refl, sym, ap, ◌∙◌, true≢false, length, append-nil, arith, le_trans, rules, not, ◌*◌}
+use Rattle.std.proofs.Common.{◌≡◌, ℕ, zero, suc, max, ◌≤◌, Bool, true, false, ◌||◌, List, [], ◌∷◌, ◌++◌, refl, sym, ap, ◌∙◌, true≢false, arith, le_trans, rules, not, ◌*◌}
 use Rattle.std.proofs.{Math.Bool.{or-false, or-true}, lemmas.Bool.{and_parts, or_parts, or_from, cond_both}}
 use Rattle.std.specs.{List.{list_any, AllByRecursion}, Str.{bytes_eq}}
 use Rattle.spki_tag.specs.Tag.{Tag, Tags, tags, star, list, set, none, more, IsTag, AreTags, contains, some_contains, nodes, nodes_all, ldepth, ldepth_most, is_star, is_set, is_nothing, is_set_or_star, is_normal, each_normal, most_nodes, IsNormalTag, string, prefix, range}

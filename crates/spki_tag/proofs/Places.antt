@@ -1,6 +1,6 @@
 -- The places in an index: those of the members that pass a test, two lists of places joined in one, what one more
 -- place changes, and what a tag leaves of the members at such places.
-use Rattle.std.proofs.Common.{◌≡◌, ℕ, ◌*◌, ◌<◌, ◌≤◌, List, [], ◌∷◌, ◌++◌, length, take, drop, refl, sym, ap, ◌∙◌, arith, ◌-◌, append-nil, append_assoc, ◌⊎◌, inl, inr, rules, suc, ◌+◌, Bool, true, false, ◌||◌, ◌&&◌, get_or, subst, length-take, Vec, Option, Some, None}
+use Rattle.std.proofs.Common.{◌≡◌, ℕ, ◌<◌, ◌≤◌, List, [], ◌∷◌, ◌++◌, length, take, drop, refl, sym, ap, ◌∙◌, arith, ◌-◌, append-nil, append_assoc, ◌⊎◌, inl, inr, rules, suc, ◌+◌, Bool, true, false, ◌||◌, ◌&&◌, get_or, subst, length-take, Vec, Option, Some, None}
 use Rattle.std.proofs.lemmas.{Bool.{lt-ltb, le-ltb, cond_both}, List.{take_rest, drop_all, take_more, Elements.{All-cons}}}
 use Rattle.std.proofs.lemmas.Map.Text.{btree_map_str_after}
 use Rattle.std.proofs.Math.Bool.{and-false, or-false}

@@ -1,5 +1,5 @@
 //! The intersection of tags (RFC 2693, section 6.3.1). `ticks` counts the work, and exists only in contracts. A tick is a pair of tags that
-//! is looked at, a tag that is copied, or an octet of the second tag's strings that is compared.
+//! is looked at, a member that is copied, or an octet of the second tag's strings that is compared.
 
 ghost use Rattle.std.specs.Prelude.{◌≡◌, ◌+◌, ◌*◌, ◌<◌, ◌≤◌, ◌↔◌, ◌++◌, ◌&&◌, [], max, true, false, IfOk, OnOk, IsErrOf, MatchOption, All, length};
 ghost use Rattle.std.specs.Arc.{arc_slice_items};
@@ -264,9 +264,15 @@ impl Tag {
         self.meet_counted(alloc, other, most, &mut Ticks::<L>::new(blank))
     }
 
-    /// Does what `meet_within` does, and adds its work to `ticks`: at most three times the nodes of this tag times the other's `node_cost`.
+    /// Does what `meet_within` does, and adds its work to `ticks`, which exists only in contracts: one for each pair of tags that is looked
+    /// at, each member that is copied, and each octet of the other tag's strings that is compared. It adds at most three times the nodes of
+    /// this tag times the other's `node_cost`.
+    ///
+    /// # Errors
+    ///
+    /// Those of `meet_within`.
     #[tactic(auto, using(crate::proofs::Exact::meet_exact, crate::proofs::MeetSizes::meet_le, crate::proofs::NormalForms::meet_ldepth))]
-    fn meet_counted<L: Ledger>(
+    pub fn meet_counted<L: Ledger>(
         &self,
         alloc: Global,
         other: &Tag,
@@ -287,79 +293,5 @@ impl Tag {
             return Err(MeetFault::TooLarge);
         }
         Ok(meet_tags(alloc, self, other, ticks)?)
-    }
-
-    /// Like `meet_within`, but consumes `self`: if `other` is `(*)`, `self` is returned, and nothing is copied.
-    ///
-    /// # Errors
-    ///
-    /// Those of `meet_within`.
-    pub fn into_meet(self, alloc: Global, other: &Tag, most: usize) -> Result<Tag, MeetFault>
-        requires { most ≤ 1000000 }
-        ensures value { IfOk result (λ c. c ≡ meet self other.now) }
-        ensures exact { IfOk result (λ c. (g : Request) → IsRequest g
-            → contains c g ≡ (contains self g && contains other.now g)) }
-        ensures bounds { IfOk result (λ c. (nodes c ≤ nodes self * nodes other.now)
-            × (ldepth c ≤ max (ldepth self) (ldepth other.now))) }
-        ensures too_large { IsErrOf result MeetFault.TooLarge ↔ (most < nodes self * nodes other.now) }
-    {
-        self.into_meet_with_new_count::<Brand>(alloc, other, most, Blank::new(1))
-    }
-
-    /// Does what `into_meet` does. It makes the count of ticks that `into_meet_counted` needs, and is generic since only a call of a
-    /// generic function can pick the type `L` of a count. `blank` opens the count, which exists only in contracts.
-    fn into_meet_with_new_count<L: Ledger>(
-        self,
-        alloc: Global,
-        other: &Tag,
-        most: usize,
-        blank: Blank,
-    ) -> Result<Tag, MeetFault>
-        requires most { most ≤ 1000000 }
-        requires name { blank.name ≡ L.name }
-        requires parts { blank.parts ≡ L.parts }
-        requires some { 0 < blank.parts }
-        ensures value { IfOk result (λ c. c ≡ meet self other.now) }
-        ensures exact { IfOk result (λ c. (g : Request) → IsRequest g
-            → contains c g ≡ (contains self g && contains other.now g)) }
-        ensures bounds { IfOk result (λ c. (nodes c ≤ nodes self * nodes other.now)
-            × (ldepth c ≤ max (ldepth self) (ldepth other.now))) }
-        ensures too_large { IsErrOf result MeetFault.TooLarge ↔ (most < nodes self * nodes other.now) }
-    {
-        self.into_meet_counted(alloc, other, most, &mut Ticks::<L>::new(blank))
-    }
-
-    /// Does what `into_meet` does, and adds its work to `ticks`, which exists only in contracts: one for each pair of tags that is looked
-    /// at, each tag that is copied, and each octet of the other tag's strings that is compared. It adds at most three times the nodes of
-    /// this tag times the other's `node_cost`.
-    ///
-    /// # Errors
-    ///
-    /// Those of `meet_within`.
-    #[tactic(auto, using(crate::proofs::Exact::meet_exact, crate::proofs::MeetSizes::meet_le, crate::proofs::NormalForms::meet_ldepth, crate::proofs::MeetSteps::meet_star))]
-    pub fn into_meet_counted<L: Ledger>(
-        self,
-        alloc: Global,
-        other: &Tag,
-        most: usize,
-        ticks: &mut Ticks<L>,
-    ) -> Result<Tag, MeetFault>
-        requires { most ≤ 1000000 }
-        ensures value { IfOk result (λ c. c ≡ meet self other.now) }
-        ensures exact { IfOk result (λ c. (g : Request) → IsRequest g
-            → contains c g ≡ (contains self g && contains other.now g)) }
-        ensures bounds { IfOk result (λ c. (nodes c ≤ nodes self * nodes other.now)
-            × (ldepth c ≤ max (ldepth self) (ldepth other.now))) }
-        ensures too_large { IsErrOf result MeetFault.TooLarge ↔ (most < nodes self * nodes other.now) }
-        ensures cost { ticks.new ≤ ticks.old + 3 * meet_cost self other.now }
-        ensures grows { IfOk result (λ c. ticks.old < ticks.new) }
-    {
-        if other.is_everything() && self.nodes() <= most {
-            ticks.tick();
-            return Ok(self);
-        }
-        let met = self.meet_counted(alloc, other, most, ticks);
-        drop(self);
-        met
     }
 }

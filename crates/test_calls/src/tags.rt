@@ -14,7 +14,6 @@ pub(crate) fn call(alloc: Global, name: &str, texts: &[Vec<u8>]) -> Option<Reply
         | "Tag::same"
         | "Tag::meet"
         | "Tag::meet_within"
-        | "Tag::into_meet"
         | "Tag::node_cost"
         | "Index::places" => Some(call_on(alloc, read::<Tag>(alloc, at(texts, 0)), name, texts)),
         "merged" => Some(merge(alloc, at(texts, 0), at(texts, 1))),
@@ -60,8 +59,8 @@ fn with_other(alloc: Global, name: &str, tag: &Tag, texts: &[Vec<u8>]) -> Reply 
     reply
 }
 
-/// Does the call with this name on two tags. The `_` arm is `Index::places`. `most` is for `Tag::meet_within` and `Tag::into_meet`: the
-/// limit on the product of the tags' numbers of nodes, in digits. A number over 1,000,000, or no number, is 1,000,000.
+/// Does the call with this name on two tags. The `_` arm is `Index::places`. `most` is for `Tag::meet_within`: the limit on
+/// the product of the tags' numbers of nodes, in digits. A number over 1,000,000, or no number, is 1,000,000.
 fn of_both(alloc: Global, name: &str, tag: &Tag, other: &Tag, most: &[u8]) -> Reply {
     match name {
         "Tag::same" => answer(alloc, tag.same(other)),
@@ -69,11 +68,6 @@ fn of_both(alloc: Global, name: &str, tag: &Tag, other: &Tag, most: &[u8]) -> Re
         "Tag::meet_within" => {
             let most = number(most).min(1_000_000);
             answer(alloc, tag.meet_within(alloc, other, most))
-        }
-        "Tag::into_meet" => {
-            let most = number(most).min(1_000_000);
-            let own = tag.clone()?;
-            answer(alloc, own.into_meet(alloc, other, most))
         }
         _ => places(alloc, tag, other),
     }

@@ -1,8 +1,8 @@
-use Rattle.std.proofs.Common.{◌≡◌, ℕ, ◌+◌, ◌*◌, ◌<◌, ◌≤◌, get_or, length, drop, List, ◌++◌, sym, ap, ◌∙◌, subst, arith, le_trans, length-drop, ◌-◌, rules}
+use Rattle.std.proofs.Common.{◌≡◌, ℕ, ◌+◌, ◌*◌, ◌<◌, ◌≤◌, length, drop, List, ◌++◌, sym, ap, ◌∙◌, subst, arith, le_trans, length-drop, ◌-◌, rules}
 use Rattle.std.proofs.lemmas.{Nat.{mul-le}, List.{take_all}, Grind.{common_steps}}
 use Rattle.std.specs.{Prelude.{All}, Arc.{arc_slice_items}}
 use Rattle.spki_tag.specs.{Tag.{Tag, tags, nodes, nodes_all, list, most_nodes}, Meet.{meet, each_meet, pairs, row, may_share, places_where, tags_at}}
-use Rattle.spki_tag.specs.{Nodes.{node_tag, shared_items}, Cost.{node_cost, node_costs, meet_cost}}
+use Rattle.spki_tag.specs.{Nodes.{node_tag, shared_items}}
 use Rattle.spki_tag.proofs.{Places.{places_where-within, row_at_places}, Members.{nodes_le-of_read}}
 use Rattle.spki_tag.proofs.MeetCosts.{each-step, rest-nodes, place-step, row-step, members-met, lists-met, meet_cost-some}
 use Rattle.spki_tag.proofs.MeetSteps.{tags-members, members_meet, pairs-step, each_meet-last, meet_steps}
