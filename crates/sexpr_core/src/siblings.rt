@@ -7,9 +7,8 @@ use crate::document::Doc;
 use crate::handle::Node;
 use std::marker::Model;
 
-/// The members of a list that are still to be read, from the node with number `from` to before number `to`. The `size`
-/// of a record counts a node with all nodes in it, so it leads to the next member. In a contract it is the list of
-/// their values.
+/// The members of a list that are still to be read, from the node with number `from` to before number `to`. The size of
+/// a node counts it with all nodes in it, so it leads to the next member. In a contract it is the list of their values.
 #[derive(Debug, Drop)]
 pub struct Members<'d, 'a> {
     document: &'d Doc<'a>,
@@ -40,7 +39,7 @@ impl<'d, 'a> Members<'d, 'a> {
         requires listed { IsList (node_at document.now n) }
         ensures { node_at document.now n ≡ list (values result) }
     {
-        let size = document.record(n).size as usize;
+        let size = document.node_size(n);
         Members {
             document,
             from: n + 1,
@@ -76,7 +75,7 @@ impl<'d, 'a> Members<'d, 'a> {
             return None;
         }
         let Members { document, from, to } = self;
-        let size = document.record(from).size as usize;
+        let size = document.node_size(from);
         let first = Node::at(document, from);
         let others = Members {
             document,
@@ -101,7 +100,7 @@ impl<'d, 'a> Iterator for Members<'d, 'a> {
         }
         let document = self.document;
         let from = self.from;
-        let size = document.record(from).size as usize;
+        let size = document.node_size(from);
         self.from = from + size;
         Some(Node::at(document, from))
     }
