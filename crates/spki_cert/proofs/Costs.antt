@@ -6,7 +6,7 @@ use Rattle.sexpr_core.specs.Value.{Value, Values, string, list, none, more, plai
 use Rattle.spki_tag.{specs.{Cost.{weight}, Reading.{ReadsAs}}, proofs.Weights.{read_weight, verbatim_ge, canon_list, canons_more}}
 use Rattle.spki_cert.specs.declared.{principal.Principal.{Principal, TheVariants.{Key, Hash}}, entry.{Subject.{Subject}, Entry.{Entry}}}
 use Rattle.spki_cert.specs.declared.certificate.{AuthCert.{AuthCert}, NameCert.{NameCert}, SeqItem.{SeqItem}}
-use Rattle.spki_cert.specs.Fields.{PrincipalOf, plains, RelativeOf, IsNamedSubject, SubjectOf, IssuedTo, IssuerOf, is_headed, behind_head, contents, TagOf}
+use Rattle.spki_cert.specs.Fields.{PrincipalOf, plains, RelativeOf, IsNamedSubject, IssuedTo, IssuerOf, is_headed, behind_head, contents, TagOf}
 use Rattle.spki_cert.specs.{Readings.{alg_name}, Structures.{EntryOf, AuthCertOf, NameCertOf, ItemOf, SeqOf, IssuedBy, IssuedFor}}
 use Rattle.spki_cert.specs.Cost.{names_weight, principal_weight, subject_weight, entry_weight, item_weight, items_weight}
 use Rattle.spki_tag.specs.Tag as tags

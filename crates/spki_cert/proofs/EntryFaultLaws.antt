@@ -1,5 +1,5 @@
 -- Entries and access lists along the way of their reading: the fault that is named of them, and what is none.
-use Rattle.std.proofs.Common.{◌≡◌, ℕ, inl, inr, Bool, true, false, cond, List, [], ◌∷◌, ◌++◌, refl, ap, ◌∙◌, rules, ◌+◌, drop, Option, Some, None}
+use Rattle.std.proofs.Common.{◌≡◌, ℕ, inl, inr, Bool, true, false, cond, List, [], ◌∷◌, ◌++◌, refl, ap, ◌∙◌, rules, drop, Option, Some, None}
 use Rattle.std.specs.{Prelude.{codes, not, ◌&&◌, if◌then◌else◌}, List.{AllZip}}
 use Rattle.sexpr_core.specs.Value.{Value, plain, group, IsNotHeaded}
 use Rattle.spki_cert.specs.declared.entry.{Entry.{Entry}, Subject.{Subject}}

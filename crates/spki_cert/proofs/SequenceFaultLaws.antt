@@ -1,6 +1,6 @@
 -- Signatures, operations, certificates and sequences along the way of their reading: what was read, and the fault
 -- that is named of each.
-use Rattle.std.proofs.Common.{◌≡◌, ℕ, List, [], ◌∷◌, drop, Bool, true, Option, Some, None, ◌∙◌, rules, false, refl, ◌++◌, ap, ◌+◌}
+use Rattle.std.proofs.Common.{◌≡◌, ℕ, List, [], ◌∷◌, drop, Bool, true, Option, Some, None, ◌∙◌, rules, false, refl, ◌++◌, ap}
 use Rattle.std.proofs.Math.Bool.{or-false}
 use Rattle.std.specs.Prelude.{codes, is_some, not, if◌then◌else◌, ◌||◌}
 use Rattle.sexpr_core.specs.Value.{Value, plain, group, IsNotHeaded}

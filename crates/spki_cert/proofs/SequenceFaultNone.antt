@@ -6,9 +6,9 @@ use Rattle.sexpr_core.specs.Value.{Value, plain, group, canon}
 use Rattle.spki_tag.specs.{Reading.{ReadsAs}, Faults.{unless, first_fault}}
 use Rattle.spki_cert.specs.declared.{hash.HashAlg.{HashAlg}, fault.{CertFaultKind.TheVariants.{Shape}, CertFault.{CertFault}}}
 use Rattle.spki_cert.specs.declared.{principal.Principal.{Principal}, entry.Subject.{Subject}}
-use Rattle.spki_cert.specs.declared.certificate.{AuthCert.{AuthCert}, NameCert.{NameCert}, Signature.{Signature}, SeqItem.{SeqItem}}
+use Rattle.spki_cert.specs.declared.certificate.{AuthCert.{AuthCert}, NameCert.{NameCert}, SeqItem.{SeqItem}}
 use Rattle.spki_cert.specs.declared.certificate_reader.CertParts.{CertParts}
-use Rattle.spki_cert.specs.Fields.{unread, issuer_info, subject_info, WrittenSubjectOf, IssuedTo, is_headed, Sole, Given, propagate, tag, IsCertField, common, version, issuer, subject, display, IssuerIn, WrittenSubjectIn, propagates, behind_head}
+use Rattle.spki_cert.specs.Fields.{unread, issuer_info, subject_info, WrittenSubjectOf, IssuedTo, is_headed, Sole, Given, IsCertField, common, version, issuer, subject, display, IssuerIn, WrittenSubjectIn, propagates, behind_head}
 use Rattle.spki_cert.specs.Structures.{IssuedBy, IssuedFor, AuthCertOf, NameCertOf, SignatureOf, DoHashOf, ItemOf, SeqOf, IsInPlace, AreInPlace, waits_behind, waits_after}
 use Rattle.spki_cert.specs.StructureFaults.{signature_fault, do_fault, cert_fault, is_hash_word, is_tagged_right, at_item, item_fault, place_fault, waiting, items_looked, items_fault, sequence_fault}
 use Rattle.spki_cert.specs.{Readings.{alg_name}, FieldFaults.{is_plain, key_fault}, Inner.Gathering.{PartsOf, parts_fault}}

@@ -13,7 +13,6 @@ use crate::entry::{Entry, Subject};
 use crate::fault::{CertFault, CertFaultKind};
 use crate::fields::{FieldValues, Fields, Place, fields_of};
 use crate::items::push_read;
-use crate::names::Names;
 use crate::principal::Principal;
 use crate::principal_reader::{WrittenSubject, written_subject_of};
 use crate::validity::window_of_limits;
@@ -31,10 +30,7 @@ fn entry_subject<'a>(alloc: Global, node: &Node<'_, 'a>) -> Result<Subject<'a>, 
 {
     let WrittenSubject { principal, names } = written_subject_of(alloc, node)?;
     match principal {
-        Some(principal) => Ok(Subject {
-            principal,
-            names: Names::of(names),
-        }),
+        Some(principal) => Ok(Subject { principal, names }),
         None => Err(CertFaultKind::RelativeInEntry),
     }
 }

@@ -8,7 +8,6 @@ use crate::certificate::{AuthCert, NameCert, SeqItem};
 use crate::entry::Subject;
 use crate::fault::CertFaultKind;
 use crate::fields::{FieldValues, Fields, Place, fields_of};
-use crate::names::Names;
 use crate::octets::Octets;
 use crate::principal::Principal;
 use crate::principal_reader::{Issuer, WrittenSubject};
@@ -34,10 +33,9 @@ pub(crate) struct CertParts<'a> {
 /// The subject of a certificate from `who`, the subject as it is written. If `who` is a name without a principal, the name is relative to
 /// the issuer: the principal is the certificate's issuer.
 fn issued_to<'a>(who: WrittenSubject<'a>, issuer: &Principal<'a>) -> Subject<'a>
-    ensures { IsSubjectOf issuer.now who.entry.principal who.entry.names.items result }
+    ensures { IsSubjectOf issuer.now who.entry.principal who.entry.names result }
 {
     let WrittenSubject { principal, names } = who;
-    let names = Names::of(names);
     match principal {
         Some(principal) => Subject { principal, names },
         None => Subject {

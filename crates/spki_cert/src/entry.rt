@@ -21,7 +21,8 @@ pub struct Subject<'a> {
 impl<'a> Clone for Subject<'a> {
     ghost is_clone = { λ subject copy. copy ≡ subject };
 
-    /// Returns a copy. Only the vector of names is allocated: the octets are borrowed by both. Err if memory ran out.
+    /// Returns a copy. Only the names that were put in front are copied: both share the names that were read, and borrow the octets. Err if memory ran out,
+    /// or if there are too many copies to count.
     fn clone(&self) -> Result<Subject<'a>, AllocError> {
         Ok(Subject {
             principal: self.principal.share(),

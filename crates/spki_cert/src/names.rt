@@ -1,55 +1,98 @@
 //! The names after a principal.
 
-ghost use Rattle.std.specs.Prelude.{◌≡◌, ◌↔◌, ◌++◌, ◌∷◌, ◌<◌, ℕ, List, [], length, drop, slice_get, Some, IsTrue, IfOk, MatchOption};
+ghost use Rattle.std.specs.Prelude.{◌≡◌, ◌↔◌, ◌++◌, ◌∷◌, ◌<◌, ℕ, List, [], length, drop, slice_get, Some, unwrap_or, option_map, IsTrue, IfOk, MatchOption};
+ghost use Rattle.std.specs.Arc.{arc_slice_items};
 
 use crate::octets::Octets;
-use std::alloc::AllocError;
+use std::alloc::{AllocError, Global};
 use std::marker::Model;
+use std::sync::ArcSlice;
 
-/// The names after a principal, in order (RFC 2693, section 2.8). They are stored from the last to the first. So removing the first name, and putting
-/// others in front, takes no time for the names that are kept.
+/// The names after a principal, in order (RFC 2693, section 2.8). Copies share the names that were read. Names that were put in front are stored apart,
+/// from the last to the first. So removing the first name, and putting others in front, takes no time for the names that are kept.
 #[derive(Drop)]
 pub struct Names<'a> {
-    from_last: Vec<Octets<'a>>,
+    /// The names that were put in front, from the last to the first.
+    front: Vec<Octets<'a>>,
+    /// The names that were read, in order. None if there were none, so that nothing is allocated for them.
+    read: Option<ArcSlice<Octets<'a>>>,
+    /// How many of the names that were read are gone, from the first.
+    gone: usize,
 }
 
 impl<'a> Model for Names<'a> {
-    ghost use Rattle.std.{specs.Prelude.{ℕ, List}, proofs.Common.{reverse}};
+    ghost use Rattle.std.specs.{Prelude.{ℕ, List, [], ◌++◌, drop, reverse, unwrap_or, option_map}, Arc.{arc_slice_items}};
 
     ghost Value = { List (List ℕ) };
 
-    ghost view = { λ n. reverse n.from_last.items };
+    ghost view = { λ n. reverse n.front.items ++ drop n.gone (unwrap_or (option_map arc_slice_items n.read) []) };
+}
+
+/// The names that were read and are not gone.
+fn kept<'s, 'a>(read: &'s Option<ArcSlice<Octets<'a>>>, gone: usize) -> &'s [Octets<'a>]
+    ensures { result.now ≡ drop gone (unwrap_or (option_map arc_slice_items read.now) []) }
+{
+    match read {
+        Some(names) if gone < names.len() => &names.as_slice()[gone..],
+        _ => &[],
+    }
 }
 
 impl<'a> Names<'a> {
     /// The names of a vector, in its order.
-    pub fn of(names: Vec<Octets<'a>>) -> Names<'a>
-        ensures { result ≡ names.entry.items }
+    ///
+    /// # Errors
+    ///
+    /// `AllocError` if memory ran out. Nothing is allocated if there are no names.
+    pub fn of(names: Vec<Octets<'a>>) -> Result<Names<'a>, AllocError>
+        ensures { IfOk result (λ n. n ≡ names.entry.items) }
     {
-        let mut from_last = names;
-        from_last.reverse();
-        Names { from_last }
+        let front = Vec::new(*names.allocator());
+        let read = if names.is_empty() {
+            None
+        } else {
+            Some(ArcSlice::from_vec(names)?)
+        };
+        Ok(Names {
+            front,
+            read,
+            gone: 0,
+        })
+    }
+
+    /// No names. Allocates nothing.
+    pub fn none(alloc: Global) -> Names<'a>
+        ensures { result ≡ [] }
+    {
+        Names {
+            front: Vec::new(alloc),
+            read: None,
+            gone: 0,
+        }
     }
 
     /// The number of names.
     pub fn len(&self) -> usize
         ensures { result ≡ length self.now }
     {
-        self.from_last.len()
+        self.front.len() + kept(&self.read, self.gone).len()
     }
 
     /// Whether there is no name.
     pub fn is_empty(&self) -> bool
         ensures { IsTrue result ↔ (self.now ≡ []) }
     {
-        self.from_last.is_empty()
+        self.len() == 0
     }
 
     /// The first name. None if there is no name.
     pub fn first(&self) -> Option<&Octets<'a>>
         ensures { MatchOption result (self.now ≡ []) (λ name. self.now ≡ name.now ∷ drop 1 self.now) }
     {
-        self.from_last.last()
+        match self.front.last() {
+            Some(name) => Some(name),
+            None => kept(&self.read, self.gone).first(),
+        }
     }
 
     /// The name at a place, from 0. The place must be below `len`.
@@ -57,20 +100,52 @@ impl<'a> Names<'a> {
         requires { place < length self.now }
         ensures { slice_get self.now place ≡ Some result.now }
     {
-        &self.from_last[self.from_last.len() - 1 - place]
+        let put = self.front.len();
+        if place < put {
+            &self.front[put - 1 - place]
+        } else {
+            &kept(&self.read, self.gone)[place - put]
+        }
     }
 
     /// All names but the first, which the caller has compared or replaced. Without names the result has no names either.
     pub fn behind_first(self) -> Names<'a>
         ensures { result ≡ drop 1 self.entry }
     {
-        let mut from_last = self.from_last;
-        from_last.pop();
-        Names { from_last }
+        let Names {
+            mut front,
+            read,
+            gone,
+        } = self;
+        if front.pop().is_some() || kept(&read, gone).is_empty() {
+            return Names { front, read, gone };
+        }
+        Names {
+            front,
+            read,
+            gone: gone + 1,
+        }
+    }
+
+    /// Returns `name`, and after it these names.
+    ///
+    /// # Errors
+    ///
+    /// `AllocError` if memory ran out.
+    pub fn behind_name(self, name: Octets<'a>) -> Result<Names<'a>, AllocError>
+        ensures { IfOk result (λ names. names ≡ name.entry ∷ self.entry) }
+    {
+        let Names {
+            mut front,
+            read,
+            gone,
+        } = self;
+        front.push(name)?;
+        Ok(Names { front, read, gone })
     }
 
     /// Returns the names of `others`, and after them these names. So the names of a definition's subject are put in front of those that
-    /// come after the defined name.
+    /// come after the defined name. If there are no names here, the result is a copy of `others`.
     ///
     /// # Errors
     ///
@@ -78,11 +153,20 @@ impl<'a> Names<'a> {
     pub fn behind(self, others: &Names<'a>) -> Result<Names<'a>, AllocError>
         ensures { IfOk result (λ names. names ≡ others.now ++ self.entry) }
     {
-        let mut from_last = self.from_last;
-        for name in &others.from_last {
-            from_last.push(name.share())?;
+        if self.is_empty() {
+            return others.clone();
         }
-        Ok(Names { from_last })
+        let Names {
+            mut front,
+            read,
+            gone,
+        } = self;
+        let count = others.len();
+        front.reserve(count)?;
+        for done in 0..count {
+            front.push(others.at(count - 1 - done).share())?;
+        }
+        Ok(Names { front, read, gone })
     }
 }
 
@@ -90,10 +174,16 @@ impl<'a> Names<'a> {
 impl<'a> Clone for Names<'a> {
     ghost is_clone = { λ names copy. copy ≡ names };
 
-    /// Returns a copy, with a vector of its own. Err if memory ran out.
+    /// Returns a copy. Only the names that were put in front are copied. Err if memory ran out, or if there are too many copies to count.
     fn clone(&self) -> Result<Names<'a>, AllocError> {
+        let read = match &self.read {
+            None => None,
+            Some(names) => Some(names.clone()?),
+        };
         Ok(Names {
-            from_last: self.from_last.clone()?,
+            front: self.front.clone()?,
+            read,
+            gone: self.gone,
         })
     }
 }

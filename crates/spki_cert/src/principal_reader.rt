@@ -8,6 +8,7 @@ ghost use Rattle.spki_cert.specs.Inner.Gathering.{NamesWrittenSubject};
 ghost use Rattle.spki_tag.specs.Faults.{unless};
 
 use crate::fault::CertFaultKind;
+use crate::names::Names;
 use crate::octets::Octets;
 use crate::principal::Principal;
 use crate::value_readers::{hash_of, key_of};
@@ -20,7 +21,7 @@ pub(crate) struct WrittenSubject<'a> {
     /// None if the subject is a relative name: a name without a principal, which is relative to the certificate's issuer.
     pub principal: Option<Principal<'a>>,
     /// The names after the principal, in order. There are none if the principal itself is the subject.
-    pub names: Vec<Octets<'a>>,
+    pub names: Names<'a>,
 }
 
 /// The issuer of a certificate, and the name that a name certificate defines.
@@ -62,8 +63,8 @@ pub fn principal_of<'a>(node: &Node<'_, 'a>) -> Result<Principal<'a>, CertFaultK
 fn names_behind<'a>(
     names: Vec<Octets<'a>>,
     members: Members<'_, 'a>,
-) -> Result<Vec<Octets<'a>>, CertFaultKind>
-    ensures found { IfOk result (λ all. (behind : List (List ℕ)) × (all.items ≡ names.entry.items ++ behind)
+) -> Result<Names<'a>, CertFaultKind>
+    ensures found { IfOk result (λ all. (behind : List (List ℕ)) × (all ≡ names.entry.items ++ behind)
         × (members.entry ≡ plains behind)) }
     ensures named { IfErr result (λ kind. kind ≢ CertFaultKind.Memory →
         (list_all is_name members.entry ≡ false) × (kind ≡ CertFaultKind.Shape)) }
@@ -77,7 +78,7 @@ fn names_behind<'a>(
         all.push(Octets::new(octets))?;
         rest = others;
     }
-    Ok(all)
+    Ok(Names::of(all)?)
 }
 
 /// Reads the members of a name after the head `name`: a principal and its names, or names alone, which are a relative name. A first member
@@ -88,29 +89,29 @@ fn read_name_members<'a>(
     alloc: Global,
     members: Members<'_, 'a>,
 ) -> Result<WrittenSubject<'a>, CertFaultKind>
-    ensures found { IfOk result (λ who. NamesWrittenSubject members.entry who.principal who.names.items) }
+    ensures found { IfOk result (λ who. NamesWrittenSubject members.entry who.principal who.names) }
     ensures named { IfErr result (λ kind. kind ≢ CertFaultKind.Memory → names_fault members.entry ≡ Some kind) }
 {
+    let count = members.len();
     let Some((first, others)) = members.split_first() else {
         return Err(CertFaultKind::Shape);
     };
     if let Some(octets) = first.plain_octets() {
-        let mut names = Vec::new(alloc);
+        let mut names = Vec::with_capacity(alloc, count)?;
         names.push(Octets::new(octets))?;
-        let names = names_behind(names, others)?;
         return Ok(WrittenSubject {
             principal: None,
-            names,
+            names: names_behind(names, others)?,
         });
     }
     let principal = principal_of(&first)?;
     if others.is_empty() {
         return Err(CertFaultKind::Shape);
     }
-    let names = names_behind(Vec::new(alloc), others)?;
+    let names = Vec::with_capacity(alloc, count - 1)?;
     Ok(WrittenSubject {
         principal: Some(principal),
-        names,
+        names: names_behind(names, others)?,
     })
 }
 
@@ -121,7 +122,7 @@ pub(crate) fn written_subject_of<'a>(
     alloc: Global,
     node: &Node<'_, 'a>,
 ) -> Result<WrittenSubject<'a>, CertFaultKind>
-    ensures found { IfOk result (λ who. WrittenSubjectOf node.now who.principal who.names.items) }
+    ensures found { IfOk result (λ who. WrittenSubjectOf node.now who.principal who.names) }
     ensures named { IfErr result (λ kind. kind ≢ CertFaultKind.Memory → subject_fault node.now ≡ Some kind) }
 {
     if let Some(_) = node.headed(b"k-of-n") {
@@ -134,7 +135,7 @@ pub(crate) fn written_subject_of<'a>(
         let principal = principal_of(node)?;
         return Ok(WrittenSubject {
             principal: Some(principal),
-            names: Vec::new(alloc),
+            names: Names::none(alloc),
         });
     };
     read_name_members(alloc, members)

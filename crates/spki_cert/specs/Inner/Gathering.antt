@@ -62,7 +62,7 @@ abbrev pub IssuerAt : List Value → Issuer → Type 0
 IssuerAt rest i = IssuerIn rest (i.principal, i.name)
 
 abbrev pub WrittenSubjectAt : List Value → WrittenSubject → Type 0
-WrittenSubjectAt rest s = WrittenSubjectIn rest (s.principal, s.names.items)
+WrittenSubjectAt rest s = WrittenSubjectIn rest (s.principal, s.names)
 
 -- a field whose content is not used
 pub record IsSilent (v : Value) : Type 0 where

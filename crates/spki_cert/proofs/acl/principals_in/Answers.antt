@@ -1,6 +1,6 @@
-use Rattle.std.proofs.Common.{◌≡◌, [], ◌∷◌, ◌++◌, List, None, Ok, ◌∙◌, refl, sym, map, append_assoc, append-nil, length-append, rules}
+use Rattle.std.proofs.Common.{◌≡◌, [], ◌∷◌, ◌++◌, None, ◌∙◌, refl, sym, append_assoc, append-nil, length-append, rules}
 use Rattle.std.proofs.lemmas.List.{map_push}
-use Rattle.spki_cert.specs.{declared.{entry.Entry.{Entry}, principal.Principal.{Principal}}, Structures.{EntryOf}}
+use Rattle.spki_cert.specs.{declared.{entry.Entry.{Entry}}, Structures.{EntryOf}}
 use Rattle.spki_cert.specs.StructureFaults.{entry_fault, entries_fault}
 use Rattle.spki_cert.proofs.acl.principals_in.Goals as goal
 

@@ -9,7 +9,7 @@ returns-in-Some-clause-faultless c =
 
 pub returns-in-Some-headed-clause-faultless : goal.returns-in-Some-headed-clause-faultless
 returns-in-Some-headed-clause-faultless c =
-    cert-subject_field c.args.field.now _ c.in-Some-headed.ensures ∙ (subjects-none _).1 ((c.in_ok-subject_in.field-0.principal, c.in_ok-subject_in.field-0.names.items), c.in_ok-subject_in.ensures.found)
+    cert-subject_field c.args.field.now _ c.in-Some-headed.ensures ∙ (subjects-none _).1 ((c.in_ok-subject_in.field-0.principal, c.in_ok-subject_in.field-0.names), c.in_ok-subject_in.ensures.found)
 
 pub returns-in-Some-headed-2-clause-faultless : goal.returns-in-Some-headed-2-clause-faultless
 returns-in-Some-headed-2-clause-faultless c = cert-version_field c.args.field.now _ c.in-Some-headed-2.ensures ∙ version-faultless _ c.in_ok-check_version.ensures.found

@@ -1,6 +1,6 @@
--- The other names so far, from the last.
-use Rattle.std.proofs.Common.{◌≡◌, ◌++◌, take}
+-- The names in front so far: the last of the others, and those of before. Nothing else is changed.
+use Rattle.std.proofs.Common.{◌≡◌, ◌++◌, ◌-◌, length, drop, reverse}
 use Rattle.spki_cert.proofs.names.Names.behind.Given as goal
 
-abbrev pub invariant-loop-name : goal.invariant-loop-name
-invariant-loop-name l = l.from_last.items ≡ l.initial.from_last.items ++ take l.name-index l.name-items
+abbrev pub invariant-loop-done : goal.invariant-loop-done
+invariant-loop-done l = (reverse l.front.items ≡ drop (length l.fn.others - l.done) l.fn.others ++ reverse l.initial.front.items) × (l.read ≡ l.initial.read)
