@@ -1,10 +1,10 @@
 -- The work of the entries of a case: what each takes of the work that may be done, and the sums.
-use Rattle.std.proofs.Common.{◌≡◌, ℕ, zero, suc, ◌+◌, ◌<◌, ◌≤◌, ◌⊎◌, inl, inr, Bool, true, false, List, [], ◌∷◌, ◌++◌, Some, Option, None, length, take, map, slice_get, get_or, refl, sym, ap, ◌∙◌, subst, arith, rules, add-one, append_assoc}
-use Rattle.std.proofs.lemmas.{Bool.{both_ways, cases_lt}, List.{take_more, length-append}}
+use Rattle.std.proofs.Common.{◌≡◌, ℕ, zero, suc, ◌+◌, ◌<◌, ◌≤◌, inl, inr, Bool, true, false, List, [], ◌∷◌, ◌++◌, Some, Option, None, length, take, map, slice_get, get_or, refl, sym, ap, ◌∙◌, subst, arith}
+use Rattle.std.proofs.lemmas.{Bool.{both_ways}, List.{take_more}}
 use Rattle.std.proofs.lemmas.Option.{none-some, same_Some, slice_get_within, get_or_from_slice_get}
 use Rattle.spki_cert.specs.declared.{entry.Entry.{Entry}, principal.Policy.{Policy}}
 use Rattle.spki_reduce.specs.Reduction.{Tuple, five, entry_tuple}
-use Rattle.spki_reduce.specs.Chain.{IsWork, IsWorkOf, ReachedAt, IsCost, Takes, IsOver, IsOverworked, AreTicksOfSteps}
+use Rattle.spki_reduce.specs.Chain.{IsWorkOf, ReachedAt, Takes, AreTicksOfSteps}
 use Rattle.spki_reduce.proofs.Working.{one_work, grows, over, none_taken, taken}
 use Rattle.spki_case.specs.Case.{Case}
 use Rattle.spki_decision.specs.{Spared.{is_spared}, Granted.{IsCharge, IsOvercharged, IsSumOf, IsEntryWork, IsWithinWork, IsOverspent}}

@@ -1,12 +1,12 @@
 -- The weights of names and of tuples, one after the other, and those of the certificates of a sequence; the ticks of an entry that is not spared.
 use native.Mathlib.Numerals.{unary_clauses}
-use Rattle.std.proofs.Common.{◌≡◌, ℕ, zero, suc, ◌+◌, ◌*◌, ◌≤◌, ◌<◌, ◌-◌, List, [], ◌∷◌, ◌++◌, length, drop, take, get_or, slice_get, Option, Some, None, inl, inr, arith, rules, ap, ◌∙◌, refl, sym}
+use Rattle.std.proofs.Common.{◌≡◌, ℕ, zero, suc, ◌+◌, ◌*◌, ◌≤◌, ◌<◌, ◌-◌, List, [], ◌∷◌, ◌++◌, length, drop, take, get_or, slice_get, Option, Some, None, inl, inr, arith, rules, ap}
 use Rattle.std.proofs.lemmas.Bool.{both_ways}
 use Rattle.std.specs.List.{AllZip}
 use Rattle.spki_cert.specs.declared.{entry.Entry.{Entry}, principal.Policy.{Policy}}
 use Rattle.spki_cert.specs.declared.certificate.SeqItem.{SeqItem, TheVariants.{Key, DoHash, Auth, Name, Signature}}
-use Rattle.spki_cert.specs.Cost.{names_weight, item_weight, items_weight}
-use Rattle.spki_reduce.specs.{Reduction.{Tuple, five, four, step_tuple}, Chain.{tuples_of, Takes}, declared.tuple.Step.{Step}}
+use Rattle.spki_cert.specs.Cost.{names_weight, items_weight}
+use Rattle.spki_reduce.specs.{Reduction.{Tuple, step_tuple}, Chain.{tuples_of, Takes}, declared.tuple.Step.{Step}}
 use Rattle.spki_case.specs.Case.{Case, Verified, Shown, certificates_from, certificates, keys_of}
 use Rattle.spki_decision.specs.CertificateTests.{PassesTestsAs, AreShown, Signed, asked_of, asked_in, asked, before_all, every}
 use Rattle.spki_decision.specs.{Cost.{content_weight, path_weight, contents_weight, paths_weight, tuples_weight, AreTicksOfEntry}, Spared.{is_spared}}

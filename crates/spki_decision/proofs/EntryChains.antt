@@ -1,6 +1,6 @@
 -- The chains of a case's entries with all certificates: when no step is too large, where they stop, what the entries
 -- become, and their work.
-use Rattle.std.proofs.Common.{◌≡◌, ℕ, ◌*◌, ◌<◌, ◌≤◌, List, ◌∷◌, Some, length, take, slice_get, subst, arith, rules, inl, ◌+◌, false, [], ◌++◌, fold, drop, refl, sym, ap, ◌∙◌, le_trans, ◌⊎◌, inr, zero, suc, Option, None, add-one, ◌-◌, map, get_or, ◌||◌, Vec, mul-le-mul_left, mul-le-mul_right, Global, true, leb-true, Bool}
+use Rattle.std.proofs.Common.{◌≡◌, ℕ, ◌*◌, ◌<◌, ◌≤◌, List, ◌∷◌, Some, length, take, slice_get, subst, arith, rules, inl, ◌+◌, false, [], ◌++◌, fold, drop, refl, sym, ap, ◌∙◌, le_trans, ◌⊎◌, inr, zero, suc, Option, ◌-◌, map, get_or, ◌||◌, Vec, mul-le-mul_left, mul-le-mul_right, Global, true, leb-true, Bool}
 use Rattle.std.proofs.lemmas.Option.{slice_get_within, get_or_from_slice_get, slice_get-get_or, none-some, same_Some}
 use Rattle.std.proofs.lemmas.{List.{take-append-drop, length-map, length-append, take_more}, Grind.{flat_map-append}}
 use Rattle.std.proofs.lemmas.{Bool.{and_parts, not-true, lt-leb}, Slice.Zip.{AllZip-long, all_zipped_more}}
@@ -11,7 +11,7 @@ use Rattle.spki_tag.specs.{Tag.{Tag, nodes, tags, nodes_all, nests_set, some_nes
 use Rattle.spki_tag.proofs.{MeetSizes.{append-nodes, nodes-some}, Closure.{IsPlain, IsPlainWithin, neither, plain_meet}}
 use Rattle.spki_reduce.specs.{Reduction.{FiveTuple, Tuple, five, four, tags_of, entry_tuple, met, nodes_product}, Joining.{TooLargeFor}}
 use Rattle.spki_reduce.specs.{Chain.{all_tags, TooLargeAt, Takes, tuples_of, StopsAt, Excludes}, declared.{fold.Cause.{Cause}, tuple.Step.{Step}}}
-use Rattle.spki_reduce.proofs.Chains.{too_large as large, too_large}
+use Rattle.spki_reduce.proofs.Chains.{too_large as large}
 use Rattle.spki_decision.specs.Granted.{IsCharge, IsOvercharged, IsOverspent, IsWithinWork, HasMuchWork, IsFailure, StopsAtItem, HasLargeTags, IsEntryFold, IsDated, EndsAtDate, AreFoldsOf, AreFolds, SmallBefore}
 use Rattle.spki_decision.specs.declared.{certificates.ShownCert.{ShownCert}, evidence.{Evidence.{Evidence}, Stop.{Stop}}}
 use Rattle.spki_decision.specs.declared.reduction.EntryFold.{EntryFold}

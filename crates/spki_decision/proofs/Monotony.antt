@@ -1,5 +1,5 @@
 -- What more or fewer entries, narrower tuples and another moment change of what is granted.
-use Rattle.std.proofs.Common.{◌≡◌, ◌≢◌, inl, inr, ℕ, zero, suc, ◌<◌, ◌≤◌, Bool, true, List, [], ◌∷◌, ◌++◌, length, Some, Result, Ok, Err, slice_get, flat_map, refl, sym, ◌∙◌, ap, subst, arith, ◌⊎◌, take, map}
+use Rattle.std.proofs.Common.{◌≡◌, ◌≢◌, inl, inr, ℕ, zero, suc, ◌<◌, ◌≤◌, Bool, true, List, [], ◌∷◌, ◌++◌, length, Some, Result, Ok, Err, slice_get, flat_map, refl, sym, ◌∙◌, ap, subst, arith, ◌⊎◌, map}
 use Rattle.std.proofs.lemmas.{Bool.{and_parts, and_from, cases_lt}, List.Folds.{list_all-append}, Option.{none-some, same_Some, slice_get_within}}
 use Rattle.std.proofs.Math.Seq.{take-length}
 use Rattle.std.specs.List.{AllZip, list_all}

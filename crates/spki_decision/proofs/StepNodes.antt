@@ -1,5 +1,5 @@
 -- The numbers of nodes of steps, counted one step after another.
-use Rattle.std.proofs.Common.{◌≡◌, ℕ, ◌+◌, ◌*◌, ◌<◌, ◌≤◌, max, ◌||◌, true, false, Bool, List, [], ◌∷◌, ◌++◌, length, take, drop, get_or, map, sym, ap, ◌∙◌, arith, mul-le-mul_left, mul-le-mul_right}
+use Rattle.std.proofs.Common.{◌≡◌, ℕ, ◌+◌, ◌*◌, ◌<◌, ◌≤◌, max, ◌||◌, true, false, Bool, List, [], ◌∷◌, ◌++◌, length, take, drop, get_or, sym, ap, ◌∙◌, arith, mul-le-mul_left, mul-le-mul_right}
 use Rattle.std.proofs.lemmas.{Bool.{or_right, or_from, lt-leb}, List.{take-append-drop, map-append}, Grind.{flat_map-append}}
 use Rattle.std.specs.Prelude.{nat_le, not, ◌&&◌}
 use Rattle.spki_tag.{specs.Tag.{Tag, nodes, tags, nests_set, some_nests_set}, proofs.MeetSizes.{nodes-some}}

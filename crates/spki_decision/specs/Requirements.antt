@@ -2,7 +2,7 @@
 -- and the numbers of nodes for which no step is too large (RFC 2693, sections 6.3 and 6.4).
 use Rattle.std.specs.Prelude.{◌≡◌, ℕ, suc, ◌⊎◌, List, [], ◌∷◌, Option, Some, None, IsTrue, slice_get, map, ◌↔◌, true, Bool, ◌≤◌, ◌<◌, false, MatchOption, Result, Ok, Err}
 use Rattle.spki_cert.specs.{declared.{principal.{Policy.{Policy}, Principal.{Principal}}, entry.Entry.{Entry}}, Naming.{names}, Time.{within}}
-use Rattle.spki_reduce.specs.Reduction.{Issuer, own, key, Tuple, five, four, FiveTuple, IsFor, Joins, Derives, from_left, entry_tuple, tags_of, nodes_product}
+use Rattle.spki_reduce.specs.Reduction.{Issuer, own, key, Tuple, five, four, FiveTuple, IsFor, Joins, Derives, from_left, entry_tuple, nodes_product}
 use Rattle.spki_reduce.specs.Chain.{all_tags, TooLargeAt, left_of}
 use Rattle.spki_case.specs.Case.{Case, Verified}
 use Rattle.spki_decision.specs.declared.{decision.Decision.{Decision, TheVariants.{Yes, No}}, fault.GuardFault.{GuardFault}}

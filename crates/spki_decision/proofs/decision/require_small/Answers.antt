@@ -1,6 +1,6 @@
 use Rattle.std.proofs.Common.{refl, arith, inl, sym, ◌∙◌}
 use Rattle.spki_reduce.{specs.Chain.{tuples_of}, proofs.Working.{none_taken}}
-use Rattle.spki_decision.{specs.Requirements.{work_left}, proofs.EntryChains.{spared}}
+use Rattle.spki_decision.{proofs.EntryChains.{spared}}
 use Rattle.spki_decision.proofs.decision.require_small.Goals as goal
 
 pub returns-then-are_small-clause-within_limit : goal.returns-then-are_small-clause-within_limit

@@ -1,4 +1,4 @@
-use Rattle.std.proofs.Common.{refl, sym, ◌∙◌, inl, inr, ℕ, Result, Ok, Err, OnOk}
+use Rattle.std.proofs.Common.{refl, sym, ◌∙◌, inl, inr, Result, Ok, Err, OnOk}
 use Rattle.spki_reduce.proofs.Working.{none_taken}
 use Rattle.spki_decision.proofs.Charges.{none_joined, unbounded}
 use Rattle.spki_decision.proofs.entry_chain.fold_entry.Goals as goal

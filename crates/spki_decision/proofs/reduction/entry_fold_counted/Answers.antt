@@ -1,4 +1,3 @@
-use Rattle.std.proofs.Common.{rules}
 use Rattle.spki_case.specs.View.{model}
 use Rattle.spki_decision.{specs.CertificateTests.{with_entries}, proofs.EntryChains.{stops_at_item}}
 use Rattle.spki_decision.proofs.reduction.entry_fold_counted.Goals as goal

@@ -1,7 +1,7 @@
-use Rattle.std.proofs.Common.{◌≡◌, ◌+◌, ◌≤◌, ℕ, max, take, drop, false, true, ap, ◌∙◌, sym, arith, rules, inl, inr, List}
-use Rattle.std.proofs.lemmas.{Bool.{or_from}, List.{take-append-drop}}
+use Rattle.std.proofs.Common.{◌≡◌, ◌+◌, take, false, ap, ◌∙◌, sym, arith, inl, inr}
+use Rattle.std.proofs.lemmas.{Bool.{or_from}}
 use Rattle.spki_tag.specs.Tag.{tags, some_nests_set}
-use Rattle.spki_reduce.specs.{Reduction.{tags_of, step_tuple}, declared.tuple.Step.{Step}, Chain.{tuples_of, all_tags}}
+use Rattle.spki_reduce.specs.{Reduction.{tags_of, step_tuple}, Chain.{tuples_of, all_tags}}
 use Rattle.spki_decision.proofs.{ChainRequirements.{more_tuples, more_tags}, EntryChains.{append-sets}}
 use Rattle.spki_decision.proofs.StepNodes.{together-more, most-more, together-front, sets-front}
 use Rattle.spki_decision.specs.Spared.{nodes_together, most_of_one}
