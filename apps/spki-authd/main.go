@@ -114,7 +114,7 @@ func wordsOf(given []string, messages io.Writer) (words, error) {
 	return made, err
 }
 
-// check says which flags do not go together. `rest` has the words beside the flags, of which there must be none.
+// check refuses words beside the flags, which are in `rest`, a flag without the one that it is for, and two flags that each say what to do.
 func (w *words) check(rest []string) error {
 	switch {
 	case len(rest) > 0:
@@ -126,7 +126,27 @@ func (w *words) check(rest []string) error {
 	case len(w.controls) > 0 && !w.isState:
 		return errors.New("-of is for -state")
 	}
+	if tasks := w.tasks(); len(tasks) > 1 {
+		return fmt.Errorf("%s and %s do not go together", tasks[0], tasks[1])
+	}
 	return nil
+}
+
+// tasks returns the given flags that each say what to do. Without one, the daemon starts.
+func (w *words) tasks() []string {
+	var given []string
+	for _, task := range []struct {
+		flag    string
+		isGiven bool
+	}{
+		{"-check", w.list != ""}, {"-test", w.isTest}, {"-health", w.isHealth}, {"-reload", w.isReload}, {"-reopen", w.isReopen},
+		{"-metrics", w.isMetrics}, {"-state", w.isState}, {"-probe", w.probe != ""}, {"-version", w.isVersion},
+	} {
+		if task.isGiven {
+			given = append(given, task.flag)
+		}
+	}
+	return given
 }
 
 // order returns the order that the flags give to the running daemon, or an empty text if they give none.

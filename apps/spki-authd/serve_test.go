@@ -387,7 +387,7 @@ func TestWords(t *testing.T) {
 		"-check " + bad: {1, "", "refused acl 1 Shape; `spki-cert check " + bad + "` says where"},
 		"-version":      {0, "spki-authd 0.2.0", ""}, "-help": {0, "", "-config"}, "-x": {2, "", "-x"}, "x": {2, "", "no flag"},
 		"-test -config " + config: {0, "1 entries", ""}, "-test -config " + list: {1, "", "invalid"}, "-config /none": {1, "", "no such file"},
-		"-fewer": {2, "", "-reload"}, "-of x": {2, "", "-state"}, "-reload -config " + config: {1, "", "no such file"},
+		"-fewer": {2, "", "-reload"}, "-of x": {2, "", "-state"}, "-reload -state": {2, "", "-reload and -state"}, "-reload -config " + config: {1, "", "no such file"},
 	} {
 		var out, said bytes.Buffer
 		status := run(strings.Fields(line), &out, &said)

@@ -147,7 +147,8 @@ private:
     }
 };
 
-/* Throws `refused` with the line of a call that is refused, and std::logic_error if its status is none of the two wanted ones. */
+/* Returns the status `met` of a call if it is one of the two that are allowed. Throws `refused` with the call's line if it is refused, and
+   std::logic_error otherwise. `length` counts the line feed at the end of the line, which is left out. It is 0 if there is no line. */
 inline spki_status expect(spki_status met, const char *line, std::size_t length, spki_status wanted, spki_status other)
 {
     if (met == SPKI_REFUSED)

@@ -89,7 +89,8 @@ NO_REQUESTS = [((), "EmptyList"), ((b"*", b"x"), "StarInRequest"), ((b"*", b"set
 
 
 def of_strings() -> Iterator[CallRow]:
-    """Strings are granted by their own list, and by no list with one more member. Each octet of a string stands for itself."""
+    """Several strings are granted by the tag that is their list, and not by one with one more member. One string is granted by that string, and
+    not by a list of it. No strings, and several of which the first is `*`, are refused. Each octet of a string counts as it is."""
     for place, words in enumerate(STRINGS):
         own = [*map(string, words)]
         yield row_by_strings(f"strings {place}", list_of(group(*own)), 0, words, b"Yes(1)")

@@ -210,8 +210,9 @@ class Changes(OfSite):
     """Lists that are changed, slow clients, and a daemon that ends."""
 
     def test_list_under_load(self) -> None:
-        """While readers ask, the list is changed between two that both let Ann read and only one lets Ben. Nobody gets a wrong answer."""
-        both = self.site.text("etc/acl.sexp")
+        """While readers ask, the list is changed between two that both let Ann read and only one lets Ben. Each fifth list is broken: it is
+        refused, and the one before it stays. Nobody gets a wrong answer."""
+        without_ben = self.site.text("etc/acl.sexp")
         self.site.cert("entry", "--to", "keys/ben.pub", "--tag", READ, "--acl", "etc/acl.sexp")
         with_ben, met, ends = self.site.text("etc/acl.sexp"), set[tuple[str, object]](), threading.Event()
 
@@ -228,7 +229,7 @@ class Changes(OfSite):
             each.start()
         try:
             for number in range(CHANGES):
-                self.site.write("etc/new", "(acl" if number % 5 == 4 else with_ben if number % 2 else both)
+                self.site.write("etc/new", "(acl" if number % 5 == 4 else with_ben if number % 2 else without_ben)
                 os.replace(self.site.at("etc/new"), self.site.at("etc/acl.sexp"))
                 said = self.site.reload()
                 self.assertEqual("refused" in said, number % 5 == 4, said)

@@ -117,9 +117,10 @@ def tag_of(node: Node) -> Node:
 
 
 def probable_mistakes(node: Node, moment: bytes) -> Iterator[tuple[int, str]]:
-    """What is legal and probably a mistake in a value: for each the offset in the text, and a remark."""
+    """What is legal and probably a mistake in a value: for each the offset in the text, and a remark. A value whose head is in neither table, BY_HEAD
+    nor ALONE, is a tag. A signature or a hash alone has no remarks."""
     kind = BY_HEAD.get(node.head or b"")
-    if kind in ("acl", "sequence", "case") or node.head == b"cert":
+    if kind in ("acl", "sequence", "case") or node.head in (b"cert", b"entry"):
         yield from mistakes_in_parts(node, moment)
     if kind in ("acl", "case"):
         yield from needless_entries(node if kind == "acl" else node.rest[0])
