@@ -45,7 +45,7 @@ pub(crate) fn required_subject<'a, L: Ledger>(
 {
     let mut required = RequiredSubject {
         key: key.share(),
-        names: Names::of(Vec::new(alloc)),
+        names: Names::none(alloc),
         delegation: false,
     };
     for done in 0..steps.len() {
@@ -93,7 +93,7 @@ impl<'a> RequiredSubject<'a> {
         ticks.tick();
         match step {
             Step::Auth(next) => Ok(self.before_authorization(alloc, next, policy, ticks)),
-            Step::Name(definition) => self.before_definition(alloc, definition, policy, ticks),
+            Step::Name(definition) => self.before_definition(definition, policy, ticks),
         }
     }
 
@@ -118,7 +118,7 @@ impl<'a> RequiredSubject<'a> {
             Issuer::Own => None,
             Issuer::Key(key) => Some(RequiredSubject {
                 key: key.share(),
-                names: Names::of(Vec::new(alloc)),
+                names: Names::none(alloc),
                 delegation: true,
             }),
         }
@@ -130,7 +130,6 @@ impl<'a> RequiredSubject<'a> {
     /// does not name the key of `self`. Err if memory ran out.
     fn before_definition<L: Ledger>(
         self,
-        alloc: Global,
         definition: &Four<'a>,
         policy: Policy,
         ticks: &mut Ticks<L>,
@@ -146,11 +145,9 @@ impl<'a> RequiredSubject<'a> {
             return Ok(None);
         };
         ticks.tick();
-        let mut name = Vec::new(alloc);
-        name.push(definition.name.share())?;
         Ok(Some(RequiredSubject {
             key: definition.key.share(),
-            names: rest.behind(&Names::of(name))?,
+            names: rest.behind_name(definition.name.share())?,
             delegation: self.delegation,
         }))
     }
@@ -158,7 +155,7 @@ impl<'a> RequiredSubject<'a> {
 
 /// The names that remain if those of `front` are removed from the beginning of `names`. None if `names` do not begin with them. Each name
 /// of `front` that is compared is a tick, and so is each of its octets.
-#[tactic(auto, using(crate::proofs::ChainRequirements::begins_more, crate::proofs::ChainRequirements::begins_not, crate::proofs::Costs::names_step))]
+#[tactic(auto, using(crate::proofs::Costs::names_step))]
 fn names_after<'a, L: Ledger>(
     names: Names<'a>,
     front: &Names,

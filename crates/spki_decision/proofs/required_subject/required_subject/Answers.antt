@@ -1,13 +1,11 @@
-use Rattle.std.proofs.Common.{◌≡◌, ◌-◌, ◌+◌, Some, None, ap, ◌∙◌, refl, arith, length, take, take_all}
-use Rattle.spki_reduce.specs.Chain.{tuples_of}
-use Rattle.spki_decision.specs.Cost.{paths_weight}
+use Rattle.std.proofs.Common.{◌≡◌, ◌-◌, ◌+◌, Some, None, ap, refl, arith, length, take, take_all}
 use Rattle.spki_decision.proofs.{Costs.{paths_last}, ChainRequirements.{begin_from, last_of, one_before, none_from, whole_from}}
 use Rattle.spki_decision.proofs.required_subject.required_subject.Goals as goal
 
 pub loop-done-init : goal.loop-done-init
 loop-done-init g c =
     record {
-      required = begin_from c.args.policy c.args.steps.now c.args.key.now _ c.share.ensures (c.of.ensures ∙ c.new.ensures.items) refl;
+      required = begin_from c.args.policy c.args.steps.now c.args.key.now _ c.share.ensures c.none.ensures refl;
       cost = search (arith, take_all);
       grows = omega arith;
     }

@@ -1,4 +1,4 @@
-use Rattle.std.proofs.Common.{◌≡◌, ◌∷◌, ◌++◌, [], true, sym, ◌∙◌, ap, refl}
+use Rattle.std.proofs.Common.{◌≡◌, ◌∷◌, ◌++◌, true, sym, ◌∙◌, ap, refl}
 use Rattle.spki_cert.specs.Naming.{names}
 use Rattle.spki_reduce.specs.Reduction.{four_tuple}
 use Rattle.spki_decision.proofs.ChainRequirements.{defined_before}
@@ -9,9 +9,8 @@ returns-clause-answer g c =
     let definition = four_tuple c.args.definition.now in
     let named : names c.args.policy definition.principal c.args.self.key ≡ true = sym c.is_name_of.ensures.answer ∙ c.if-not-is_name_of.false in
     let begun : c.args.self.names ≡ definition.names ++ c.in-Some.rest = rw c.in-Some.is at c.names_after.ensures.some in
-    let name = c.of.ensures ∙ c.in_ok-push.ensures.items ∙ ap (λ ns. ns ++ c.share.result ∷ []) c.new-name.ensures.items
-    ∙ ap (λ n. n ∷ []) c.share.ensures in
-    let names_are : c.in_ok-behind.field-0 ≡ definition.name ∷ c.in-Some.rest = c.in_ok-behind.ensures ∙ ap (λ ns. ns ++ c.in-Some.rest) name in
+    let names_are : c.in_ok-behind_name.field-0 ≡ definition.name ∷ c.in-Some.rest =
+    c.in_ok-behind_name.ensures ∙ ap (λ n. n ∷ c.in-Some.rest) c.share-2.ensures in
     defined_before c.args.policy c.args.self definition
-    (record { key = c.share-2.result; names = c.in_ok-behind.field-0; delegation = c.args.self.delegation })
-    c.in-Some.rest named begun c.share-2.ensures names_are refl
+    (record { key = c.share.result; names = c.in_ok-behind_name.field-0; delegation = c.args.self.delegation })
+    c.in-Some.rest named begun c.share.ensures names_are refl

@@ -1,0 +1,18 @@
+use Rattle.std.proofs.Common.{◌++◌, ◌+◌, ◌∙◌, ap, sym, take, rules, arith}
+use Rattle.spki_decision.proofs.{ChainRequirements.{begins_more, begins_not}, Costs.{names_step}}
+use Rattle.spki_decision.proofs.required_subject.names_after.Goals as goal
+
+pub returns-then-not-has_first-clause-none : goal.returns-then-not-has_first-clause-none
+returns-then-not-has_first-clause-none g c =
+    begins_not c.args.names c.args.front.now c.loop-place.rest c.loop-place.place c.at-in-loop-place.result.now c.at-in-loop-place.ensures
+    c.loop-place.invariant.begun (λ first. search rules)
+
+pub loop-place-preserved : goal.loop-place-preserved
+loop-place-preserved g c =
+    let step = names_step c.args.front.now c.loop-place.place c.at.result.now c.at.ensures in
+    record {
+      begun = begins_more c.args.names c.args.front.now c.loop-place.rest c.loop-place.place c.at-in-loop-place.result.now c.at-in-loop-place.ensures
+          c.loop-place.invariant.begun (search rules) ∙ ap (λ ns. take (c.loop-place.place + 1) c.args.front.now ++ ns) (sym c.behind_first-rest.ensures);
+      cost = omega (arith, step, c.loop-place.invariant.cost, c.count_name.ensures);
+      grows = omega (arith, c.loop-place.invariant.grows, c.count_name.ensures);
+    }
