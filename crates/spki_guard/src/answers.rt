@@ -98,7 +98,7 @@ impl<'o> Output<'o> {
 }
 
 /// The answer for a decision: `yes entry N` or `no`.
-pub(crate) fn answer_of_decision(decision: Decision) -> Answer<'static>
+pub(crate) fn answer_of_decision<'o>(decision: Decision) -> Answer<'o>
     ensures { PrintsAs (IsLineOf decision) result }
 {
     match decision {
@@ -123,7 +123,7 @@ pub(crate) fn answer_of_reduction<'a>(reduction: Reduction<'a>) -> Answer<'a>
 }
 
 /// The answer for an explanation: a line for each entry, `no entries`, or the line of the certificate that fails.
-pub(crate) fn answer_of_explanation(explanation: Explanation) -> Answer<'static>
+pub(crate) fn answer_of_explanation<'o>(explanation: Explanation) -> Answer<'o>
     ensures { PrintsAs (IsExplanationReport explanation) result }
 {
     match explanation {
