@@ -121,6 +121,7 @@ func (f *figures) measure(name string, count int, number func() int) {
 // measureCold measures keys whose rows are in no memory, as far as bench/store.py can have it so.
 func (f *figures) measureCold() {
 	random := rand.New(rand.NewSource(1))
+	// (The first call prepares the statement, which no figure should contain. No key has this digest.)
 	_, _ = f.store.reader.rows(digestsOf([]byte("none")))
 	f.measure("cold", 300, func() int { return random.Intn(f.keys) })
 }

@@ -159,8 +159,8 @@ impl<'d, 'a> Node<'d, 'a> {
         }
     }
 
-    /// How many members the node has. None if it is a string. It takes a step for each member: the table does not have
-    /// the number.
+    /// How many members the node has. None if it is a string. It takes a step for each member, because the document's
+    /// table of nodes does not have this count.
     pub(crate) fn part_count(&self) -> Option<usize>
         ensures { result ≡ part_count self.now }
     {

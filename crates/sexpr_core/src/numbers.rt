@@ -17,7 +17,7 @@ impl<'a> Doc<'a> {
     }
 
     /// The number of members of a list. None for a string, and if the document has no such node. It takes a step for each
-    /// member: the table does not have the number.
+    /// member, because the document's table of nodes does not have this count.
     pub fn parts(&self, n: NodeId) -> Option<usize>
         ensures { result ≡ of_node part_count self.now n.0 }
     {

@@ -88,7 +88,7 @@ impl<'t> CanonicalText<'t> {
 
     /// Returns the canonical text with these octets, for a caller that has written the value itself. The octets must be
     /// the canonical form of a value in which at most `MOST_LISTS` lists are open at once. If there are more than
-    /// 1,048,576 of them, `document` returns `TooLong`.
+    /// 1,048,576 octets, `document` returns `TooLong`.
     pub fn made(octets: Vec<u8>) -> CanonicalText<'t>
         requires { (v : Value) × IsShallow v × (octets.items ≡ canon v) }
         ensures made { length octets.items ≤ 1048576 → result ≡ Ok octets.items }

@@ -41,7 +41,7 @@ pub enum Unverified<'a> {
 }
 
 impl<'a> Unverified<'a> {
-    /// The evidence, once every signature of `ExaminedSequence::signed` is found to be valid.
+    /// The evidence, once every signature of `ExaminedSequence::signed` is found to be valid. It tests nothing: the caller has.
     pub(crate) fn verified(self) -> Evidence<'a>
         ensures { (policy : Policy) (items : List SeqItem) → IsUnverified policy items self.entry
             → IsEvidence policy every items result }

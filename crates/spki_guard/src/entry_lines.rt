@@ -56,8 +56,8 @@ pub(crate) fn print_entry<S: Sink>(entry: usize, sink: &mut S)
     sink.put_octet(b' ');
 }
 
-/// Prints the line `entry N item J CAUSE` and its line feed: the certificate that is item J of the sequence does not join what entry N
-/// and the certificates before it became. Both numbers are counted from 1.
+/// Prints the line `entry N item J CAUSE` and its line feed. Entry N and the certificates before item J of the sequence reduce to one
+/// authorization. The certificate that is item J does not reduce with it, and CAUSE says why. Both numbers are counted from 1.
 #[tactic(auto, using(crate::proofs::ReportLines::decimal_written))]
 pub(crate) fn print_stopped<S: Sink>(entry: usize, item: usize, cause: Cause, sink: &mut S)
     ensures { S.takes sink.old (stopped_line entry item cause) sink.new }

@@ -257,10 +257,11 @@ impl<'a> Five<'a> {
         }
     }
 
-    /// Joins this authorization with a step: an authorization by `into_then`, a definition by `into_resolve_counted`. `most`,
-    /// which must be at most 1,000,000, is the greatest product of the numbers of nodes of two tags that are intersected.
-    /// Err is `TooLarge`, only for an authorization, or `Memory`. There are at most three ticks for each unit of `cost_with`, so
-    /// none if they do not join for another reason than their tags.
+    /// Joins this authorization with a step: an authorization by `into_then`, a definition by `into_resolve_counted`. If they do
+    /// not join, the result is `Stopped` with the cause. `policy` says which hashes may name keys. `most`, which must be at most
+    /// 1,000,000, is the greatest product of the numbers of nodes of two tags that are intersected. Err is `TooLarge` if the step
+    /// is an authorization and this product is greater, or `Memory`. There are at most three ticks for each unit of `cost_with`.
+    /// If they do not join, and the cause is not `NoTag`, `cost_with` is 0, so there are no ticks.
     #[tactic(auto, using(crate::proofs::ReducedForms::unrefused))]
     fn joined<L: Ledger>(
         self,

@@ -60,7 +60,7 @@ pub fn command_of(alloc: Global, words: &[String]) -> Result<Command, WordsFault
     ensures faults { MatchResult result (λ _. faults_of (map string_bytes words.now) ≡ []) (IsFaultOf (map string_bytes words.now)) }
 {
     match program(alloc)?.try_get_matches_from(words) {
-        Ok(matches) => Ok(met(&matches)),
+        Ok(matches) => Ok(found_command(&matches)),
         Err(error) => Err(fault(alloc, &error)),
     }
 }
@@ -102,7 +102,7 @@ fn subcommand<'a>(alloc: Global, command: Command) -> clap::Command<'a>
 
 /// The command for the subcommand that `clap` found in the words. There must be one, and it is the word of a command, so neither
 /// `unreachable!()` is reached.
-fn met(matches: &clap::ArgMatches<'_>) -> Command
+fn found_command(matches: &clap::ArgMatches<'_>) -> Command
     requires { (c : Command) × (subcommand_name_of matches.now ≡ Some (word_of c)) }
     ensures { subcommand_name_of matches.now ≡ Some (word_of result) }
 {

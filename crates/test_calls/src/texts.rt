@@ -29,7 +29,7 @@ pub fn word_of(text: &[u8]) -> &str {
     str::from_utf8(text).unwrap_or("")
 }
 
-/// The number that the text has in decimal digits, or the greatest one for any other text.
+/// The number that the text has in decimal digits, or `usize::MAX` for any other text and a greater number.
 pub fn number(text: &[u8]) -> usize {
     word_of(text).parse().unwrap_or(usize::MAX)
 }

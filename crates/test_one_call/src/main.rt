@@ -5,8 +5,8 @@
 //! The crate `test_calls` contains the calls of the libraries up to `spki_service`, and this crate the others. This crate is proved last,
 //! when nothing else is left to prove. The head of `test_calls` says why values are moved to `answer` or dropped by a call.
 //!
-//! If memory runs out for a row, its line is `refused Memory`. If its call is unknown or its digits are malformed, it is `refused Unknown`. Then the
-//! program ends with status 2. `tests/suite/test_hostile.py` refuses each allocation of a call in turn.
+//! If memory runs out for a row, its line is `refused Memory`. If its call is unknown or its digits are malformed, it is `refused Unknown`. In both
+//! cases the rows after it are still answered, and the program ends with status 2. `tests/suite/test_hostile.py` refuses each allocation of a call in turn.
 #![tactic(auto)]
 
 mod callers;
@@ -82,7 +82,8 @@ fn answer_row(rt: &HostRuntime, line: &str) -> Result<bool, Failure> {
     Ok(answer.is_ok())
 }
 
-/// Answers all rows. The status is 2 if a row has no answer, or standard input or output failed.
+/// Answers all rows, also those after a row without an answer. The status is 2 if a row has no answer. It is also 2 if standard input or
+/// output failed, or memory ran out for reading: then the last line is `refused` and the failure. Err if that line cannot be written.
 fn main(rt: HostRuntime) -> io::Result<ExitCode> {
     match answer_rows(&rt) {
         Ok(true) => Ok(ExitCode::SUCCESS),

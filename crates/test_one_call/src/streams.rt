@@ -39,7 +39,7 @@ enum WithoutRoom {
 }
 
 impl WithoutRoom {
-    /// What a word names. Any other word means `Stops`.
+    /// What a stream without room does, by a word: `fails` means `Fails`, `interrupted` means `IsInterrupted`, any other `Stops`.
     fn of(word: &[u8]) -> WithoutRoom {
         match word_of(word) {
             "fails" => WithoutRoom::Fails,
