@@ -239,7 +239,7 @@ class Changes(OfSite):
             ends.set()
             for each in readers:
                 each.join()
-            self.site.write("etc/acl.sexp", both)
+            self.site.write("etc/acl.sexp", without_ben)
             self.site.reload()
         self.assertEqual(met, {("ann", 200), ("ben", 200), ("ben", 401), ("eve", 401)})
 
