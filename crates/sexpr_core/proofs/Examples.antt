@@ -1,6 +1,6 @@
 -- The definitions tried on small texts.
 use Rattle.std.{proofs.Common.{◌≡◌, [], ◌∷◌, Some, refl, arith}, specs.Prelude.{codes}}
-use Rattle.sexpr_core.specs.declared.{fault.FormFault.TheVariants.{Short, Bad, Trailing}, layout.Shape.TheVariants.{Plain, Hinted, List as Group}}
+use Rattle.sexpr_core.specs.declared.fault.FormFault.TheVariants.{Short, Bad, Trailing}
 use Rattle.sexpr_core.specs.{Value.{Value, string, plain, group, decimal, verbatim, canon, depth, size}, Nodes.{records}, Reading.{Refused}}
 use Rattle.sexpr_core.proofs.{Faults.{length_zero, verbatim_fault, plain_fault}, Refusals.{refused}}
 
@@ -41,9 +41,9 @@ empty_list_depth = refl
 -- where the nodes of (1:a[1:h]2:bc) lie
 small_records :
     records 0 (group (plain (codes "a") ∷ string (Some (codes "h")) (codes "bc") ∷ [])) ≡
-    record { start = 0; end = 14; size = 3; shape = Group 2 } ∷
-    record { start = 1; end = 4; size = 1; shape = Plain 3 } ∷
-    record { start = 4; end = 13; size = 1; shape = Hinted 7 8 11 } ∷ []
+    record { start = 0; end = 14; detail = 17 } ∷
+    record { start = 1; end = 4; detail = 3 } ∷
+    record { start = 4; end = 13; detail = 11 } ∷ []
 unfolding verbatim decimal
 small_records = refl
 

@@ -1,11 +1,11 @@
 -- What each step of the reader says of the text where it stops.
-use Rattle.std.proofs.Common.{◌≡◌, ℕ, suc, ◌+◌, ◌-◌, ◌<◌, ◌≤◌, List, [], ◌∷◌, ◌++◌, length, take, replicate, Some, None, refl, sym, ◌∙◌, ap, subst, arith, append_assoc, length-append, append-nil, add-one, rules}
-use Rattle.std.proofs.{lemmas.List.{length-replicate}, Math.Seq.{take-append-add, take-append_seam}}
+use Rattle.std.proofs.Common.{◌≡◌, ℕ, suc, ◌+◌, ◌-◌, ◌<◌, ◌≤◌, List, [], ◌∷◌, ◌++◌, length, take, drop, replicate, Some, None, refl, sym, ◌∙◌, ap, subst, arith, append_assoc, length-append, append-nil, add-one, rules}
+use Rattle.std.proofs.{lemmas.List.{length-replicate, take-append-drop}, Math.Seq.{take-append-add, take-append_seam}}
 use Rattle.sexpr_core.specs.declared.fault.FormFault.{FormFault, TheVariants.{Short, Bad}}
 use Rattle.sexpr_core.specs.Value.{Value, Values, string, list, none, decimal, verbatim, canon, canons, depths}
 use Rattle.sexpr_core.specs.Reading.{Front, IsCanon, IsCanonWithin, IsMembers, IsMembersWithin, IsVerbatim, IsClosing, IsLength}
-use Rattle.sexpr_core.specs.Inner.PartFaults.{Barred, IsDeep, FaultAt}
-use Rattle.sexpr_core.proofs.Texts.{IsDigit, AreDigits-decimal, parts_agree, head_is, zero_once, decimal_starts, IsFilled, IsFilledWithin, IsHinted, verbatim_is, verbatim_differs, colon_no_digit, Opens-verbatim, Opens-hinted, Behind-hint, Behind-closing, Behind-bracket, Behind-bracket_within, From-digit, From-digit_within}
+use Rattle.sexpr_core.specs.Inner.PartFaults.{Barred, IsDeep, FaultAt, MissesAt}
+use Rattle.sexpr_core.proofs.Texts.{IsDigit, AreDigits-decimal, parts_agree, head_is, zero_once, decimal_starts, IsFilled, IsFilledWithin, IsHinted, verbatim_is, verbatim_one, verbatim_differs, colon_no_digit, Opens-verbatim, Opens-hinted, Behind-hint, Behind-closing, Behind-bracket, Behind-bracket_within, From-digit, From-digit_within}
 use Rattle.sexpr_core.proofs.ListTexts.{Behind-members, Behind-members_within, Behind-open, Behind-open_within, closed_within, From-filled, From-filled_within, Opens-filled, Opens-filled_within}
 use Rattle.sexpr_core.proofs.Prefix.{FaultAt-head, FaultAt-tail, FaultAt-from, FaultAt-first, Front-none}
 
@@ -74,10 +74,25 @@ length_zero at c xs ys e nc = length_stop at 0 c xs ys e (λ m x y q. nc (head_i
 
 -- ---- a string in verbatim form
 
-pub verbatim_fault :
-    (at : ℕ) (xs : List ℕ) (e : FormFault) → FaultAt IsLength IsLength at xs e →
-    FaultAt IsVerbatim IsVerbatim at xs e
-verbatim_fault at xs e h = FaultAt-head IsVerbatim IsLength IsVerbatim IsLength at xs e Opens-verbatim Opens-verbatim h
+missed : (T : List ℕ → Type 0) (at : ℕ) (xs : List ℕ) (e : FormFault) → MissesAt T at xs e → FaultAt T T at xs e
+missed T at xs Short h = h
+missed T at xs (Bad k) h = h
+missed T at xs _ h = absurd h
+
+pub verbatim_fault : (at : ℕ) (xs : List ℕ) (e : FormFault) → MissesAt IsLength at xs e → MissesAt IsVerbatim at xs e
+verbatim_fault at xs Short h = FaultAt-head IsVerbatim IsLength IsVerbatim IsLength at xs Short Opens-verbatim Opens-verbatim h
+verbatim_fault at xs (Bad k) h = FaultAt-head IsVerbatim IsLength IsVerbatim IsLength at xs (Bad k) Opens-verbatim Opens-verbatim h
+verbatim_fault at xs _ h = absurd h
+
+-- no string in verbatim form is missed where one is
+pub verbatim_there : (at : ℕ) (octets xs behind : List ℕ) (e : FormFault) → xs ≡ verbatim octets ++ behind → MissesAt IsVerbatim at xs e → ⊥
+verbatim_there at octets xs behind Short e h =
+    let whole : verbatim octets ++ (behind ++ h.rest) ≡ verbatim h.whole.octets ++ [] =
+    sym (append_assoc (verbatim octets) behind h.rest) ∙ ap (λ t. t ++ h.rest) (sym e) ∙ h.whole.is ∙ sym (append-nil (verbatim h.whole.octets)) in
+    omega (arith, h.some, ap length (verbatim_one octets h.whole.octets (behind ++ h.rest) [] whole).1, length-append behind h.rest)
+verbatim_there at octets xs behind (Bad k) e h =
+    h.stops.bars (verbatim octets) (drop (suc h.place) xs) behind (record { octets = octets; is = refl }) (take-append-drop (suc h.place) xs ∙ e)
+verbatim_there at octets xs behind _ e h = h
 
 pub verbatim_short :
     (at n : ℕ) (xs ys : List ℕ) → xs ≡ decimal n ++ 58 ∷ ys → length ys < n →
@@ -97,6 +112,10 @@ verbatim_short at n xs ys e h =
 pub verbatim_none : (octets : List ℕ) → 0 < length (verbatim octets)
 verbatim_none octets = search (rules, verbatim_is, some_append)
 
+pub canon_some : (v : Value) → 0 < length (canon v)
+canon_some (string None octets) = verbatim_none octets
+canon_some _ = omega arith
+
 -- ---- behind a hint
 
 pub closing_ended : (xs : List ℕ) → xs ≡ [] → Front IsClosing xs
@@ -106,21 +125,22 @@ pub closing_first : (at c : ℕ) (xs ys : List ℕ) → xs ≡ c ∷ ys → (c �
 closing_first at c xs ys q h = search (rules, FaultAt-first, closing_ended)
 
 pub closing_fault :
-    (at : ℕ) (xs ys : List ℕ) (e : FormFault) → xs ≡ 93 ∷ ys → FaultAt IsVerbatim IsVerbatim (at + 1) ys e →
-    FaultAt IsClosing IsClosing at xs e
-closing_fault at xs ys e q h = FaultAt-tail IsClosing IsVerbatim IsClosing IsVerbatim at (at + 1) (93 ∷ []) xs ys e q refl Behind-closing Behind-closing h
+    (at : ℕ) (xs ys : List ℕ) (e : FormFault) → xs ≡ 93 ∷ ys → MissesAt IsVerbatim (at + 1) ys e →
+    MissesAt IsClosing at xs e
+closing_fault at xs ys Short q h = FaultAt-tail IsClosing IsVerbatim IsClosing IsVerbatim at (at + 1) (93 ∷ []) xs ys Short q refl Behind-closing Behind-closing h
+closing_fault at xs ys (Bad k) q h = FaultAt-tail IsClosing IsVerbatim IsClosing IsVerbatim at (at + 1) (93 ∷ []) xs ys (Bad k) q refl Behind-closing Behind-closing h
+closing_fault at xs ys _ q h = absurd h
 
 -- ---- a hinted string behind its bracket
 
-pub hint_fault :
-    (at : ℕ) (xs : List ℕ) (e : FormFault) → FaultAt IsVerbatim IsVerbatim at xs e →
-    FaultAt IsHinted IsHinted at xs e
-hint_fault at xs e h = FaultAt-head IsHinted IsVerbatim IsHinted IsVerbatim at xs e Opens-hinted Opens-hinted h
+pub hint_fault : (at : ℕ) (xs : List ℕ) (e : FormFault) → MissesAt IsVerbatim at xs e → FaultAt IsHinted IsHinted at xs e
+hint_fault at xs e h = FaultAt-head IsHinted IsVerbatim IsHinted IsVerbatim at xs e Opens-hinted Opens-hinted (missed IsVerbatim at xs e h)
 
 pub hinted_fault :
     (at to : ℕ) (hint xs ys : List ℕ) (e : FormFault) → xs ≡ verbatim hint ++ ys →
-    to ≡ at + length (verbatim hint) → FaultAt IsClosing IsClosing to ys e → FaultAt IsHinted IsHinted at xs e
-hinted_fault at to hint xs ys e q p h = search (rules, FaultAt-tail, Behind-hint)
+    to ≡ at + length (verbatim hint) → MissesAt IsClosing to ys e → FaultAt IsHinted IsHinted at xs e
+hinted_fault at to hint xs ys e q p h =
+    FaultAt-tail IsHinted IsClosing IsHinted IsClosing at to (verbatim hint) xs ys e q p (Behind-hint hint) (Behind-hint hint) (missed IsClosing to ys e h)
 
 -- ---- a value
 
@@ -141,9 +161,10 @@ pub value_first :
 value_first room at c xs ys q nd nb np = search (rules, FaultAt-first, value_ended, value_never)
 
 pub plain_fault :
-    (room at c : ℕ) (xs ys : List ℕ) (e : FormFault) → xs ≡ c ∷ ys → IsDigit c → FaultAt IsVerbatim IsVerbatim at xs e →
+    (room at c : ℕ) (xs ys : List ℕ) (e : FormFault) → xs ≡ c ∷ ys → IsDigit c → MissesAt IsVerbatim at xs e →
     FaultAt IsCanon (IsCanonWithin room) at xs e
-plain_fault room at c xs ys e q low h = search (rules, FaultAt-from, From-digit, From-digit_within)
+plain_fault room at c xs ys e q low h =
+    FaultAt-from IsCanon IsVerbatim (IsCanonWithin room) IsVerbatim at c xs ys e q (From-digit c low) (From-digit_within room c low) (missed IsVerbatim at xs e h)
 
 pub bracket_fault :
     (room at : ℕ) (xs ys : List ℕ) (e : FormFault) → xs ≡ 91 ∷ ys → FaultAt IsHinted IsHinted (at + 1) ys e →

@@ -1,5 +1,6 @@
 pub mod Texts
 pub mod Errors
+pub mod RecordLaws
 pub mod NodeLaws
 pub mod Prefix
 pub mod Spans

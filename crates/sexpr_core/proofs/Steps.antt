@@ -2,9 +2,9 @@
 use Rattle.std.proofs.Common.{◌≡◌, ℕ, ◌+◌, ◌-◌, ◌*◌, ◌<◌, ◌≤◌, min, ◌⊎◌, inl, inr, List, [], ◌∷◌, ◌++◌, length, take, drop, Some, sym, ◌∙◌, ap, subst, arith, append_assoc, length-append, length-drop, rules}
 use Rattle.std.proofs.{lemmas.List.{take-append-drop, length-take-le, drop-drop}, Math.Seq.{take-append_seam}}
 use Rattle.std.specs.Prelude.{slice_range}
-use Rattle.sexpr_core.specs.declared.{fault.FormFault.{FormFault}, layout.{Record.{Record}, Shape.{Shape, TheVariants.{Plain, Hinted}}}}
+use Rattle.sexpr_core.specs.declared.{fault.FormFault.{FormFault}, layout.Record.{Record}}
 use Rattle.sexpr_core.specs.Reading.{Front, IsCanon, IsCanonWithin, IsVerbatim, IsClosing, IsLength, StandsAt, ReadsLength, ReadsVerbatim, ReadsString}
-use Rattle.sexpr_core.specs.{Value.{string, decimal, verbatim, canon}, Nodes.{head, shape}, Inner.PartFaults.{IsBad, FaultAt}}
+use Rattle.sexpr_core.specs.{Value.{string, decimal, verbatim, canon}, Nodes.{head, body_at}, Inner.PartFaults.{IsBad, FaultAt, MissesAt}}
 use Rattle.sexpr_core.proofs.Texts.{IsDigit, decimal_digit, decimal_more, verbatim_is}
 use Rattle.sexpr_core.proofs.Faults.{length_bad, length_zero, verbatim_short, hint_fault, hinted_fault, bracket_fault}
 
@@ -89,13 +89,13 @@ octets_read text at n to short begins r h =
 
 pub in_hint :
     (room : ℕ) (text : List ℕ) (at : ℕ) (e : FormFault) → StandsAt text at 91 →
-    FaultAt IsVerbatim IsVerbatim (at + 1) (drop (at + 1) text) e →
+    MissesAt IsVerbatim (at + 1) (drop (at + 1) text) e →
     FaultAt IsCanon (IsCanonWithin room) at (drop at text) e
 in_hint room text at e s h = bracket_fault room at (drop at text) (drop (at + 1) text) e s.spelled (hint_fault (at + 1) (drop (at + 1) text) e h)
 
 pub behind_hint :
     (room : ℕ) (text : List ℕ) (at body to : ℕ) (e : FormFault) → StandsAt text at 91 →
-    ReadsVerbatim text (at + 1) body to → FaultAt IsClosing IsClosing to (drop to text) e →
+    ReadsVerbatim text (at + 1) body to → MissesAt IsClosing to (drop to text) e →
     FaultAt IsCanon (IsCanonWithin room) at (drop at text) e
 behind_hint room text at body to e s r h =
     bracket_fault room at (drop at text) (drop (at + 1) text) e s.spelled
@@ -103,18 +103,18 @@ behind_hint room text at body to e s r h =
     (read_length text (verbatim r.octets) (at + 1) to (omega (arith, s.within)) r.within r.spelled) h)
 
 -- a string's record
-abbrev pub one : ℕ → ℕ → Shape → Record
-one at to is = record { start = at; end = to; size = 1; shape = is }
+abbrev pub one : ℕ → ℕ → ℕ → Record
+one at to body = record { start = at; end = to; detail = body }
 
 record_is :
-    (at to ends : ℕ) (a b : Shape) → to ≡ ends → a ≡ b →
+    (at to ends a b : ℕ) → to ≡ ends → a ≡ b →
     ◌≡◌ {A = List Record} (one at ends b ∷ []) (one at to a ∷ [])
 record_is at to ends a b e s = search rules
 
 pub hinted_read :
     (text : List ℕ) (at hint via body to : ℕ) → StandsAt text at 91 → ReadsVerbatim text (at + 1) hint via →
     StandsAt text via 93 → ReadsVerbatim text (via + 1) body to →
-    ReadsString text at (one at to (Hinted hint via body))
+    ReadsString text at (one at to body)
 hinted_read text at hint via body to s h m r =
     let w : at < length text = s.within in
     let k : to ≤ length text = r.within in
@@ -125,20 +125,17 @@ hinted_read text at hint via body to s h m r =
     let a : hint ≡ at + 1 + head h.octets = h.begins in
     let b : via ≡ hint + length h.octets = h.ends in
     let d : body ≡ via + 1 + head r.octets = r.begins in
-    let v : via ≡ at + 1 + head h.octets + length h.octets = omega arith in
-    let f : body ≡ at + 1 + head h.octets + length h.octets + 1 + head r.octets = omega arith in
-    let sh : Hinted hint via body ≡ shape at (Some h.octets) r.octets = cc in
+    let f : body ≡ body_at at (Some h.octets) r.octets = omega arith in
     record {
       hint = Some h.octets;
       octets = r.octets;
       spelled = e;
-      placed = record_is at to (at + length (canon (string (Some h.octets) r.octets))) (Hinted hint via body)
-          (shape at (Some h.octets) r.octets)
-          (read_length text (canon (string (Some h.octets) r.octets)) at to (omega arith) k e) sh;
+      placed = record_is at to (at + length (canon (string (Some h.octets) r.octets))) body (body_at at (Some h.octets) r.octets)
+          (read_length text (canon (string (Some h.octets) r.octets)) at to (omega arith) k e) f;
       within = k;
     }
 
 pub plain_read :
     (text : List ℕ) (at body to : ℕ) → at ≤ length text → ReadsVerbatim text at body to →
-    ReadsString text at (one at to (Plain body))
+    ReadsString text at (one at to body)
 plain_read text at body to w r = search (rules, read_length)

@@ -1,18 +1,14 @@
 -- Each step of the reader of values and members, over the text and its offsets.
-use Rattle.std.proofs.Common.{◌≡◌, ℕ, suc, ◌+◌, ◌-◌, ◌<◌, ◌≤◌, List, [], ◌∷◌, ◌++◌, length, drop, None, refl, sym, ◌∙◌, ap, arith, append_assoc, length-append, append-nil, set, replicate, rules}
+use Rattle.std.proofs.Common.{◌≡◌, ℕ, suc, ◌+◌, ◌-◌, ◌<◌, ◌≤◌, List, [], ◌∷◌, ◌++◌, length, drop, refl, sym, ◌∙◌, ap, arith, append_assoc, length-append, append-nil, set, replicate, rules}
 use Rattle.std.proofs.{Math.Seq.{set-append_seam}, lemmas.List.{length-replicate}}
-use Rattle.sexpr_core.specs.declared.{fault.FormFault.{FormFault}, layout.{Record.{Record}, Shape.TheVariants.{List as Group}}}
-use Rattle.sexpr_core.specs.Value.{Value, Values, string, list, none, more, members, canon, canons, depth, depths, nodes, nodes_all, size}
+use Rattle.sexpr_core.specs.declared.{fault.FormFault.{FormFault}, layout.Record.{Record}}
+use Rattle.sexpr_core.specs.Value.{Value, Values, string, list, none, more, canon, canons, depth, depths, nodes, nodes_all, size}
 use Rattle.sexpr_core.specs.Reading.{Front, IsCanon, IsCanonWithin, IsMembers, IsMembersWithin, StandsAt, ReadsString, ReadsValue, ReadsMembers, PassesValue, PassesMembers}
-use Rattle.sexpr_core.specs.{Nodes.{records_all}, Inner.PartFaults.{FaultAt}}
-use Rattle.sexpr_core.proofs.{NodeLaws.{as_many, places_all}, ListTexts.{join, canons-join, depths-join}}
-use Rattle.sexpr_core.proofs.{Faults.{verbatim_none, members_short, member_fault}, Steps.{read_length}}
+use Rattle.sexpr_core.specs.{Nodes.{record_of, records_all}, Inner.PartFaults.{FaultAt}}
+use Rattle.sexpr_core.proofs.{RecordLaws.{as_many, places_all}, ListTexts.{join, canons-join, depths-join}}
+use Rattle.sexpr_core.proofs.{Faults.{canon_some, members_short, member_fault}, Steps.{read_length}}
 
 -- ---- values
-
-canon_some : (v : Value) → 0 < length (canon v)
-canon_some (string None a) = verbatim_none a
-canon_some _ = omega arith
 
 pub string_value :
     (room : ℕ) (text : List ℕ) (at : ℕ) (read : Record) (old new : List Record) → at ≤ length text →
@@ -34,38 +30,31 @@ records_all_many : (at : ℕ) (vs : Values) → length (records_all at vs) ≡ l
 records_all_many at vs = as_many _ (records_all at vs) (nodes_all vs) (places_all _ (replicate at 0) [] at vs (length-replicate at 0) refl)
 
 -- a list's record
-abbrev pub listed : ℕ → ℕ → ℕ → ℕ → Record
-listed at to many parts = record { start = at; end = to; size = many; shape = Group parts }
+abbrev pub listed : ℕ → ℕ → ℕ → Record
+listed at to many = record { start = at; end = to; detail = to + many }
 
-list_record :
-    (at to size many parts : ℕ) (vs : Values) → to ≡ at + length (canon (list vs)) → many ≡ size →
-    parts ≡ length (members vs) →
-    ◌≡◌ {A = Record} (listed at to many parts) (listed at (at + length (canon (list vs))) size (length (members vs)))
-list_record at to size many parts vs a b c = cc
+list_record : (at to many : ℕ) (vs : Values) → to ≡ at + length (canon (list vs)) → many ≡ size (list vs) → listed at to many ≡ record_of at (list vs)
+list_record at to many vs a b = cc
 
 mutual
   -- a value has no more nodes than its text has octets
   size_short : (v : Value) → size v ≤ length (canon v)
   size_short (string hint octets) = omega (arith, canon_some (string hint octets))
-  size_short (list vs) = omega (arith, (many_short vs).1, length-append (canons vs) (41 ∷ []))
+  size_short (list vs) = omega (arith, many_short vs, length-append (canons vs) (41 ∷ []))
 
-  many_short : (vs : Values) → (length (members vs) ≤ length (canons vs)) × (length (nodes_all vs) ≤ length (canons vs))
-  many_short none = (omega arith, omega arith)
+  many_short : (vs : Values) → length (nodes_all vs) ≤ length (canons vs)
+  many_short none = omega arith
   many_short (more v vs) =
-      let m = many_short vs in
-      let long = length-append (canon v) (canons vs) in (
-        omega (arith, canon_some v, m.0, long),
-        omega (arith, size_short v, m.1, long, length-append (nodes v) (nodes_all vs)),
-      )
+      omega (arith, size_short v, many_short vs, length-append (canon v) (canons vs), length-append (nodes v) (nodes_all vs))
 
 -- what was read of a list: its text, its records, and how many nodes it has
 list_is :
-    (inner : ℕ) (text : List ℕ) (at parts to index many : ℕ) (kept : Record) (old pushed grown : List Record) →
+    (inner : ℕ) (text : List ℕ) (at to index many : ℕ) (kept : Record) (old pushed grown : List Record) →
     StandsAt text at 40 → index ≡ length old → pushed ≡ old ++ kept ∷ [] →
-    (r : ReadsMembers inner text (at + 1) parts to pushed grown) → many ≡ length grown - index →
+    (r : ReadsMembers inner text (at + 1) to pushed grown) → many ≡ length grown - index →
     (drop at text ≡ canon (list r.items) ++ drop to text) × (grown ≡ old ++ (kept ∷ records_all (at + 1) r.items))
     × (many ≡ size (list r.items)) × (to ≡ at + length (canon (list r.items)))
-list_is inner text at parts to index many kept old pushed grown s i d r m =
+list_is inner text at to index many kept old pushed grown s i d r m =
     let w : at < length text = s.within in
     let e : drop at text ≡ canon (list r.items) ++ drop to text =
     s.spelled ∙ ap (λ t. 40 ∷ t) (r.spelled ∙ sym (append_assoc (canons r.items) (41 ∷ []) (drop to text))) in
@@ -74,31 +63,32 @@ list_is inner text at parts to index many kept old pushed grown s i d r m =
     omega (arith, ap length p, length-append old (kept ∷ records_all (at + 1) r.items), records_all_many (at + 1) r.items) in
     (e, p, n, read_length text (canon (list r.items)) at to (omega arith) r.within e)
 
--- a list's record has room for the numbers of its nodes and members
+-- a list's record has room for the number of its nodes
 pub list_short :
-    (inner : ℕ) (text : List ℕ) (at parts to index many : ℕ) (kept : Record) (old pushed grown : List Record) →
-    StandsAt text at 40 → index ≡ length old → pushed ≡ old ++ kept ∷ [] → ReadsMembers inner text (at + 1) parts to pushed grown →
-    many ≡ length grown - index → (many ≤ length text) × (parts ≤ length text)
-list_short inner text at parts to index many kept old pushed grown s i d r m =
-    grind (arith, size_short, many_short, length-append, list_is inner text at parts to index many kept old pushed grown s i d r m)
+    (inner : ℕ) (text : List ℕ) (at to index many : ℕ) (kept : Record) (old pushed grown : List Record) →
+    StandsAt text at 40 → index ≡ length old → pushed ≡ old ++ kept ∷ [] → ReadsMembers inner text (at + 1) to pushed grown →
+    many ≡ length grown - index → many ≤ length text
+list_short inner text at to index many kept old pushed grown s i d r m =
+    let l = list_is inner text at to index many kept old pushed grown s i d r m in
+    omega (arith, l.2, l.3, size_short (list r.items), r.within)
 
 -- a list's record takes the place that was kept for it
 pub list_read :
-    (room inner : ℕ) (text : List ℕ) (at parts to index many : ℕ) (kept : Record) (old pushed grown : List Record) →
+    (room inner : ℕ) (text : List ℕ) (at to index many : ℕ) (kept : Record) (old pushed grown : List Record) →
     room ≡ suc inner → StandsAt text at 40 → index ≡ length old → pushed ≡ old ++ kept ∷ [] →
-    ReadsMembers inner text (at + 1) parts to pushed grown → many ≡ length grown - index →
-    ReadsValue room text at to old (set grown index (listed at to many parts))
-list_read room inner text at parts to index many kept old pushed grown q s i d r m =
+    ReadsMembers inner text (at + 1) to pushed grown → many ≡ length grown - index →
+    ReadsValue room text at to old (set grown index (listed at to many))
+list_read room inner text at to index many kept old pushed grown q s i d r m =
     let k : to ≤ length text = r.within in
     let g : at + 1 < to = r.goes_on in
     let f : depths r.items ≤ inner = r.fits in
-    let l = list_is inner text at parts to index many kept old pushed grown s i d r m in
-    let is = list_record at to (size (list r.items)) many parts r.items l.3 l.2 r.counted in
+    let l = list_is inner text at to index many kept old pushed grown s i d r m in
+    let is = list_record at to many r.items l.3 l.2 in
     record {
       value = list r.items;
       fits = omega arith;
       spelled = l.0;
-      placed = rw (l.1, i, set-append_seam old kept (records_all (at + 1) r.items) (listed at to many parts)) (ap (λ k. old ++ (k ∷ records_all (at + 1) r.items)) is);
+      placed = rw (l.1, i, set-append_seam old kept (records_all (at + 1) r.items) (listed at to many)) (ap (λ k. old ++ (k ∷ records_all (at + 1) r.items)) is);
       goes_on = omega arith;
       within = k;
     }
@@ -106,24 +96,22 @@ list_read room inner text at parts to index many kept old pushed grown q s i d r
 -- ---- members
 
 -- what a loop over members has read when it stands at an offset
-pub record HasMembers (room : ℕ) (text : List ℕ) (at parts to : ℕ) (old new : List Record) : Type 0 where
+pub record HasMembers (room : ℕ) (text : List ℕ) (at to : ℕ) (old new : List Record) : Type 0 where
   pub items : Values
   pub fits : depths items ≤ room
   pub spelled : drop at text ≡ canons items ++ drop to text
   pub placed : new ≡ old ++ records_all at items
-  pub counted : parts ≡ length (members items)
-  pub ahead : at + parts ≤ to
+  pub ahead : at ≤ to
   pub within : to ≤ length text
 
 pub no_members :
     (room : ℕ) (text : List ℕ) (at : ℕ) (old : List Record) → at ≤ length text →
-    HasMembers room text at 0 at old old
+    HasMembers room text at at old old
 no_members room text at old w = record {
   items = none;
   fits = omega arith;
   spelled = refl;
   placed = sym (append-nil old);
-  counted = refl;
   ahead = omega arith;
   within = w;
 }
@@ -134,66 +122,60 @@ records_all-join :
 records_all-join at none ws = ap (λ n. records_all n ws) (omega arith)
 records_all-join at (more v vs) ws = search (rules, length-append, append_assoc, records_all-join (at + length (canon v)) vs ws)
 
-members-join : (vs ws : Values) → length (members (join vs ws)) ≡ length (members vs) + length (members ws)
-members-join none ws = omega arith
-members-join (more v vs) ws = let h : length (members (join vs ws)) ≡ length (members vs) + length (members ws) = members-join vs ws in omega arith
-
 pub more_members :
-    (room : ℕ) (text : List ℕ) (at parts via to : ℕ) (old new newer : List Record) → at ≤ length text →
-    HasMembers room text at parts via old new → ReadsValue room text via to new newer →
-    HasMembers room text at (parts + 1) to old newer
-more_members room text at parts via to old new newer w h r =
+    (room : ℕ) (text : List ℕ) (at via to : ℕ) (old new newer : List Record) → at ≤ length text →
+    HasMembers room text at via old new → ReadsValue room text via to new newer →
+    HasMembers room text at to old newer
+more_members room text at via to old new newer w h r =
     let k : via ≤ length text = h.within in
     let l : via ≡ at + length (canons h.items) = read_length text (canons h.items) at via w k h.spelled in
     let g : via < to = r.goes_on in
-    let a : at + parts ≤ via = h.ahead in
-    let c : parts ≡ length (members h.items) = h.counted in
+    let a : at ≤ via = h.ahead in
     let f : depth r.value ≤ room = r.fits in
     record {
       items = join h.items (more r.value none);
       fits = depths-join room h.items (more r.value none) h.fits (omega arith);
       spelled = rw (h.spelled, r.spelled, canons-join h.items (more r.value none)) (simp (append_assoc, append-nil) refl);
       placed = rw (r.placed, h.placed, l, records_all-join at h.items (more r.value none)) (simp (append_assoc, append-nil) refl);
-      counted = omega (arith, members-join h.items (more r.value none));
       ahead = omega arith;
       within = r.within;
     }
 
 pub members_end :
-    (room : ℕ) (text : List ℕ) (at parts to : ℕ) (old new : List Record) →
-    HasMembers room text at parts to old new → drop to text ≡ [] → Front (IsMembersWithin room) (drop at text)
-members_end room text at parts to old new h e =
+    (room : ℕ) (text : List ℕ) (at to : ℕ) (old new : List Record) →
+    HasMembers room text at to old new → drop to text ≡ [] → Front (IsMembersWithin room) (drop at text)
+members_end room text at to old new h e =
     members_short room at h.items (drop at text) h.fits (h.spelled ∙ ap (λ t. canons h.items ++ t) e)
 
 pub in_member :
-    (room : ℕ) (text : List ℕ) (at parts to c : ℕ) (old new : List Record) (e : FormFault) → at ≤ length text →
-    HasMembers room text at parts to old new → StandsAt text to c → (c ≡ 41 → ⊥) →
+    (room : ℕ) (text : List ℕ) (at to c : ℕ) (old new : List Record) (e : FormFault) → at ≤ length text →
+    HasMembers room text at to old new → StandsAt text to c → (c ≡ 41 → ⊥) →
     FaultAt IsCanon (IsCanonWithin room) to (drop to text) e →
     FaultAt IsMembers (IsMembersWithin room) at (drop at text) e
-in_member room text at parts to c old new e w h s nc f = search (rules, member_fault, read_length)
+in_member room text at to c old new e w h s nc f = search (rules, member_fault, read_length)
 
 -- ---- without records
 
 members_behind :
     (room : ℕ) (text : List ℕ) (at to : ℕ) (old : List Record) (p : PassesMembers room text at to) →
-    ReadsMembers room text at p.0 to old (old ++ p.1)
+    ReadsMembers room text at to old (old ++ p.0)
 members_behind room text at to old p = search rules
 
 pub list_passed :
     (room inner : ℕ) (text : List ℕ) (at to : ℕ) → room ≡ suc inner → StandsAt text at 40 →
     PassesMembers inner text (at + 1) to → PassesValue room text at to
 list_passed room inner text at to q s p =
-    let kept : Record = listed at to 1 0 in
-    (_, list_read room inner text at p.0 to 0 _ kept [] (kept ∷ []) _ q s refl refl (members_behind inner text (at + 1) to (kept ∷ []) p) refl)
+    let kept : Record = listed at to 1 in
+    (_, list_read room inner text at to 0 _ kept [] (kept ∷ []) _ q s refl refl (members_behind inner text (at + 1) to (kept ∷ []) p) refl)
 
 pub member_passed :
     (room : ℕ) (text : List ℕ) (at via to : ℕ) → at ≤ length text →
-    (parts : ℕ) × (nodes : List Record) × HasMembers room text at parts via [] nodes → PassesValue room text via to →
-    (parts : ℕ) × (nodes : List Record) × HasMembers room text at parts to [] nodes
-member_passed room text at via to w h p = search (rules, more_members room text at h.0 via to [] h.1 (h.1 ++ p.0) w h.2 (search rules))
+    (nodes : List Record) × HasMembers room text at via [] nodes → PassesValue room text via to →
+    (nodes : List Record) × HasMembers room text at to [] nodes
+member_passed room text at via to w h p = search (rules, more_members room text at via to [] h.0 (h.0 ++ p.0) w h.1 (search rules))
 
 pub members_passed :
     (room : ℕ) (text : List ℕ) (at i c : ℕ) →
-    (parts : ℕ) × (nodes : List Record) × HasMembers room text at parts i [] nodes → StandsAt text i c → c ≡ 41 →
+    (nodes : List Record) × HasMembers room text at i [] nodes → StandsAt text i c → c ≡ 41 →
     PassesMembers room text at (i + 1)
 members_passed room text at i c h s e = search rules

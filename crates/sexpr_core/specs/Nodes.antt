@@ -1,45 +1,13 @@
 -- The nodes of a value: their labels, members and siblings, where they are in the canonical text, and the table of
 -- records that describes them.
-use Rattle.std.specs.Prelude.{◌≡◌, ℕ, List, [], ◌∷◌, ◌++◌, length, take, drop, map, Option, ◌⊎◌, refl, ◌+◌, Some, None, option_and_then, nat_lt, slice_get, if◌then◌else◌, zero, suc, ◌-◌, ◌≤◌, slice_range, slice_index_or}
+use Rattle.std.specs.Prelude.{◌≡◌, ℕ, List, [], ◌∷◌, ◌++◌, length, take, drop, map, Option, ◌⊎◌, refl, ◌+◌, Some, None, option_and_then, nat_lt, slice_get, ◌==◌, if◌then◌else◌, zero, suc, ◌-◌, ◌≤◌, slice_range, slice_index_or}
 use Rattle.std.specs.Coded.{Coded, code_by, coded×, coded⊎, coded_ℕ, coded_list, coded_option}
-use Rattle.std.proofs.{Common.{sym, ap, ◌∙◌, append_assoc, inl, inr}, lemmas.List.{map-append, take_at, drop_at, append-nil}}
-use Rattle.sexpr_core.specs.Value.{Value, string, list, Values, none, more, members, values, plain, group, nodes, nodes_all, node, size_all, size, canon, decimal}
-use Rattle.sexpr_core.specs.declared.layout.{Record.{Record}, Shape.{Shape, TheVariants.{Plain, Hinted, List as Group}}}
+use Rattle.std.proofs.{Common.{sym, ap, ◌∙◌, append_assoc, length-append, arith, inl, inr}, lemmas.List.{map-append, take_at, drop_at, append-nil}}
+use Rattle.sexpr_core.specs.Value.{Value, string, list, Values, none, more, members, values, plain, group, nodes, nodes_all, node, size_all, size, canon, decimal, octet_limit}
+use Rattle.sexpr_core.specs.Characters.{char}
+use Rattle.sexpr_core.specs.declared.layout.Record.{Record}
 
--- ---- a value as the list of its nodes' labels
-
--- A value as the list of its nodes' labels. Proofs store a value by them and distinguish it from other values.
-
--- for a list the number of its members; for a string its display hint and its octets
-abbrev pub Label : Type 0
-Label = ℕ ⊎ (Option (List ℕ) × List ℕ)
-
-abbrev pub label : Value → Label
-label (string hint octets) = inr (hint, octets)
-label (list vs) = inl (length (members vs))
-
--- the labels of the nodes, in their order
-abbrev pub labels : Value → List Label
-labels v = map label (nodes v)
-
-abbrev grown : Label → List Value → List Value
-grown (inr s) rest = string s.0 s.1 ∷ rest
-grown (inl n) rest = group (take n rest) ∷ drop n rest
-
--- the values that labels represent, one after another
-abbrev pub grow : List Label → List Value
-grow [] = []
-grow (l ∷ ls) = grown l (grow ls)
-
-abbrev first : List Value → Value
-first [] = plain []
-first (v ∷ vs) = v
-
--- the value that labels represent
-abbrev pub tree : List Label → Value
-tree ls = first (grow ls)
-
--- ---- labels represent their value
+-- ---- the members of a list as siblings in the list of its nodes
 
 pub values-members : (vs : Values) → values (members vs) ≡ vs
 values-members none = refl
@@ -49,25 +17,89 @@ pub members-values : (vs : List Value) → members (values vs) ≡ vs
 members-values [] = refl
 members-values (v ∷ vs) = ap (λ (ws : List Value). v ∷ ws) (members-values vs)
 
-grown_list : (vs : Values) (rest : List Value) → grown (label (list vs)) (members vs ++ rest) ≡ list vs ∷ rest
-grown_list vs rest =
-    rw (take_at (members vs) rest (length (members vs)) refl, drop_at (members vs) rest (length (members vs)) refl, values-members vs) refl
+-- a value is the first of its nodes
+pub nodes-first : (v : Value) → nodes v ≡ v ∷ drop 1 (nodes v)
+nodes-first (string hint octets) = refl
+nodes-first (list vs) = refl
+
+-- the values that begin a list of nodes and follow one another in it, at most so many
+abbrev pub siblings : ℕ → List Value → List Value
+siblings zero row = []
+siblings (suc most) [] = []
+siblings (suc most) (v ∷ row) = v ∷ siblings most (drop (size v - 1) row)
+
+-- those that begin the nodes of a list's members are the members
+pub siblings-nodes_all : (vs : Values) (most : ℕ) → length (nodes_all vs) ≤ most → siblings most (nodes_all vs) ≡ members vs
+siblings-nodes_all none zero le = refl
+siblings-nodes_all none (suc most) le = refl
+siblings-nodes_all (more v vs) zero le = absurd (omega (arith, ap length (nodes-first v), length-append (nodes v) (nodes_all vs)))
+siblings-nodes_all (more v vs) (suc most) le =
+    let rest = drop 1 (nodes v) in
+    let long : size v ≡ suc (length rest) = ap length (nodes-first v) in
+    let row_is : nodes v ++ nodes_all vs ≡ v ∷ (rest ++ nodes_all vs) = ap (λ (r : List Value). r ++ nodes_all vs) (nodes-first v) in
+    let behind : drop (size v - 1) (rest ++ nodes_all vs) ≡ nodes_all vs = drop_at rest (nodes_all vs) (size v - 1) (omega arith) in
+    ap (siblings (suc most)) row_is ∙ ap (λ (r : List Value). v ∷ siblings most r) behind ∙ ap (λ (ws : List Value). v ∷ ws) (siblings-nodes_all vs most (omega (arith, length-append (nodes v) (nodes_all vs))))
+
+-- ---- a value as the list of its nodes' labels
+
+-- A value as the list of its nodes' labels. Proofs store a value by them and distinguish it from other values.
+
+-- for a list the number of the nodes of its members; for a string its display hint and its octets
+abbrev pub Label : Type 0
+Label = ℕ ⊎ (Option (List ℕ) × List ℕ)
+
+abbrev pub label : Value → Label
+label (string hint octets) = inr (hint, octets)
+label (list vs) = inl (length (nodes_all vs))
+
+-- the labels of the nodes, in their order
+abbrev pub labels : Value → List Label
+labels v = map label (nodes v)
+
+-- the nodes from the one with this label on, by those behind it
+abbrev grown : Label → List Value → List Value
+grown (inr s) row = string s.0 s.1 ∷ row
+grown (inl n) row = group (siblings n (take n row)) ∷ row
+
+-- the nodes that labels represent, in their order
+abbrev pub grow : List Label → List Value
+grow [] = []
+grow (l ∷ ls) = grown l (grow ls)
+
+abbrev first : List Value → Value
+first [] = plain []
+first (v ∷ row) = v
+
+-- the value that labels represent
+abbrev pub tree : List Label → Value
+tree ls = first (grow ls)
+
+-- ---- labels represent their value
+
+grown_list : (vs : Values) (row : List Value) → grown (label (list vs)) (nodes_all vs ++ row) ≡ list vs ∷ (nodes_all vs ++ row)
+grown_list vs row =
+    rw (take_at (nodes_all vs) row (length (nodes_all vs)) refl, siblings-nodes_all vs (length (nodes_all vs)) (omega arith), values-members vs) refl
 
 mutual
-  grow-labels : (v : Value) (ls : List Label) → grow (map label (nodes v) ++ ls) ≡ v ∷ grow ls
+  grow-labels : (v : Value) (ls : List Label) → grow (map label (nodes v) ++ ls) ≡ nodes v ++ grow ls
   grow-labels (string hint octets) ls = refl
   grow-labels (list vs) ls = ap (grown (label (list vs))) (grow-labels_all vs ls) ∙ grown_list vs (grow ls)
 
-  grow-labels_all : (vs : Values) (ls : List Label) → grow (map label (nodes_all vs) ++ ls) ≡ members vs ++ grow ls
+  grow-labels_all : (vs : Values) (ls : List Label) → grow (map label (nodes_all vs) ++ ls) ≡ nodes_all vs ++ grow ls
   grow-labels_all none ls = refl
   grow-labels_all (more v vs) ls =
       ap (λ (ks : List Label). grow (ks ++ ls)) (map-append label (nodes v) (nodes_all vs))
       ∙ ap grow (append_assoc (map label (nodes v)) (map label (nodes_all vs)) ls)
       ∙ grow-labels v (map label (nodes_all vs) ++ ls)
-      ∙ ap (λ (ws : List Value). v ∷ ws) (grow-labels_all vs ls)
+      ∙ ap (λ (row : List Value). nodes v ++ row) (grow-labels_all vs ls)
+      ∙ sym (append_assoc (nodes v) (nodes_all vs) (grow ls))
 
 pub tree-labels : (v : Value) → tree (labels v) ≡ v
-tree-labels v = ap tree (sym (append-nil (labels v))) ∙ ap first (grow-labels v [])
+tree-labels v =
+    ap tree (sym (append-nil (labels v)))
+    ∙ ap first (grow-labels v [])
+    ∙ ap first (append-nil (nodes v))
+    ∙ ap first (nodes-first v)
 
 -- how a value is stored
 abbrev pub value_code : Coded Value
@@ -111,14 +143,6 @@ part_number n i v = if nat_lt i (length (members_of v)) then Some (member_number
 abbrev pub of_node : {A : Type 0} → (Value → Option A) → Value → ℕ → Option A
 of_node f v n = option_and_then f (node v n)
 
--- ---- the members of a list as siblings in the list of its nodes
-
--- the values that begin a list of nodes and follow one another in it, at most so many
-abbrev pub siblings : ℕ → List Value → List Value
-siblings zero row = []
-siblings (suc most) [] = []
-siblings (suc most) (v ∷ row) = v ∷ siblings most (drop (size v - 1) row)
-
 -- the siblings from one node of a value up to another
 abbrev pub siblings_between : Value → ℕ → ℕ → List Value
 siblings_between v from to = siblings (to - from) (slice_range (nodes v) from to)
@@ -159,31 +183,25 @@ pub record LiesAt (text w : List ℕ) (at : ℕ) : Type 0 where
 abbrev pub head : List ℕ → ℕ
 head octets = length (decimal (length octets)) + 1
 
--- the shape of a string that begins at an offset
-abbrev pub shape : ℕ → Option (List ℕ) → List ℕ → Shape
-shape at None octets = Plain (at + head octets)
-shape at (Some hint) octets =
-    let begins = at + 1 + head hint in
-    let ends = begins + length hint in
-    Hinted begins ends (ends + 1 + head octets)
+-- where the octets of a string begin, if its text begins at an offset
+abbrev pub body_at : ℕ → Option (List ℕ) → List ℕ → ℕ
+body_at at None octets = at + head octets
+body_at at (Some hint) octets = at + 1 + head hint + length hint + 1 + head octets
+
+-- where the octets of a string begin, and for a list the offset after its text plus the number of its nodes
+abbrev pub detail : ℕ → Value → ℕ
+detail at (string hint octets) = body_at at hint octets
+detail at (list vs) = at + length (canon (list vs)) + size (list vs)
+
+-- the record of a value whose text begins at an offset
+abbrev pub record_of : ℕ → Value → Record
+record_of at v = record { start = at; end = at + length (canon v); detail = detail at v }
 
 abbrev mutual
   -- the records of a value's nodes, in the order of `nodes`, if its text begins at an offset
   pub records : ℕ → Value → List Record
-  records at (string hint octets) =
-      record {
-        start = at;
-        end = at + length (canon (string hint octets));
-        size = 1;
-        shape = shape at hint octets;
-      } ∷ []
-  records at (list vs) =
-      record {
-        start = at;
-        end = at + length (canon (list vs));
-        size = size (list vs);
-        shape = Group (length (members vs));
-      } ∷ records_all (at + 1) vs
+  records at (string hint octets) = record_of at (string hint octets) ∷ []
+  records at (list vs) = record_of at (list vs) ∷ records_all (at + 1) vs
 
   -- those of a list's members, if the first of them begins there
   pub records_all : ℕ → Values → List Record
@@ -192,30 +210,33 @@ abbrev mutual
 
 -- ---- the value that a table of records describes in a text
 
--- the shape of a value whose text begins at this offset
-abbrev pub shape_of : ℕ → Value → Shape
-shape_of at (string hint octets) = shape at hint octets
-shape_of at (list vs) = Group (length (members vs))
+-- what follows the first colon
+abbrev pub behind_colon : List ℕ → List ℕ
+behind_colon [] = []
+behind_colon (c ∷ rest) = if c == char ":" then rest else behind_colon rest
 
-abbrev pub record_of : ℕ → Value → Record
-record_of at v = record { start = at; end = at + length (canon v); size = size v; shape = shape_of at v }
+-- The hint of a string that begins with a bracket. Its length and a colon are before it, and a bracket and the length of
+-- the string follow it.
+abbrev pub hint_in : List ℕ → Record → List ℕ → Option (List ℕ)
+hint_in text r octets =
+    if slice_index_or text r.start 0 == char "["
+    then Some (behind_colon (slice_range text (r.start + 1) (r.detail - head octets - 1)))
+    else None
 
--- the label of a node of this shape that ends at this offset
-abbrev pub label_as : List ℕ → ℕ → Shape → Label
-label_as text end (Plain body) = inr (None, slice_range text body end)
-label_as text end (Hinted hint hint_end body) = inr (Some (slice_range text hint hint_end), slice_range text body end)
-label_as text end (Group parts) = inl parts
-
+-- the label of a list, if the record is one of a list, or of a string
 abbrev pub label_in : List ℕ → Record → Label
-label_in text r = label_as text r.end r.shape
+label_in text r =
+    let octets = slice_range text r.detail r.end in
+    if nat_lt r.end r.detail then inl (r.detail - r.end - 1) else inr (hint_in text r octets, octets)
 
 abbrev pub table_value : List ℕ → List Record → Value
 table_value text table = tree (map (label_in text) table)
 
--- the text is the value's, and the table that of its nodes
+-- the text is the value's and within the limit, and the table is that of its nodes
 pub record IsTable (text : List ℕ) (table : List Record) (v : Value) : Type 0 where
   pub text_is : text ≡ canon v
   pub table_is : table ≡ records 0 v
+  pub short : length text ≤ octet_limit
 
 -- ---- a node's text is where its record says
 

@@ -2,7 +2,7 @@
 -- readers has read of a text, and why a text is refused.
 use Rattle.std.specs.Prelude.{ℕ, ◌+◌, ◌<◌, ◌≤◌, List, ◌++◌, length, take, ◌≡◌, [], ◌∷◌, min, drop, Option, ◌==◌, ◌&&◌, ◌||◌, nat_le, Bool, not, true, false, replicate, ◌≢◌, ◌⊎◌}
 use Rattle.std.specs.List.{AllByRecursion, filter}
-use Rattle.sexpr_core.specs.Value.{Value, Values, decimal, verbatim, canon, canons, depth, depths, octet_limit, string, members, depth_limit, IsShallow}
+use Rattle.sexpr_core.specs.Value.{Value, Values, decimal, verbatim, canon, canons, depth, depths, octet_limit, string, depth_limit, IsShallow}
 use Rattle.sexpr_core.specs.declared.layout.Record.{Record}
 use Rattle.sexpr_core.specs.declared.fault.FormFault.{FormFault, TheVariants.{TooLong, TooDeep, Short, Bad, Trailing, Memory}}
 use Rattle.sexpr_core.specs.{Characters.{char}, Nodes.{head, records, records_all}}
@@ -105,12 +105,11 @@ pub record ReadsValue (room : ℕ) (text : List ℕ) (at to : ℕ) (old new : Li
   pub within : to ≤ length text
 
 -- the members of a list and its closing parenthesis
-pub record ReadsMembers (room : ℕ) (text : List ℕ) (at parts to : ℕ) (old new : List Record) : Type 0 where
+pub record ReadsMembers (room : ℕ) (text : List ℕ) (at to : ℕ) (old new : List Record) : Type 0 where
   pub items : Values
   pub fits : depths items ≤ room
   pub spelled : drop at text ≡ canons items ++ char ")" ∷ drop to text
   pub placed : new ≡ old ++ records_all at items
-  pub counted : parts ≡ length (members items)
   pub goes_on : at < to
   pub within : to ≤ length text
 
@@ -119,7 +118,7 @@ abbrev pub PassesValue : ℕ → List ℕ → ℕ → ℕ → Type 0
 PassesValue room text at to = (nodes : List Record) × ReadsValue room text at to [] nodes
 
 abbrev pub PassesMembers : ℕ → List ℕ → ℕ → ℕ → Type 0
-PassesMembers room text at to = (parts : ℕ) × (nodes : List Record) × ReadsMembers room text at parts to [] nodes
+PassesMembers room text at to = (nodes : List Record) × ReadsMembers room text at to [] nodes
 
 -- ---- why a text is refused (RFC 9804, section 6.2, within this reader's limits)
 

@@ -1,7 +1,7 @@
 //! A canonical text with a table of its nodes.
 
-ghost use Rattle.std.specs.Prelude.{◌≡◌, ◌<◌, ◌^◌, ◌↔◌, length, Some, IfOk, IfErr, IsErrOf, IsOkUnless};
-ghost use Rattle.sexpr_core.specs.{Value.{Value, canon, size, node, IsWithinLimits}, Reading.{Refused}, Nodes.{IsPlace, node_at, start_of}};
+ghost use Rattle.std.specs.Prelude.{◌≡◌, ◌≢◌, ◌<◌, ◌≤◌, ◌^◌, ◌↔◌, length, Some, None, IsTrue, IfOk, IfErr, IsErrOf, IsOkUnless};
+ghost use Rattle.sexpr_core.specs.{Value.{Value, canon, size, node, IsWithinLimits}, Reading.{Refused}, Nodes.{IsPlace, IsList, node_at, hint_of, start_of}};
 
 use crate::fault::FormFault;
 use crate::handle::Node;
@@ -77,13 +77,14 @@ impl<'a> Doc<'a> {
 
     /// The canonical text that the document was opened from.
     pub(crate) fn text(&self) -> &'a [u8]
-        ensures { result.now ≡ canon self.now }
+        ensures octets { result.now ≡ canon self.now }
+        ensures short { length result.now ≤ 1048576 }
     {
         self.text
     }
 
     /// The record of the node with this number, from 0: its place in the text. The document must have this node.
-    #[tactic(auto, using(crate::proofs::NodeLaws::table_length, crate::proofs::NodeLaws::table_place, crate::proofs::NodeLaws::table_start))]
+    #[tactic(auto, using(crate::proofs::RecordLaws::table_length, crate::proofs::RecordLaws::table_place, crate::proofs::RecordLaws::table_start))]
     pub(crate) fn record(&self, n: usize) -> Record
         requires { n < size self.now }
         ensures place { IsPlace (canon self.now) result (node_at self.now n) }
@@ -93,8 +94,43 @@ impl<'a> Doc<'a> {
         self.table[n]
     }
 
+    /// Whether the node with this number, from 0, is a list. The document must have this node.
+    pub(crate) fn is_list(&self, n: usize) -> bool
+        requires { n < size self.now }
+        ensures { IsTrue result ↔ IsList (node_at self.now n) }
+    {
+        let record = self.record(n);
+        record.end < record.detail
+    }
+
+    /// Whether the node with this number, from 0, is a string with a display hint. Its text then begins with a bracket.
+    /// The document must have this node.
+    pub(crate) fn is_hinted(&self, n: usize) -> bool
+        requires { n < size self.now }
+        ensures { IsTrue result ↔ (hint_of (node_at self.now n) ≢ None) }
+    {
+        let start = self.record(n).start as usize;
+        self.text()[start] == b'['
+    }
+
+    /// The number of nodes in the node with this number, from 0, itself included. It is 1 for a string. The document must
+    /// have this node.
+    #[tactic(auto, using(crate::proofs::RecordLaws::string_size))]
+    pub(crate) fn node_size(&self, n: usize) -> usize
+        requires { n < size self.now }
+        ensures nodes { result ≡ size (node_at self.now n) }
+        ensures countable { size self.now < 2 ^ 64 }
+    {
+        let record = self.record(n);
+        if record.end < record.detail {
+            (record.detail - record.end) as usize
+        } else {
+            1
+        }
+    }
+
     /// The number of nodes in the document, its whole value included.
-    #[tactic(auto, using(crate::proofs::NodeLaws::table_length))]
+    #[tactic(auto, using(crate::proofs::RecordLaws::table_length))]
     pub(crate) fn node_count(&self) -> usize
         ensures { result ≡ size self.now }
     {

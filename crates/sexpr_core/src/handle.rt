@@ -1,11 +1,11 @@
 //! Handles to the nodes of a document.
 
-ghost use Rattle.std.specs.Prelude.{◌≡◌, ◌<◌, ◌≤◌, ◌∷◌, length, slice_range, MatchOption};
-ghost use Rattle.sexpr_core.specs.{Value.{canon, size, plain, group, IsNoString, IsNoList, IsNotHeaded}, Nodes.{node_at, part_count}};
+ghost use Rattle.std.specs.Prelude.{◌≡◌, ◌≢◌, ◌<◌, ◌≤◌, ◌∷◌, length, slice_range, Some, None, MatchOption, IsTrue, ◌↔◌};
+ghost use Rattle.sexpr_core.specs.{Value.{canon, size, plain, group, IsNoString, IsNoList, IsNotHeaded}, Nodes.{node_at, part_count, body_of, hint_of, members_of}};
 ghost use Rattle.sexpr_core.specs.KindValue.{kind_value};
 
 use crate::document::Doc;
-use crate::layout::Shape;
+use crate::parser::read_verbatim;
 use crate::siblings::Members;
 use std::marker::Model;
 
@@ -76,25 +76,45 @@ impl<'d, 'a> Node<'d, 'a> {
     }
 
     /// What the node is: a string with its octets and its display hint, if it has one, or a list with its members.
+    #[tactic(auto, using(crate::proofs::RecordLaws::has_body, crate::proofs::RecordLaws::no_hint, crate::proofs::RecordLaws::string_of))]
     pub fn kind(&self) -> NodeKind<'d, 'a>
         ensures { kind_value result ≡ self.now }
     {
+        if self.document.is_list(self.number) {
+            return NodeKind::List(Members::of(self.document, self.number));
+        }
+        let body = self.body_octets();
+        if self.document.is_hinted(self.number) {
+            let hint = Some(self.hint_octets());
+            return NodeKind::String { hint, body };
+        }
+        NodeKind::String { hint: None, body }
+    }
+
+    /// The octets of the node, which must be a string.
+    fn body_octets(&self) -> &'a [u8]
+        requires { body_of self.now ≢ None }
+        ensures { Some result.now ≡ body_of self.now }
+    {
         let record = self.document.record(self.number);
+        piece(
+            self.document.text(),
+            record.detail as usize,
+            record.end as usize,
+        )
+    }
+
+    /// The octets of the node's display hint. The node must be a string that has one. The table does not have their
+    /// place, since hints are rare: the length of the hint, after the opening bracket, is read again.
+    fn hint_octets(&self) -> &'a [u8]
+        requires { hint_of self.now ≢ None }
+        ensures { Some result.now ≡ hint_of self.now }
+    {
         let text = self.document.text();
-        match record.shape {
-            Shape::Plain { body } => NodeKind::String {
-                hint: None,
-                body: piece(text, body as usize, record.end as usize),
-            },
-            Shape::Hinted {
-                hint,
-                hint_end,
-                body,
-            } => NodeKind::String {
-                hint: Some(piece(text, hint as usize, hint_end as usize)),
-                body: piece(text, body as usize, record.end as usize),
-            },
-            Shape::List { .. } => NodeKind::List(Members::of(self.document, self.number)),
+        let record = self.document.record(self.number);
+        match read_verbatim(text, record.start as usize + 1) {
+            Ok(hint) => piece(text, hint.body, hint.end),
+            Err(_) => unreachable!(),
         }
     }
 
@@ -136,15 +156,22 @@ impl<'d, 'a> Node<'d, 'a> {
         }
     }
 
-    /// How many members the node has. None if it is a string. The number is in the record of the list, while
-    /// `Members::len` takes a step for each member.
+    /// Whether the node is a list with more than `i` members. It takes a step for each of the first `i`.
+    pub(crate) fn has_part(&self, i: usize) -> bool
+        ensures { IsTrue result ↔ (i < length (members_of self.now)) }
+    {
+        match self.members() {
+            Some(members) => members.is_longer_than(i),
+            None => false,
+        }
+    }
+
+    /// How many members the node has. None if it is a string. It takes a step for each member: the table does not have
+    /// the number.
     pub(crate) fn part_count(&self) -> Option<usize>
         ensures { result ≡ part_count self.now }
     {
-        match self.document.record(self.number).shape {
-            Shape::Plain { .. } => None,
-            Shape::Hinted { .. } => None,
-            Shape::List { parts } => Some(parts as usize),
-        }
+        let members = self.members()?;
+        Some(members.len())
     }
 }

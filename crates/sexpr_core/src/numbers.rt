@@ -16,7 +16,8 @@ impl<'a> Doc<'a> {
         NodeId(0)
     }
 
-    /// The number of members of a list. None for a string, and if the document has no such node.
+    /// The number of members of a list. None for a string, and if the document has no such node. It takes a step for each
+    /// member: the table does not have the number.
     pub fn parts(&self, n: NodeId) -> Option<usize>
         ensures { result ≡ of_node part_count self.now n.0 }
     {
@@ -25,23 +26,24 @@ impl<'a> Doc<'a> {
     }
 
     /// The number of member `i`, from 0, of the list with number `n`. None for a string, for a list with `i` or fewer
-    /// members, and if the document has no such node. It takes a step for each member before this one: use
+    /// members, and if the document has no such node. It takes steps for each member before this one: use
     /// `Node::members` to go over all of them.
     pub fn part(&self, n: NodeId, i: usize) -> Option<NodeId>
         ensures number { option_map (λ m. m.0) result ≡ of_node (part_number n.0 i) self.now n.0 }
         ensures member { IfSome result (λ m. node self.now m.0 ≡ of_node (part_at i) self.now n.0) }
     {
-        let parts = self.parts(n)?;
-        if i >= parts {
-            return None;
+        let node = self.node(n)?;
+        if node.has_part(i) {
+            Some(NodeId(self.member_number(n.0, i)))
+        } else {
+            None
         }
-        Some(NodeId(self.member_number(n.0, i)))
     }
 
     /// The number of member `i`, from 0, of the list with number `n`. The list must have this member. Member 0 has the
     /// number after that of the list, and the next member the number after all nodes of the one before it. `prove!`
     /// gives the prover a fact and does nothing.
-    #[tactic(auto, using(crate::proofs::NodeLaws::member_of, crate::proofs::NodeLaws::member_is, crate::proofs::NodeLaws::size_is))]
+    #[tactic(auto, using(crate::proofs::NodeLaws::member_of, crate::proofs::NodeLaws::member_is))]
     fn member_number(&self, n: usize, i: usize) -> usize
         requires known { n < size self.now }
         requires has_it { i < length (members_of (node_at self.now n)) }
@@ -52,7 +54,7 @@ impl<'a> Doc<'a> {
         prove!(n < count);
         let mut number = n + 1;
         for _ in 0..i {
-            number += self.record(number).size as usize;
+            number += self.node_size(number);
         }
         number
     }
@@ -87,7 +89,7 @@ impl<'a> Doc<'a> {
 
     /// The offset from 0 where the canonical text of a node begins in the document's text. The `slice` of the node is
     /// at this offset. None if the document has no such node.
-    #[tactic(auto, using(crate::proofs::NodeLaws::starts_end))]
+    #[tactic(auto, using(crate::proofs::RecordLaws::starts_end))]
     pub fn start(&self, n: NodeId) -> Option<usize>
         ensures start { result ≡ start_of self.now n.0 }
         ensures place { IfSome result (λ at. LiesAt (canon self.now) (canon (node_at self.now n.0)) at) }

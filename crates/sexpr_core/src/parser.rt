@@ -2,10 +2,10 @@
 
 ghost use Rattle.std.specs.Prelude.{◌≡◌, ℕ, ◌+◌, ◌<◌, ◌≤◌, ◌≢◌, ◌↔◌, [], ◌∷◌, length, drop, MatchOption, MatchResult, IfOk, IfErr, IsErrOf, IsOkUnless};
 ghost use Rattle.sexpr_core.specs.Reading.{Refused, IsCanon, IsCanonWithin, IsMembers, IsMembersWithin, IsLength, IsVerbatim, IsClosing, StandsAt, ReadsLength, ReadsVerbatim, ReadsString, ReadsValue, ReadsMembers};
-ghost use Rattle.sexpr_core.specs.{Value.{Value, canon, IsWithinLimits}, Nodes.{records}, Inner.PartFaults.{FaultAt}};
+ghost use Rattle.sexpr_core.specs.{Value.{Value, canon, IsWithinLimits}, Nodes.{records}, Inner.PartFaults.{FaultAt, MissesAt}};
 
 use crate::fault::FormFault;
-use crate::layout::{Record, Shape};
+use crate::layout::Record;
 use crate::spaces::octet_at;
 use std::alloc::Global;
 
@@ -19,7 +19,7 @@ pub const MOST_LISTS: usize = 64;
 /// certificate has 6 to 12 octets. A key, an entry or a request has fewer nodes than this.
 const LEAST_ROOM: usize = 24;
 
-/// The most unused records for which a finished table of nodes keeps room: 28 KiB.
+/// The most unused records for which a finished table of nodes keeps room: 12 KiB.
 const MOST_SPARE: usize = 1024;
 
 /// The length before a string, at most `MOST_OCTETS` plus one, and the offset after its colon.
@@ -31,16 +31,9 @@ struct Length {
 
 /// Where the octets of a string in verbatim form begin and end.
 #[derive(Clone, Copy)]
-struct Piece {
-    body: usize,
-    end: usize,
-}
-
-/// The number of members of a list, and the offset after its closing parenthesis.
-#[derive(Clone, Copy)]
-struct ListEnd {
-    parts: usize,
-    end: usize,
+pub(crate) struct Piece {
+    pub(crate) body: usize,
+    pub(crate) end: usize,
 }
 
 /// The value of the digit at the offset `at`, with which a length begins. Err is `Bad` for another octet, or `Short` at
@@ -50,7 +43,7 @@ fn first_digit(text: &[u8], at: usize) -> Result<usize, FormFault>
     requires { at ≤ length text.now }
     ensures { MatchResult result
         (λ digit. (digit < 10) × StandsAt text.now at (48 + digit))
-        (λ fault. FaultAt IsLength IsLength at (drop at text.now) fault) }
+        (λ fault. MissesAt IsLength at (drop at text.now) fault) }
 {
     match octet_at(text, at) {
         None => Err(FormFault::Short),
@@ -71,7 +64,7 @@ fn read_length(text: &[u8], at: usize) -> Result<Length, FormFault>
     requires { at ≤ length text.now }
     ensures { MatchResult result
         (λ read. ReadsLength text.now at read.number read.end)
-        (λ fault. FaultAt IsLength IsLength at (drop at text.now) fault) }
+        (λ fault. MissesAt IsLength at (drop at text.now) fault) }
 {
     let mut number = first_digit(text, at)?;
     let mut i = at + 1;
@@ -92,12 +85,12 @@ fn read_length(text: &[u8], at: usize) -> Result<Length, FormFault>
 /// examined. The text has at most `MOST_OCTETS` octets. Err is `Bad` if no length and colon are there, or `Short` if
 /// the text ends before the colon or has fewer octets after it.
 #[tactic(auto, using(crate::proofs::Faults::verbatim_fault, crate::proofs::Steps::octets_short, crate::proofs::Steps::octets_read))]
-fn read_verbatim(text: &[u8], at: usize) -> Result<Piece, FormFault>
+pub(crate) fn read_verbatim(text: &[u8], at: usize) -> Result<Piece, FormFault>
     requires short { length text.now ≤ 1048576 }
     requires begins { at ≤ length text.now }
     ensures { MatchResult result
         (λ read. ReadsVerbatim text.now at read.body read.end)
-        (λ fault. FaultAt IsVerbatim IsVerbatim at (drop at text.now) fault) }
+        (λ fault. MissesAt IsVerbatim at (drop at text.now) fault) }
 {
     let read = read_length(text, at)?;
     if read.number > text.len() - read.end {
@@ -117,7 +110,7 @@ fn read_closing(text: &[u8], at: usize) -> Result<Piece, FormFault>
     requires begins { at ≤ length text.now }
     ensures { MatchResult result
         (λ read. StandsAt text.now at 93 × ReadsVerbatim text.now (at + 1) read.body read.end)
-        (λ fault. FaultAt IsClosing IsClosing at (drop at text.now) fault) }
+        (λ fault. MissesAt IsClosing at (drop at text.now) fault) }
 {
     let Some(octet) = octet_at(text, at) else {
         return Err(FormFault::Short);
@@ -141,16 +134,10 @@ fn read_hinted(text: &[u8], at: usize) -> Result<Record, FormFault>
 {
     let hint = read_verbatim(text, at + 1)?;
     let string = read_closing(text, hint.end)?;
-    let shape = Shape::Hinted {
-        hint: hint.body as u32,
-        hint_end: hint.end as u32,
-        body: string.body as u32,
-    };
     Ok(Record {
         start: at as u32,
         end: string.end as u32,
-        size: 1,
-        shape,
+        detail: string.body as u32,
     })
 }
 
@@ -174,10 +161,7 @@ pub(crate) fn read_string(text: &[u8], at: usize, octet: u8) -> Result<Record, F
     Ok(Record {
         start: at as u32,
         end: read.end as u32,
-        size: 1,
-        shape: Shape::Plain {
-            body: read.body as u32,
-        },
+        detail: read.body as u32,
     })
 }
 
@@ -233,46 +217,40 @@ fn read_list(
     nodes.push(Record {
         start: at as u32,
         end: at as u32,
-        size: 1,
-        shape: Shape::List { parts: 0 },
+        detail: at as u32,
     })?;
-    let read = read_members(text, at + 1, room - 1, nodes)?;
+    let end = read_members(text, at + 1, room - 1, nodes)?;
     let size = nodes.len() - index;
     nodes[index] = Record {
         start: at as u32,
-        end: read.end as u32,
-        size: size as u32,
-        shape: Shape::List {
-            parts: read.parts as u32,
-        },
+        end: end as u32,
+        detail: (end + size) as u32,
     };
-    Ok(read.end)
+    Ok(end)
 }
 
 /// Reads the members of a list and its closing parenthesis, from the offset `at` on, and appends the records of their
-/// nodes to `nodes`. Returns the number of the members and the offset after the list. The text has at most
-/// `MOST_OCTETS` octets. At most `room` lists may be open at once in the members. Err is as for `read_value`.
+/// nodes to `nodes`. Returns the offset after the list. The text has at most `MOST_OCTETS` octets. At most `room` lists
+/// may be open at once in the members. Err is as for `read_value`.
 #[cycle(reading)]
 fn read_members(
     text: &[u8],
     at: usize,
     room: usize,
     nodes: &mut Vec<Record>,
-) -> Result<ListEnd, FormFault>
+) -> Result<usize, FormFault>
     requires short { length text.now ≤ 1048576 }
     requires begins { at ≤ length text.now }
     ensures { MatchResult result
-        (λ read. ReadsMembers room text.now at read.parts read.end nodes.old.items nodes.new.items)
+        (λ to. ReadsMembers room text.now at to nodes.old.items nodes.new.items)
         (λ fault. FaultAt IsMembers (IsMembersWithin room) at (drop at text.now) fault) }
 {
-    let mut parts = 0;
     let mut i = at;
     while let Some(octet) = octet_at(text, i) {
         if octet == b')' {
-            return Ok(ListEnd { parts, end: i + 1 });
+            return Ok(i + 1);
         }
         i = read_value(text, i, room, nodes)?;
-        parts += 1;
     }
     Err(FormFault::Short)
 }

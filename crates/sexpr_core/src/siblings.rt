@@ -7,9 +7,8 @@ use crate::document::Doc;
 use crate::handle::Node;
 use std::marker::Model;
 
-/// The members of a list that are still to be read, from the node with number `from` to before number `to`. The `size`
-/// of a record counts a node with all nodes in it, so it leads to the next member. In a contract it is the list of
-/// their values.
+/// The members of a list that are still to be read, from the node with number `from` to before number `to`. The size of
+/// a node counts it with all nodes in it, so it leads to the next member. In a contract it is the list of their values.
 #[derive(Debug, Drop)]
 pub struct Members<'d, 'a> {
     document: &'d Doc<'a>,
@@ -40,7 +39,7 @@ impl<'d, 'a> Members<'d, 'a> {
         requires listed { IsList (node_at document.now n) }
         ensures { node_at document.now n ≡ list (values result) }
     {
-        let size = document.record(n).size as usize;
+        let size = document.node_size(n);
         Members {
             document,
             from: n + 1,
@@ -61,6 +60,20 @@ impl<'d, 'a> Members<'d, 'a> {
         rest.count()
     }
 
+    /// Whether more than `i` members are still to be read. It takes a step for each of the first `i`.
+    pub(crate) fn is_longer_than(self, i: usize) -> bool
+        ensures { IsTrue result ↔ (i < length self.entry) }
+    {
+        let mut rest = self;
+        for _ in 0..i {
+            let Some((_, others)) = rest.split_first() else {
+                return false;
+            };
+            rest = others;
+        }
+        !rest.is_empty()
+    }
+
     /// Whether all members were read: none is left.
     pub fn is_empty(&self) -> bool
         ensures { IsTrue result ↔ (self.now ≡ []) }
@@ -76,7 +89,7 @@ impl<'d, 'a> Members<'d, 'a> {
             return None;
         }
         let Members { document, from, to } = self;
-        let size = document.record(from).size as usize;
+        let size = document.node_size(from);
         let first = Node::at(document, from);
         let others = Members {
             document,
@@ -101,7 +114,7 @@ impl<'d, 'a> Iterator for Members<'d, 'a> {
         }
         let document = self.document;
         let from = self.from;
-        let size = document.record(from).size as usize;
+        let size = document.node_size(from);
         self.from = from + size;
         Some(Node::at(document, from))
     }

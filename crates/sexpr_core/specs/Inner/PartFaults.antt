@@ -29,3 +29,9 @@ FaultAt T S at xs Short = Front S xs
 FaultAt T S at xs (Bad k) = IsBad T S at xs k
 FaultAt T S at xs Memory = Unit {0}
 FaultAt T S at xs _ = ⊥
+
+-- The same if the part has no lists, and is read without memory: the fault is Short or Bad.
+abbrev pub MissesAt : (T : List ℕ → Type 0) → ℕ → List ℕ → FormFault → Type 0
+MissesAt T at xs Short = Front T xs
+MissesAt T at xs (Bad k) = IsBad T T at xs k
+MissesAt T at xs _ = ⊥

@@ -14,14 +14,14 @@ pub pass_list-returns : goal.pass_list-returns
 pass_list-returns t c = list_passed _ _ _ _ _ (omega arith) c.requires.begins c.in_ok-end.ensures
 
 pub pass_members-loop-octet-init : goal.pass_members-loop-octet-init
-pass_members-loop-octet-init t c = (0, [], no_members _ _ _ [] c.requires.begins)
+pass_members-loop-octet-init t c = ([], no_members _ _ _ [] c.requires.begins)
 
 pub pass_members-returns-in_err-i : goal.pass_members-returns-in_err-i
 pass_members-returns-in_err-i t c =
     let p = err_from_is_err_and c.from_residual.result c.from_residual.ensures.1 in
     let before = c.loop-octet.invariant in
     rw (p.1, p.2)
-    (in_member _ _ _ before.0 _ _ _ before.1 _ c.requires.begins before.2 c.in-Some.ensures c.if-octet-eq41.false c.in_err-i.ensures)
+    (in_member _ _ _ _ _ _ before.0 _ c.requires.begins before.1 c.in-Some.ensures c.if-octet-eq41.false c.in_err-i.ensures)
 
 pub pass_members-loop-octet-preserved : goal.pass_members-loop-octet-preserved
 pass_members-loop-octet-preserved t c = member_passed _ _ _ _ _ c.requires.begins c.loop-octet.invariant c.in_ok-i.ensures
@@ -32,7 +32,7 @@ pass_members-returns-then-octet-eq41 t c = members_passed _ _ _ _ _ c.loop-octet
 pub pass_members-returns : goal.pass_members-returns
 pass_members-returns t c =
     let before = c.loop-octet.invariant in
-    members_end _ c.args.text.now _ before.0 c.loop-octet.i _ before.1 before.2 c.in_default.ensures
+    members_end _ c.args.text.now _ c.loop-octet.i _ before.0 before.1 c.in_default.ensures
 
 pub pass_value-returns-in_default : goal.pass_value-returns-in_default
 pass_value-returns-in_default t c = value_ended _ _ c.in_default.ensures

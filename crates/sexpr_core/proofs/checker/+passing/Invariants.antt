@@ -1,5 +1,5 @@
 -- Each list that opens leaves room for one less.
-use Rattle.std.proofs.Common.{ℕ, ◌+◌, ◌*◌, ◌-◌, List, [], length}
+use Rattle.std.proofs.Common.{◌+◌, ◌*◌, ◌-◌, List, [], length}
 use Rattle.sexpr_core.{specs.declared.layout.Record.{Record}, proofs.ValueSteps.{HasMembers}}
 use Rattle.sexpr_core.proofs.checker.+passing.Given as goal
 
@@ -13,7 +13,7 @@ abbrev pub decreases-pass_members : goal.decreases-pass_members
 decreases-pass_members l = 3 * l.room + 2
 
 abbrev pub invariant-pass_members-loop-octet : goal.invariant-pass_members-loop-octet
-invariant-pass_members-loop-octet l = (parts : ℕ) × (nodes : List Record) × HasMembers l.room l.text l.at parts l.i [] nodes
+invariant-pass_members-loop-octet l = (nodes : List Record) × HasMembers l.room l.text l.at l.i [] nodes
 
 abbrev pub decreases-pass_members-loop-octet : goal.decreases-pass_members-loop-octet
 decreases-pass_members-loop-octet l = length l.text - l.i

@@ -13,7 +13,7 @@ abbrev pub decreases-read_members : goal.decreases-read_members
 decreases-read_members l = 3 * l.room + 2
 
 abbrev pub invariant-read_members-loop-octet : goal.invariant-read_members-loop-octet
-invariant-read_members-loop-octet l = HasMembers l.room l.text l.at l.parts l.i l.initial.nodes.items l.nodes.items
+invariant-read_members-loop-octet l = HasMembers l.room l.text l.at l.i l.initial.nodes.items l.nodes.items
 
 abbrev pub decreases-read_members-loop-octet : goal.decreases-read_members-loop-octet
 decreases-read_members-loop-octet l = length l.text - l.i

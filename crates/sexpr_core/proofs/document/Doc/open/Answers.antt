@@ -1,5 +1,5 @@
 use Rattle.std.proofs.Common.{rules}
-use Rattle.sexpr_core.proofs.NodeLaws.{table_of, table_value-is}
+use Rattle.sexpr_core.proofs.RecordLaws.{table_of, table_value-is}
 use Rattle.sexpr_core.proofs.document.Doc.open.Goals as goal
 
 pub invariant_of-result : goal.invariant_of-result

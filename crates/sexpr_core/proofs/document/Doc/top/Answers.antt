@@ -1,5 +1,5 @@
 use Rattle.std.proofs.Common.{[], length, get_or, ap, ◌∙◌, arith}
-use Rattle.sexpr_core.{specs.Value.{plain}, proofs.NodeLaws.{nodes-first}}
+use Rattle.sexpr_core.specs.{Value.{plain}, Nodes.{nodes-first}}
 use Rattle.sexpr_core.proofs.document.Doc.top.Goals as goal
 
 pub at-requires : goal.at-requires
