@@ -41,9 +41,9 @@ empty_list_depth = refl
 -- where the nodes of (1:a[1:h]2:bc) lie
 small_records :
     records 0 (group (plain (codes "a") ∷ string (Some (codes "h")) (codes "bc") ∷ [])) ≡
-    record { start = 0; end = 14; body_or_size = 3 } ∷
-    record { start = 1; end = 4; body_or_size = 3 } ∷
-    record { start = 4; end = 13; body_or_size = 11 } ∷ []
+    record { start = 0; end = 14; detail = 17 } ∷
+    record { start = 1; end = 4; detail = 3 } ∷
+    record { start = 4; end = 13; detail = 11 } ∷ []
 unfolding verbatim decimal
 small_records = refl
 

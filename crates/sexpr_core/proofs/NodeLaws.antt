@@ -167,6 +167,10 @@ member_is v n k lt below = search (rules, slice_get-get_or, member_by v n k (nod
 
 -- ---- how many members a node has
 
+pub members_none : (v : Value) → IsNoList v → members_of v ≡ []
+members_none (string hint octets) never = refl
+members_none (list vs) never = absurd (never (members vs) (sym (ap list (values-members vs))))
+
 pub no_count : (v : Value) → IsNoList v → part_count v ≡ None
 no_count (string hint octets) never = refl
 no_count (list vs) never = absurd (never (members vs) (sym (ap list (values-members vs))))

@@ -1,14 +1,14 @@
 -- The table of records of a value: where the node of each record lies in the text, what the record and the first octet
 -- say of it, where its octets and its hint are, and that the table shows the value.
-use Rattle.std.proofs.Common.{◌≡◌, ℕ, zero, suc, ◌+◌, ◌<◌, ◌≤◌, List, [], ◌∷◌, ◌++◌, length, get_or, map, Some, None, refl, sym, ap, ◌∙◌, append_assoc, length-append, arith, inr, rules, Option, subst, inl, ◌≢◌, ◌-◌, take, drop, ◌==◌, false}
+use Rattle.std.proofs.Common.{◌≡◌, ℕ, zero, suc, ◌+◌, ◌<◌, ◌≤◌, List, [], ◌∷◌, ◌++◌, length, get_or, map, Some, None, refl, sym, ap, ◌∙◌, append_assoc, length-append, arith, rules, Option, subst, inl, ◌≢◌, ◌-◌, take, drop, ◌==◌, false, true}
 use Rattle.std.proofs.lemmas.List.{take_at, drop_at, append-nil, map-append, length-map, take-append-drop, length-take-le, drop-drop, get_or-drop}
 use Rattle.std.proofs.lemmas.{Option.{slice_get_past}, Bool.{Decides.{nat_tests}}}
-use Rattle.std.specs.Prelude.{slice_range, slice_get}
+use Rattle.std.specs.Prelude.{nat_lt, slice_range, slice_get}
 use Rattle.sexpr_core.specs.Value.{Value, string, list, Values, none, more, canon, canons, verbatim, decimal, size, nodes, nodes_all}
-use Rattle.sexpr_core.specs.Nodes.{BeginsWith, Label, label, tree-labels, label_by, label_in, behind_colon, table_value, body_of, body_at, head, body_or_size, records, records_all, record_of, IsTable, IsPlace, node_at, starts, starts_all, start_of, IsList, hint_of}
+use Rattle.sexpr_core.specs.Nodes.{nodes-first, label, tree-labels, label_in, hint_in, behind_colon, table_value, body_of, body_at, head, detail, records, records_all, record_of, IsTable, IsPlace, node_at, starts, starts_all, start_of, IsList, hint_of}
 use Rattle.sexpr_core.specs.declared.{layout.Record.{Record}, fault.FormFault.{FormFault}}
 use Rattle.sexpr_core.specs.{Reading.{IsVerbatim, ReadsVerbatim}, Inner.PartFaults.{MissesAt}}
-use Rattle.sexpr_core.proofs.Texts.{IsDigit, AreDigits, AreDigits-decimal, decimal_starts, verbatim_is, verbatim_one, no_bracket, no_open}
+use Rattle.sexpr_core.proofs.Texts.{IsDigit, AreDigits, AreDigits-decimal, decimal_starts, verbatim_is, verbatim_one, no_bracket}
 use Rattle.sexpr_core.proofs.Faults.{canon_some, verbatim_there}
 
 -- ---- each record of a table is that of its node, and the node's text lies where the record says
@@ -77,45 +77,10 @@ ends_within text r v p = search (rules, end_is, length-append)
 from_start : (text : List ℕ) (r : Record) (v : Value) → (p : IsPlace text r v) → drop r.start text ≡ canon v ++ p.after
 from_start text r v p = ap (drop r.start) p.parts ∙ drop_at p.before (canon v ++ p.after) r.start p.begins
 
-begun : (v : Value) (behind : List ℕ) (d : ℕ) → BeginsWith (get_or (canon v ++ behind) 0 d) v
-begun (string None octets) behind d =
-    let s = decimal_starts (length octets) in
-    let whole : verbatim octets ++ behind ≡ s.digit ∷ ((s.rest ++ 58 ∷ octets) ++ behind) = ap (λ t. t ++ behind) (verbatim_is octets ∙ ap (λ t. t ++ 58 ∷ octets) s.is) in
-    subst IsDigit (sym (ap (λ t. get_or t 0 d) whole)) s.low
-begun (string (Some hint) octets) behind d = refl
-begun (list vs) behind d = refl
-
--- the octet at the start of a node is the first one of its text
-pub octet_begins : (text : List ℕ) (r : Record) (v : Value) (d : ℕ) → IsPlace text r v → BeginsWith (get_or text r.start d) v
-octet_begins text r v d p =
-    let first : get_or text r.start d ≡ get_or (canon v ++ p.after) 0 d =
-    ap (λ i. get_or text i d) (omega arith) ∙ sym (get_or-drop r.start text 0 d) ∙ ap (λ t. get_or t 0 d) (from_start text r v p) in
-    subst (λ c. BeginsWith c v) (sym first) (begun v p.after d)
-
 pub begins_within : (text : List ℕ) (r : Record) (v : Value) → IsPlace text r v → r.start < length text
 begins_within text r v p = omega (arith, canon_some v, ap length p.parts, length-append p.before (canon v ++ p.after), length-append (canon v) p.after, p.begins)
 
--- ---- lists and strings by their first octets
-
-pub list_begun : (v : Value) (c : ℕ) → BeginsWith c v → c ≡ 40 → IsList v
-list_begun (string None octets) c b e = no_open (subst IsDigit e b)
-list_begun (string (Some hint) octets) c b e = absurd (omega (arith, b, e))
-list_begun (list vs) c b e = tt
-
-listed_size : (v : Value) (at : ℕ) → IsList v → body_or_size at v ≡ size v
-listed_size (list vs) at is = refl
-listed_size (string hint octets) at is = absurd is
-
-pub list_size : (text : List ℕ) (r : Record) (v : Value) (c : ℕ) → IsPlace text r v → BeginsWith c v → c ≡ 40 → r.body_or_size ≡ size v
-list_size text r v c p b e = ap (λ (q : Record). q.body_or_size) p.record_is ∙ listed_size v r.start (list_begun v c b e)
-
-pub string_size : (v : Value) (c : ℕ) → BeginsWith c v → c ≢ 40 → size v ≡ 1
-string_size (string hint octets) c b apart = refl
-string_size (list vs) c b apart = absurd (apart b)
-
-pub body_begun : (v : Value) (c : ℕ) → BeginsWith c v → c ≢ 40 → body_of v ≢ None
-body_begun (string hint octets) c b apart = λ q. cc
-body_begun (list vs) c b apart = absurd (apart b)
+-- ---- lists and strings
 
 -- where the octets of a string are in a text
 pub record IsString (text : List ℕ) (body end : ℕ) (v : Value) : Type 0 where
@@ -123,7 +88,7 @@ pub record IsString (text : List ℕ) (body end : ℕ) (v : Value) : Type 0 wher
   pub body_is : body_of v ≡ Some (slice_range text body end)
 
 string_here : (text before after : List ℕ) (at : ℕ) (v : Value) → text ≡ before ++ (canon v ++ after) → length before ≡ at → body_of v ≢ None
-    → IsString text (body_or_size at v) (at + length (canon v)) v
+    → IsString text (detail at v) (at + length (canon v)) v
 string_here text before after at (string None octets) e len some =
     let ends : at + length (verbatim octets) ≡ at + head octets + length octets = omega (arith, length-verbatim octets) in
     record { ordered = omega arith; body_is = rw ends (ap Some (sym (body_between text before octets after at e len))) }
@@ -138,26 +103,67 @@ string_here text before after at (string (Some hint) octets) e len some =
     record { ordered = omega arith; body_is = rw close (ap Some (sym (body_between text (before ++ behind) octets after (ends + 1) body_last behind_len))) }
 string_here text before after at (list vs) e len some = absurd (some refl)
 
-pub string_from : (text : List ℕ) (r : Record) (v : Value) → IsPlace text r v → body_of v ≢ None → IsString text r.body_or_size r.end v
+pub string_from : (text : List ℕ) (r : Record) (v : Value) → IsPlace text r v → body_of v ≢ None → IsString text r.detail r.end v
 string_from text r v p some =
-    subst (λ (q : Record). IsString text q.body_or_size q.end v) (sym p.record_is)
+    subst (λ (q : Record). IsString text q.detail q.end v) (sym p.record_is)
     (string_here text p.before p.after r.start v p.parts p.begins some)
+
+pub has_body : (v : Value) → (IsList v → ⊥) → body_of v ≢ None
+has_body (string hint octets) never = λ q. cc
+has_body (list vs) never = absurd (never tt)
 
 pub string_of : (v : Value) (hint : Option (List ℕ)) (octets : List ℕ) → hint_of v ≡ hint → body_of v ≡ Some octets → string hint octets ≡ v
 string_of (string h o) hint octets e f = cc
 string_of (list vs) hint octets e f = absurd cc
 
+-- a node is a list exactly if the third number of its record is past the end
+pub ends_list : (text : List ℕ) (r : Record) (v : Value) → IsPlace text r v → r.end < r.detail → IsList v
+ends_list text r (string hint octets) p past =
+    let s = string_from text r (string hint octets) p (λ q. cc) in absurd (omega (arith, past, s.ordered))
+ends_list text r (list vs) p past = tt
+
+list_detail : (text : List ℕ) (r : Record) (v : Value) → IsPlace text r v → IsList v → r.detail ≡ r.end + size v
+list_detail text r (list vs) p is = rw p.record_is refl
+list_detail text r (string hint octets) p is = absurd is
+
+pub list_ends : (text : List ℕ) (r : Record) (v : Value) → IsPlace text r v → IsList v → r.end < r.detail
+list_ends text r v p is = omega (arith, list_detail text r v p is, ap length (nodes-first v))
+
+pub list_size : (text : List ℕ) (r : Record) (v : Value) → IsPlace text r v → r.end < r.detail → r.detail - r.end ≡ size v
+list_size text r v p past = omega (arith, list_detail text r v p (ends_list text r v p past))
+
+pub string_size : (text : List ℕ) (r : Record) (v : Value) → IsPlace text r v → (r.end < r.detail → ⊥) → size v ≡ 1
+string_size text r (string hint octets) p never = refl
+string_size text r (list vs) p never = absurd (never (list_ends text r (list vs) p tt))
+
 -- ---- the hint of a string
 
-pub hint_begun : (v : Value) (c : ℕ) → BeginsWith c v → c ≡ 91 → hint_of v ≢ None
-hint_begun (string None octets) c b e = absurd (no_bracket (subst IsDigit e b))
-hint_begun (string (Some hint) octets) c b e = λ q. cc
-hint_begun (list vs) c b e = absurd (omega (arith, b, e))
+pub no_hint : (v : Value) → (hint_of v ≢ None → ⊥) → hint_of v ≡ None
+no_hint (string None octets) never = refl
+no_hint (string (Some hint) octets) never = absurd (never (λ q. cc))
+no_hint (list vs) never = refl
 
-pub no_hint_begun : (v : Value) (c : ℕ) → BeginsWith c v → c ≢ 91 → hint_of v ≡ None
-no_hint_begun (string None octets) c b apart = refl
-no_hint_begun (string (Some hint) octets) c b apart = absurd (apart b)
-no_hint_begun (list vs) c b apart = refl
+-- the octet at the start of a node is the first one of its text
+first_octet : (text : List ℕ) (r : Record) (v : Value) (d : ℕ) → (p : IsPlace text r v) → get_or text r.start d ≡ get_or (canon v ++ p.after) 0 d
+first_octet text r v d p =
+    ap (λ i. get_or text i d) (omega arith) ∙ sym (get_or-drop r.start text 0 d) ∙ ap (λ t. get_or t 0 d) (from_start text r v p)
+
+verbatim_first : (octets behind : List ℕ) (d : ℕ) → get_or (verbatim octets ++ behind) 0 d ≢ 91
+verbatim_first octets behind d e =
+    let s = decimal_starts (length octets) in
+    let whole : verbatim octets ++ behind ≡ s.digit ∷ ((s.rest ++ 58 ∷ octets) ++ behind) = ap (λ t. t ++ behind) (verbatim_is octets ∙ ap (λ t. t ++ 58 ∷ octets) s.is) in
+    no_bracket (subst IsDigit (sym (ap (λ t. get_or t 0 d) whole) ∙ e) s.low)
+
+-- a string has a hint exactly if its text begins with a bracket
+pub bracket_hint : (text : List ℕ) (r : Record) (v : Value) (d : ℕ) → IsPlace text r v → get_or text r.start d ≡ 91 → hint_of v ≢ None
+bracket_hint text r (string None octets) d p e = absurd (verbatim_first octets p.after d (sym (first_octet text r (string None octets) d p) ∙ e))
+bracket_hint text r (string (Some hint) octets) d p e = λ q. cc
+bracket_hint text r (list vs) d p e = let c : ◌≡◌ {A = ℕ} 40 91 = sym (first_octet text r (list vs) d p) ∙ e in absurd (omega (arith, c))
+
+pub hint_bracket : (text : List ℕ) (r : Record) (v : Value) (d : ℕ) → IsPlace text r v → hint_of v ≢ None → get_or text r.start d ≡ 91
+hint_bracket text r (string None octets) d p some = absurd (some refl)
+hint_bracket text r (string (Some hint) octets) d p some = first_octet text r (string (Some hint) octets) d p
+hint_bracket text r (list vs) d p some = absurd (some refl)
 
 -- the hint stands verbatim behind the opening bracket
 record IsHintAt (text : List ℕ) (at : ℕ) (v : Value) : Type 0 where
@@ -166,18 +172,18 @@ record IsHintAt (text : List ℕ) (at : ℕ) (v : Value) : Type 0 where
   pub hint_is : hint_of v ≡ Some octets
   pub spelled : drop at text ≡ verbatim octets ++ behind
 
-hint_in : (v : Value) (text after : List ℕ) (at : ℕ) → hint_of v ≢ None → drop at text ≡ canon v ++ after → IsHintAt text (at + 1) v
-hint_in (string None octets) text after at some e = absurd (some refl)
-hint_in (string (Some hint) octets) text after at some e = record {
+hint_behind : (v : Value) (text after : List ℕ) (at : ℕ) → hint_of v ≢ None → drop at text ≡ canon v ++ after → IsHintAt text (at + 1) v
+hint_behind (string None octets) text after at some e = absurd (some refl)
+hint_behind (string (Some hint) octets) text after at some e = record {
   octets = hint;
   behind = 93 ∷ verbatim octets ++ after;
   hint_is = refl;
   spelled = sym (drop-drop 1 at text) ∙ ap (drop 1) e ∙ append_assoc (verbatim hint) (93 ∷ verbatim octets) after;
 }
-hint_in (list vs) text after at some e = absurd (some refl)
+hint_behind (list vs) text after at some e = absurd (some refl)
 
 hint_at : (text : List ℕ) (r : Record) (v : Value) → IsPlace text r v → hint_of v ≢ None → IsHintAt text (r.start + 1) v
-hint_at text r v p some = hint_in v text p.after r.start some (from_start text r v p)
+hint_at text r v p some = hint_behind v text p.after r.start some (from_start text r v p)
 
 -- it is not missed there
 pub hint_there : (text : List ℕ) (r : Record) (v : Value) (e : FormFault) → IsPlace text r v → hint_of v ≢ None → MissesAt IsVerbatim (r.start + 1) (drop (r.start + 1) text) e → ⊥
@@ -197,18 +203,6 @@ hint_read text r v body to p some read =
 
 -- ---- a table shows its value
 
-by_list : (c : ℕ) (listed hinted unhinted : Label) → c ≡ 40 → label_by c listed hinted unhinted ≡ listed
-by_list c listed hinted unhinted e = rw e refl
-
-by_hint : (c : ℕ) (listed hinted unhinted : Label) → c ≡ 91 → label_by c listed hinted unhinted ≡ hinted
-by_hint c listed hinted unhinted e = rw e refl
-
-by_digit : (c : ℕ) (listed hinted unhinted : Label) → IsDigit c → label_by c listed hinted unhinted ≡ unhinted
-by_digit c listed hinted unhinted low =
-    let no_list : (c == 40) ≡ false = grind (arith, nat_tests, low) in
-    let no_bracket : (c == 91) ≡ false = grind (arith, nat_tests, low) in
-    rw (no_list, no_bracket) refl
-
 behind_digits : (ds octets : List ℕ) → AreDigits ds → behind_colon (ds ++ 58 ∷ octets) ≡ octets
 behind_digits [] octets h = refl
 behind_digits (d ∷ ds) octets h =
@@ -218,27 +212,32 @@ behind_digits (d ∷ ds) octets h =
 behind_verbatim : (octets : List ℕ) → behind_colon (verbatim octets) ≡ octets
 behind_verbatim octets = ap behind_colon (verbatim_is octets) ∙ behind_digits (decimal (length octets)) octets (AreDigits-decimal (length octets))
 
--- what the record of a node shows in the text is the node's label
-label_at : (text : List ℕ) (r : Record) (v : Value) → IsPlace text r v → label_in text r ≡ label v
-label_at text r (string None octets) p =
-    let b = octet_begins text r (string None octets) 0 p in
-    let s = string_from text r (string None octets) p (λ q. cc) in
-    let body : slice_range text r.body_or_size r.end ≡ octets = cc in
-    by_digit _ _ _ _ b ∙ ap (λ o. inr (None, o)) body
-label_at text r (string (Some hint) octets) p =
-    let b = octet_begins text r (string (Some hint) octets) 0 p in
-    let s = string_from text r (string (Some hint) octets) p (λ q. cc) in
-    let body : slice_range text r.body_or_size r.end ≡ octets = cc in
-    let at : r.body_or_size ≡ body_at r.start (Some hint) octets = ap (λ (q : Record). q.body_or_size) p.record_is in
-    let ends : r.body_or_size - head octets - 1 ≡ r.start + 1 + length (verbatim hint) = omega (arith, at, length-verbatim hint) in
+-- what the record of a node shows in the text is its hint
+hint_shown : (text : List ℕ) (r : Record) (hint : Option (List ℕ)) (octets : List ℕ) → IsPlace text r (string hint octets) → hint_in text r octets ≡ hint
+hint_shown text r None octets p =
+    let first = first_octet text r (string None octets) 0 p in
+    let no_mark : (get_or text r.start 0 == 91) ≡ false = grind (arith, nat_tests, verbatim_first octets p.after 0, first) in
+    rw no_mark refl
+hint_shown text r (Some hint) octets p =
+    let first : get_or text r.start 0 ≡ 91 = first_octet text r (string (Some hint) octets) 0 p in
+    let at : r.detail ≡ body_at r.start (Some hint) octets = ap (λ (q : Record). q.detail) p.record_is in
+    let ends : r.detail - head octets - 1 ≡ r.start + 1 + length (verbatim hint) = omega (arith, at, length-verbatim hint) in
     let k = hint_at text r (string (Some hint) octets) p (λ q. cc) in
     let hint_is : hint ≡ k.octets = cc in
-    let shown : slice_range text (r.start + 1) (r.start + 1 + length (verbatim hint)) ≡ verbatim hint =
-    search (rules, k.spelled, take_at) in
-    by_hint _ _ _ _ b ∙ rw (body, ends, shown, behind_verbatim hint) refl
+    let shown : slice_range text (r.start + 1) (r.start + 1 + length (verbatim hint)) ≡ verbatim hint = search (rules, k.spelled, take_at) in
+    rw (first, ends, shown, behind_verbatim hint) refl
+
+-- what it shows is its label
+label_at : (text : List ℕ) (r : Record) (v : Value) → IsPlace text r v → label_in text r ≡ label v
+label_at text r (string hint octets) p =
+    let s = string_from text r (string hint octets) p (λ q. cc) in
+    let body : slice_range text r.detail r.end ≡ octets = cc in
+    let no_list : nat_lt r.end r.detail ≡ false = grind (arith, nat_tests, s.ordered) in
+    rw (no_list, body, hint_shown text r hint octets p) refl
 label_at text r (list vs) p =
-    let at : r.body_or_size ≡ size (list vs) = ap (λ (q : Record). q.body_or_size) p.record_is in
-    by_list _ _ _ _ (octet_begins text r (list vs) 0 p) ∙ ap inl (omega (arith, at))
+    let past = list_ends text r (list vs) p tt in
+    let is_list : nat_lt r.end r.detail ≡ true = grind (arith, nat_tests, past) in
+    rw is_list (ap inl (omega (arith, list_detail text r (list vs) p tt)))
 
 -- so the labels that a table shows are those of the nodes
 labels_shown : (text : List ℕ) (rs : List Record) (vs : List Value) → ArePlaces text rs vs → map (label_in text) rs ≡ map label vs

@@ -104,7 +104,7 @@ behind_hint room text at body to e s r h =
 
 -- a string's record
 abbrev pub one : ℕ → ℕ → ℕ → Record
-one at to body = record { start = at; end = to; body_or_size = body }
+one at to body = record { start = at; end = to; detail = body }
 
 record_is :
     (at to ends a b : ℕ) → to ≡ ends → a ≡ b →

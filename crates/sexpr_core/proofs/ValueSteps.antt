@@ -31,7 +31,7 @@ records_all_many at vs = as_many _ (records_all at vs) (nodes_all vs) (places_al
 
 -- a list's record
 abbrev pub listed : ℕ → ℕ → ℕ → Record
-listed at to many = record { start = at; end = to; body_or_size = many }
+listed at to many = record { start = at; end = to; detail = to + many }
 
 list_record : (at to many : ℕ) (vs : Values) → to ≡ at + length (canon (list vs)) → many ≡ size (list vs) → listed at to many ≡ record_of at (list vs)
 list_record at to many vs a b = cc

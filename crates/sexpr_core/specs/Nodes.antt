@@ -1,6 +1,6 @@
 -- The nodes of a value: their labels, members and siblings, where they are in the canonical text, and the table of
 -- records that describes them.
-use Rattle.std.specs.Prelude.{◌≡◌, ℕ, List, [], ◌∷◌, ◌++◌, length, take, drop, map, Option, ◌⊎◌, refl, ◌+◌, Some, None, option_and_then, nat_lt, ◌<◌, slice_get, ◌==◌, if◌then◌else◌, zero, suc, ◌-◌, ◌≤◌, slice_range, slice_index_or}
+use Rattle.std.specs.Prelude.{◌≡◌, ℕ, List, [], ◌∷◌, ◌++◌, length, take, drop, map, Option, ◌⊎◌, refl, ◌+◌, Some, None, option_and_then, nat_lt, slice_get, ◌==◌, if◌then◌else◌, zero, suc, ◌-◌, ◌≤◌, slice_range, slice_index_or}
 use Rattle.std.specs.Coded.{Coded, code_by, coded×, coded⊎, coded_ℕ, coded_list, coded_option}
 use Rattle.std.proofs.{Common.{sym, ap, ◌∙◌, append_assoc, length-append, arith, inl, inr}, lemmas.List.{map-append, take_at, drop_at, append-nil}}
 use Rattle.sexpr_core.specs.Value.{Value, string, list, Values, none, more, members, values, plain, group, nodes, nodes_all, node, size_all, size, canon, decimal, octet_limit}
@@ -179,12 +179,6 @@ pub record LiesAt (text w : List ℕ) (at : ℕ) : Type 0 where
 
 -- ---- where the nodes of a value are in its canonical text
 
--- how a value's text begins: with a parenthesis for a list, a bracket for a string with a hint, a digit for one without
-abbrev pub BeginsWith : ℕ → Value → Type 0
-BeginsWith c (string None octets) = (char "0" ≤ c) × (c < char ":")
-BeginsWith c (string (Some hint) octets) = c ≡ char "["
-BeginsWith c (list vs) = c ≡ char "("
-
 -- how many octets are before those of a string: its length and the colon
 abbrev pub head : List ℕ → ℕ
 head octets = length (decimal (length octets)) + 1
@@ -194,14 +188,14 @@ abbrev pub body_at : ℕ → Option (List ℕ) → List ℕ → ℕ
 body_at at None octets = at + head octets
 body_at at (Some hint) octets = at + 1 + head hint + length hint + 1 + head octets
 
--- where the octets of a string begin, and the number of nodes of a list
-abbrev pub body_or_size : ℕ → Value → ℕ
-body_or_size at (string hint octets) = body_at at hint octets
-body_or_size at (list vs) = size (list vs)
+-- where the octets of a string begin, and for a list the offset after its text plus the number of its nodes
+abbrev pub detail : ℕ → Value → ℕ
+detail at (string hint octets) = body_at at hint octets
+detail at (list vs) = at + length (canon (list vs)) + size (list vs)
 
 -- the record of a value whose text begins at an offset
 abbrev pub record_of : ℕ → Value → Record
-record_of at v = record { start = at; end = at + length (canon v); body_or_size = body_or_size at v }
+record_of at v = record { start = at; end = at + length (canon v); detail = detail at v }
 
 abbrev mutual
   -- the records of a value's nodes, in the order of `nodes`, if its text begins at an offset
@@ -221,16 +215,19 @@ abbrev pub behind_colon : List ℕ → List ℕ
 behind_colon [] = []
 behind_colon (c ∷ rest) = if c == char ":" then rest else behind_colon rest
 
--- the label of a list, of a string with a hint or of one without, by the first octet of its text
-abbrev pub label_by : ℕ → Label → Label → Label → Label
-label_by c listed hinted unhinted = if c == char "(" then listed else if c == char "[" then hinted else unhinted
+-- The hint of a string that begins with a bracket. Its length and a colon are before it, and a bracket and the length of
+-- the string follow it.
+abbrev pub hint_in : List ℕ → Record → List ℕ → Option (List ℕ)
+hint_in text r octets =
+    if slice_index_or text r.start 0 == char "["
+    then Some (behind_colon (slice_range text (r.start + 1) (r.detail - head octets - 1)))
+    else None
 
--- The hint is behind a bracket, its length and a colon. A bracket and the length of the string follow it.
+-- the label of a list, if the record is one of a list, or of a string
 abbrev pub label_in : List ℕ → Record → Label
 label_in text r =
-    let octets = slice_range text r.body_or_size r.end in
-    let hint = behind_colon (slice_range text (r.start + 1) (r.body_or_size - head octets - 1)) in
-    label_by (slice_index_or text r.start 0) (inl (r.body_or_size - 1)) (inr (Some hint, octets)) (inr (None, octets))
+    let octets = slice_range text r.detail r.end in
+    if nat_lt r.end r.detail then inl (r.detail - r.end - 1) else inr (hint_in text r octets, octets)
 
 abbrev pub table_value : List ℕ → List Record → Value
 table_value text table = tree (map (label_in text) table)

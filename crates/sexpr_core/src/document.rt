@@ -1,7 +1,7 @@
 //! A canonical text with a table of its nodes.
 
-ghost use Rattle.std.specs.Prelude.{◌≡◌, ◌<◌, ◌≤◌, ◌^◌, ◌↔◌, length, Some, IfOk, IfErr, IsErrOf, IsOkUnless};
-ghost use Rattle.sexpr_core.specs.{Value.{Value, canon, size, node, IsWithinLimits}, Reading.{Refused}, Nodes.{IsPlace, BeginsWith, node_at, start_of}};
+ghost use Rattle.std.specs.Prelude.{◌≡◌, ◌≢◌, ◌<◌, ◌≤◌, ◌^◌, ◌↔◌, length, Some, None, IsTrue, IfOk, IfErr, IsErrOf, IsOkUnless};
+ghost use Rattle.sexpr_core.specs.{Value.{Value, canon, size, node, IsWithinLimits}, Reading.{Refused}, Nodes.{IsPlace, IsList, node_at, hint_of, start_of}};
 
 use crate::fault::FormFault;
 use crate::handle::Node;
@@ -94,27 +94,36 @@ impl<'a> Doc<'a> {
         self.table[n]
     }
 
-    /// The first octet of the text of the node with this number, from 0. It is `(` for a list, `[` for a string with a
-    /// hint and a digit for one without. The document must have this node.
-    pub(crate) fn first_octet(&self, n: usize) -> u8
+    /// Whether the node with this number, from 0, is a list. The document must have this node.
+    pub(crate) fn is_list(&self, n: usize) -> bool
         requires { n < size self.now }
-        ensures { BeginsWith result (node_at self.now n) }
+        ensures { IsTrue result ↔ IsList (node_at self.now n) }
+    {
+        let record = self.record(n);
+        record.end < record.detail
+    }
+
+    /// Whether the node with this number, from 0, is a string with a display hint. Its text then begins with a bracket.
+    /// The document must have this node.
+    pub(crate) fn is_hinted(&self, n: usize) -> bool
+        requires { n < size self.now }
+        ensures { IsTrue result ↔ (hint_of (node_at self.now n) ≢ None) }
     {
         let start = self.record(n).start as usize;
-        self.text()[start]
+        self.text()[start] == b'['
     }
 
     /// The number of nodes in the node with this number, from 0, itself included. It is 1 for a string. The document must
     /// have this node.
-    #[tactic(auto, using(crate::proofs::RecordLaws::list_size, crate::proofs::RecordLaws::string_size))]
+    #[tactic(auto, using(crate::proofs::RecordLaws::string_size))]
     pub(crate) fn node_size(&self, n: usize) -> usize
         requires { n < size self.now }
         ensures nodes { result ≡ size (node_at self.now n) }
         ensures countable { size self.now < 2 ^ 64 }
     {
         let record = self.record(n);
-        if self.first_octet(n) == b'(' {
-            record.body_or_size as usize
+        if record.end < record.detail {
+            (record.detail - record.end) as usize
         } else {
             1
         }

@@ -1,7 +1,7 @@
 //! Handles to the nodes of a document.
 
-ghost use Rattle.std.specs.Prelude.{◌≡◌, ◌≢◌, ◌<◌, ◌≤◌, ◌∷◌, length, slice_range, Some, None, MatchOption};
-ghost use Rattle.sexpr_core.specs.{Value.{canon, size, plain, group, IsNoString, IsNoList, IsNotHeaded}, Nodes.{node_at, part_count, body_of, hint_of}};
+ghost use Rattle.std.specs.Prelude.{◌≡◌, ◌≢◌, ◌<◌, ◌≤◌, ◌∷◌, length, slice_range, Some, None, MatchOption, IsTrue, ◌↔◌};
+ghost use Rattle.sexpr_core.specs.{Value.{canon, size, plain, group, IsNoString, IsNoList, IsNotHeaded}, Nodes.{node_at, part_count, body_of, hint_of, members_of}};
 ghost use Rattle.sexpr_core.specs.KindValue.{kind_value};
 
 use crate::document::Doc;
@@ -75,23 +75,20 @@ impl<'d, 'a> Node<'d, 'a> {
         )
     }
 
-    /// What the node is: a string with its octets and its display hint, if it has one, or a list with its members. The
-    /// first octet of the node's text says which.
-    #[tactic(auto, using(crate::proofs::RecordLaws::list_begun, crate::proofs::RecordLaws::body_begun, crate::proofs::RecordLaws::hint_begun, crate::proofs::RecordLaws::no_hint_begun, crate::proofs::RecordLaws::string_of))]
+    /// What the node is: a string with its octets and its display hint, if it has one, or a list with its members.
+    #[tactic(auto, using(crate::proofs::RecordLaws::has_body, crate::proofs::RecordLaws::no_hint, crate::proofs::RecordLaws::string_of))]
     pub fn kind(&self) -> NodeKind<'d, 'a>
         ensures { kind_value result ≡ self.now }
     {
-        match self.document.first_octet(self.number) {
-            b'(' => NodeKind::List(Members::of(self.document, self.number)),
-            b'[' => NodeKind::String {
-                hint: Some(self.hint_octets()),
-                body: self.body_octets(),
-            },
-            _ => NodeKind::String {
-                hint: None,
-                body: self.body_octets(),
-            },
+        if self.document.is_list(self.number) {
+            return NodeKind::List(Members::of(self.document, self.number));
         }
+        let body = self.body_octets();
+        if self.document.is_hinted(self.number) {
+            let hint = Some(self.hint_octets());
+            return NodeKind::String { hint, body };
+        }
+        NodeKind::String { hint: None, body }
     }
 
     /// The octets of the node, which must be a string.
@@ -102,7 +99,7 @@ impl<'d, 'a> Node<'d, 'a> {
         let record = self.document.record(self.number);
         piece(
             self.document.text(),
-            record.body_or_size as usize,
+            record.detail as usize,
             record.end as usize,
         )
     }
@@ -156,6 +153,16 @@ impl<'d, 'a> Node<'d, 'a> {
             Some(others)
         } else {
             None
+        }
+    }
+
+    /// Whether the node is a list with more than `i` members. It takes a step for each of the first `i`.
+    pub(crate) fn has_part(&self, i: usize) -> bool
+        ensures { IsTrue result ↔ (i < length (members_of self.now)) }
+    {
+        match self.members() {
+            Some(members) => members.is_longer_than(i),
+            None => false,
         }
     }
 

@@ -26,17 +26,18 @@ impl<'a> Doc<'a> {
     }
 
     /// The number of member `i`, from 0, of the list with number `n`. None for a string, for a list with `i` or fewer
-    /// members, and if the document has no such node. It takes a step for each member of the list: use `Node::members`
-    /// to go over all of them.
+    /// members, and if the document has no such node. It takes steps for each member before this one: use
+    /// `Node::members` to go over all of them.
     pub fn part(&self, n: NodeId, i: usize) -> Option<NodeId>
         ensures number { option_map (λ m. m.0) result ≡ of_node (part_number n.0 i) self.now n.0 }
         ensures member { IfSome result (λ m. node self.now m.0 ≡ of_node (part_at i) self.now n.0) }
     {
-        let parts = self.parts(n)?;
-        if i >= parts {
-            return None;
+        let node = self.node(n)?;
+        if node.has_part(i) {
+            Some(NodeId(self.member_number(n.0, i)))
+        } else {
+            None
         }
-        Some(NodeId(self.member_number(n.0, i)))
     }
 
     /// The number of member `i`, from 0, of the list with number `n`. The list must have this member. Member 0 has the

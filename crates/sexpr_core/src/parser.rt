@@ -137,7 +137,7 @@ fn read_hinted(text: &[u8], at: usize) -> Result<Record, FormFault>
     Ok(Record {
         start: at as u32,
         end: string.end as u32,
-        body_or_size: string.body as u32,
+        detail: string.body as u32,
     })
 }
 
@@ -161,7 +161,7 @@ pub(crate) fn read_string(text: &[u8], at: usize, octet: u8) -> Result<Record, F
     Ok(Record {
         start: at as u32,
         end: read.end as u32,
-        body_or_size: read.body as u32,
+        detail: read.body as u32,
     })
 }
 
@@ -217,14 +217,14 @@ fn read_list(
     nodes.push(Record {
         start: at as u32,
         end: at as u32,
-        body_or_size: 1,
+        detail: at as u32,
     })?;
     let end = read_members(text, at + 1, room - 1, nodes)?;
     let size = nodes.len() - index;
     nodes[index] = Record {
         start: at as u32,
         end: end as u32,
-        body_or_size: size as u32,
+        detail: (end + size) as u32,
     };
     Ok(end)
 }

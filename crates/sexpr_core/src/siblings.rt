@@ -60,6 +60,20 @@ impl<'d, 'a> Members<'d, 'a> {
         rest.count()
     }
 
+    /// Whether more than `i` members are still to be read. It takes a step for each of the first `i`.
+    pub(crate) fn is_longer_than(self, i: usize) -> bool
+        ensures { IsTrue result ↔ (i < length self.entry) }
+    {
+        let mut rest = self;
+        for _ in 0..i {
+            let Some((_, others)) = rest.split_first() else {
+                return false;
+            };
+            rest = others;
+        }
+        !rest.is_empty()
+    }
+
     /// Whether all members were read: none is left.
     pub fn is_empty(&self) -> bool
         ensures { IsTrue result ↔ (self.now ≡ []) }

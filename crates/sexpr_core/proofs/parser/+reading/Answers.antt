@@ -1,4 +1,4 @@
-use Rattle.std.proofs.Common.{rules}
+use Rattle.std.proofs.Common.{◌-◌, arith, rules}
 use Rattle.sexpr_core.proofs.Faults.{value_ended, list_deep, list_fault}
 use Rattle.sexpr_core.proofs.ValueSteps.{string_value, list_read, list_short, no_members, more_members, members_end, in_member}
 use Rattle.sexpr_core.proofs.Errors.{err_matched}
@@ -10,8 +10,11 @@ read_list-returns-then-room-eq0 t c = list_deep _ _ _ c.if-room-eq0.true c.requi
 pub read_list-returns-in_err-end : goal.read_list-returns-in_err-end
 read_list-returns-in_err-end t c = search (rules, err_matched, list_fault)
 
-pub read_list-overflow_cast-size : goal.read_list-overflow_cast-size
-read_list-overflow_cast-size t c = search (rules, list_short)
+pub read_list-overflow_cast-end-2 : goal.read_list-overflow_cast-end-2
+read_list-overflow_cast-end-2 t c =
+    let short = list_short _ _ _ _ c.len-index.result (c.len.result - c.len-index.result) _ _ _ _ c.requires.begins
+    (omega (arith, c.args.nodes.now.ok.0)) c.in_ok-push.ensures.items c.in_ok-end.ensures (omega (arith, c.read_members.new.nodes.ok.0)) in
+    omega (arith, short, c.in_ok-end.ensures.within, c.requires.short)
 
 pub read_list-returns : goal.read_list-returns
 read_list-returns t c = search (rules, list_read)
