@@ -17,8 +17,9 @@ import (
 // healthID is the number of the request by which a daemon is asked whether it answers.
 const healthID = "spki-authd-health"
 
-// checkHealth tests that the daemon of a configuration answers, and prints its state. It sends a request that is refused: nothing is decided by that,
-// and no request is ever answered with 200 to say that all is well, since a web server could take that for a yes.
+// checkHealth tests that the daemon of a configuration answers, and prints what its order `health` returns. The error says why it does not answer, or
+// what an operator must look after. It sends a request that is answered by `refused` or `unauthenticated`, so nothing is decided. No request is ever
+// answered with 200 to say that all is well, since a web server could take that for a yes.
 func checkHealth(config *config, out io.Writer) error {
 	if err := config.checkAnswers(); err != nil {
 		return err

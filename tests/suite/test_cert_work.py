@@ -53,8 +53,8 @@ class Text(bytes):
 
 @contextmanager
 def counted() -> Iterator[None]:
-    """A context that sets SEEN to 0 and counts steps there: lines of `spki_cert_tool` that run, and octets that it makes canonical. A `Text` adds its
-    own."""
+    """A context that sets SEEN to 0 and counts steps there: each call, line and return in `spki_cert_tool`, and the octets that its modules asking,
+    certificates, checking and making make canonical. Other modules make few canonical, and these are not counted. A `Text` adds its own."""
     from spki_cert_tool import asking, certificates, checking, making, sexp
 
     def trace(frame, event, _):

@@ -168,8 +168,8 @@ def fields_given(given: argparse.Namespace) -> list[Value]:
 
 
 def subject_of(given: argparse.Namespace) -> Value:
-    """The subject that --to and --named say: a key, a hash, or a name. Without --to it is a name of the issuer, which only a certificate has. Raises
-    Refused."""
+    """The subject that --to and --named say: a key, a hash, or a name. Without --to it is a name of the issuer, which only a certificate has: for an
+    entry the caller has tested that --to is given. Raises Refused."""
     if given.to is None:
         if not given.named:
             raise Refused("a certificate needs --to, or --named for a name of the issuer")
