@@ -4,8 +4,8 @@ use Rattle.spki_words.proofs.CommandWords.{same_command, fault_found, memory_alo
 use Rattle.spki_words.specs.Words.{spki, subcommand_in}
 use Rattle.spki_words.proofs.words.command_of.Goals as goal
 
-pub met-requires : goal.met-requires
-met-requires c =
+pub found_command-requires : goal.found_command-requires
+found_command-requires c =
     let words : List Text = map string_bytes c.args.words.now in
     let app = c.in_ok-program.ensures.0 in
     let rows = (c.in-Ok.ensures.matches (ap is_simple app ∙ simple)).1 ∙ ap (λ (a : App). subcommand_of a words) app in
@@ -19,7 +19,7 @@ returns-in-Ok-clause-taken c = λ program command is.
     let app = c.in_ok-program.ensures.0 in
     let rows = (c.in-Ok.ensures.matches (ap is_simple app ∙ simple)).1 ∙ ap (λ (a : App). subcommand_of a words) app in
     let name = name_read c.in-Ok.matches words rows in
-    inl (ap Ok (same_command c.met.result command (sym c.met.ensures ∙ name ∙ ap subcommand_in is ∙ word_read program command)))
+    inl (ap Ok (same_command c.found_command.result command (sym c.found_command.ensures ∙ name ∙ ap subcommand_in is ∙ word_read program command)))
 
 pub returns-in-Ok-clause-faults : goal.returns-in-Ok-clause-faults
 returns-in-Ok-clause-faults c =
