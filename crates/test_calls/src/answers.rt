@@ -24,18 +24,19 @@ pub fn answer<T: Answered + Drop>(alloc: Global, value: T) -> Reply {
     value.answered(alloc)
 }
 
-/// A value that is read from a row's texts for several calls, such as a document or a case.
-pub trait Called {
+/// A value that is read from a row's texts for several calls, such as a document or a case. `'x` is the lifetime of these texts. It is named since
+/// two tuples that are joined must have the same: their names share a block, and its lifetime cannot be shortened.
+pub trait Called<'x> {
     /// Does the call with this name on the value, and returns its answer. `texts` are texts of the row: each impl says which.
-    fn call(&self, alloc: Global, name: &str, texts: &[Vec<u8>]) -> Reply;
+    fn call(&self, alloc: Global, name: &str, texts: &'x [Vec<u8>]) -> Reply;
 }
 
 /// The answer of a call on a value that was read, or the fault if it was not read. The value is dropped here.
-pub fn call_on<T: Called + Drop, E: Into<Failure>>(
+pub fn call_on<'x, T: Called<'x> + Drop, E: Into<Failure>>(
     alloc: Global,
     value: Result<T, E>,
     name: &str,
-    texts: &[Vec<u8>],
+    texts: &'x [Vec<u8>],
 ) -> Reply {
     match value {
         Ok(value) => value.call(alloc, name, texts),

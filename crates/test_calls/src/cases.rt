@@ -18,10 +18,10 @@ pub(crate) fn call(alloc: Global, name: &str, texts: &[Vec<u8>]) -> Option<Reply
     }
 }
 
-impl Called for Case<'_> {
+impl<'x> Called<'x> for Case<'_> {
     /// Does the call with this name on the case, which was read from the first of `texts`. The second is the verifier, for the calls of the
     /// `_` arm: `judge`, `decide`, `explain` and `reduce_case`.
-    fn call(&self, alloc: Global, name: &str, texts: &[Vec<u8>]) -> Reply {
+    fn call(&self, alloc: Global, name: &str, texts: &'x [Vec<u8>]) -> Reply {
         match name {
             "Case::read" => counted(alloc, self),
             _ => with_verifier(alloc, name, self, at(texts, 1)),

@@ -30,10 +30,10 @@ pub(crate) fn call(alloc: Global, name: &str, texts: &[Vec<u8>]) -> Option<Reply
     }
 }
 
-impl Called for Doc<'_> {
+impl<'x> Called<'x> for Doc<'_> {
     /// Does the call with this name on the document, which was opened for the first of `texts`. The `_` arm is each call that reads the
     /// root as a key, a tag or the like. Of these only `read_hash` takes the second of `texts`.
-    fn call(&self, alloc: Global, name: &str, texts: &[Vec<u8>]) -> Reply {
+    fn call(&self, alloc: Global, name: &str, texts: &'x [Vec<u8>]) -> Reply {
         match name {
             "Doc::open" => octets(alloc, self.top().slice()),
             "Doc::nodes" => nodes(alloc, self, at(texts, 0).len()),

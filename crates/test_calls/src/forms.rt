@@ -29,9 +29,9 @@ pub(crate) fn call(alloc: Global, name: &str, texts: &[Vec<u8>]) -> Option<Reply
     }
 }
 
-impl Called for Sexp {
+impl<'x> Called<'x> for Sexp {
     /// Does the call with this name on the tree, which was read from the row's only text. The `_` arm is `print_advanced`.
-    fn call(&self, alloc: Global, name: &str, _: &[Vec<u8>]) -> Reply {
+    fn call(&self, alloc: Global, name: &str, _: &'x [Vec<u8>]) -> Reply {
         match name {
             "wrap" => answer(alloc, wrap(alloc, self)),
             _ => answer(alloc, print_advanced(alloc, self)),

@@ -100,8 +100,8 @@ pub fn question(texts: &[Vec<u8>]) -> Question<'_> {
 /// What the guard of the first four texts answers. For `Guard::read` this is the number of entries, and for `Guard::ask` what `ask_words`
 /// returns. The `_` arm is `Guard::texts` and each call of `PreparedQuestion`: the next four texts are the question, and after it is a
 /// verifier or marks.
-impl Called for Guard {
-    fn call(&self, alloc: Global, name: &str, texts: &[Vec<u8>]) -> Reply {
+impl<'x> Called<'x> for Guard {
+    fn call(&self, alloc: Global, name: &str, texts: &'x [Vec<u8>]) -> Reply {
         match name {
             "Guard::read" => shown(alloc, &self.entries()),
             "Guard::ask" => ask_words(alloc, self, behind(texts, 4)),
@@ -173,8 +173,8 @@ fn marked<'a>(
 }
 
 /// The calls on a question. Four are by a verifier, which is the first of `texts`. The `_` arm is all others, by the question's marks.
-impl Called for PreparedQuestion<'_> {
-    fn call(&self, alloc: Global, name: &str, texts: &[Vec<u8>]) -> Reply {
+impl<'x> Called<'x> for PreparedQuestion<'_> {
+    fn call(&self, alloc: Global, name: &str, texts: &'x [Vec<u8>]) -> Reply {
         match name {
             "PreparedQuestion::decide"
             | "PreparedQuestion::grant"

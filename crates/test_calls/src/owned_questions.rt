@@ -47,9 +47,9 @@ pub fn mark_all(opened: &mut OwnedQuestion, marks: &[u8]) -> bool {
     has_all
 }
 
-impl Called for OwnedQuestion {
+impl<'x> Called<'x> for OwnedQuestion {
     /// Does the call with this name on the question, which was opened and marked. The `_` arm is `OwnedQuestion::decide_by`.
-    fn call(&self, alloc: Global, name: &str, _texts: &[Vec<u8>]) -> Reply {
+    fn call(&self, alloc: Global, name: &str, _texts: &'x [Vec<u8>]) -> Reply {
         match name {
             "OwnedQuestion::signed" => signed(alloc, self),
             "OwnedQuestion::is_possible" => answer(alloc, self.is_possible()),

@@ -21,10 +21,10 @@ pub(crate) fn call(alloc: Global, name: &str, texts: &[Vec<u8>]) -> Option<Reply
     }
 }
 
-impl Called for Tag {
+impl<'x> Called<'x> for Tag {
     /// Does the call with this name on the tag, which was read from the first of `texts`. The second is a request for `Tag::holds`, and
     /// another tag for the calls of the `_` arm, which are those of `of_both`.
-    fn call(&self, alloc: Global, name: &str, texts: &[Vec<u8>]) -> Reply {
+    fn call(&self, alloc: Global, name: &str, texts: &'x [Vec<u8>]) -> Reply {
         match name {
             "Tag::clone" => answer(alloc, self.clone()?),
             "Tag::holds" => holds(alloc, self, at(texts, 1)),

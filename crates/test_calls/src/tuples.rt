@@ -84,8 +84,8 @@ fn steps<'a>(alloc: Global, texts: &'a [Vec<u8>]) -> Result<Vec<Step<'a>>, Failu
 
 /// The authorization is the first tuple of the row for `Five::write` and for `Five::missing_grant`, the `_` arm. `texts` are those after
 /// it. For `Five::then` it is the second tuple, with which the first is joined, and `texts` are all.
-impl Called for Five<'_> {
-    fn call(&self, alloc: Global, name: &str, texts: &[Vec<u8>]) -> Reply {
+impl<'x> Called<'x> for Five<'x> {
+    fn call(&self, alloc: Global, name: &str, texts: &'x [Vec<u8>]) -> Reply {
         match name {
             "Five::write" => self.answered(alloc),
             "Five::then" => then(alloc, texts, self),
@@ -114,7 +114,7 @@ fn missing_at(alloc: Global, five: &Five, holder: &Key, request: &Ground, moment
 }
 
 /// The join of the authorization that the first three texts are with `next`.
-fn then(alloc: Global, texts: &[Vec<u8>], next: &Five) -> Reply {
+fn then<'x>(alloc: Global, texts: &'x [Vec<u8>], next: &Five<'x>) -> Reply {
     let first = five(alloc, texts)?;
     let joined = first.then(alloc, next, Policy::Open);
     drop(first);
@@ -123,8 +123,8 @@ fn then(alloc: Global, texts: &[Vec<u8>], next: &Five) -> Reply {
 
 /// The definition is the row's second tuple, and `texts` are all. Each call joins the first tuple with it. The `_` arm is
 /// `Five::into_resolve`.
-impl Called for Four<'_> {
-    fn call(&self, alloc: Global, name: &str, texts: &[Vec<u8>]) -> Reply {
+impl<'x> Called<'x> for Four<'x> {
+    fn call(&self, alloc: Global, name: &str, texts: &'x [Vec<u8>]) -> Reply {
         match name {
             "Four::then" => four_then(alloc, texts, self),
             "Five::resolve" => resolve(alloc, texts, self),
@@ -134,7 +134,7 @@ impl Called for Four<'_> {
 }
 
 /// The join of the definition that the first three texts are with `definition`: this resolves the first name of its subject.
-fn four_then(alloc: Global, texts: &[Vec<u8>], definition: &Four) -> Reply {
+fn four_then<'x>(alloc: Global, texts: &'x [Vec<u8>], definition: &Four<'x>) -> Reply {
     let first = four(alloc, texts)?;
     let joined = first.then(alloc, definition, Policy::Open);
     drop(first);
@@ -142,7 +142,7 @@ fn four_then(alloc: Global, texts: &[Vec<u8>], definition: &Four) -> Reply {
 }
 
 /// The authorization that the first three texts are, with the first name of its subject resolved by a definition.
-fn resolve(alloc: Global, texts: &[Vec<u8>], definition: &Four) -> Reply {
+fn resolve<'x>(alloc: Global, texts: &'x [Vec<u8>], definition: &Four<'x>) -> Reply {
     let first = five(alloc, texts)?;
     let joined = first.resolve(alloc, definition, Policy::Open);
     drop(first);
@@ -150,7 +150,7 @@ fn resolve(alloc: Global, texts: &[Vec<u8>], definition: &Four) -> Reply {
 }
 
 /// As `resolve`, by the call that consumes the authorization.
-fn into_resolve(alloc: Global, texts: &[Vec<u8>], definition: &Four) -> Reply {
+fn into_resolve<'x>(alloc: Global, texts: &'x [Vec<u8>], definition: &Four<'x>) -> Reply {
     let first = five(alloc, texts)?;
     answer(alloc, first.into_resolve(definition, Policy::Open))
 }
