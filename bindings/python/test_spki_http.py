@@ -215,6 +215,15 @@ class Clients(unittest.TestCase):
         self.assertEqual(spki_http.octets_of(b"(7:sig-val(3:rsa(1:s3:\0ab)))", 4), b"\0\0ab")
         self.assertEqual(spki_http.octets_of(value(b"ecdsa", b"\0r", b"ss")), b"\0rss")
 
+    def test_covered_fields(self) -> None:
+        """The signature covers a field that the caller names, once. A name that the request has no field of is refused, as if it is misspelled."""
+        signer, given = curve_signer(), [("X-Job", "7")]
+        made = signer.fields("PUT", "https://files.example.org/a", b"x", given, ["x-job", "content-digest", "x-spki-public-key"])
+        covered = made["Signature-Input"].partition(")")[0]
+        self.assertEqual([covered.count(f'"{name}"') for name in ("x-job", "content-digest", "x-spki-public-key")], [1, 1, 1])
+        with self.assertRaisesRegex(ValueError, "x-jobs"):
+            signer.fields("GET", "https://files.example.org/a", b"", given, ["x-job", "x-jobs"])
+
     # Requests by `urllib`, also the same one twice with other signers, and one to a name that is not signed for.
     def test_urllib(self) -> None:
         def send(signer: spki_http.Signer, method: str, body: bytes | None) -> bytes:

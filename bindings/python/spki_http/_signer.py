@@ -29,7 +29,8 @@ class Signer:
 
     def fields(self, method: str, url: str, body: bytes = b"", fields: Iterable[tuple[str, str]] = (), covered: Iterable[str] = ()) -> dict[str, str]:
         """The fields to set in a request, which replace its own fields of the same names. `fields` are those that it has. The signature covers what
-        the profile asks for, and those of `covered`, which are names in small letters. Raises `ValueError` for an address that cannot be signed."""
+        the profile asks for, and the fields of `covered`, which are names in small letters. Raises `ValueError` for an address that cannot be signed,
+        and if the request has no field of a name in `covered`: it would be unsigned."""
         parts = urllib.parse.urlsplit(url)
         if parts.scheme not in ("https", "http") or not parts.hostname or parts.username is not None:
             raise ValueError("no address of https or http, or one with a name and a password")
@@ -41,8 +42,11 @@ class Signer:
         replaced = {name.lower() for name in own}
         kept = [(name, value) for name, value in given if name.lower() not in replaced]
         message = Message(method, parts.netloc, target, [*kept, *own.items()], body)
-        where_present = (CHAINED, SEQUENCE.lower(), DIGEST, *covered)
-        names = ["@method", "@authority", "@path", "@query", PUBLIC_KEY, *(it for it in where_present if message.values(it))]
+        where_present = (CHAINED, SEQUENCE.lower(), DIGEST)
+        more = [name for name in covered if name not in (PUBLIC_KEY, *where_present)]
+        if absent := [name for name in more if not message.values(name)]:
+            raise ValueError(f"the request has no field {absent[0]!r}, which the signature should cover")
+        names = ["@method", "@authority", "@path", "@query", PUBLIC_KEY, *(it for it in where_present if message.values(it)), *more]
         parameters = self._parameters(names)
         octets = octets_of(self.sign(base_of(message, parts.scheme, names, parameters)), self.length)
         return {**own, "Signature-Input": f"{LABEL}={parameters}", "Signature": f"{LABEL}=:{base64.b64encode(octets).decode()}:"}
