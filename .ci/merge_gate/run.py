@@ -28,7 +28,7 @@ def text_of_log(log: str) -> str:
 
 
 def groups_below(process: int) -> set[int]:
-    """The process groups of a process and of all that it began, also of those with a session of their own."""
+    """The process groups of a process and of all that it began, also of those that `setsid` began."""
     parents, groups = {}, {}
     for path in glob.glob("/proc/[0-9]*/stat"):
         with contextlib.suppress(OSError), open(path, encoding="utf-8", errors="replace") as file:

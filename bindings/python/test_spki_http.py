@@ -216,13 +216,15 @@ class Clients(unittest.TestCase):
         self.assertEqual(spki_http.octets_of(value(b"ecdsa", b"\0r", b"ss")), b"\0rss")
 
     def test_covered_fields(self) -> None:
-        """The signature covers a field that the caller names, once. A name that the request has no field of is refused, as if it is misspelled."""
+        """The signature covers a field that the caller names, once. A name that the request has no field of is refused, also if it is one that the
+        profile asks for where it is present."""
         signer, given = curve_signer(), [("X-Job", "7")]
-        made = signer.fields("PUT", "https://files.example.org/a", b"x", given, ["x-job", "content-digest", "x-spki-public-key"])
+        made = signer.fields("PUT", "https://files.example.org/a", b"x", given, ["x-job", "x-job", "content-digest", "x-spki-public-key"])
         covered = made["Signature-Input"].partition(")")[0]
         self.assertEqual([covered.count(f'"{name}"') for name in ("x-job", "content-digest", "x-spki-public-key")], [1, 1, 1])
-        with self.assertRaisesRegex(ValueError, "x-jobs"):
-            signer.fields("GET", "https://files.example.org/a", b"", given, ["x-job", "x-jobs"])
+        for absent in "x-jobs", "X-Job", "content-digest":
+            with self.assertRaisesRegex(ValueError, absent):
+                signer.fields("GET", "https://files.example.org/a", b"", given, ["x-job", absent])
 
     # Requests by `urllib`, also the same one twice with other signers, and one to a name that is not signed for.
     def test_urllib(self) -> None:

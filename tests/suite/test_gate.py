@@ -143,7 +143,7 @@ class Commands(unittest.TestCase):
         self.assertEqual(self.shown("sh", "-c", "echo one; sleep 0.1; echo two >&2; exit 3"), ("one\ntwo\n", 3, "one\ntwo\n"))
 
     def test_late(self) -> None:
-        """A command that takes too long has failed, and is ended with all that it began, also in a session of its own."""
+        """A command that takes too long has failed, and is ended with all that it began, also by `setsid`."""
         said, status, printed = self.shown("sh", "-c", "sleep 99 & echo $!; setsid sleep 98 & echo $!; wait", minutes=0.01)
         self.assertRegex(printed, r"ended: sh -c, for 0 minutes\. Its last lines:\n\d+\n\d+\n\nsh -c, for 0 minutes: failed")
         waits_for("what it began has ended", lambda: all(map(is_gone, said.split("\n")[:2])))

@@ -42,7 +42,8 @@ func NewSigner(private crypto.Signer) (*Signer, error) {
 
 // Sign puts the fields of a signature into the header of a request: also the key, the certificates, and the digest of the body if it may have one.
 // All other fields must be in the header before. The scheme is `https` or `http`. `covered` names more fields that the signature covers, in small
-// letters, if the request has them. The signature is for this request alone. The error is BadTarget for a method that is no token too.
+// letters. The signature is for this request alone. The error is AbsentField if the request lacks a field of `covered`, which would be unsigned,
+// UnknownComponent for a name that no field has, and BadTarget for a method that is no token too.
 func (s *Signer) Sign(scheme string, message Message, covered ...string) error {
 	names := []string{method, authority, path, query, publicKey}
 	message.Header.Set(publicKey, transport(s.key))
@@ -52,8 +53,16 @@ func (s *Signer) Sign(scheme string, message Message, covered ...string) error {
 	if message.mayHaveBody() {
 		message.Header.Set("Content-Digest", ContentDigest(message.Body))
 	}
-	for _, name := range append([]string{authorization, "x-spki-sequence", contentDigest}, covered...) {
-		if len(message.Header.Values(name)) > 0 && !contains(names, name) {
+	for _, name := range []string{authorization, "x-spki-sequence", contentDigest} {
+		if len(message.Header.Values(name)) > 0 {
+			names = append(names, name)
+		}
+	}
+	for _, name := range covered {
+		if !isComponent(name) {
+			return UnknownComponent
+		}
+		if !contains(names, name) {
 			names = append(names, name)
 		}
 	}

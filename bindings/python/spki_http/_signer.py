@@ -42,11 +42,11 @@ class Signer:
         replaced = {name.lower() for name in own}
         kept = [(name, value) for name, value in given if name.lower() not in replaced]
         message = Message(method, parts.netloc, target, [*kept, *own.items()], body)
-        where_present = (CHAINED, SEQUENCE.lower(), DIGEST)
-        more = [name for name in covered if name not in (PUBLIC_KEY, *where_present)]
+        names = ["@method", "@authority", "@path", "@query", PUBLIC_KEY, *(it for it in (CHAINED, SEQUENCE.lower(), DIGEST) if message.values(it))]
+        more = [name for name in dict.fromkeys(covered) if name not in names]
         if absent := [name for name in more if not message.values(name)]:
             raise ValueError(f"the request has no field {absent[0]!r}, which the signature should cover")
-        names = ["@method", "@authority", "@path", "@query", PUBLIC_KEY, *(it for it in where_present if message.values(it)), *more]
+        names += more
         parameters = self._parameters(names)
         octets = octets_of(self.sign(base_of(message, parts.scheme, names, parameters)), self.length)
         return {**own, "Signature-Input": f"{LABEL}={parameters}", "Signature": f"{LABEL}=:{base64.b64encode(octets).decode()}:"}
