@@ -122,20 +122,20 @@ impl<'d, 'a> Node<'d, 'a> {
     pub fn plain_octets(&self) -> Option<&'a [u8]>
         ensures { MatchOption result (IsNoString self.now) (λ octets. self.now ≡ plain octets.now) }
     {
-        match self.kind() {
-            NodeKind::String { hint: None, body } => Some(body),
-            NodeKind::String { hint: Some(_), .. } => None,
-            NodeKind::List(_) => None,
+        if self.document.is_list(self.number) || self.document.is_hinted(self.number) {
+            return None;
         }
+        Some(self.body_octets())
     }
 
     /// The members of a list; None for a string.
     pub fn members(&self) -> Option<Members<'d, 'a>>
         ensures { MatchOption result (IsNoList self.now) (λ vs. self.now ≡ group vs) }
     {
-        match self.kind() {
-            NodeKind::List(members) => Some(members),
-            NodeKind::String { .. } => None,
+        if self.document.is_list(self.number) {
+            Some(Members::of(self.document, self.number))
+        } else {
+            None
         }
     }
 

@@ -47,6 +47,17 @@ impl<'d, 'a> Members<'d, 'a> {
         }
     }
 
+    /// The same members again. Nothing is allocated.
+    pub fn share(&self) -> Members<'d, 'a>
+        ensures { result ≡ self.now }
+    {
+        Members {
+            document: self.document,
+            from: self.from,
+            to: self.to,
+        }
+    }
+
     /// How many members are still to be read. A step is taken for each, over a second handle, so `self` does not
     /// change.
     pub fn len(&self) -> usize

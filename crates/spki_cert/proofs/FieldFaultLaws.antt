@@ -1,5 +1,5 @@
 -- The fault that is named of a field, and of fields one after the other, along the way of their reading.
-use Rattle.std.proofs.Common.{◌≡◌, ◌≢◌, ℕ, List, [], ◌∷◌, ◌++◌, Bool, true, false, Option, Some, None, refl, sym, ap, ◌∙◌, inr, rules}
+use Rattle.std.proofs.Common.{◌≡◌, ◌≢◌, ℕ, List, [], ◌∷◌, ◌++◌, Bool, true, false, Option, Some, None, refl, sym, ap, ◌∙◌, inr, rules, subst}
 use Rattle.std.proofs.lemmas.Bool.{false_from_ne_true, true_from_ne_false}
 use Rattle.std.specs.{Prelude.{codes, not, is_some, if◌then◌else◌, ◌||◌, ◌&&◌}, List.{AllByRecursion}}
 use Rattle.sexpr_core.specs.Value.{Value, plain, group, IsNotHeaded}
@@ -207,6 +207,12 @@ headless-entry v e = search (rules, entry-else, headless, time-limit, headless-l
 headless-field : (place : Place) (v : Value) → head_of v ≡ None → fault_in place v ≡ Some Shape
 headless-field places.Entry v e = headless-entry v e
 headless-field places.Certificate v e = search (rules, cert-else, headless, headless-entry)
+
+-- a list has one head, so a new one is this
+pub new-of : (v w : Value) (heads : List (List ℕ)) (word : List ℕ) → w ≡ v → head_of w ≡ Some word → (head : List ℕ) × IsNew v heads head → IsNew v heads word
+new-of v w heads word e f (head, new) =
+    let same : Some head ≡ Some word = sym (ap head_of new.written) ∙ (ap head_of (sym e) ∙ f) in
+    let h : head ≡ word = cc in subst (λ (x : List ℕ). IsNew v heads x) h new
 
 -- a field whose head is not new, or that has none
 pub field-not_new : (place : Place) (before : List Value) (heads : List (List ℕ)) (k : FieldValues) (v : Value) → AreRead before heads k

@@ -2,7 +2,7 @@
 use Rattle.std.proofs.Common.{◌≡◌, ℕ, List, [], ◌∷◌, ◌++◌, refl, sym, ap, ◌∙◌, append_assoc, Bool, true, false, None, rules, Option, Some, Result, Ok, Err, subst}
 use Rattle.std.proofs.lemmas.{Bool.{false_from_ne_true}, Slice.Eq.{bytes_eq-Decides}}
 use Rattle.std.specs.{Prelude.{IfErr, not, ◌↔◌}, Result.{IsErrAnd}}
-use Rattle.sexpr_core.specs.{Value.{IsNotHeaded, Value, plain, group, members, IsNoString}, Nodes.{members-values, values-members}}
+use Rattle.sexpr_core.specs.{Value.{IsNotHeaded, Value, plain, group, members, IsNoString, IsNoList}, Nodes.{members-values, values-members}}
 use Rattle.spki_cert.specs.{Fields.{is_headed, behind_head, Sole}, FieldFaults.{head_of, unless_none, sole_fault, is_plain}}
 use Rattle.spki_tag.specs.Faults.{first_fault, unless}
 use Rattle.sexpr_core.specs.Value as sexpr
@@ -74,6 +74,11 @@ pub is-group : (word : List ℕ) (v : Value) → is_headed word v ≡ true → v
 is-group word (sexpr.list (sexpr.more (sexpr.string None head) others)) e =
     let same : head ≡ word = (bytes_eq-Decides head word).0 e in cc (values-members others)
 is-group word v e = absurd (cc)
+
+-- a value that is no list has no head
+pub headless-list : (v : Value) → IsNoList v → head_of v ≡ None
+headless-list (sexpr.string hint octets) other = refl
+headless-list (sexpr.list vs) other = absurd (other (members vs) (ap sexpr.list (sym (values-members vs))))
 
 -- a value without this head is not headed so
 pub not-headed : (word : List ℕ) (v : Value) → IsNotHeaded v word → is_headed word v ≡ false

@@ -12,6 +12,7 @@ ghost use Rattle.spki_tag.specs.Tag as tags;
 
 use crate::date::Date;
 use crate::fault::CertFaultKind;
+use crate::headed_list::HeadedList;
 use crate::octets::Octets;
 use crate::principal_reader::{Issuer, WrittenSubject, issuer_of, written_subject_of};
 use crate::validity::{date_in, valid_in};
@@ -136,7 +137,7 @@ fn subject_in<'a>(
 /// content, so it is `Nothing` here; `read_fields` notes by its head that it is there. A `comment` is ignored. Err is the fault of the
 /// field, which is `Shape` for a field with any other head.
 #[tactic(auto, using(crate::proofs::Heads::heads), unfolding(crate::specs::FieldFaults::entry_field_fault))]
-fn read_common_field<'a>(alloc: Global, field: &Node) -> Result<FieldValue<'a>, CertFaultKind>
+fn read_common_field<'a>(alloc: Global, field: &HeadedList) -> Result<FieldValue<'a>, CertFaultKind>
     ensures says { IfOk result (λ said. FieldValueOf field.now said) }
     ensures faultless { IfOk result (λ _. entry_field_fault field.now ≡ None) }
     ensures named { IfErr result (λ kind. kind ≢ CertFaultKind.Memory → entry_field_fault field.now ≡ Some kind) }
@@ -160,7 +161,7 @@ fn read_common_field<'a>(alloc: Global, field: &Node) -> Result<FieldValue<'a>, 
 /// Reads a field of validity: `(not-before DATE)`, `(not-after DATE)` or `(valid ..)`. Err is its fault: `Online` for
 /// `(online ..)`, and `Shape` for any other field.
 #[tactic(auto, using(crate::proofs::Heads::heads), unfolding(crate::specs::FieldFaults::time_fault, crate::specs::FieldFaults::limit_fault))]
-fn read_validity_field<'a>(field: &Node) -> Result<FieldValue<'a>, CertFaultKind>
+fn read_validity_field<'a>(field: &HeadedList) -> Result<FieldValue<'a>, CertFaultKind>
     ensures says { IfOk result (λ said. FieldValueOf field.now said) }
     ensures faultless { IfOk result (λ _. time_fault field.now ≡ None) }
     ensures named { IfErr result (λ kind. time_fault field.now ≡ Some kind) }
@@ -186,7 +187,7 @@ fn read_validity_field<'a>(field: &Node) -> Result<FieldValue<'a>, CertFaultKind
 #[tactic(auto, using(crate::proofs::Heads::heads), unfolding(crate::specs::FieldFaults::cert_field_fault))]
 fn read_certificate_field<'a>(
     alloc: Global,
-    field: &Node<'_, 'a>,
+    field: &HeadedList<'_, 'a>,
 ) -> Result<FieldValue<'a>, CertFaultKind>
     ensures says { IfOk result (λ said. FieldValueOf field.now said) }
     ensures faultless { IfOk result (λ _. cert_field_fault field.now ≡ None) }
@@ -209,7 +210,7 @@ fn read_certificate_field<'a>(
 }
 
 /// Whether the field is ignored, whatever it contains: `display`, `issuer-info` or `subject-info`.
-fn is_unread(field: &Node) -> bool
+fn is_unread(field: &HeadedList) -> bool
     ensures { MatchBool result (IsUnread field.now) (IsUnread field.now → ⊥) }
 {
     if let Some(_) = field.headed(b"display") {
@@ -229,7 +230,7 @@ fn is_unread(field: &Node) -> bool
 fn field_value<'a>(
     alloc: Global,
     place: Place,
-    field: &Node<'_, 'a>,
+    field: &HeadedList<'_, 'a>,
 ) -> Result<FieldValue<'a>, CertFaultKind>
     ensures says { IfOk result (λ said. FieldValueOf field.now said) }
     ensures faultless { IfOk result (λ _. fault_in place field.now ≡ None) }
@@ -282,20 +283,17 @@ fn is_word_among(words: &[Octets], word: &[u8]) -> bool
     words.iter().any(|w| w.as_slice() == word)
 }
 
-/// The head of a field. None if the field is no list that begins with a string without a display hint, or if its head is one of `heads`,
+/// A field with its head. None if the field is no list that begins with a string without a display hint, or if its head is one of `heads`,
 /// those of the fields before it.
-fn new_head<'a>(field: &Node<'_, 'a>, heads: &[Octets]) -> Option<&'a [u8]>
-    ensures { MatchOption result ((head : List ℕ) → IsNew field.now heads.now head → ⊥) (λ head. IsNew field.now heads.now head.now) }
+fn new_field<'d, 'a>(field: &Node<'d, 'a>, heads: &[Octets]) -> Option<HeadedList<'d, 'a>>
+    ensures { MatchOption result ((head : List ℕ) → IsNew field.now heads.now head → ⊥)
+        (λ list. (list ≡ field.now) × ((head : List ℕ) × IsNew field.now heads.now head)) }
 {
-    let Some(members) = field.members() else {
-        return None;
-    };
-    let (first, _) = members.split_first()?;
-    let head = first.plain_octets()?;
-    if is_word_among(heads, head) {
+    let list = HeadedList::of(field)?;
+    if is_word_among(heads, list.head()) {
         None
     } else {
-        Some(head)
+        Some(list)
     }
 }
 
@@ -316,12 +314,12 @@ fn read_fields<'a>(
     let mut rest = members;
     let mut heads = Vec::new(alloc);
     while let Some((field, others)) = rest.split_first() {
-        let Some(head) = new_head(&field, &heads) else {
+        let Some(list) = new_field(&field, &heads) else {
             return Err(CertFaultKind::Shape);
         };
-        let said = field_value(alloc, place, &field)?;
+        let said = field_value(alloc, place, &list)?;
         known.add(said);
-        heads.push(Octets::new(head))?;
+        heads.push(Octets::new(list.head()))?;
         rest = others;
     }
     Ok(is_word_among(&heads, b"propagate"))

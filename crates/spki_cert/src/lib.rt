@@ -13,6 +13,7 @@ mod entry;
 mod fault;
 mod fields;
 mod hash;
+mod headed_list;
 mod items;
 mod key;
 pub mod laws;
