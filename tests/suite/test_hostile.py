@@ -140,8 +140,8 @@ def of_limits():
         yield Example(name, command, text, (status, answer, b""))
 
 
-def known(*sources, most=MOST_OCTETS * 2):
-    """The examples that some functions yield, of at most `most` octets, whose command the program has."""
+def examples_of(*sources, most=MOST_OCTETS * 2):
+    """The examples that these functions yield whose text has at most `most` octets and whose command the program has."""
     return [example for source in sources for example in source() if example.command in COMMANDS and len(example.text) <= most]
 
 
@@ -341,7 +341,7 @@ def attempted(do, program, *words):
 def memory_refused(behind):
     """Tasks that refuse each request for memory in turn, on examples of at most MOST_REFUSED octets. With `behind` ".." all later requests are
     refused too."""
-    for example in known(of_files, of_chains, of_tables, most=MOST_REFUSED):
+    for example in examples_of(of_files, of_chains, of_tables, most=MOST_REFUSED):
         yield refused_in_turn, example, behind
 
 
@@ -416,13 +416,13 @@ def pipes_and_files():
 
 def at_limits():
     """Tasks with one run on each text at the limits."""
-    for example in known(of_limits):
+    for example in examples_of(of_limits):
         yield one_run, example, example.answer, "run", example.command, example.text
 
 
 def in_small_stack():
     """Tasks with a small stack, on the texts at the limits and those that need the most work."""
-    for example in known(of_limits) + [Example(what, command, text, None) for what, command, text, _ in most_work()]:
+    for example in examples_of(of_limits) + [Example(what, command, text, None) for what, command, text, _ in most_work()]:
         yield with_small_stack, example
 
 
@@ -441,7 +441,7 @@ def work():
 
 def under_valgrind():
     """Tasks under valgrind on every VALGRIND_STEP-th example, without a refused request for memory and with some."""
-    for example in known(of_files, of_chains)[::VALGRIND_STEP]:
+    for example in examples_of(of_files, of_chains)[::VALGRIND_STEP]:
         for number in ("0", "5", "40.."):
             yield with_valgrind, example, {"memory": number}
 

@@ -18,7 +18,7 @@ pub enum FormFault {
     /// The text ends before the value is complete.
     #[error("the text ends too soon")]
     Short,
-    /// The octet at this offset is not allowed in its place.
+    /// The octet at this offset is not allowed in its place, or ends contents that are not allowed.
     #[error("bad octet at {0}")]
     Bad(usize),
     /// An octet follows the complete value, at this offset.

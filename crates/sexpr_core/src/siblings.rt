@@ -51,11 +51,8 @@ impl<'d, 'a> Members<'d, 'a> {
     pub fn share(&self) -> Members<'d, 'a>
         ensures { result ≡ self.now }
     {
-        Members {
-            document: self.document,
-            from: self.from,
-            to: self.to,
-        }
+        let Members { document, from, to } = *self;
+        Members { document, from, to }
     }
 
     /// How many members are still to be read. A step is taken for each, over a second handle, so `self` does not

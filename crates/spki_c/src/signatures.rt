@@ -28,7 +28,7 @@ pub struct SignatureTexts<'a> {
 ///
 /// # Errors
 ///
-/// `AllocError` if memory ran out.
+/// `AllocError` if memory ran out while the value was read.
 pub(crate) fn texts_of<'a>(
     alloc: Global,
     signed: &'a OwnedSigned,

@@ -27,13 +27,13 @@ pub enum CaseFault {
     /// after each of `key`, `request` and `at`, and the word `strict` after `policy`.
     #[error("not built as a case")]
     Shape,
-    /// The fault of the access list. Its item is the number of the entry, from 1.
+    /// The fault of the access list. Its item is the number of the entry, from 1, or 0 if the list has another head or version.
     #[error("access list: {0}")]
     Acl(CertFault),
     /// The fault of the accepted list. Its item is the number of the row, from 1.
     #[error("accepted list: {0}")]
     Accepted(CertFault),
-    /// The fault of the sequence. Its item is counted in the sequence, from 1.
+    /// The fault of the sequence. Its item is counted in the sequence, from 1, or 0 if the list has another head.
     #[error("sequence: {0}")]
     Sequence(CertFault),
     /// The fault of the key. Its item is 0.

@@ -74,8 +74,8 @@ fn from_tag_fault(fault: TagFault) -> CertFaultKind
     }
 }
 
-/// Reads the tag from the members of `(tag T)` after the head. Err is a fault of the tag, or `Shape` if there is not
-/// exactly one member.
+/// Reads the tag from the members of `(tag T)` after the head. Err is a fault of the tag, `Shape` if there is not
+/// exactly one member, or `Memory` if memory ran out.
 fn tag_in(alloc: Global, members: Members) -> Result<Tag, CertFaultKind>
     ensures found { IfOk result (λ tag. Sole ReadsAs members.entry tag) }
     ensures named { IfErr result (λ kind. kind ≢ CertFaultKind.Memory → sole_fault CertFaultKind.Shape kind_of_tag members.entry ≡ Some kind) }
@@ -113,8 +113,8 @@ fn issuer_in<'a>(members: Members<'_, 'a>) -> Result<Issuer<'a>, CertFaultKind>
     }
 }
 
-/// Reads the subject from the members of `(subject S)` after the head. Err is a fault of the subject, or `Shape` if
-/// there is not exactly one member.
+/// Reads the subject from the members of `(subject S)` after the head. Err is a fault of the subject, `Shape` if
+/// there is not exactly one member, or `Memory` if memory ran out.
 fn subject_in<'a>(
     alloc: Global,
     members: Members<'_, 'a>,
@@ -135,7 +135,7 @@ fn subject_in<'a>(
 
 /// Reads a field that both an entry and a certificate may have: `tag`, `propagate`, `comment` or a field of validity. `(propagate)` has no
 /// content, so it is `Nothing` here; `read_fields` notes by its head that it is there. A `comment` is ignored. Err is the fault of the
-/// field, which is `Shape` for a field with any other head.
+/// field, which is `Online` for `(online ..)` and `Shape` for a field with any other head, or `Memory` if memory ran out for a tag.
 #[tactic(auto, using(crate::proofs::Heads::heads), unfolding(crate::specs::FieldFaults::entry_field_fault))]
 fn read_common_field<'a>(alloc: Global, field: &HeadedList) -> Result<FieldValue<'a>, CertFaultKind>
     ensures says { IfOk result (λ said. FieldValueOf field.now said) }
@@ -183,7 +183,7 @@ fn read_validity_field<'a>(field: &HeadedList) -> Result<FieldValue<'a>, CertFau
 }
 
 /// Reads any field that a certificate may have: `issuer`, `subject`, `version`, one that is ignored, or one that an entry may have too. Err
-/// is the fault of the field, which is `Shape` for a field with any other head.
+/// is the fault of the field, or `Memory` if memory ran out, as for `read_common_field`.
 #[tactic(auto, using(crate::proofs::Heads::heads), unfolding(crate::specs::FieldFaults::cert_field_fault))]
 fn read_certificate_field<'a>(
     alloc: Global,
@@ -226,7 +226,7 @@ fn is_unread(field: &HeadedList) -> bool
 }
 
 /// Reads a field of an entry or of a certificate, as `place` says. Err is the fault of the field, which is `Shape` for a head that has no
-/// place there.
+/// place there, or `Memory` if memory ran out.
 fn field_value<'a>(
     alloc: Global,
     place: Place,
@@ -298,8 +298,8 @@ fn new_field<'d, 'a>(field: &Node<'d, 'a>, heads: &[Octets]) -> Option<HeadedLis
 }
 
 /// Reads the fields of an entry or of a certificate, as `place` says, and puts their contents into `known`, which must be empty. Returns
-/// whether one of them is `(propagate)`. Err is the first fault: `Shape` for a head that comes twice, or has no place there. Then `known`
-/// keeps what was read before the fault, and the caller frees it.
+/// whether one of them is `(propagate)`. Err is the first fault, which is `Shape` for a head that comes twice or has no place there, or `Memory`
+/// if memory ran out. Then `known` keeps what was read before the fault, and the caller frees it.
 fn read_fields<'a>(
     alloc: Global,
     place: Place,
@@ -326,7 +326,7 @@ fn read_fields<'a>(
 }
 
 /// Reads all fields of an entry or of a certificate, as `place` says. Fields may be in any order. A missing field is no fault here; its
-/// content is None. Err is the first fault: `Shape` for a head that comes twice, or has no place there.
+/// content is None. Err is as for `read_fields`.
 pub(crate) fn fields_of<'a>(
     alloc: Global,
     place: Place,

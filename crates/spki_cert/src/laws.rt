@@ -109,8 +109,9 @@ pub fn refused_sequence()
         → (is_headed (codes "sequence") v ≡ false) × (fault.kind ≡ Shape) }
 {}
 
-/// The weight of an entry, which bounds how much is read to test it, is below the octets of its canonical text. The weight of a
-/// sequence is at most four times the octets of its canonical text.
+/// The weight of an entry bounds how much is read to test it: it counts the names and octets of its subject and the nodes and octets of its
+/// tag. It is below the octets of the entry's canonical text. The weight of a sequence bounds the same for its certificates. It is at most
+/// four times the octets of the sequence's canonical text, and may be more than once: a relative name counts its issuer's principal again.
 pub fn weights()
     ensures entry { (v : Value) (e : Entry) → EntryOf v e → entry_weight e < length (canon v) }
     ensures sequence { (v : Value) (is : List SeqItem) → SeqOf v is → items_weight is ≤ 4 * length (canon v) }

@@ -173,12 +173,12 @@ pub fn read_key<'a>(document: &Doc<'a>, n: NodeId) -> Result<Key<'a>, CertFault>
     }
 }
 
-/// Reads node n of a document, which must exist, as a hash: `(hash alg digest)`, or with `(uri x ..)` after it. Returns its algorithm and its digest.
-/// Allocates nothing.
+/// Reads node n of a document, which must exist, as a hash: `(hash alg digest)` or `(hash alg digest (uri x ..))`. Returns its algorithm and its
+/// digest. Allocates nothing.
 ///
 /// # Errors
 ///
-/// The first fault from the left. `HashAlg`: the algorithm is a string other than `sha1`, `sha256` and `sha512`.
+/// The first fault from the left. `HashAlg`: the algorithm is a string other than `sha1`, `sha256` and `sha512`, or has a display hint.
 /// `DigestLength`: the digest does not have its 20, 32 or 64 octets. Otherwise `Shape`. The item is 0.
 pub fn read_hash<'a>(document: &Doc<'a>, n: NodeId) -> Result<(HashAlg, Octets<'a>), CertFault>
     requires { IsSome (node document.now n.0) }

@@ -64,7 +64,8 @@ impl<'s, 'a> Certificate<'s, 'a> {
     }
 }
 
-/// An authorization certificate's 5-tuple, with the key `holder` as the issuer. Err if memory ran out.
+/// An authorization certificate's 5-tuple. Its issuer is the key `holder`: the certificate may name its issuer by a hash, and a tuple has
+/// a key. Err if memory ran out.
 fn five_of<'a>(cert: &AuthCert<'a>, holder: &Key<'a>) -> Result<Five<'a>, AllocError>
     ensures { IfOk result (λ f. five_tuple f ≡ auth_tuple holder.now cert.now) }
 {

@@ -184,8 +184,9 @@ fn entry_fold_with_new_count<'a, L: Ledger>(
     )
 }
 
-/// Does what `entry_fold` does, and counts it in `ticks` as `fold_owned_counted` does: at most four for each unit of the work of the steps,
-/// also if the entry is spared, and one more for a step at which the chain ends early. `prove_limits` is only for the prover.
+/// Folds an entry as `entry_fold` does, and adds to `ticks` what it costs: at most four ticks for each unit of the work of the steps, and one
+/// more for a step at which the chain ends early. This holds also of an entry whose work is not taken from `budget`. The call of
+/// `prove_limits` does nothing: it tells the prover that the limits of the window are dates.
 ///
 /// # Errors
 ///

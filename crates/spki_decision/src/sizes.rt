@@ -55,7 +55,7 @@ impl Sizes {
         requires limit { limit ≤ 1000000 }
         ensures { result ≡ is_spared limit (tuples_of steps.now) tag.now }
     {
-        self.have_small_product(tag, steps, limit) || self.are_plain(tag, steps, limit)
+        self.have_small_product(tag, steps, limit) || self.are_plain_and_small(tag, steps, limit)
     }
 
     /// Whether the product of the nodes of all tags is at most `limit`: `are_small` says why this is enough. If `product` is None, it is
@@ -71,10 +71,10 @@ impl Sizes {
         tag.nodes() * nodes <= limit
     }
 
-    /// Whether no tag has a set, and the nodes of all tags together, times those of the largest one of a certificate, are at most `limit`:
-    /// `are_small` says why this is enough. If `plain` is None, a certificate's tag has a set, or the nodes of all certificates' tags are
-    /// over 1,000,000, and so over `limit`. Only the contract uses `_steps`.
-    fn are_plain<'a>(&self, tag: &Tag, _steps: &[Step<'a>], limit: usize) -> bool
+    /// Whether no tag has a set, and a product is at most `limit`: the nodes of the entry's tag `tag` and of all certificates' tags together,
+    /// times the nodes of the largest tag of a certificate. `are_small` says why this is enough. If `plain` is None, a certificate's tag has
+    /// a set, or the nodes of all certificates' tags are over 1,000,000, and so over `limit`. Only the contract uses `_steps`.
+    fn are_plain_and_small<'a>(&self, tag: &Tag, _steps: &[Step<'a>], limit: usize) -> bool
         requires sizes { AreSizes (tuples_of _steps.now) self.now }
         requires limit { limit ≤ 1000000 }
         ensures { result ≡ is_plain limit (tuples_of _steps.now) tag.now }

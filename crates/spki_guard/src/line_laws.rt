@@ -24,8 +24,8 @@ pub fn one_line()
         → refusal ≢ refusals.Memory → other ≢ refusals.Memory → refusal ≡ other }
 {}
 
-/// A text that is refused as `TooLarge` is refused for nothing else, unless memory ran out. `chain` is the law for a case, and
-/// `product` that for `(intersect A B)`.
+/// A text that is refused as `TooLarge` is refused for nothing else, unless memory ran out: `refused` of `one_line` for the two refusals
+/// by limits of work. `chain` is the law for a case, and `product` that for `(intersect A B)`.
 pub fn one_too_large()
     ensures chain { (command : Command) (text : List ℕ) (refusal : Refusal)
         → RefusesAnswer command text (refusals.Decision guard.TooLarge)

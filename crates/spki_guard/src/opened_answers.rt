@@ -50,8 +50,9 @@ pub fn open_question(
 /// changed or be freed. The lines are those that `run` writes for the case of the guard's list and the question's parts. A decision
 /// reads nothing again. An explanation and a reduction read the parts again, from the texts that the question owns.
 ///
-/// `refused TooLarge` is an answer of `Explain` and `Reduce` alone: an intersection exceeds the guard's limit of nodes, all intersections
-/// together its limit of work, or the lines its limit of octets. If memory ran out, the line is `refused Memory`.
+/// `refused TooLarge` is an answer of `Explain` and `Reduce` alone: the product of the nodes of two tags to be intersected is over the
+/// guard's limit of nodes, the work of all entries together over its limit of work, or the lines are longer than its limit of octets. If
+/// memory ran out, the line is `refused Memory`.
 pub fn answer_opened(alloc: Global, query: Query, opened: &OwnedQuestion) -> OpenedAnswer
     ensures answer { (q : Question) → IsOpened opened.now.guard q opened.now
         → IsAnswerHeld query opened.now.guard q opened.now.marks.items result.answer.verdict (written_by result.answer) }

@@ -52,8 +52,9 @@ fn print_principal<S: Sink>(principal: &Principal, sink: &mut S)
     }
 }
 
-/// Prints a subject: its principal alone if it has no names, otherwise `(name PRINCIPAL N N ..)`.
-fn print_named<S: Sink>(subject: &Subject, sink: &mut S)
+/// Prints a subject without the `(subject ..)` that `print_subject` puts around it: its principal alone if it has no names, otherwise
+/// `(name PRINCIPAL N N ..)`.
+fn print_bare_subject<S: Sink>(subject: &Subject, sink: &mut S)
     ensures { (s : Value) × IsWrittenSubject subject.now.principal subject.now.names s × S.takes sink.old (adv s) sink.new }
 {
     if subject.names.is_empty() {
@@ -72,7 +73,7 @@ fn print_subject<S: Sink>(subject: &Subject, sink: &mut S)
         × S.takes sink.old (adv_all 1 (values (headed (codes "subject") (s ∷ []) ∷ []))) sink.new }
 {
     sink.put(b" (subject ");
-    print_named(subject, sink);
+    print_bare_subject(subject, sink);
     sink.put_octet(b')');
 }
 

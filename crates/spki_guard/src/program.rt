@@ -13,13 +13,14 @@ use std::io;
 use std::io::{ErrorKind, Read, Write};
 
 /// Does what the words of a command line ask for, and returns the exit status, that of `Status::code` or of `WordsFault::code`: 0 for
-/// done or help, 1 for no, 2 for a refusal, 3 if reading or writing failed. `words` is the result of reading them from the system.
+/// done or help, 1 for no, 2 for a refusal, 3 if a command could not read or write. `words` is the result of reading them from the system.
 /// The first word is the program's name.
 ///
-/// If the words ask for a command, it is run: it reads from the reader, and its answer goes to the writer. If the run
-/// is cut off, the reason goes to `errors`. If the words ask for help or for no command, the text of `clap` goes to
+/// If the words ask for a command, it is run: it reads from the reader, and its answer goes to the writer. If one of
+/// the two fails, a line that says which goes to `errors`. If the words ask for help or for no command, the text of `clap` goes to
 /// `errors`, and nothing is read. If they are not UTF-8, a line that says so goes there. At any other error of `words`,
-/// and if memory ran out for them, `refused Memory` goes to the writer. The call resets all meters first.
+/// and if memory ran out for them, `refused Memory` goes to the writer. If what is said of the words cannot be
+/// written, the status is the same. The call resets all meters first.
 pub fn run_words<R: Read, W: Write, E: Write>(
     alloc: Global,
     words: &io::Result<Vec<String>>,
@@ -137,8 +138,9 @@ fn write_words_fault<W: Write, E: Write>(
     }
 }
 
-/// Resets the writer's meter, writes octets, and flushes the writer. If the writer fails, a beginning of the octets is written, which
-/// may be none or all of them, and the failure is ignored: the `return` does nothing else.
+/// Resets the writer's meter, writes a message, and flushes the writer. If the writer fails, a beginning of the message is written, which
+/// may be none or all of it. The failure is ignored, since the exit status is that of what the message says, whether it arrives or not. The
+/// `if` is there only because a result must be used.
 fn say<W: Write>(writer: &mut Metered<W>, octets: &[u8])
     ensures { IsSaid W.contents writer.old writer.new octets.now }
 {

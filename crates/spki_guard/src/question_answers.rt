@@ -21,8 +21,9 @@ pub fn refused_list(alloc: Global, fault: AclFault) -> Printed
     Printed::of(alloc, &Answer::Refused(Refusal::List(fault)))
 }
 
-/// The answer to a question whose parts were read: the lines of `query`, `refused TooLarge` or `refused Memory`. Exactly the marked
-/// signatures are valid. `answer_opened` calls this for explanations and reductions alone: it decides without reading the parts.
+/// The answer to a question whose parts were read, if exactly the signatures that it has marked are valid: the lines of `query`, `refused
+/// TooLarge` or `refused Memory`. It answers each query, but `answer_opened` calls it for explanations and reductions alone: a decision
+/// of an opened question reads no part again.
 pub(crate) fn answer_asked(alloc: Global, query: Query, read: &PreparedQuestion) -> Printed
     ensures { AnswersAsked query read.now result.verdict (written_by result) ⊎ RefusesForMemory result.verdict (written_by result) }
 {
@@ -32,8 +33,9 @@ pub(crate) fn answer_asked(alloc: Global, query: Query, read: &PreparedQuestion)
     }
 }
 
-/// The lines of `query` for a question whose parts were read. Err is `TooLarge` if an intersection exceeds the guard's limit of nodes,
-/// all of them together its limit of work, or the lines its limit of octets, or `Memory`. A decision is never `TooLarge`.
+/// The lines of `query` for a question whose parts were read. Err is `TooLarge` if the product of the nodes of two tags to be intersected is
+/// over the guard's limit of nodes, the work of all entries together over its limit of work, or the lines are longer than its limit of
+/// octets; or `Memory`. A decision is never `TooLarge`.
 fn answer_query(alloc: Global, query: Query, read: &PreparedQuestion) -> Result<Printed, GuardFault>
     ensures written { IfOk result (λ a. WritesAsked query read.now a.verdict (written_by a)) }
     ensures large { IsErrOf result GuardFault.TooLarge → IsTooLargeFor query read.now }

@@ -165,7 +165,7 @@ fn print_text_fault<S: Sink>(text: &str, fault: FormFault, sink: &mut S)
     }
 }
 
-/// Prints `refused TEXT KIND AT`; `at` is the offset of the octet that is refused, from 0 in the text.
+/// Prints `refused TEXT KIND AT`; `at` is the offset in the text, from 0, at which it is refused.
 #[tactic(auto, using(crate::proofs::ReportLines::decimal_written))]
 fn print_refused_at<S: Sink>(text: &str, kind: &str, at: usize, sink: &mut S)
     ensures { S.takes sink.old (refused_at text.now kind.now at) sink.new }
@@ -305,8 +305,8 @@ fn tag_kind(fault: TagFault) -> &'static str
     }
 }
 
-/// The word for a fault of a key, entry, certificate, date or other part in a line: the name of its variant. For the fault of a tag it
-/// is `Tag`, without what is wrong with the tag: `print_refused_tag` prints that too.
+/// The word for a fault of a key, entry, certificate, date or other part in a line: the name of its variant. No line has `Tag` or
+/// `Memory` alone: for the fault of a tag `print_refused_tag` also prints what is wrong with the tag, and `refused Memory` has no part.
 fn kind_name(kind: CertFaultKind) -> &'static str
     ensures { result.now ≡ kind_name kind }
 {

@@ -57,8 +57,9 @@ pub(crate) fn short_text<'a>(alloc: Global, text: &'a [u8]) -> Result<CanonicalT
     Ok(read)
 }
 
-/// Reads the case of a text that `short_text` returned. Err is `Form` if the text has no value within the limits, `Case`
-/// if its canonical form has more than 1,048,576 octets or is no case, or `Memory`.
+/// Reads the case of a text that `short_text` returned. Err is `Form` if the text has no value within the limits, `Case` if its value is no
+/// case, or `Memory`. If only the canonical form has more than 1,048,576 octets, Err is `Case` with `TooLong`: it is that form which is too
+/// long for a case, while `Form` with `TooLong` says that the text is. Both print `refused form TooLong`.
 pub(crate) fn case_in<'a>(alloc: Global, text: &'a CanonicalText<'_>) -> Result<Case<'a>, Refusal>
     ensures read { (given : List ℕ) → IsShortText given text.entry.now → IfOk result (λ case. ReadsCase given (model case)) }
     ensures refused { (given : List ℕ) → IsShortText given text.entry.now → IfErr result (RefusesCase given) }

@@ -121,13 +121,13 @@ impl<'a> PreparedQuestion<'a> {
 
     /// Explains the question, as `spki_decision::explain` explains the case of the question's parts and the guard's
     /// list. If every certificate passes the four tests of `Stop`, of which the verifier does the last, the answer is
-    /// for each entry why it grants the request or does not. Otherwise it is the first certificate that fails one. All
-    /// entries are read.
+    /// for each entry why it grants the request or does not: all entries are read, not only those that a decision
+    /// looks up. Otherwise it is the first certificate that fails one, and no entry is read.
     ///
     /// # Errors
     ///
-    /// `TooLarge` if an intersection exceeds the guard's limit of nodes, or all intersections of the question together its limit of
-    /// work. `Memory` if memory ran out, here or in the verifier.
+    /// `TooLarge` if the product of the nodes of two tags to be intersected is over the guard's limit `nodes`, or the work of all
+    /// entries together over its limit `work`. `Memory` if memory ran out, here or in the verifier.
     pub fn explain<V: Verifier>(
         &self,
         alloc: Global,
@@ -157,8 +157,8 @@ impl<'a> PreparedQuestion<'a> {
 
     /// Reduces the question, as `spki_decision::reduce_case` reduces the case of the question's parts and the guard's
     /// list. If every certificate passes the four tests of `Stop`, of which the verifier does the last, the answer is
-    /// for each entry what it becomes with all certificates. Otherwise it is the first certificate that fails one. All
-    /// entries are read.
+    /// for each entry what it becomes with all certificates: all entries are read, not only those that a decision
+    /// looks up. Otherwise it is the first certificate that fails one, and no entry is read.
     ///
     /// # Errors
     ///

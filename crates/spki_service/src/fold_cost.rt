@@ -236,7 +236,7 @@ impl<'a> PreparedQuestion<'a> {
 ///
 /// # Errors
 ///
-/// Those of `PreparedQuestion::reduce`.
+/// Those of `fold_texts`.
 fn fold_texts_counted<'a, L: Ledger, S: FoldSink<'a>>(
     alloc: Global,
     texts: &'a TextList,

@@ -193,12 +193,12 @@ impl Guard {
         ensures refused { IfErr result (λ fault. fault ≢ AclFault.Memory
             → (inner : CertFault) × (fault ≡ AclFault.Acl inner) × IsNoAcl inner list.now) }
     {
-        let owners = match acl_principals(alloc, list) {
-            Ok(owners) => owners,
+        let principals = match acl_principals(alloc, list) {
+            Ok(principals) => principals,
             Err(fault) => return Err(fault_of_acl(fault)),
         };
-        let index = EntryIndex::of(alloc, &owners)?;
-        let texts = entry_texts(alloc, list, owners.len())?;
+        let index = EntryIndex::of(alloc, &principals)?;
+        let texts = entry_texts(alloc, list, principals.len())?;
         Ok(Guard {
             texts,
             index,

@@ -104,9 +104,9 @@ pub fn marked_stays()
     ensures { (held : GuardModel) (q : Question) (old new : OwnedQuestion) (place : ℕ) → HasMark old place new → IsOpened held q old → IsOpened held q new }
 {}
 
-/// A yes by marks holds until the least not-after of the window of its entry and of those of all certificates. At each moment from that of
-/// the question till then, the same question with the same marks is a yes, by this entry or an earlier one. The same is true of seconds,
-/// from those of the question till the last second of that date.
+/// A grant holds until its date, `until`. If a question is granted by its marks, the same question with the same marks is granted at each later
+/// moment that is not after this date, by the same entry or an earlier one; without the date, at each later moment. `dates` says it of moments
+/// as dates, and `seconds` of moments as seconds, of which the last is the last second of the date.
 pub fn held_until()
     ensures dates { (a : PreparedModel) (es : List Entry) (moment : List ℕ) (grant : Grant) (d : Decision) → AreEntries a.texts es
         → GrantsMarked a (Some grant) → upto a.case.moment moment ≡ true → is_until grant.until moment ≡ true

@@ -59,8 +59,8 @@ impl OwnedSigned {
     }
 }
 
-/// Returns copies of the signatures, which borrow nothing. For n signatures by k keys this takes n searches of at most
-/// log k + 1 steps.
+/// Returns copies of the signatures, which borrow nothing. For n signatures by k keys this takes n binary searches among k
+/// places at most, and each new key moves up to k places.
 ///
 /// # Errors
 ///

@@ -18,12 +18,13 @@ use std::alloc::Global;
 /// Puts into `sink` what each entry of an access list becomes with the certificates of the case. `texts` are the canonical texts of the
 /// entries, and `steps` the tuples of all certificates, in order: one for each. An entry is read just before it is joined with them, and
 /// nothing of it is kept. The case's own access list, which is empty in a question, is not examined. All entries share one budget of work.
-/// `fold_texts_counted` repeats this loop with a count. `reduce_into` has no count and cannot open one: the toolchain picks no ledger for a
-/// call that takes a sink.
+/// `fold_texts_counted` is this loop with a count of ticks. This one is for `reduce_into`, which has no count: it cannot open one as other
+/// calls do, since the toolchain does not infer the type of a ledger in a call that also takes a sink.
 ///
 /// # Errors
 ///
-/// Those of `PreparedQuestion::reduce`.
+/// `TooLarge` if the product of the nodes of two tags to be intersected is over the case's limit of nodes, or the work of all entries together
+/// over its limit of work. `Memory` if memory ran out, here or in the sink. `sink` then has what the entries before became.
 pub(crate) fn fold_texts<'a, S: FoldSink<'a>>(
     alloc: Global,
     texts: &'a TextList,

@@ -1,6 +1,6 @@
 //! Laws of tags and requests: how they are written, their intersection, and what tags can have in common.
-//! Each function is a law: it does nothing, and its contract is the fact, for the proof of a function that calls it. A reading of a value
-//! is the tag or request that it is read as.
+//! Each function is a law: it does nothing, and its contract is the fact. A function that calls it may use the fact in its own proof, and
+//! docs/PROOFS.md cites laws that no function needs. A reading of a value is the tag or request that it is read as.
 
 ghost use Rattle.std.specs.{Prelude.{◌≡◌, ◌*◌, ◌≤◌, ◌↔◌, ◌&&◌, ℕ, List, None, Some, true, false, length, nat_eq}, List.{starts_with}};
 ghost use Rattle.sexpr_core.specs.Value.{HasOctets, Value, canon};

@@ -12,6 +12,6 @@ returns-then-have_small_product c =
 pub returns-else-have_small_product : goal.returns-else-have_small_product
 unfolding is_spared
 returns-else-have_small_product c =
-    c.are_plain.ensures
+    c.are_plain_and_small.ensures
     ∙ ap (λ (b : Bool). b || is_plain c.args.limit (tuples_of c.args.steps.now) c.args.tag.now)
     (sym c.if-have_small_product.false ∙ c.have_small_product.ensures)

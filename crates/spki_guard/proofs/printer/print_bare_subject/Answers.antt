@@ -1,7 +1,7 @@
 use Rattle.std.proofs.Common.{◌≡◌, false, true, refl, sym, ◌∙◌}
 use Rattle.sexpr_text.proofs.Printed.{in_two, in_three}
 use Rattle.spki_guard.proofs.PrintedFives.{named_whole}
-use Rattle.spki_guard.proofs.printer.print_named.Goals as goal
+use Rattle.spki_guard.proofs.printer.print_bare_subject.Goals as goal
 
 pub returns : goal.returns
 returns g c =
