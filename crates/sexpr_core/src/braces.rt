@@ -15,16 +15,16 @@ use base64::DecodeAllocError;
 use base64::engine::general_purpose::STANDARD;
 use std::alloc::{AllocError, Global};
 
-/// Octets that were decoded from base64, and the offset after the mark that ended them.
+/// Octets that were decoded from base64, and the offset after the mark that ended the base64, such as a closing brace.
 #[derive(Debug, Drop)]
 pub struct Unpacked {
-    /// The octets.
+    /// The decoded octets.
     pub octets: Vec<u8>,
-    /// The offset after the closing mark.
+    /// The offset after the mark.
     pub end: usize,
 }
 
-/// The symbols of a text in base64, with their `=`, and the offset after the mark that ended them.
+/// The symbols of a text in base64, with their `=` and without whitespace, and the offset after the mark that ended them.
 struct Gathered {
     symbols: Vec<u8>,
     end: usize,
@@ -39,8 +39,8 @@ pub fn wrap(alloc: Global, tree: &Sexp) -> Result<Vec<u8>, AllocError>
     wrap_octets(alloc, &octets)
 }
 
-/// Returns the padded base64 of octets, in braces. For a value's canonical form this is its transport form. Err if
-/// memory ran out.
+/// Returns the padded base64 of octets, in braces. For a value's canonical form this is the value's transport form: what
+/// `wrap` returns, without a tree. Err if memory ran out.
 pub fn wrap_octets(alloc: Global, octets: &[u8]) -> Result<Vec<u8>, AllocError>
     ensures { IfOk result (λ text. text.items ≡ in_braces octets.now) }
 {
@@ -126,7 +126,7 @@ fn pad(symbols: &mut Vec<u8>, missing: usize) -> Result<(), AllocError>
 
 /// Decodes base64 symbols. Their padding may be incomplete or missing: it is completed first. Err is `Bad` if they are
 /// no base64 or an unused bit is not zero, or `Memory`. `Bad` has the offset `at`, which is that of the mark after
-/// them.
+/// them. If three `=` are missing for a multiple of four, the symbols are no base64, which has at most two.
 fn unpack(alloc: Global, symbols: Vec<u8>, at: usize) -> Result<Vec<u8>, FormFault>
     ensures read { IfOk result (λ octets. IsBase64 symbols.items octets.items) }
     ensures only { (octets : List ℕ) → IsBase64 symbols.items octets → IsOkUnless result FormFault.Memory }
@@ -169,9 +169,10 @@ pub fn read_base64(alloc: Global, text: &[u8], at: usize, mark: u8) -> Result<Un
     Ok(Unpacked { octets, end })
 }
 
-/// The fault to report for a text in braces if the octets decoded from it are no canonical form. `TooDeep` and `Memory`
-/// stay. Any other has an offset in the decoded octets, or means their end. It becomes `Bad` at `at`, the offset of the
-/// closing brace in the text.
+/// The fault to report for a text in braces if the octets decoded from it have the fault `fault`. `TooDeep` stays, and
+/// `Memory`, which `check_canonical` never returns. `Short`, `Bad` and `Trailing` are about places in the decoded
+/// octets. Each becomes `Bad` at `at`, the offset of the closing brace in the text. So would `TooLong`, which does not
+/// occur: the decoded octets are at most `MOST_OCTETS`.
 fn body_fault(fault: FormFault, at: usize) -> FormFault
     ensures { IsBodyFault fault at result }
 {
@@ -184,7 +185,7 @@ fn body_fault(fault: FormFault, at: usize) -> FormFault
 
 /// Checks that the octets decoded from a text in braces, at most `MOST_OCTETS`, are one value in canonical form, with
 /// at most `MOST_LISTS` lists open at once. Err is `TooDeep` if more are, and for any other fault `Bad` at the offset
-/// `at`, which is that of the closing brace.
+/// `at`, which is that of the closing brace. It is never `Memory`, since nothing is allocated.
 #[tactic(auto, using(crate::proofs::Refusals::body_refused))]
 fn check_body(octets: &[u8], at: usize) -> Result<(), FormFault>
     requires { length octets.now ≤ 1048576 }
@@ -220,8 +221,11 @@ pub fn unwrap_braces(alloc: Global, text: &[u8]) -> Result<Sexp, FormFault>
     Ok(tree)
 }
 
-/// Returns the canonical form of the value in a text in transport form, without making a tree. The refusals are those
-/// listed at `unwrap_braces`, which calls this.
+/// Returns the canonical form of the value in a text in transport form, without making a tree.
+///
+/// # Errors
+///
+/// `TooLong`, `Short`, `Bad`, `TooDeep`, `Trailing` or `Memory`, each as listed at `unwrap_braces`, which calls this.
 pub fn octets_in_braces(alloc: Global, text: &[u8]) -> Result<Vec<u8>, FormFault>
     ensures read { IfOk result (λ octets. (v : Value) × IsBracedWithin text.now v × (octets.items ≡ canon v)) }
     ensures only { (v : Value) → IsBracedWithin text.now v → IsOkUnless result FormFault.Memory }

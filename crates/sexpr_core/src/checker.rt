@@ -1,5 +1,5 @@
 //! Checks that a text is in canonical form (RFC 9804, section 6.2), without a table of its nodes. `octets_in_braces`
-//! checks decoded octets with it: it returns only the octets.
+//! calls `check_canonical` for the octets that it has decoded: it returns only these octets, and needs no table.
 
 ghost use Rattle.std.specs.Prelude.{◌≡◌, ◌<◌, ◌≤◌, ◌↔◌, length, drop, MatchResult, IfErr, OnOk, IsErrOf, IsOkUnless};
 ghost use Rattle.sexpr_core.specs.Value.{Value, canon, IsWithinLimits};
@@ -10,9 +10,9 @@ use crate::fault::FormFault;
 use crate::parser::{MOST_LISTS, MOST_OCTETS, read_string};
 use crate::spaces::octet_at;
 
-/// Checks the value at the offset `at`, which may be the end of the text, and returns the offset after it. The text has
-/// at most `MOST_OCTETS` octets. At most `room` lists may be open at once in the value. Err is the first fault:
-/// `TooDeep`, `Short` or `Bad`.
+/// Checks the value at the offset `at`, which may be the end of the text, and returns the offset after the value. Unlike
+/// `read_value` of the parser, it makes no records. The text has at most `MOST_OCTETS` octets. At most `room` lists may
+/// be open at once in the value. Err is the first fault from the left: `TooDeep`, `Short` or `Bad`.
 #[cycle(passing)]
 fn pass_value(text: &[u8], at: usize, room: usize) -> Result<usize, FormFault>
     requires short { length text.now ≤ 1048576 }
@@ -32,8 +32,8 @@ fn pass_value(text: &[u8], at: usize, room: usize) -> Result<usize, FormFault>
 }
 
 /// Checks the list whose opening parenthesis is at `at`, and returns the offset after it. The text has at most
-/// `MOST_OCTETS` octets. At most `room` lists may be open at once, this one included. Err is the first fault:
-/// `TooDeep`, `Short` or `Bad`.
+/// `MOST_OCTETS` octets. At most `room` lists may be open at once, this one included. Err is the first fault from the
+/// left: `TooDeep`, `Short` or `Bad`.
 #[cycle(passing)]
 fn pass_list(text: &[u8], at: usize, room: usize) -> Result<usize, FormFault>
     requires short { length text.now ≤ 1048576 }
@@ -51,7 +51,7 @@ fn pass_list(text: &[u8], at: usize, room: usize) -> Result<usize, FormFault>
 
 /// Checks the members of a list and its closing parenthesis, from the offset `at` on, which may be the end of the text.
 /// Returns the offset after the list. The text has at most `MOST_OCTETS` octets. At most `room` lists may be open at
-/// once in the members. Err is the first fault: `TooDeep`, `Short` or `Bad`.
+/// once in the members. Err is the first fault from the left: `TooDeep`, `Short` or `Bad`.
 #[cycle(passing)]
 fn pass_members(text: &[u8], at: usize, room: usize) -> Result<usize, FormFault>
     requires short { length text.now ≤ 1048576 }
@@ -71,7 +71,8 @@ fn pass_members(text: &[u8], at: usize, room: usize) -> Result<usize, FormFault>
 }
 
 /// Checks that a text is one value in canonical form. Err is `TooLong` for over `MOST_OCTETS` octets, or the first
-/// fault from the left: `TooDeep`, `Short`, `Bad` or `Trailing`. It is never `Memory`, since nothing is allocated.
+/// fault from the left: `TooDeep` if over `MOST_LISTS` lists are open at once, `Short`, `Bad` or `Trailing`. It is never
+/// `Memory`, since nothing is allocated.
 #[tactic(auto, using(crate::proofs::Refusals::refused, crate::proofs::Refusals::trailing, crate::proofs::Refusals::only_memory))]
 pub(crate) fn check_canonical(text: &[u8]) -> Result<(), FormFault>
     ensures read { OnOk result ((v : Value) × IsWithinLimits v × (text.now ≡ canon v)) }

@@ -10,8 +10,8 @@ use crate::parser::parse;
 use std::alloc::Global;
 use std::marker::Model;
 
-/// The number of a node in its document. Nodes are numbered from 0 in the order in which they begin in the canonical text. A
-/// list comes before its members, and a display hint is no node.
+/// The number of a node in its document. A node is a string or a list. Nodes are numbered from 0 in the order in which they
+/// begin in the canonical text. A list comes before its members, and a display hint is no node.
 #[derive(Clone, Copy, Debug, PartialEq, Eq)]
 pub struct NodeId(pub usize);
 
@@ -46,7 +46,8 @@ impl<'a> Doc<'a> {
     ///
     /// # Errors
     ///
-    /// The first fault from the left. `FormFault` says what each means.
+    /// `TooLong` for over `MOST_OCTETS` octets. Otherwise the first fault from the left, `TooDeep`, `Short`, `Bad` or
+    /// `Trailing`, or `Memory` if memory ran out. `FormFault` says what each means.
     pub fn open(alloc: Global, text: &'a [u8]) -> Result<Doc<'a>, FormFault>
         ensures read { IfOk result (λ document. (text.entry.now ≡ canon document) × IsWithinLimits document) }
         ensures only { (v : Value) → IsWithinLimits v → text.entry.now ≡ canon v → IsOkUnless result FormFault.Memory }

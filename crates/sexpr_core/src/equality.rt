@@ -24,7 +24,7 @@ impl Eq for Atom {
     ghost laws = { on_equiv (λ atom. canon (atom_value atom)) nat_list_eq_equiv };
 }
 
-/// Trees are equal if their values are. The recursion is as deep as the first tree.
+/// Trees are equal if their values are. The recursion is at most as deep as either tree.
 impl PartialEq for Sexp {
     ghost eq = { λ tree other. is_same (sexp_value tree) (sexp_value other) };
 
@@ -63,7 +63,7 @@ fn same_atoms(atom: &Atom, other: &Atom) -> bool
     same_hints(&atom.hint, &other.hint) && atom.body.as_slice() == other.body.as_slice()
 }
 
-/// Whether two trees have the same value: `==` of trees returns this. The recursion is as deep as the first tree.
+/// Whether two trees have the same value: `==` of trees returns this. The recursion is at most as deep as either tree.
 #[cycle(same)]
 fn same_trees(tree: &Sexp, other: &Sexp) -> bool
     ensures { IsTrue result ↔ (sexp_value tree.now ≡ sexp_value other.now) }

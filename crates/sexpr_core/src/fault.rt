@@ -18,10 +18,11 @@ pub enum FormFault {
     /// The text ends before the value is complete.
     #[error("the text ends too soon")]
     Short,
-    /// The octet at this offset is not allowed in its place, or ends contents that are not allowed.
+    /// The octet at this offset, from 0, is not allowed in its place, or it ends contents that are not allowed, such as
+    /// wrong base64.
     #[error("bad octet at {0}")]
     Bad(usize),
-    /// An octet follows the complete value, at this offset.
+    /// An octet that is not allowed follows the complete value, at this offset, from 0.
     #[error("trailing octet at {0}")]
     Trailing(usize),
     /// Memory ran out.
@@ -41,8 +42,8 @@ impl From<AllocError> for FormFault {
 impl<T: Drop> From<AllocFailed<T>> for FormFault {
     ghost from_gives = { λ _ fault. fault ≡ Memory };
 
-    /// An allocation that failed is the fault `Memory`, also in `Vec::push`. Its error contains the value that was not
-    /// appended, which is dropped.
+    /// An allocation that failed in `Vec::push` is the fault `Memory` too. With this, `?` converts the error. The error
+    /// contains the value that was not appended. This value is dropped.
     fn from(_error: AllocFailed<T>) -> FormFault {
         FormFault::Memory
     }

@@ -9,7 +9,8 @@ use crate::parser::read_verbatim;
 use crate::siblings::Members;
 use std::marker::Model;
 
-/// A node of a document: the document, and the number of the node in it, from 0. In a contract a node is its value.
+/// A node of a document, a string or a list: a reference to the document, and the number of the node in it, from 0. In a
+/// contract a node is its value.
 #[derive(Debug, Drop)]
 pub struct Node<'d, 'a> {
     document: &'d Doc<'a>,
@@ -35,7 +36,7 @@ impl<'d, 'a> Model for Node<'d, 'a> {
 /// What a node is: a string, with its display hint if it has one, or a list.
 #[derive(Debug, Drop)]
 pub enum NodeKind<'d, 'a> {
-    /// A string: its display hint, if it has one, and its octets.
+    /// A string: its display hint, if it has one, and its octets, as they are in the text of the document.
     String {
         hint: Option<&'a [u8]>,
         body: &'a [u8],
@@ -55,7 +56,7 @@ fn piece(text: &[u8], from: usize, to: usize) -> &[u8]
 }
 
 impl<'d, 'a> Node<'d, 'a> {
-    /// The node with this number, from 0. The document must have such a node.
+    /// The node with this number, from 0. The document must have such a node: `Doc::node` tests that, and `at` does not.
     pub(crate) fn at(document: &'d Doc<'a>, number: usize) -> Node<'d, 'a>
         requires { number < size document.now }
         ensures { result ≡ node_at document.now number }
@@ -91,7 +92,7 @@ impl<'d, 'a> Node<'d, 'a> {
         NodeKind::String { hint: None, body }
     }
 
-    /// The octets of the node, which must be a string.
+    /// The octets of the node, which must be a string, without its display hint.
     fn body_octets(&self) -> &'a [u8]
         requires { body_of self.now ≢ None }
         ensures { Some result.now ≡ body_of self.now }
@@ -104,8 +105,9 @@ impl<'d, 'a> Node<'d, 'a> {
         )
     }
 
-    /// The octets of the node's display hint. The node must be a string that has one. The table does not have their
-    /// place, since hints are rare: the length of the hint, after the opening bracket, is read again.
+    /// The octets of the node's display hint. The node must be a string that has one. The table of nodes does not have
+    /// their place, since hints are rare: the length of the hint, after the opening bracket, is read again. In the text
+    /// of a document this does not fail, so `unreachable!()` is not reached.
     fn hint_octets(&self) -> &'a [u8]
         requires { hint_of self.now ≢ None }
         ensures { Some result.now ≡ hint_of self.now }
@@ -156,7 +158,8 @@ impl<'d, 'a> Node<'d, 'a> {
         }
     }
 
-    /// Whether the node is a list with more than `i` members. It takes a step for each of the first `i`.
+    /// Whether the node is a list with more than `i` members. The call takes at most `i` steps, one for each member that
+    /// it passes.
     pub(crate) fn has_part(&self, i: usize) -> bool
         ensures { IsTrue result ↔ (i < length (members_of self.now)) }
     {
@@ -166,8 +169,8 @@ impl<'d, 'a> Node<'d, 'a> {
         }
     }
 
-    /// How many members the node has. None if it is a string. It takes a step for each member, because the document's
-    /// table of nodes does not have this count.
+    /// How many members the node has. None if the node is a string. The call takes a step for each member, because the
+    /// document's table of nodes does not have this count.
     pub(crate) fn part_count(&self) -> Option<usize>
         ensures { result ≡ part_count self.now }
     {

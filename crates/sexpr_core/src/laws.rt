@@ -19,8 +19,8 @@ pub fn canonical_form_is_prefix_free()
 {}
 
 /// A text has at most one of the faults TooDeep, Short, Bad and Trailing, with its offset. It has none if it is a
-/// value's canonical text within the limits. So, if the text is not too long and memory does not run out, each of these
-/// faults is returned exactly if the text has it.
+/// value's canonical text within the limits. So, if the text is not too long and memory does not run out, `Doc::open`
+/// and `decode` return each of these faults exactly if the text has it.
 #[tactic(auto, using(crate::proofs::Refusals::no_refusal, crate::proofs::Refusals::one_refusal))]
 pub fn one_refusal()
     ensures none { (text : List ℕ) (e : FormFault) (v : Value) → IsOfForm e → Refused text e → IsWithinLimits v → text ≢ canon v }
@@ -29,21 +29,22 @@ pub fn one_refusal()
 
 /// A text has at most one of the faults TooDeep, Short, Bad and Trailing of the transport form, with its offset. It has
 /// none if it braces a value within the limits, that is, if it is the value's transport form except for whitespace and
-/// missing padding.
+/// missing padding. So, if the text is not too long and memory does not run out, `unwrap_braces` and `octets_in_braces`
+/// return each of these faults exactly if the text has it.
 pub fn one_refusal_in_braces()
     ensures none { (text : List ℕ) (e : FormFault) (v : Value) → IsOfForm e → RefusesBraces text e → ¬ IsBracedWithin text v }
     ensures one { (text : List ℕ) (e f : FormFault) → IsOfForm e → IsOfForm f → RefusesBraces text e → RefusesBraces text f → e ≡ f }
 {}
 
-/// Two values have the same canonical text exactly if they are equal. This is what `==` of two trees, or of two strings,
-/// tests.
+/// Two values have the same canonical text exactly if they are equal. In contracts `==` of trees, and of strings, is
+/// `is_same`, which compares canonical texts. By this law it says whether the values are equal.
 #[tactic(auto, using(crate::proofs::TreeLaws::same_decides))]
 pub fn equality_is_of_canonical_forms()
     ensures { (v w : Value) → IsTrue (is_same v w) ↔ (v ≡ w) }
 {}
 
-/// Each octet of a tree's value is below 256. The call does nothing but recurse, as deep as the tree: this is the proof
-/// by induction.
+/// Each octet of a tree's value is below 256. The call does nothing but recurse, as deep as the tree: the recursion is
+/// the proof by induction.
 #[tactic(auto, using(crate::proofs::TreeLaws::more_octets, crate::proofs::TreeLaws::list_octets))]
 pub fn octets_are_below_256(tree: &Sexp)
     ensures { HasOctets (sexp_value tree.now) }

@@ -1,7 +1,8 @@
 //! S-expressions (RFC 9804): the reader of canonical form, documents, owned trees, and the transport form.
 //!
-//! The reader of a text and its documents serve all other crates. Trees (`Sexp`, `decode`, `encode`) and `wrap` are
-//! only for programs in Rattle that use this library: no command of `spki` and no guard makes one.
+//! The reader of a text and its documents serve all crates that read values. Trees (`Sexp`, `decode`, `encode`, `wrap`,
+//! `unwrap_braces`) are only for programs in Rattle that use this library: no command of `spki` and no guard makes a
+//! tree.
 //!
 //! `syntax` contains what readers in other crates are built from, and `laws` what is proved about the definitions.
 #![tactic(auto)]

@@ -16,8 +16,8 @@ impl<'a> Doc<'a> {
         NodeId(0)
     }
 
-    /// The number of members of a list. None for a string, and if the document has no such node. It takes a step for each
-    /// member, because the document's table of nodes does not have this count.
+    /// The number of members of the list with number `n`. None for a string, and if the document has no such node. The call
+    /// takes a step for each member, because the document's table of nodes does not have this count.
     pub fn parts(&self, n: NodeId) -> Option<usize>
         ensures { result ≡ of_node part_count self.now n.0 }
     {
@@ -26,7 +26,7 @@ impl<'a> Doc<'a> {
     }
 
     /// The number of member `i`, from 0, of the list with number `n`. None for a string, for a list with `i` or fewer
-    /// members, and if the document has no such node. It takes steps for each member before this one: use
+    /// members, and if the document has no such node. The call takes steps for each member before this one: use
     /// `Node::members` to go over all of them.
     pub fn part(&self, n: NodeId, i: usize) -> Option<NodeId>
         ensures number { option_map (λ m. m.0) result ≡ of_node (part_number n.0 i) self.now n.0 }
@@ -59,7 +59,7 @@ impl<'a> Doc<'a> {
         number
     }
 
-    /// The octets of a string. None for a list, and if the document has no such node.
+    /// The octets of the string with number `n`. None for a list, and if the document has no such node.
     pub fn body(&self, n: NodeId) -> Option<&'a [u8]>
         ensures { option_copied result ≡ of_node body_of self.now n.0 }
     {
@@ -69,7 +69,8 @@ impl<'a> Doc<'a> {
         }
     }
 
-    /// The display hint of a string. None if it has none, for a list, and if the document has no such node.
+    /// The display hint of the string with number `n`. None if the string has no hint, for a list, and if the document has
+    /// no such node.
     pub fn hint(&self, n: NodeId) -> Option<&'a [u8]>
         ensures { option_copied result ≡ of_node hint_of self.now n.0 }
     {
@@ -79,7 +80,7 @@ impl<'a> Doc<'a> {
         }
     }
 
-    /// The canonical text of a node, as it is in the document. None if the document has no such node.
+    /// The canonical text of the node with number `n`, as it is in the document. None if the document has no such node.
     pub fn slice(&self, n: NodeId) -> Option<&'a [u8]>
         ensures { option_copied result ≡ option_map canon (node self.now n.0) }
     {
@@ -87,8 +88,8 @@ impl<'a> Doc<'a> {
         Some(node.slice())
     }
 
-    /// The offset from 0 where the canonical text of a node begins in the document's text. The `slice` of the node is
-    /// at this offset. None if the document has no such node.
+    /// The offset from 0 where the canonical text of the node with number `n` begins in the document's text. The `slice` of
+    /// the node is at this offset. None if the document has no such node.
     #[tactic(auto, using(crate::proofs::RecordLaws::starts_end))]
     pub fn start(&self, n: NodeId) -> Option<usize>
         ensures start { result ≡ start_of self.now n.0 }

@@ -15,7 +15,8 @@ use std::alloc::{AllocError, Global};
 ///
 /// # Errors
 ///
-/// Those of `Doc::open`. `FormFault` says what each means.
+/// `TooLong` for over `MOST_OCTETS` octets. Otherwise the first fault from the left, `TooDeep`, `Short`, `Bad` or
+/// `Trailing`, or `Memory` if memory ran out. `FormFault` says what each means.
 pub fn decode(alloc: Global, text: &[u8]) -> Result<Sexp, FormFault>
     ensures read { IfOk result (λ tree. (text.now ≡ canon (sexp_value tree)) × IsWithinLimits (sexp_value tree)) }
     ensures only { (v : Value) → IsWithinLimits v → text.now ≡ canon v → IsOkUnless result FormFault.Memory }
@@ -27,7 +28,8 @@ pub fn decode(alloc: Global, text: &[u8]) -> Result<Sexp, FormFault>
     Ok(tree)
 }
 
-/// Copies the octets of a string and of its display hint, if it has one. Err if memory ran out.
+/// Makes an owned string: a copy of the octets `body`, and of the display hint `hint`, if there is one. Err if memory ran
+/// out.
 fn atom_of(alloc: Global, hint: Option<&[u8]>, body: &[u8]) -> Result<Atom, AllocError>
     ensures { IfOk result (λ atom. atom_value atom ≡ string (option_copied hint.entry) body.now) }
 {

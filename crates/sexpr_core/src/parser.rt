@@ -9,27 +9,30 @@ use crate::layout::Record;
 use crate::spaces::octet_at;
 use std::alloc::Global;
 
-/// The largest number of octets of a text.
+/// The largest number of octets of a text that is read. A longer one is `TooLong`.
 pub const MOST_OCTETS: usize = 1_048_576;
 
-/// The largest number of lists that may be open at once.
+/// The largest number of lists that may be open at once in a text that is read. A text with more is `TooDeep`.
 pub const MOST_LISTS: usize = 64;
 
-/// A table of nodes begins with room for this many records, and one more for each 8 octets of the text. A node of a
-/// certificate has 6 to 12 octets. A key, an entry or a request has fewer nodes than this.
+/// A table of nodes begins with room for this many records, and one more for each 8 octets of the text, so that it
+/// rarely grows. The text of a certificate usually has 6 to 12 octets for each node. A key, an entry or a request
+/// usually has fewer nodes than this.
 const LEAST_ROOM: usize = 24;
 
 /// The most unused records for which a finished table of nodes keeps room: 12 KiB.
 const MOST_SPARE: usize = 1024;
 
-/// The length before a string, at most `MOST_OCTETS` plus one, and the offset after its colon.
+/// The length that is written before a string: its `number`, where a greater one than `MOST_OCTETS` plus one is replaced
+/// by that, and the offset `end` after its colon.
 #[derive(Clone, Copy)]
 struct Length {
     number: usize,
     end: usize,
 }
 
-/// Where the octets of a string in verbatim form begin and end.
+/// Where the octets of a string in verbatim form, such as `3:abc`, are in a text: from the offset `body` to before the
+/// offset `end`.
 #[derive(Clone, Copy)]
 pub(crate) struct Piece {
     pub(crate) body: usize,
@@ -58,8 +61,9 @@ fn first_digit(text: &[u8], at: usize) -> Result<usize, FormFault>
 }
 
 /// Reads the decimal length at the offset `at`, without leading zeros, and the colon after it. A length over
-/// `MOST_OCTETS` is returned as `MOST_OCTETS` plus one: no text has as many octets, so `read_verbatim` refuses it as
-/// `Short`. Err is `Bad` at the first octet that is not allowed there, or `Short` if the text ends before the colon.
+/// `MOST_OCTETS` is returned as `MOST_OCTETS` plus one: no text that is read has as many octets, so `read_verbatim`
+/// refuses it as `Short`. Err is `Bad` at the first octet that is not allowed there, or `Short` if the text ends before
+/// the colon.
 fn read_length(text: &[u8], at: usize) -> Result<Length, FormFault>
     requires { at ≤ length text.now }
     ensures { MatchResult result
@@ -82,8 +86,8 @@ fn read_length(text: &[u8], at: usize) -> Result<Length, FormFault>
 }
 
 /// Returns where the octets of the string in verbatim form, such as `3:abc`, at the offset `at` are. They are not
-/// examined. The text has at most `MOST_OCTETS` octets. Err is `Bad` if no length and colon are there, or `Short` if
-/// the text ends before the colon or has fewer octets after it.
+/// examined. The text has at most `MOST_OCTETS` octets. Err is `Bad` at the first octet that is not allowed in the
+/// length and colon, or `Short` if the text ends before the colon or has fewer octets after it.
 #[tactic(auto, using(crate::proofs::Faults::verbatim_fault, crate::proofs::Steps::octets_short, crate::proofs::Steps::octets_read))]
 pub(crate) fn read_verbatim(text: &[u8], at: usize) -> Result<Piece, FormFault>
     requires short { length text.now ≤ 1048576 }
@@ -103,7 +107,8 @@ pub(crate) fn read_verbatim(text: &[u8], at: usize) -> Result<Piece, FormFault>
 }
 
 /// Reads the closing bracket of a hint, at the offset `at`, and the string in verbatim form after it. Returns where the
-/// octets of this string are. The text has at most `MOST_OCTETS` octets. Err is `Bad` or `Short`.
+/// octets of this string are. The text has at most `MOST_OCTETS` octets. Err is `Bad` at the first octet that is not
+/// allowed there, or `Short` if the text ends before the string does.
 #[tactic(auto, using(crate::proofs::Faults::closing_ended, crate::proofs::Faults::closing_first, crate::proofs::Faults::closing_fault))]
 fn read_closing(text: &[u8], at: usize) -> Result<Piece, FormFault>
     requires short { length text.now ≤ 1048576 }
@@ -122,8 +127,9 @@ fn read_closing(text: &[u8], at: usize) -> Result<Piece, FormFault>
     Ok(read)
 }
 
-/// Returns the record of the string with a hint whose opening bracket is at `at`. The text has at most `MOST_OCTETS`
-/// octets. Err is `Bad` or `Short`.
+/// Reads the string with a hint, such as `[4:text]3:abc`, whose opening bracket is at the offset `at`, and returns its
+/// record. The text has at most `MOST_OCTETS` octets. Err is `Bad` at the first octet that is not allowed there, or
+/// `Short` if the text ends before the string does.
 #[tactic(auto, using(crate::proofs::Steps::in_hint, crate::proofs::Steps::behind_hint, crate::proofs::Steps::hinted_read))]
 fn read_hinted(text: &[u8], at: usize) -> Result<Record, FormFault>
     requires short { length text.now ≤ 1048576 }
@@ -141,8 +147,9 @@ fn read_hinted(text: &[u8], at: usize) -> Result<Record, FormFault>
     })
 }
 
-/// Returns the record of the string at the offset `at`, with or without a hint. `octet` is the octet there, which is no
-/// opening parenthesis. The text has at most `MOST_OCTETS` octets. Err is `Bad` or `Short`.
+/// Reads the string at the offset `at`, with or without a hint, and returns its record. `octet` is the octet there,
+/// which is no opening parenthesis. The text has at most `MOST_OCTETS` octets. Err is `Bad` at the first octet that is
+/// not allowed there, or `Short` if the text ends before the string does.
 pub(crate) fn read_string(text: &[u8], at: usize, octet: u8) -> Result<Record, FormFault>
     requires short { length text.now ≤ 1048576 }
     requires begins { StandsAt text.now at octet }
@@ -167,8 +174,8 @@ pub(crate) fn read_string(text: &[u8], at: usize, octet: u8) -> Result<Record, F
 
 /// Reads the value at the offset `at`, which may be the end of the text, and appends the records of its nodes to
 /// `nodes`. Returns the offset after the value. The text has at most `MOST_OCTETS` octets. At most `room` lists may be
-/// open at once in the value. Err is the first fault, `TooDeep`, `Short` or `Bad`, or `Memory`. On an error some
-/// records may have been appended.
+/// open at once in the value. Err is the first fault from the left, `TooDeep`, `Short` or `Bad`, or `Memory`. On an
+/// error some records may have been appended.
 #[cycle(reading)]
 fn read_value(
     text: &[u8],
@@ -195,8 +202,8 @@ fn read_value(
 
 /// Reads the list whose opening parenthesis is at `at`, and appends the records of its nodes to `nodes`. The list's own
 /// record precedes those of its members, and is replaced when its end is known. Returns the offset after the list. The
-/// text has at most `MOST_OCTETS` octets. At most `room` lists may be open at once, this one included. Err is as for
-/// `read_value`.
+/// text has at most `MOST_OCTETS` octets. At most `room` lists may be open at once, this one included. Err is the first
+/// fault from the left, `TooDeep`, `Short` or `Bad`, or `Memory`. On an error some records may have been appended.
 #[cycle(reading)]
 fn read_list(
     text: &[u8],
@@ -229,9 +236,10 @@ fn read_list(
     Ok(end)
 }
 
-/// Reads the members of a list and its closing parenthesis, from the offset `at` on, and appends the records of their
-/// nodes to `nodes`. Returns the offset after the list. The text has at most `MOST_OCTETS` octets. At most `room` lists
-/// may be open at once in the members. Err is as for `read_value`.
+/// Reads the members of a list and its closing parenthesis, from the offset `at` on, which may be the end of the text,
+/// and appends the records of the members' nodes to `nodes`. Returns the offset after the list. The text has at most
+/// `MOST_OCTETS` octets. At most `room` lists may be open at once in the members. Err is the first fault from the left,
+/// `TooDeep`, `Short` or `Bad`, or `Memory`. On an error some records may have been appended.
 #[cycle(reading)]
 fn read_members(
     text: &[u8],

@@ -7,8 +7,9 @@ use crate::document::Doc;
 use crate::handle::Node;
 use std::marker::Model;
 
-/// The members of a list that are still to be read, from the node with number `from` to before number `to`. The size of
-/// a node counts it with all nodes in it, so it leads to the next member. In a contract it is the list of their values.
+/// The members of a list that are still to be read: their nodes have the numbers from `from` to before `to`. The number
+/// of a member plus its size, which is the number of all nodes in it and itself, is the number of the next member. In a
+/// contract a `Members` is the list of the members' values.
 #[derive(Debug, Drop)]
 pub struct Members<'d, 'a> {
     document: &'d Doc<'a>,
@@ -33,7 +34,7 @@ impl<'d, 'a> Model for Members<'d, 'a> {
 }
 
 impl<'d, 'a> Members<'d, 'a> {
-    /// The members of the node with number `n`, from 0. The document must have this node, and it must be a list.
+    /// The members of the node with number `n`, from 0. The document must have this node, and the node must be a list.
     pub(crate) fn of(document: &'d Doc<'a>, n: usize) -> Members<'d, 'a>
         requires known { n < size document.now }
         requires listed { IsList (node_at document.now n) }
@@ -47,7 +48,7 @@ impl<'d, 'a> Members<'d, 'a> {
         }
     }
 
-    /// The same members again. Nothing is allocated.
+    /// Returns a second handle to the same members, so that a caller can read them more than once. Nothing is allocated.
     pub fn share(&self) -> Members<'d, 'a>
         ensures { result ≡ self.now }
     {
@@ -68,7 +69,8 @@ impl<'d, 'a> Members<'d, 'a> {
         rest.count()
     }
 
-    /// Whether more than `i` members are still to be read. It takes a step for each of the first `i`.
+    /// Whether more than `i` members are still to be read. The call takes at most `i` steps, one for each member that it
+    /// passes.
     pub(crate) fn is_longer_than(self, i: usize) -> bool
         ensures { IsTrue result ↔ (i < length self.entry) }
     {
@@ -82,14 +84,15 @@ impl<'d, 'a> Members<'d, 'a> {
         !rest.is_empty()
     }
 
-    /// Whether all members were read: none is left.
+    /// Whether no member is still to be read.
     pub fn is_empty(&self) -> bool
         ensures { IsTrue result ↔ (self.now ≡ []) }
     {
         self.from == self.to
     }
 
-    /// Returns the next member and the members after it. None if no member is left.
+    /// Returns the next member and the members after it. None if no member is left. Unlike `next`, it consumes this
+    /// handle, and returns the rest as a handle of its own.
     pub fn split_first(self) -> Option<(Node<'d, 'a>, Members<'d, 'a>)>
         ensures { MatchOption result (self.entry ≡ []) (λ p. self.entry ≡ p.0 ∷ p.1) }
     {
@@ -115,7 +118,7 @@ impl<'d, 'a> Iterator for Members<'d, 'a> {
 
     ghost remaining = { item_count (λ s. s) };
 
-    /// Returns the next member. None if no member is left.
+    /// Returns the next member, and moves this handle behind it. None if no member is left.
     fn next(&mut self) -> Option<Node<'d, 'a>> {
         if self.from == self.to {
             return None;

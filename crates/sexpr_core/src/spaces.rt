@@ -5,7 +5,7 @@ ghost use Rattle.sexpr_core.specs.Reading.{IsTrailingBehind, StandsAt, is_whites
 
 use crate::fault::FormFault;
 
-/// The octet at an offset, which is at most the length of the text. None at the end of the text.
+/// The octet at the offset `at`, from 0, which is at most the length of the text. None at the end of the text.
 pub fn octet_at(text: &[u8], at: usize) -> Option<u8>
     requires { at ≤ length text.now }
     ensures { MatchOption result (drop at text.now ≡ []) (λ octet. StandsAt text.now at octet) }

@@ -17,7 +17,8 @@ pub enum Sexp {
 /// An octet string, with or without a display hint (RFC 9804, sections 4 and 4.6).
 #[derive(Debug, Drop)]
 pub struct Atom {
-    /// The display hint, itself octets.
+    /// The display hint: octets that say how to show the string, such as a media type. None if the string has no hint.
+    /// An empty hint is a hint.
     pub hint: Option<Vec<u8>>,
     /// The octets.
     pub body: Vec<u8>,

@@ -31,9 +31,9 @@ fn append_decimal(number: usize, out: &mut Vec<u8>) -> Result<(), AllocError>
     Ok(())
 }
 
-/// Appends the length of a string, which is its number of `octets`, in decimal to the output. A length of one digit is
-/// appended without the recursive `append_decimal`. Err if memory ran out: then some of its digits may have been
-/// appended.
+/// Appends the length of a string, which is its number of `octets`, in decimal to the output. A length of one digit has
+/// a branch of its own only for speed: it saves the call of the recursive `append_decimal`. Err if memory ran out: then
+/// some of its digits may have been appended.
 #[tactic(auto, using(crate::proofs::TreeLaws::digit_written))]
 fn append_length(octets: usize, out: &mut Vec<u8>) -> Result<(), AllocError>
     ensures written { OnOk result (out.new.items ≡ out.old.items ++ decimal octets) }
