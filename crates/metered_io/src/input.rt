@@ -7,17 +7,18 @@ use std::alloc::Global;
 use std::io::Read;
 use thiserror::Error;
 
-/// The count `asks` at which `read_whole` fails. Without it, a reader that is always interrupted would be called
-/// forever.
+/// The count of calls, `Metered::asks`, at which `read_whole` fails. Without this bound, a reader that is always
+/// interrupted would be called forever.
 const READER_ASKS: u64 = 2_097_152;
 
 /// The size of the buffer of `read_whole`: how many octets one read may return at most.
 const PIECE_OCTETS: usize = 8192;
 
-/// Why no text is returned.
+/// Why `read_whole` returns no text.
 #[derive(Clone, Copy, Debug, PartialEq, Eq, Error)]
 pub enum ReadFault {
-    /// The reader failed with an error other than `Interrupted`, or its count `asks` was 2,097,152 before it ended.
+    /// The reader failed with an error other than `Interrupted`, or its count of calls, `asks`, was 2,097,152 or more
+    /// before it ended.
     #[error("read fault")]
     Failed,
     /// The text has more octets than the limit.
@@ -58,7 +59,8 @@ fn ask<R: Read>(reader: &mut Metered<R>, buffer: &mut [u8]) -> Result<Option<usi
 /// Reads once, and appends the octets to `text`, which has at most `most` octets before. They pass through `buffer`,
 /// which must not be empty. At most one octet more than `text` may still take is read: this octet shows that the text
 /// is too long. Returns true if the reader has ended, and otherwise false, also after an interrupted read. Err is
-/// `Failed` at any other error of the reader, `TooLong` if `text` then has over `most` octets, or `Memory`.
+/// `Failed` at any other error of the reader, `TooLong` if `text` then has over `most` octets, or `Memory` if there is no
+/// memory for the octets, which are lost.
 fn read_piece<R: Read>(
     reader: &mut Metered<R>,
     buffer: &mut [u8],
@@ -93,8 +95,8 @@ fn read_piece<R: Read>(
     }
 }
 
-/// Appends octets to `text`. It has at most `most` octets before, and at most `most` plus one with these. Err is
-/// `TooLong` if it then has over `most`, or `Memory`.
+/// Appends octets to `text`, which must have at most `most` octets before, and at most `most` plus one with these. Err is
+/// `TooLong` if `text` then has over `most`, or `Memory` if memory ran out. It is never `Failed`: no reader is called.
 fn append(text: &mut Vec<u8>, octets: &[u8], most: usize) -> Result<(), ReadFault>
     requires short { vec_len text.old ≤ most }
     requires wanted { vec_len text.old + length octets.now ≤ most + 1 }
@@ -112,13 +114,13 @@ fn append(text: &mut Vec<u8>, octets: &[u8], most: usize) -> Result<(), ReadFaul
 }
 
 /// Reads the whole text of a reader, of at most `most` octets. A read that fails with `Interrupted` is repeated. The
-/// reader is called until its count `asks`, which includes calls before this one, is 2,097,152. At most `most` octets
-/// and one more are taken from it.
+/// reader is called only while its count of calls, `asks`, is below 2,097,152. This count includes calls before this
+/// function, since `new` or `restart`. At most `most` octets and one more are taken from the reader.
 ///
 /// # Errors
 ///
-/// `Failed` at another error, and at that count; `TooLong` if one octet more than `most` was read; `Memory` if memory
-/// ran out.
+/// `Failed` at another error of the reader, and if it has not ended at that count; `TooLong` if one octet more than
+/// `most` was read; `Memory` if memory ran out. At each of them the octets that were read are lost.
 pub fn read_whole<R: Read>(
     alloc: Global,
     reader: &mut Metered<R>,

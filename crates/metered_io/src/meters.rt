@@ -6,13 +6,15 @@ ghost use Rattle.metered_io.specs.MeteredCalls.{counted, inner_of, asks_of, faul
 use std::io;
 use std::io::{Error, ErrorKind, Read, Write};
 
-/// Passes calls on to a reader or a writer, and counts them. `read_whole`, `write_octets` and `flush_writer` fail at a
-/// count of calls. The contracts of these functions and of their callers also name the other fields.
+/// Passes calls on to a reader or a writer, and counts them. `read_whole`, `write_octets`, `flush_writer` and
+/// `write_whole` fail at a count of calls, so that they end even if every call is interrupted. The other fields say, to
+/// callers and in contracts, how the calls ended.
 #[derive(Drop)]
 pub struct Metered<T> {
     /// How many reads, writes and flushes were passed on since `new` or `restart`.
     asks: u64,
-    /// How many of these calls failed and were not only interrupted, or wrote 0 octets of a buffer that is not empty.
+    /// How many of these calls failed with an error other than `Interrupted`, or wrote 0 octets of a buffer that is not
+    /// empty.
     faults: u64,
     /// Whether the last read into a buffer with room returned 0 octets.
     ended: bool,
@@ -23,7 +25,7 @@ pub struct Metered<T> {
 }
 
 impl<T> Metered<T> {
-    /// A meter around `inner` that has counted nothing yet.
+    /// A meter around the reader or writer `inner` that has counted nothing yet.
     pub fn new(inner: T) -> Metered<T>
         ensures asks { asks_of result ≡ 0 }
         ensures faults { faults_of result ≡ 0 }
@@ -86,7 +88,7 @@ impl<T> Metered<T> {
         self.flushed
     }
 
-    /// Returns the reader or the writer inside.
+    /// Returns the reader or the writer inside. The counts are dropped.
     pub fn into_inner(self) -> T
         ensures { result ≡ inner_of self }
     {
@@ -118,7 +120,7 @@ impl<R: Read> Read for Metered<R> {
 
     /// Reads from the reader inside, and returns its answer. Counts the call, and as a fault an error other than
     /// `Interrupted`. If the buffer has room, `ended` is then true if 0 octets were read, and false for more octets or
-    /// an error. `flushed` does not change.
+    /// an error. If the buffer is empty, `ended` does not change. `flushed` does not change.
     fn read(&mut self, buf: &mut [u8]) -> io::Result<usize>
         ensures bound { ReadsAtMost result buf.new }
         ensures bytes { ReadConsumes (R.remaining (inner_of self.old)) (R.remaining (inner_of self.new)) result buf.new }
@@ -152,7 +154,7 @@ impl<W: Write> Write for Metered<W> {
     ghost contents = { λ m. W.contents (inner_of m) };
 
     /// Writes to the writer inside, and returns its answer. Counts the call, and as a fault an error other than
-    /// `Interrupted`, or 0 octets written of a buffer that is not empty. `flushed` is then false.
+    /// `Interrupted`, or 0 octets written of a buffer that is not empty. `flushed` is then false. `ended` does not change.
     fn write(&mut self, buf: &[u8]) -> io::Result<usize>
         ensures bound { WritesAtMost result buf.now }
         ensures bytes { WriteAppends (W.contents (inner_of self.old)) (W.contents (inner_of self.new)) result buf.now }
@@ -176,7 +178,7 @@ impl<W: Write> Write for Metered<W> {
     }
 
     /// Flushes the writer inside, and returns its answer. Counts the call, and as a fault an error other than
-    /// `Interrupted`. `flushed` is then whether the flush succeeded.
+    /// `Interrupted`. `flushed` is then whether the flush succeeded. `ended` does not change.
     fn flush(&mut self) -> io::Result<()>
         ensures bytes { Keeps (W.contents (inner_of self.old)) (W.contents (inner_of self.new)) }
         ensures asks { asks_of self.new ≡ counted (asks_of self.old) }

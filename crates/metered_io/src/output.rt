@@ -6,17 +6,18 @@ use crate::meters::{Metered, is_interrupted};
 use std::io::Write;
 use thiserror::Error;
 
-/// How many calls of a writer `write_whole` allows, in addition to one for each octet.
+/// How many calls of a writer `write_whole` allows, in addition to one for each octet. Without a bound, a writer that is
+/// always interrupted would be called forever.
 const WRITER_ASKS: u64 = 2_097_152;
 
-/// The writer failed with an error other than `Interrupted`, wrote 0 octets of a buffer that is not empty, or was called too
-/// often.
+/// The writer failed with an error other than `Interrupted`, wrote 0 octets of a buffer that is not empty, or reached the
+/// largest count of calls before all was written and flushed.
 #[derive(Debug, Drop, Error)]
 #[error("write fault")]
 pub struct WriteFault;
 
-/// Writes once. Returns how many of the octets were written, or 0 if the write was interrupted and must be repeated.
-/// `octets` must not be empty. Err at any other error, and if the writer accepted no octet.
+/// Writes once. Returns how many octets were written, from the first on, or 0 if the write was interrupted and must be
+/// repeated. `octets` must not be empty. Err at any other error, and if the writer returned that it wrote 0 octets.
 fn write_piece<W: Write>(writer: &mut Metered<W>, octets: &[u8]) -> Result<usize, WriteFault>
     requires some { 0 < length octets.now }
     ensures asks { asks_of writer.new ≡ counted (asks_of writer.old) }
@@ -62,12 +63,13 @@ fn flush_once<W: Write>(writer: &mut Metered<W>) -> Result<bool, WriteFault>
 
 /// Writes all the octets, and does not flush. For an output in pieces a caller writes each with this function, and then
 /// calls `flush_writer` once. A call that fails with `Interrupted` is repeated. The writer is called only while its
-/// count `asks`, which includes earlier calls, is below `most`. If `octets` is empty, it is not called.
+/// count of calls, `asks`, is below `most`. This count includes calls before this function. If `octets` is empty, the
+/// writer is not called.
 ///
 /// # Errors
 ///
-/// `WriteFault` at another error, if 0 octets of a buffer that is not empty are written, and if octets are left when
-/// the count is `most`. A beginning of the octets has been written then, which may be empty.
+/// `WriteFault` at another error of the writer, if it writes 0 octets of a buffer that is not empty, and if octets are
+/// left when the count is `most` or more. A beginning of the octets has been written then, which may be empty.
 pub fn write_octets<W: Write>(
     writer: &mut Metered<W>,
     octets: &[u8],
@@ -91,12 +93,12 @@ pub fn write_octets<W: Write>(
     Ok(())
 }
 
-/// Flushes the writer. A flush that fails with `Interrupted` is repeated. The writer is called only while its count
-/// `asks`, which includes earlier calls, is below `most`.
+/// Flushes the writer. A flush that fails with `Interrupted` is repeated. The writer is called only while its count of
+/// calls, `asks`, is below `most`. This count includes calls before this function.
 ///
 /// # Errors
 ///
-/// `WriteFault` at another error, and if no flush has succeeded when the count is `most`.
+/// `WriteFault` at another error of the writer, and if no flush has succeeded when the count is `most` or more.
 pub fn flush_writer<W: Write>(writer: &mut Metered<W>, most: u64) -> Result<(), WriteFault>
     ensures octets { TakesNone W.contents writer.old writer.new }
     ensures flushed { OnOk result (IsTrue (flushed_of writer.new)) }
@@ -113,12 +115,13 @@ pub fn flush_writer<W: Write>(writer: &mut Metered<W>, most: u64) -> Result<(), 
 }
 
 /// Writes all the octets and flushes the writer. A call that fails with `Interrupted` is repeated. The writer is called
-/// until its count `asks`, which includes earlier calls, is 2,097,152 more than the number of the octets.
+/// only while its count of calls, `asks`, is less than 2,097,152 more than the number of the octets. This count includes
+/// calls before this function.
 ///
 /// # Errors
 ///
-/// `WriteFault` at another error, if 0 octets of a buffer that is not empty are written, and at that count. A beginning
-/// of the octets has been written then: none, some or all of them.
+/// `WriteFault` at another error of the writer, if it writes 0 octets of a buffer that is not empty, and if not all is
+/// written and flushed at that count. A beginning of the octets has been written then: none, some or all of them.
 pub fn write_whole<W: Write>(writer: &mut Metered<W>, octets: &[u8]) -> Result<(), WriteFault>
     ensures octets { OnOk result (Takes W.contents writer.old writer.new octets.now) }
     ensures flushed { OnOk result (IsTrue (flushed_of writer.new)) }
