@@ -3,22 +3,25 @@
 ghost use Rattle.std.specs.Prelude.{◌≡◌, ◌≢◌, MatchOption};
 ghost use Rattle.spki_words.specs.Words.{word_of};
 
-/// A command of `spki`: what is done with the value that is read on standard input.
+/// A command of `spki`: what is done with the value that is read on standard input. The last three commands read a case: one value with the
+/// access list, the accepted signatures, the certificates, a key, its request and a moment.
 #[derive(Clone, Copy, Debug, PartialEq, Eq)]
 pub enum Command {
-    /// Writes the value in canonical form.
+    /// Writes the value in canonical form, without a line feed.
     Canonical,
     /// Writes the value in advanced form, on one line.
     Advanced,
     /// Writes the value in transport form, on one line.
     Transport,
-    /// Writes the intersection of two tags, in advanced form, on one line.
+    /// Writes the intersection of two tags, which are patterns for requests, in advanced form, on one line.
     Intersect,
-    /// Writes for each entry of a case what it becomes with the certificates, on one line each.
+    /// Writes for each entry of the access list what it becomes with the certificates, or which of these does not join it, on one line each.
+    /// If a certificate fails a test of its own, or the list is empty, writes one line that says so.
     Reduce,
-    /// Decides the request of a case.
+    /// Writes whether the key may have the request: the first entry that grants it, or no.
     Check,
-    /// Writes for each entry of a case why it grants the request or does not, on one line each.
+    /// Writes for each entry of the access list that it grants the request, or why not, on one line each. If a certificate fails a test of
+    /// its own, or the list is empty, writes one line that says so.
     Explain,
 }
 

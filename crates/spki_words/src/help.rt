@@ -20,6 +20,7 @@ Example, which writes (1:a3:b c):
   echo '(a \"b c\")' | spki canonical
 ";
 
+/// The text that `details` returns for `canonical`. Those for the other commands follow.
 const CANONICAL: &str = "\
 Reads the text of one value on standard input, in any of the three forms of RFC 9804.
 Writes the value in canonical form, with no line feed behind it.

@@ -13,10 +13,10 @@ use thiserror::Error;
 /// Why the words ask for no command.
 #[derive(Debug, Drop, Error)]
 pub enum WordsFault {
-    /// They are not the program's name and one command. The text says why.
+    /// The words are not the program's name and one command. The text says why, for the user.
     #[error("{0}")]
     Refused(String),
-    /// They ask for help. The text is the help.
+    /// The words ask for help, such as `spki check --help`. The text is the help.
     #[error("{0}")]
     Help(String),
     /// Memory ran out.
@@ -41,7 +41,7 @@ impl From<AllocError> for WordsFault {
 
     ghost from_gives = { λ _ fault. fault ≡ WordsFault.Memory };
 
-    /// An allocation that failed is the fault `Memory`.
+    /// An allocation that failed is the fault `Memory`. With this, `?` converts the error.
     fn from(_: AllocError) -> WordsFault {
         WordsFault::Memory
     }
@@ -51,8 +51,8 @@ impl From<AllocError> for WordsFault {
 ///
 /// # Errors
 ///
-/// `Help` if the words ask for help, `Refused` if `clap` refuses them for another reason, both with the text of `clap`.
-/// `Memory` if memory ran out.
+/// `Help` if the words ask for help, `Refused` if `clap`, the parser of command lines, refuses them for another reason. Both have the text of
+/// `clap`. `Memory` if memory ran out.
 pub fn command_of(alloc: Global, words: &[String]) -> Result<Command, WordsFault>
     ensures named { IfOk result (λ c. subcommand_in (map string_bytes words.now) ≡ Some (word_of c)) }
     ensures taken { (program : Text) (c : Command) → map string_bytes words.now ≡ program ∷ word_of c ∷ []
