@@ -1,4 +1,5 @@
-//! What the intersection of a tag with another costs, from the sizes of the tag alone. `spki_reduce` limits the work of a chain by it.
+//! What the intersection of a tag with another costs, from the sizes of the tag alone. The units are those of work, by which `spki_reduce`
+//! limits the folding of a chain.
 
 ghost use Rattle.std.specs.{Prelude.{◌≡◌, ◌^◌, ◌<◌}, Option.{SomeIff}};
 ghost use Rattle.spki_tag.specs.{Cost.{limit_octets, node_cost, node_costs}, Leaves.{leaf_tag}, Limits.{limit_of}, Tag.{tags}};
@@ -13,13 +14,13 @@ const PLAIN: usize = 16;
 /// What a list costs, without the octets of its head and without its members: 15 for itself and for its head, and 1 for a tag.
 const LIST: usize = 31;
 
-/// What a prefix or a range costs, without its octets: 48 more than a string.
+/// What a prefix or a range costs, without its octets: 48 more than a string, since two of them make a new range.
 const RANGE: usize = 64;
 
 impl Tag {
-    /// What it costs to intersect one node of another tag with this tag: 15 for each node of this tag, one for each tag in it (the head of
-    /// a list is a node and no tag), one for each octet of its strings, and 48 for each prefix and range. The cost of an intersection is
-    /// this for each node of the other tag. None if it is 2^64 or more. Allocates nothing.
+    /// How many units of work it costs to intersect one node of another tag with this tag: 15 for each node of this tag, one for each tag
+    /// in it (the head of a list is a node and no tag), one for each octet of its strings, and 48 for each prefix and range. The cost of an
+    /// intersection is this for each node of the other tag. None if it is 2^64 or more. Allocates nothing.
     #[cycle(cost)]
     pub fn node_cost(&self) -> Option<usize>
         ensures { SomeIff result (node_cost self.now < 2 ^ 64) (node_cost self.now) }
@@ -36,7 +37,7 @@ impl Tag {
     }
 }
 
-/// The sum of the `Tag::node_cost` of these tags, without a cost of the list or set that has them. None if it is 2^64 or more.
+/// The sum of the `Tag::node_cost` of these tags, without the cost of the list or set that has them. None if it is 2^64 or more.
 #[cycle(cost)]
 fn costs_of(members: &[Tag]) -> Option<usize>
     ensures { SomeIff result (node_costs (tags members.now) < 2 ^ 64) (node_costs (tags members.now)) }
@@ -66,7 +67,7 @@ impl Leaf {
     }
 }
 
-/// How many octets the string of a limit has. 0 if the range has no such limit.
+/// How many octets the string of a limit has. 0 if the limit is missing.
 fn octets_of(limit: &Option<Limit>) -> usize
     ensures { result ≡ limit_octets (limit_of limit.now) }
 {

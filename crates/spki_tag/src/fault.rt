@@ -7,7 +7,7 @@ ghost use Rattle.spki_tag.specs.declared.fault.MeetFault.TheVariants as meet;
 use std::alloc::{AllocError, AllocFailed};
 use thiserror::Error;
 
-/// Why a value is no tag or no request: the first fault, depth first from the left.
+/// Why a value is not read as a tag or as a request: its first fault, depth first from the left, or `Memory`.
 #[derive(Clone, Copy, Debug, PartialEq, Eq, Error)]
 pub enum TagFault {
     /// A list without members.
@@ -19,16 +19,16 @@ pub enum TagFault {
     /// A string with a display hint.
     #[error("a display hint")]
     Hint,
-    /// A list that begins with `*` and is no form of a tag.
+    /// A list that begins with `*` and is not `(*)`, `(* set ..)`, `(* prefix p)` or `(* range ..)`.
     #[error("an unknown form behind a star")]
     UnknownStar,
-    /// A range of an ordering other than `alpha`, `time` and `date`.
+    /// A range without an ordering, or of another one than `alpha`, `time` and `date`.
     #[error("an unknown ordering of a range")]
     RangeOrdering,
     /// Limits of a range that are not at most one lower limit and then at most one upper limit.
     #[error("malformed limits of a range")]
     RangeLimit,
-    /// More than 1,024 nodes as written.
+    /// A tag of more than 1,024 nodes as written.
     #[error("too many nodes")]
     TooManyNodes,
     /// A list that begins with `*`, in a request.
@@ -60,7 +60,7 @@ impl<T: Drop> From<AllocFailed<T>> for TagFault {
 /// Why no intersection of two tags is returned.
 #[derive(Clone, Copy, Debug, PartialEq, Eq, Error)]
 pub enum MeetFault {
-    /// The product of the numbers of their nodes is over the limit: 1,000,000, or what the caller set.
+    /// The product of the numbers of nodes of both tags is over the limit: 1,000,000, or what the caller set.
     #[error("too many nodes to meet")]
     TooLarge,
     /// Memory ran out.

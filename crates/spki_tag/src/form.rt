@@ -8,7 +8,7 @@ use crate::leaf::{Leaf, Limit, RangeOrdering};
 use crate::shared_tags::tags_in;
 use crate::tag::{Node, Tag};
 
-/// A limit of a range.
+/// A limit of a range, as callers see it.
 #[derive(Clone, Copy, Debug)]
 pub struct TagLimit<'a> {
     /// Whether the range excludes the string itself.
@@ -17,22 +17,22 @@ pub struct TagLimit<'a> {
     pub octets: &'a [u8],
 }
 
-/// A tag without members, or the members of a tag (RFC 2693, section 6.3.1).
+/// What `Tag::form` returns: a tag without members, or the members of a tag (RFC 2693, section 6.3.1).
 #[derive(Clone, Copy, Debug)]
 pub enum TagForm<'a> {
     /// `(*)`.
     Everything,
-    /// A string.
+    /// A string: its octets.
     String(&'a [u8]),
-    /// `(* prefix p)`, by p.
+    /// `(* prefix p)`: the octets of `p`.
     Prefix(&'a [u8]),
     /// `(* range ordering low? up?)`.
     Range {
         /// Which strings the range may contain at all.
         ordering: RangeOrdering,
-        /// The lower limit.
+        /// The lower limit. None if there is none.
         low: Option<TagLimit<'a>>,
-        /// The upper limit.
+        /// The upper limit. None if there is none.
         up: Option<TagLimit<'a>>,
     },
     /// `(head t ..)`.
@@ -49,7 +49,7 @@ pub enum TagForm<'a> {
     },
 }
 
-/// A limit of a range in the form that callers see. None if there is no limit.
+/// A limit of a range as a `TagLimit`, which callers see. None if there is no limit.
 fn limit_shown(limit: &Option<Limit>) -> Option<TagLimit<'_>>
     ensures { limit_shown result ≡ limit_of limit.now }
 {
@@ -95,7 +95,8 @@ impl Tag {
         }
     }
 
-    /// Whether this is `(*)`, the tag that contains every request.
+    /// Whether this is `(*)`, the tag that contains every request. The clause `normal` is true of every tag, and is there for the proofs of
+    /// callers.
     pub(crate) fn is_everything(&self) -> bool
         ensures value { result ≡ spec.is_star self.now }
         ensures normal { spec.IsNormalTag self.now }
@@ -132,7 +133,8 @@ fn is_set(tag: &Tag) -> bool
     }
 }
 
-/// Whether at least one of two tags has the form `(* set ..)`. Sets further inside do not matter.
+/// Whether at least one of two tags has the form `(* set ..)`: then their intersection is made member by member. Sets further inside do not
+/// matter.
 pub(crate) fn has_set(one: &Tag, other: &Tag) -> bool
     ensures { result ≡ (spec.is_set one.now || spec.is_set other.now) }
 {

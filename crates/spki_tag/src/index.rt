@@ -1,5 +1,5 @@
-//! An index of the members of a tag by kind and string. With it, a tag is intersected only with those that can have a request
-//! in common with it.
+//! An index of the members of a tag by kind and string. With it, another tag is intersected only with those members that can have a request
+//! in common with it, as far as their kinds and strings show.
 
 ghost use Rattle.std.specs.{Prelude.{◌≡◌, ◌++◌, [], ℕ, List, IfOk, OnOk}, Str.{bytes_eq}};
 ghost use Rattle.spki_tag.specs.{Meet.{kind, may_share, members, places_where}, Places.{kind_of, found_at, place_if, ArePlacesOf, IsAdded}};
@@ -27,7 +27,8 @@ impl Tag {
     }
 }
 
-/// Which requests a tag can contain, by its kind and its string.
+/// The kind of a tag: which requests it can contain, as far as its form and its string or head show. If the kinds of two tags have no
+/// request in common, the intersection of the tags is `(* set)`.
 #[derive(Clone, Copy)]
 enum Kind<'a> {
     /// Any: a set or `(*)`.
@@ -58,11 +59,12 @@ impl<'a> Kind<'a> {
     }
 }
 
-/// For a string, the places of the tags with that string, counted from 1, in increasing order.
+/// For a string, the places of the tags that are this string, or of the lists with this head, in increasing order. A place is a tag's
+/// position among the tags, from 1.
 type PlacesByString<'a> = BTreeMap<&'a [u8], Vec<usize>>;
 
 /// Appends the place of one more tag to those that the map has for a string: the tag itself, or the head of a list. A string that the map
-/// has not yet is added. Err if memory ran out.
+/// has not yet is added. Err if memory ran out; then the map may have the string without the place.
 fn put<'a>(map: &mut PlacesByString<'a>, string: &'a [u8], place: usize) -> Result<(), AllocError>
     ensures { OnOk result ((q : List ℕ) → found_at map.new q ≡ found_at map.old q ++ place_if (bytes_eq q string.now) place) }
 {
@@ -112,8 +114,8 @@ impl<'a> PlacesByKind<'a> {
         }
     }
 
-    /// Adds the place of one more tag, which is of this kind, to each field that the kind belongs to. The place must be greater than all
-    /// others, since the fields increase. Err if memory ran out; then only some of the fields may have it.
+    /// Adds the place of one more tag, which is of this kind, to each field that the kind belongs to. `of` adds the places in increasing
+    /// order, so each field increases. Err if memory ran out; then only some of the fields may have the place.
     fn add(&mut self, kind: Kind<'a>, place: usize) -> Result<(), AllocError>
         ensures { OnOk result (IsAdded self.old self.new (kind_of kind.entry) place) }
     {
@@ -186,7 +188,8 @@ impl<'a> Index<'a> {
         Index::over(alloc, tag.members())
     }
 
-    /// Makes the index of these tags, for a caller that has the members and no set. Their places count from 1. Err if memory ran out.
+    /// Makes the index of these tags, for `meet_members`, which has the members and no set. Their places count from 1. Err if memory ran
+    /// out.
     pub(crate) fn over(alloc: Global, members: &'a [Tag]) -> Result<Index<'a>, AllocError>
         ensures { IfOk result (λ index. index ≡ members.now) }
     {

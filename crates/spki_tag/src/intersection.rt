@@ -1,5 +1,6 @@
 //! The intersection of tags (RFC 2693, section 6.3.1). `ticks` counts the work, and exists only in contracts. A tick is a pair of tags that
-//! is looked at, a member that is copied, or an octet of the second tag's strings that is compared.
+//! is looked at, a member that is copied, or an octet of the second tag's strings that is compared. `meet_cost` is the nodes of the first
+//! tag times the `Tag::node_cost` of the second. An intersection takes at most three times that many ticks.
 
 ghost use Rattle.std.specs.Prelude.{◌≡◌, ◌+◌, ◌*◌, ◌<◌, ◌≤◌, ◌↔◌, ◌++◌, ◌&&◌, [], max, true, false, IfOk, OnOk, IsErrOf, MatchOption, All, length};
 ghost use Rattle.std.specs.Arc.{arc_slice_items};
@@ -22,7 +23,8 @@ use std::sync::ledger::{Blank, Ledger};
 /// The greatest product of the numbers of nodes of two tags that are intersected.
 const MOST_NODES: usize = 1_000_000;
 
-/// Returns the intersection of two tags of any forms, whose numbers of nodes have a product of at most 1,000,000. Err if memory ran out.
+/// Returns the intersection of two tags of any forms. The product of their numbers of nodes must be at most 1,000,000. Err if memory ran
+/// out.
 #[cycle(meet)]
 fn meet_tags<L: Ledger>(
     alloc: Global,
@@ -153,9 +155,9 @@ fn meet_each<L: Ledger>(
     Ok(Some(met))
 }
 
-/// Returns the set of the intersections of each tag of `ones` with each of `others`, without those that are `(* set)`.
-/// The order is that of `ones`, and for each of them that of `others`. If only one is left, it is returned itself. An index of
-/// `others` spares the pairs whose intersection is `(* set)` by kind and string alone. Err if memory ran out.
+/// Returns the set of the intersections of each tag of `ones` with each of `others`, without those that are `(* set)`. The order is that of
+/// `ones`, and for each of them that of `others`. If only one is left, it is returned itself. With an index of `others`, pairs are skipped
+/// whose intersection is `(* set)` by kind and string alone. Err if memory ran out.
 #[cycle(meet)]
 fn meet_members<L: Ledger>(
     alloc: Global,
@@ -182,7 +184,7 @@ fn meet_members<L: Ledger>(
 }
 
 /// Appends to `met` the intersections of `one` with those of `others` at these places, counted from 1, which the index of `others` has
-/// found for `one`. Intersections that are `(* set)` are left out. Err if memory ran out.
+/// found for `one`. Intersections that are `(* set)` are left out. Err if memory ran out; then `met` may have some of them.
 #[cycle(meet)]
 fn push_row<L: Ledger>(
     alloc: Global,
@@ -208,11 +210,11 @@ fn push_row<L: Ledger>(
 
 impl Tag {
     /// The intersection: the tag that contains a request exactly if both do (RFC 2693, section 6.3.1). The intersection of
-    /// two sets is in the order of this tag's members and then of the other's, and repeated members are kept.
+    /// two sets has its members in the order of this tag's members and then of the other's. Repeated members are kept.
     ///
     /// # Errors
     ///
-    /// `TooLarge` if the product of the numbers of their nodes is over 1,000,000, and `Memory` if memory ran out.
+    /// `TooLarge` if the product of the numbers of nodes of both tags is over 1,000,000, and `Memory` if memory ran out.
     pub fn meet(&self, alloc: Global, other: &Tag) -> Result<Tag, MeetFault>
         ensures value { IfOk result (λ c. c ≡ meet self.now other.now) }
         ensures exact { IfOk result (λ c. (g : Request) → IsRequest g
@@ -224,11 +226,11 @@ impl Tag {
         self.meet_within(alloc, other, MOST_NODES)
     }
 
-    /// Like `meet`, with `most`, which is at most 1,000,000, as the limit instead.
+    /// Like `meet`, with `most` as the limit of the product instead. `most` must be at most 1,000,000.
     ///
     /// # Errors
     ///
-    /// `TooLarge` if the product of the numbers of their nodes is over `most`, and `Memory` if memory ran out.
+    /// `TooLarge` if the product of the numbers of nodes of both tags is over `most`, and `Memory` if memory ran out.
     pub fn meet_within(&self, alloc: Global, other: &Tag, most: usize) -> Result<Tag, MeetFault>
         requires { most ≤ 1000000 }
         ensures value { IfOk result (λ c. c ≡ meet self.now other.now) }
@@ -242,7 +244,8 @@ impl Tag {
     }
 
     /// Does what `meet_within` does. It makes the count of ticks that `meet_counted` needs, and is generic since only a call of a generic
-    /// function can pick the type `L` of a count. `blank` opens the count, which exists only in contracts.
+    /// function can pick the type `L` of a count. `blank` opens the count, which exists only in contracts, and must be that of `L`. Err is
+    /// `TooLarge` if the product of the numbers of nodes of both tags is over `most`, or `Memory`.
     fn meet_with_new_count<L: Ledger>(
         &self,
         alloc: Global,
@@ -266,11 +269,12 @@ impl Tag {
 
     /// Does what `meet_within` does, and adds its work to `ticks`, which exists only in contracts: one for each pair of tags that is looked
     /// at, each member that is copied, and each octet of the other tag's strings that is compared. It adds at most three times the nodes of
-    /// this tag times the other's `node_cost`.
+    /// this tag times the other's `node_cost`. `most` must be at most 1,000,000.
     ///
     /// # Errors
     ///
-    /// Those of `meet_within`.
+    /// `TooLarge` if the product of the numbers of nodes of both tags is over `most`; then nothing is added to `ticks`. `Memory` if memory
+    /// ran out.
     #[tactic(auto, using(crate::proofs::Exact::meet_exact, crate::proofs::MeetSizes::meet_le, crate::proofs::NormalForms::meet_ldepth))]
     pub fn meet_counted<L: Ledger>(
         &self,

@@ -21,7 +21,8 @@ pub fn one_request()
     ensures { (g h : Request) → request_value h ≡ request_value g → h ≡ g }
 {}
 
-/// A value has at most one reading as a tag.
+/// A value has at most one reading as a tag. It follows from `one_tag`, since the reading is the normal form of the tag that is written as
+/// the value.
 pub fn one_reading()
     ensures { (v : Value) (t u : Tag) → ReadsAs v t → ReadsAs v u → t ≡ u }
 {}
@@ -41,14 +42,14 @@ pub fn request_fault_none()
 {}
 
 /// The number of nodes of a tag is the number of tags that its written value contains: itself, and the heads of lists and the members at
-/// any depth.
+/// any depth. These are what `tag_fault` counts, so its limit of 1,024 is one of nodes.
 #[tactic(auto, using(crate::proofs::FaultWalk::tags_count))]
 pub fn tags_counted()
     ensures { (t : Tag) → IsTag t → length (tags_in (tag_value t)) ≡ nodes t }
 {}
 
-/// The weight of a tag is the number of tags in it and of the octets of their strings, and so the most ticks of `Tag::holds_counted`. For a
-/// tag that was read it is at most the number of octets of the canonical text.
+/// The weight of a tag is the number of tags in it, itself included, plus the octets of their strings: the most ticks that
+/// `Tag::holds_counted` adds. For a tag that was read it is at most the number of octets of the canonical text.
 #[tactic(auto, using(crate::proofs::Weights::read_weight))]
 pub fn read_weight()
     ensures { (w : Tag) → weight (normal w) ≤ length (canon (tag_value w)) }
@@ -67,7 +68,8 @@ pub fn prefix_is_range()
         → starts_with nat_eq x p ≡ (is_above (from p) x && is_below (strict_limit (least_above p)) x) }
 {}
 
-/// What the intersection of two tags is, by their forms: `(*)`, sets, strings, prefixes, ranges and lists.
+/// What the intersection of two tags is, by their forms: `(*)`, sets, strings, prefixes, ranges and lists. `specs/Meet.antt` says what each
+/// rule is.
 pub fn meet_rules()
     ensures star { StarRule }
     ensures sets { SetRule }
@@ -103,8 +105,8 @@ pub fn meet_apart()
     ensures { (t u : Tag) → may_share t u ≡ false → meet t u ≡ nothing }
 {}
 
-/// To intersect a tag with several tags, it is enough to take those at the places where the two may have a request in
-/// common: the intersections that are not `(* set)` are the same, in the same order.
+/// To intersect a tag with several tags, it is enough to take those at the places where they may have a request in common with it, by kind
+/// and string: the intersections that are not `(* set)` are the same, in the same order. A place counts from 1.
 #[tactic(auto, using(crate::proofs::Places::row_at_places))]
 pub fn row_at_places()
     ensures { (t : Tag) (us : List Tag)

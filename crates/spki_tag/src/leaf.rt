@@ -13,7 +13,8 @@ use std::alloc::AllocError;
 use std::sync::ledger::Ledger;
 use std::sync::{Arc, ArcSlice};
 
-/// Octets of a tag. An intersection shares them with the tags that it was made of.
+/// Octets of a tag. Its copies share them, and so does an intersection with the tags that it was made of. A copy fails only if 2^63 would
+/// share them.
 pub(crate) type SharedOctets = ArcSlice<u8>;
 
 /// Which strings a range may contain at all (RFC 2693, section 6.3.1).
@@ -27,10 +28,10 @@ pub enum RangeOrdering {
     Date,
 }
 
-/// A limit of a range. The range excludes its string if the limit is strict.
+/// A limit of a range. The range excludes the limit's own string if the limit is strict.
 #[derive(Debug, Drop)]
 pub(crate) struct Limit {
-    /// Whether the range excludes the string.
+    /// Whether the range excludes the string itself.
     pub(crate) strict: bool,
     /// The string.
     pub(crate) octets: SharedOctets,
@@ -45,11 +46,12 @@ pub(crate) enum Leaf {
     String(StringOctets),
     /// `(* prefix p)`.
     Prefix(Prefix),
-    /// `(* range ordering low? up?)`. It is rare and large, so it lies apart.
+    /// `(* range ordering low? up?)`. It is rare and large, so it is in memory of its own, and other tags stay small. Copies share it.
     Range(Arc<Range>),
 }
 
-/// Whether a range of this ordering may contain the string: any string, a time of day, or a moment.
+/// Whether a range of this ordering may contain the string at all: for `Alpha` any string, for `Time` a time of day as `is_time` says, for
+/// `Date` a moment as `is_date` says.
 fn is_ordered(ordering: RangeOrdering, octets: &[u8]) -> bool
     ensures { result ≡ is_ordered (ordering_of ordering) octets.now }
 {
@@ -60,7 +62,8 @@ fn is_ordered(ordering: RangeOrdering, octets: &[u8]) -> bool
     }
 }
 
-/// Whether `x` is before `y` in the order of their octets, or, if `strict` is false, equal to it.
+/// Whether `x` is less than `y`, or, if `strict` is false, equal to it. Strings are compared octet by octet, and a longer string is greater
+/// than one that it starts with.
 pub(crate) fn is_within(strict: bool, x: &[u8], y: &[u8]) -> bool
     ensures { result ≡ is_within strict x.now y.now }
 {
@@ -103,7 +106,8 @@ pub(crate) fn copied_limit(limit: &Option<Limit>) -> Result<Option<Limit>, Alloc
     }
 }
 
-/// Adds a tick for each octet of the limit's string, and none for a missing limit. It only counts: `holds` and `meet` compare the octets.
+/// Adds a tick, which is a unit of work, for each octet of the limit's string, and none for a missing limit. It only counts: `holds` and
+/// `meet` compare the octets.
 fn count_limit<L: Ledger>(limit: &Option<Limit>, ticks: &mut Ticks<L>)
     ensures { ticks.new ≡ ticks.old + limit_octets (limit_of limit.now) }
 {
@@ -130,7 +134,8 @@ impl Leaf {
         }
     }
 
-    /// Like `holds`, and adds a tick for each octet of the tag's strings. The caller counts the tag itself, which is the 1 in the contract.
+    /// Like `holds`, and adds a tick, which is a unit of work, for each octet of the tag's strings, whether it is compared or not. The
+    /// caller counts the tag itself, which is the 1 in the contract.
     pub(crate) fn holds_counted<L: Ledger>(&self, octets: &[u8], ticks: &mut Ticks<L>) -> bool
         ensures answer { result ≡ contains (leaf_tag self.now) (string octets.now) }
         ensures cost { ticks.new + 1 ≡ ticks.old + weight (leaf_tag self.now) }
@@ -139,8 +144,8 @@ impl Leaf {
         self.holds(octets)
     }
 
-    /// Adds a tick for each octet of the tag's strings: those of a string, a prefix, or the limits of a range. It only counts, for callers
-    /// that compare them. The caller counts the tag itself, which is the 1 in the contract.
+    /// Adds a tick, which is a unit of work, for each octet of the tag's strings: those of a string, a prefix, or the limits of a range. It
+    /// only counts, for callers that compare them. The caller counts the tag itself, which is the 1 in the contract.
     pub(crate) fn count_strings<L: Ledger>(&self, ticks: &mut Ticks<L>)
         ensures { ticks.new + 1 ≡ ticks.old + weight (leaf_tag self.now) }
     {

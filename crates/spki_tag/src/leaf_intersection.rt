@@ -12,8 +12,8 @@ use std::alloc::{AllocError, Global};
 use std::sync::Arc;
 use std::sync::ledger::Ledger;
 
-/// Returns the intersection of a string and `other`: the string if `other` contains it. None if not, for `(* set)`. Err if there are too
-/// many copies to count.
+/// Returns the intersection of a string and `other`: the string if `other` contains it. Otherwise None, which stands for `(* set)`. Err if
+/// there are too many copies to count.
 fn meet_string(octets: &StringOctets, other: &Leaf) -> Result<Option<Leaf>, AllocError>
     ensures { IfOk result (λ r. leaf_or_nothing r ≡ string_meet octets.now (leaf_tag other.now)) }
 {
@@ -24,8 +24,8 @@ fn meet_string(octets: &StringOctets, other: &Leaf) -> Result<Option<Leaf>, Allo
     }
 }
 
-/// Returns the intersection of two prefixes: the longer if it starts with the shorter. None if not, for `(* set)`. Err if there are too
-/// many copies to count.
+/// Returns the intersection of two prefixes: the longer if it starts with the shorter. Otherwise None, which stands for `(* set)`. Err if
+/// there are too many copies to count.
 fn meet_prefixes(one: &Prefix, other: &Prefix) -> Result<Option<Leaf>, AllocError>
     ensures { IfOk result (λ r. leaf_or_nothing r ≡ prefixes_meet one.now other.now) }
 {
@@ -38,7 +38,7 @@ fn meet_prefixes(one: &Prefix, other: &Prefix) -> Result<Option<Leaf>, AllocErro
     }
 }
 
-/// Returns the intersection of two ranges. None if it is `(* set)`. Err if memory ran out.
+/// Returns the intersection of two ranges, by `Range::meet`, as a tag. None if it is `(* set)`. Err if memory ran out.
 fn meet_ranges(alloc: Global, one: &Range, other: &Range) -> Result<Option<Leaf>, AllocError>
     ensures { IfOk result (λ r. leaf_or_nothing r ≡ meet (range_tag one.now) (range_tag other.now)) }
 {
@@ -49,8 +49,10 @@ fn meet_ranges(alloc: Global, one: &Range, other: &Range) -> Result<Option<Leaf>
 }
 
 impl Leaf {
-    /// Does what `meet` does, and adds three ticks for each octet of the other tag's strings, since none is compared more often. A prefix
-    /// is compared most often: as a lower and an upper limit, and one of them once more to see whether the limits exclude each other.
+    /// Does what `meet` does, and adds three ticks, which are units of work, for each octet of the other tag's strings, since none is
+    /// compared more often. A prefix is compared most often: as a lower and an upper limit, and one of them once more to see whether the
+    /// limits exclude each other. The 3 in the contract are for the tag itself, which `weight` counts and this function does not. None if
+    /// the intersection is `(* set)`. Err if memory ran out; then too the ticks are added.
     pub(crate) fn meet_counted<L: Ledger>(
         &self,
         alloc: Global,

@@ -1,6 +1,7 @@
 //! Authorization tags and requests (RFC 2693, section 6.3.1).
 //!
-//! `Tag::read`, `Ground::read` and `Tag::write` are only for programs in Rattle that use this library.
+//! `Tag::read`, `Ground::read`, `Tag::write`, `Tag::same`, `Index::of` and `Index::members` are only for programs in Rattle that use this
+//! library.
 #![tactic(auto)]
 
 mod cost;

@@ -12,8 +12,9 @@ use std::marker::Brand;
 use std::sync::ledger::{Blank, Ledger};
 
 impl Tag {
-    /// Whether the tag contains a request (RFC 2693, section 6.3.1). A list contains the lists with the same head whose
-    /// members are in its own, place by place; further members of the request may be anything.
+    /// Whether the tag contains a request (RFC 2693, section 6.3.1). A list contains the lists with the same head and at
+    /// least as many members, if each of its members contains the one at the same place. Further members of the request
+    /// may be anything.
     pub fn holds(&self, request: &Ground) -> bool
         ensures { result ≡ contains self.now request.now }
     {
@@ -21,7 +22,7 @@ impl Tag {
     }
 
     /// Does what `holds` does. It makes the count of ticks that `holds_counted` needs, and is generic since only a call of a generic
-    /// function can pick the type `L` of a count. `blank` opens the count, which exists only in contracts.
+    /// function can pick the type `L` of a count. `blank` opens the count, which exists only in contracts, and must be that of `L`.
     fn holds_with_new_count<L: Ledger>(&self, request: &Ground, blank: Blank) -> bool
         requires name { blank.name ≡ L.name }
         requires parts { blank.parts ≡ L.parts }
@@ -32,9 +33,10 @@ impl Tag {
         self.holds_counted(request, &mut ticks)
     }
 
-    /// Whether the tag contains a request, as `holds`, with its work added to `ticks`: one for each tag that is looked at, and each octet
-    /// of its strings that is compared. It adds at most the weight of the tag, whatever the request is. The weight is the number of tags
-    /// and of octets in the tag: by the law `read_weight` at most the octets of the canonical text of the value that was read.
+    /// Whether the tag contains a request, as `holds`, with its work added to `ticks`, a count that exists only in contracts: one for each
+    /// tag that is looked at, and one for each octet of its string, limits or head if these are compared. It adds at most the weight of the
+    /// tag, whatever the request is. The weight is the number of tags in the tag, itself included, plus the octets of their strings, limits
+    /// and heads: by the law `read_weight` at most the octets of the canonical text of the value that was read.
     #[cycle(holds)]
     pub fn holds_counted<L: Ledger>(&self, request: &Ground, ticks: &mut Ticks<L>) -> bool
         ensures answer { result ≡ contains self.now request.now }
@@ -60,8 +62,9 @@ impl Tag {
     }
 }
 
-/// Whether each tag contains the request at the same place: `members` are those of a list that is a tag, `requests` those of a list that
-/// is a request. False if there are fewer requests than tags. Further requests may be anything.
+/// Whether each tag contains the request at the same place: `members` are those of a list that is a tag, `requests` those of a list that is
+/// a request. False if there are fewer requests than tags. Further requests may be anything. The work is added to `ticks`: at most the
+/// weights of the tags, and at least one for each tag if the answer is true.
 #[cycle(holds)]
 fn each_holds<L: Ledger>(members: &[Tag], requests: &[Ground], ticks: &mut Ticks<L>) -> bool
     ensures answer { result ≡ contain_each (tags members.now) (spec.requests requests.now) }
@@ -80,7 +83,8 @@ fn each_holds<L: Ledger>(members: &[Tag], requests: &[Ground], ticks: &mut Ticks
     true
 }
 
-/// Whether at least one of the tags, the members of a set, contains the request.
+/// Whether at least one of the tags, the members of a set, contains the request. The work is added to `ticks`: at most the weights of the
+/// tags, and at least one for each tag if the answer is false.
 #[cycle(holds)]
 fn some_holds<L: Ledger>(members: &[Tag], request: &Ground, ticks: &mut Ticks<L>) -> bool
     ensures answer { result ≡ some_contains (tags members.now) request.now }

@@ -25,8 +25,8 @@ fn is_number_at(text: &[u8], i: usize, low: u8, high: u8) -> bool
     low <= number && number <= high
 }
 
-/// Whether a text is `HH:MM:SS`: an hour from 00 to 23, a minute from 00 to 59 and a second from 00 to 60, of which 60 is a
-/// leap second.
+/// Whether a text is `HH:MM:SS`: an hour from 00 to 23, a minute from 00 to 59 and a second from 00 to 60, of which 60 is a leap second. A
+/// range of the ordering `time` contains only such strings.
 #[tactic(auto, unfolding(crate::specs::Tag::is_time))]
 pub fn is_time(text: &[u8]) -> bool
     ensures { result ≡ spec.is_time text.now }
@@ -40,7 +40,8 @@ pub fn is_time(text: &[u8]) -> bool
 }
 
 /// Whether a text is `YYYY-MM-DD_HH:MM:SS`: any year of four digits, a month from 01 to 12, a day from 01 to 31, and a time by `is_time`.
-/// There is no calendar check, so `2024-02-31_00:00:00` is one.
+/// There is no calendar check, so `2024-02-31_00:00:00` is one. A range of the ordering `date` contains only such strings, and `spki_cert`
+/// reads its dates with this.
 #[tactic(auto, unfolding(crate::specs::Tag::is_date))]
 pub fn is_date(text: &[u8]) -> bool
     ensures { result ≡ spec.is_date text.now }

@@ -12,8 +12,8 @@ use crate::shared_tags::tags_in;
 use crate::tag::{Node, Tag};
 use std::alloc::AllocError;
 
-/// Appends a tag in normal form to the members of a set. If the tag is a set itself, its members are appended instead, so that no set is a
-/// member of a set. Err if memory ran out.
+/// Appends a tag to the members of a set. If the tag is a set itself, its members are appended instead, so that no set is a member of a
+/// set. Err if memory ran out; then `members` may have some of those.
 #[tactic(auto, using(crate::proofs::Exact::items_tags))]
 pub(crate) fn push_member(members: &mut Vec<Tag>, tag: Tag) -> Result<(), AllocError>
     ensures { OnOk result (members.new.items ≡ members.old.items ++ in_place tag) }
@@ -29,8 +29,8 @@ pub(crate) fn push_member(members: &mut Vec<Tag>, tag: Tag) -> Result<(), AllocE
 }
 
 impl Tag {
-    /// The set of these members, none of which is a set, in normal form. With a member `(*)` it is `(*)`, with one member it is that
-    /// member, and without members it is `(* set)`. Err if memory ran out.
+    /// The set of these members, none of which may be a set, in normal form. With a member `(*)` it is `(*)`, with one member it is that
+    /// member, and without members it is `(* set)`. It must have at most 1,000,000 nodes. Err if memory ran out.
     pub(crate) fn set_of(members: Vec<Tag>) -> Result<Tag, AllocError>
         requires { IsNormalTag (set_of members.items) }
         ensures { IfOk result (λ t. t ≡ set_of members.items) }
@@ -41,8 +41,8 @@ impl Tag {
         Tag::gathered(members)
     }
 
-    /// The list of a head and these tags, in normal form. If one of the tags is `(* set)`, which `Tag::list` does not allow, the list is
-    /// `(* set)` too. Err if memory ran out.
+    /// The list of a head, which must not be `*`, and these tags, in normal form. If one of the tags is `(* set)`, which `Tag::list` does
+    /// not allow, the list is `(* set)` too. It must have at most 1,000,000 nodes. Err if memory ran out.
     #[tactic(auto, using(crate::proofs::NormalForms::any_nothing))]
     pub(crate) fn list_of(head: SharedOctets, further: Vec<Tag>) -> Result<Tag, AllocError>
         requires head { IsHead (arc_slice_items head) }

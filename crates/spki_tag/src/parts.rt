@@ -20,7 +20,7 @@ pub(crate) fn leaf_or_nothing(leaf: Option<Leaf>) -> Tag
 }
 
 /// Appends `tag`, the intersection of a member of one set with a member of another, to `met`, those made before. If it is `(* set)`, it is
-/// left out. Err if memory ran out.
+/// left out. Err if memory ran out; then `met` is unchanged.
 pub(crate) fn push_kept(met: &mut Vec<Tag>, tag: Tag) -> Result<(), AllocError>
     ensures { OnOk result (met.new.items ≡ met.old.items ++ kept tag []) }
 {
@@ -30,8 +30,8 @@ pub(crate) fn push_kept(met: &mut Vec<Tag>, tag: Tag) -> Result<(), AllocError>
     Ok(())
 }
 
-/// Appends a copy of each of `members`, which only the longer of two lists has, to `met`, the members of their intersection so far. A tick
-/// is such a member. Err if memory ran out.
+/// Appends a copy of each of `members`, which only the longer of two lists has, to `met`, the members of their intersection so far. Adds a
+/// tick, which is a unit of work, for each. Err if memory ran out; then `met` may have some of them.
 #[tactic(auto, using(crate::proofs::Members::fewer_than_nodes))]
 pub(crate) fn push_copies<L: Ledger>(
     met: &mut Vec<Tag>,
@@ -47,7 +47,8 @@ pub(crate) fn push_copies<L: Ledger>(
     push_shared(met, members)
 }
 
-/// Appends the tags of `others` to `tags`. What they have is shared and not copied. Err if memory ran out.
+/// Appends a copy of each tag of `others` to `tags`. The copies share members and octets with `others`. Err if memory ran out; then `tags`
+/// may have some of them.
 pub(crate) fn push_shared(tags: &mut Vec<Tag>, others: &[Tag]) -> Result<(), AllocError>
     ensures { OnOk result (tags.new.items ≡ tags.old.items ++ others.now) }
 {

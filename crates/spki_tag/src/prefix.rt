@@ -9,12 +9,13 @@ use std::alloc::{AllocError, Global};
 use std::marker::Model;
 use std::sync::ArcSlice;
 
-/// A prefix, with the least string above all that start with it. Ranges that are made of the prefix share both.
+/// A prefix, with the least string above all that start with it. Ranges that are made of the prefix share both. In a contract a prefix is
+/// its octets.
 #[derive(Debug, Drop)]
 pub(crate) struct Prefix {
     /// The prefix itself.
     octets: SharedOctets,
-    /// The least string above all that start with the prefix. None if it is empty or has only octets `FF`.
+    /// The least string above all that start with the prefix. None if the prefix is empty or has only octets `FF`.
     above: Option<SharedOctets>,
 }
 

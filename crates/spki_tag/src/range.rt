@@ -7,10 +7,11 @@ use crate::leaf::{Limit, RangeOrdering, copied_limit};
 use crate::limit_intersection::{exclude, is_greater_low, is_lesser_up};
 use std::alloc::AllocError;
 
-/// A range: an ordering and at most two limits. Limits exclude each other if the lower one is above the upper one, or if they are equal and
-/// one of them is strict.
+/// A range: an ordering and at most two limits. Limits exclude each other if the lower one is above the upper one, or if their strings are
+/// equal and one of them is strict.
 #[derive(Debug, Drop)]
 pub(crate) struct Range {
+    /// Which strings the range may contain at all.
     pub(crate) ordering: RangeOrdering,
     /// Whether the limits exclude each other. It is set when the range is made, so that no intersection compares them again.
     excluded: bool,
@@ -21,7 +22,7 @@ pub(crate) struct Range {
     ghost known: { excluded ≡ exclude (limit_of low) (limit_of up) },
 }
 
-/// The ordering of the strings that are in both orderings. None for a time and a date, since no string is both.
+/// The ordering of the strings that both orderings allow. `Alpha` allows any. None for a time and a date, since no string is both.
 fn common_ordering(one: RangeOrdering, other: RangeOrdering) -> Option<RangeOrdering>
     ensures { option_map ordering_of result ≡ ordering_meet (ordering_of one) (ordering_of other) }
 {
@@ -44,7 +45,8 @@ impl Range {
     ghost use Rattle.std.specs.Prelude.{false, IfOk, Some};
     ghost use Rattle.spki_tag.specs.{Leaves.{range_tag, range_or_nothing}, Meet.{greater_low, lesser_up, ranged}, Tag.{range}};
 
-    /// The range of an ordering with these limits, which it compares to know whether they exclude each other.
+    /// The range of an ordering with these limits. They are compared here, to keep in `excluded` whether they exclude each other. They may:
+    /// then the range contains nothing.
     pub(crate) fn of(ordering: RangeOrdering, low: Option<Limit>, up: Option<Limit>) -> Range
         ensures { range_tag result ≡ range (ordering_of ordering) (limit_of low) (limit_of up) }
     {
@@ -69,8 +71,8 @@ impl Range {
         }
     }
 
-    /// Returns the range of an ordering with copies of these limits. None if `excluded`: the caller says whether the limits exclude each
-    /// other. Err if there are too many copies to count.
+    /// Returns the range of an ordering with copies of these limits. None if `excluded`, which must be true exactly if the limits exclude
+    /// each other. Err if there are too many copies to count.
     fn unless(
         excluded: bool,
         ordering: RangeOrdering,
@@ -87,10 +89,10 @@ impl Range {
         Ok(Some(Range::between(ordering, copied_limit(low)?, copied_limit(up)?)))
     }
 
-    /// Returns the intersection of two ranges: the range with the greater lower limit and the lesser upper limit. None if one ordering is
-    /// of times and the other of dates, or if these two limits exclude each other; if both are of one range, its `excluded` says it. A
-    /// limit is compared only with limits of the other range, and each comparison reads at most the octets of the shorter one: so at most
-    /// twice the octets of the limits of either range. Err if there are too many copies to count.
+    /// Returns the intersection of two ranges: the range with the common ordering, the greater lower limit and the lesser upper limit. None
+    /// if one ordering is of times and the other of dates, or if these two limits exclude each other; if both are of one range, its field
+    /// `excluded` is used. A limit is compared only with limits of the other range, and each comparison reads at most the octets of the
+    /// shorter one. So at most twice the octets of the limits of either range are read. Err if there are too many copies to count.
     pub(crate) fn meet(&self, other: &Range) -> Result<Option<Range>, AllocError>
         ensures { IfOk result (λ r. range_or_nothing r
             ≡ ranged (ordering_meet (ordering_of self.now.ordering) (ordering_of other.now.ordering))

@@ -23,7 +23,7 @@ fn is_hinted(value: &Node<'_, '_>) -> bool
     }
 }
 
-/// Whether at least one of the values is a string with a display hint.
+/// Whether at least one of the values is a string with a display hint. `read_limits` tests it before all else.
 fn has_hint(values: &[Node<'_, '_>]) -> bool
     ensures { result ≡ list_any is_hinted values.now }
 {
@@ -120,7 +120,7 @@ fn read_one_limit(
 }
 
 /// Reads four values as a lower limit, with the word `g` or `ge`, and then an upper limit, with `l` or `le`. Returns both. `Ok(None)` if
-/// they are no such limits, also in the other order. Err if memory ran out.
+/// they are no such limits, also if the upper one is first. Err if memory ran out.
 fn read_two_limits(
     alloc: Global,
     low_word: &Node<'_, '_>,
@@ -144,8 +144,8 @@ fn read_two_limits(
 }
 
 /// Reads the limits of a range from the members after its ordering. Words and strings alternate: `g` or `ge` and the lower limit, then `l`
-/// or `le` and the upper one. Each limit may be missing. `Ok(None)` if the values are no limits, such as one, three or more than four. Err
-/// if memory ran out.
+/// or `le` and the upper one. Each limit may be missing. `Ok(None)` if the values are no limits, also if there are one, three or more than
+/// four of them. Err if memory ran out.
 fn limits_of(alloc: Global, values: &[Node<'_, '_>]) -> Result<Option<Limits>, AllocError>
     ensures { IfOk result (λ found. MatchOption found (AreNoLimits values.now)
         (λ p. AreLimits (limit_of p.0) (limit_of p.1) values.now)) }
@@ -191,9 +191,9 @@ fn read_limits(alloc: Global, rest: Members<'_, '_>) -> Result<Limits, TagFault>
     }
 }
 
-/// Reads a range from the members after `*` and `range`: an ordering and limits. The limits may be any strings,
-/// whatever the ordering. Err is `RangeOrdering` without members or for an unknown ordering, otherwise `Hint` if a member has a display
-/// hint, otherwise `RangeLimit` if those after the ordering are no limits, or `Memory`.
+/// Reads a range from the members after `*` and `range`: an ordering and limits. The limits may be any strings, whatever the ordering. Err
+/// is `RangeOrdering` without members, or if the first one is a list or a string without a display hint that names no ordering; otherwise
+/// `Hint` if any member has a display hint; otherwise `RangeLimit` if those after the ordering are no limits; or `Memory`.
 #[tactic(auto, using(crate::proofs::Named::named_first, crate::proofs::Named::passed))]
 pub(crate) fn read_range(alloc: Global, further: Members<'_, '_>) -> Result<Leaf, TagFault>
     ensures read { IfOk result (λ leaf. tag_value (leaf_tag leaf) ≡ starred (codes "range") (values further.entry)) }

@@ -1,5 +1,6 @@
 //! Reads tags. A tag may have at most 1,024 nodes as written, so each reader counts them: `used` is how many nodes of the whole tag come
-//! before what it reads, and the number that it returns is `used` plus the nodes that it has read.
+//! before what it reads, and the number that it returns is `used` plus the nodes that it has read. Nodes are tested depth first from the
+//! left, so this order says which fault is the first. The 1,025th node has the fault `TooManyNodes`.
 #![tactic(auto)]
 
 ghost use Rattle.std.specs.Prelude.{◌≡◌, ◌+◌, ◌≤◌, ◌<◌, ◌∷◌, List, Some, None, IfOk, IfErr, IfSome, IsSome, IsOkUnless, codes};
@@ -23,8 +24,8 @@ use std::sync::ArcSlice;
 /// The most nodes that a tag may have as it is written.
 const MOST_READ: usize = 1024;
 
-/// The octets of the first member of a list, a tag or a request. Err is `ListHead` if the member is a list, and `Hint` if it has a display
-/// hint.
+/// The octets of `first`, the first member of a list that is read as a tag or as a request. Err is `ListHead` if it is a list, and `Hint`
+/// if it has a display hint.
 #[tactic(auto, using(crate::proofs::Named::tags_read))]
 pub(crate) fn head_of<'a>(first: &Node<'_, 'a>) -> Result<&'a [u8], TagFault>
     ensures string { IfOk result (λ head. first.now ≡ plain head.now) }
@@ -63,7 +64,7 @@ fn read_prefix(alloc: Global, further: Members<'_, '_>) -> Result<Leaf, TagFault
 }
 
 /// Reads a value as a tag in normal form. `used` is how many nodes of the whole tag come before it. Returns the tag, and `used` plus its
-/// nodes as written. Err is the first fault of those that `Tag::of` lists.
+/// nodes as written. Err is the first fault, one of those that `Tag::of` lists, or `Memory`.
 #[cycle(read)]
 fn read_tag(alloc: Global, value: &Node<'_, '_>, used: usize) -> Result<(Tag, usize), TagFault>
     ensures read { IfOk result (λ p. IsRead used value.now p.0 p.1) }
@@ -82,8 +83,9 @@ fn read_tag(alloc: Global, value: &Node<'_, '_>, used: usize) -> Result<(Tag, us
     }
 }
 
-/// Reads a list of these members, the head included, as a tag of any form. Returns the tag, and `used` plus its nodes. `used`, the count
-/// before the list, must be below 1,024. Err is the first fault.
+/// Reads a list of these members, the head included, as a tag of any form. Returns the tag, and `used` plus its nodes as written. `used`,
+/// the count before the list, must be below 1,024. Err is `EmptyList` without members, `ListHead` or `Hint` for the head, otherwise the
+/// first fault of the form or of a member, one of those that `Tag::of` lists, or `Memory`.
 #[cycle(read)]
 fn read_list(alloc: Global, members: Members<'_, '_>, used: usize) -> Result<(Tag, usize), TagFault>
     requires { used < most_read }
@@ -104,7 +106,8 @@ fn read_list(alloc: Global, members: Members<'_, '_>, used: usize) -> Result<(Ta
 }
 
 /// Reads a tag from the members after the head `*` of a list: `(*)` without members, otherwise a set, a prefix or a range. Returns the tag,
-/// and `used` plus its nodes. `used`, the count before the list, must be below 1,024. Err is the first fault.
+/// and `used` plus its nodes as written. `used`, the count before the list, must be below 1,024. Err is `UnknownStar` if the first member
+/// is a list or another word, `Hint` if it has a display hint, otherwise the first fault of the set, prefix or range, or `Memory`.
 #[cycle(read)]
 fn read_starred(
     alloc: Global,
@@ -125,9 +128,9 @@ fn read_starred(
     }
 }
 
-/// Reads a tag from the members after `*` and `word`, which is `set`, `prefix` or `range`. Returns the tag, and `used` plus its nodes: one
-/// for a prefix or a range. `used`, the count before the list, must be below 1,024. Err is `UnknownStar` for any other word, otherwise the
-/// first fault.
+/// Reads a tag from the members after `*` and `word`, which is `set`, `prefix` or `range`. Returns the tag, and `used` plus its nodes as
+/// written: one for a prefix or a range. `used`, the count before the list, must be below 1,024. Err is `UnknownStar` for any other word,
+/// otherwise the first fault of the set, prefix or range, or `Memory`.
 #[cycle(read)]
 fn read_form(
     alloc: Global,
@@ -150,15 +153,16 @@ fn read_form(
     }
 }
 
-/// Reads a set from the members after `*` and `set`. Returns its normal form, and `used` plus one node for the set and those of its
-/// members. `used`, the count before the set, must be below 1,024. Err is the first fault.
+/// Reads a set from the members after `*` and `set`. Returns its normal form, and `used` plus one node for the set and those of its members
+/// as written. `used`, the count before the set, must be below 1,024. Err is the first fault of a member, one of those that `Tag::of`
+/// lists, or `Memory`.
 #[cycle(read)]
 fn read_set(alloc: Global, further: Members<'_, '_>, used: usize) -> Result<(Tag, usize), TagFault>
     requires { used < most_read }
     ensures read { IfOk result (λ p. IsRead used (starred (codes "set") (values further.entry)) p.0 p.1) }
     ensures named { IfErr result (λ fault. IsNamed fault (fault_after used (starred (codes "set") (values further.entry)))) }
 {
-    // Room for the members as written. Those of inner sets may make it larger, up to twice what they take.
+    // Room for the members as written. The members of inner sets may need more: then the vector grows, up to twice what they take.
     let mut members = Vec::with_capacity(alloc, further.len().min(MOST_READ - used))?;
     let after = put_members(alloc, further, used + 1, &mut members)?;
     members.shrink_to_fit();
@@ -178,9 +182,9 @@ fn set_members<'d, 'a>(value: &Node<'d, 'a>) -> Option<Members<'d, 'a>>
     }
 }
 
-/// Reads each of the values, members of a set as written, as a tag, and appends it to `members`. In place of a tag that is a set, its
-/// members are appended. Returns `used` plus the nodes of all values. `used`, the count before them, must be at most 1,024. Err is the
-/// first fault. Then `members` may have a part of the set, and `read_set` drops it.
+/// Reads each of the values, members of a set as written, as a tag, and appends it to `members`. In place of a set, its members are
+/// appended. Returns `used` plus the nodes of all values. `used`, the count before them, must be at most 1,024. Err is the first fault of a
+/// value, one of those that `Tag::of` lists, or `Memory`. Then `members` may have a part of the set, and `read_set` drops it.
 #[cycle(read)]
 fn put_members(
     alloc: Global,
@@ -201,10 +205,11 @@ fn put_members(
     Ok(counted)
 }
 
-/// Reads a value, a member of a set as written, as a tag, and appends it to `members`. In place of a tag that is a set, its members are
-/// appended. A set is read straight into `members`, so that each tag is moved only once, however many sets are nested. Returns `used` plus
-/// the nodes of the value. `used`, the count before it, must be at most 1,024. Err is the first fault. Then `members` may have a part of
-/// the value.
+/// Reads a value, a member of a set as written, as a tag, and appends it to `members`. In place of a set, its members are appended, also if
+/// one of them is `(*)`: then the outer set is `(*)` too. A set is read straight into `members`, so that each tag is moved only once,
+/// however many sets are nested. A list may be read as `(* set)`: then nothing is appended. Returns `used` plus the nodes of the value.
+/// `used`, the count before it, must be at most 1,024. Err is the first fault, one of those that `Tag::of` lists, or `Memory`. Then
+/// `members` may have a part of the value.
 #[cycle(read)]
 fn put_member(
     alloc: Global,
@@ -233,7 +238,8 @@ fn put_member(
 }
 
 /// Reads a list with this head, which is not `*`, and these members after it as a tag. Returns the tag, and `used` plus two nodes, for the
-/// list and its head, and those of the members. `used`, the count before the list, must be below 1,024. Err is the first fault.
+/// list and its head, and those of the members as written. `used`, the count before the list, must be below 1,024. Err is `TooManyNodes` if
+/// the head is the 1,025th node, otherwise the first fault of a member after it, one of those that `Tag::of` lists, or `Memory`.
 #[cycle(read)]
 fn read_plain_list(
     alloc: Global,
@@ -254,8 +260,8 @@ fn read_plain_list(
     Ok((Tag::list_of(octets, members)?, after))
 }
 
-/// Reads each of the members of a list as a tag. Returns the tags, in order, and `used` plus their nodes. `used`, the count before them,
-/// must be at most 1,024. Err is the first fault.
+/// Reads each of the members of a list after its head as a tag. Returns the tags, in order, and `used` plus their nodes as written. `used`,
+/// the count before them, must be at most 1,024. Err is the first fault of a member, one of those that `Tag::of` lists, or `Memory`.
 #[cycle(read)]
 fn read_members(
     alloc: Global,
@@ -288,7 +294,7 @@ impl Tag {
     /// members. `ListHead`: a list that begins with a list. `UnknownStar`: a list that begins with `*` and is no form
     /// of a tag. `RangeOrdering`: a range without an ordering, or of another one than `alpha`, `time` and `date`.
     /// `RangeLimit`: limits that are not at most one lower limit and then at most one upper limit; their strings are
-    /// not checked against the ordering. `Memory`: memory ran out.
+    /// not checked against the ordering. Or `Memory`: memory ran out.
     #[tactic(auto, using(crate::proofs::Named::tags_read, crate::proofs::TagReading::members_read, crate::proofs::Faultless::tag_refused))]
     pub fn of(alloc: Global, value: &Node<'_, '_>) -> Result<Tag, TagFault>
         ensures read { IfOk result (λ tag. ReadsAs value.now tag) }
@@ -302,11 +308,11 @@ impl Tag {
         Ok(tag)
     }
 
-    /// Like `of`, for node `n` of a document, which must exist.
+    /// Like `Tag::of`, for a caller that has the number `n` of a node and not the node. The document must have the node.
     ///
     /// # Errors
     ///
-    /// Those of `of`.
+    /// The first fault, as `Tag::of` lists them, or `Memory`.
     pub fn read(alloc: Global, document: &Doc<'_>, n: NodeId) -> Result<Tag, TagFault>
         requires { IsSome (node document.now n.0) }
         ensures read { IfSome (node document.now n.0) (λ value. IfOk result (λ tag. ReadsAs value tag)) }

@@ -14,14 +14,17 @@ use sexpr_core::{Doc, NodeId};
 use std::alloc::Global;
 use std::marker::Model;
 
-/// A request: one action that a client asks for. It is a string, or a list of a head that is not `*` and further requests,
-/// without display hints (RFC 2693, section 6.3.1).
+/// A request: one action that a client asks for. It is a string, or a list of a head that is not `*` and further requests, without display
+/// hints (RFC 2693, section 6.3.1). It is ground: unlike a tag, it has no patterns. In a contract it is the `Request` of
+/// `specs/Request.antt`.
 #[cycle(ground)]
 #[derive(Debug, Drop)]
 pub struct Ground {
+    /// The form of the request, with what it contains.
     pub(crate) node: GroundNode,
 }
 
+/// The form of a request: a string or a list.
 #[cycle(ground)]
 #[derive(Debug, Drop)]
 pub(crate) enum GroundNode {
@@ -74,7 +77,7 @@ impl Ground {
 }
 
 /// Reads a value as a request, for `Ground::of`, and for the members of lists. Err is the first fault, depth first from the left: `Hint`,
-/// `EmptyList`, `ListHead`, `StarInRequest`, or `Memory`.
+/// `EmptyList`, `ListHead` or `StarInRequest`; or `Memory`.
 #[cycle(read_request)]
 fn read_request(alloc: Global, value: &Node<'_, '_>) -> Result<Ground, TagFault>
     ensures request { IfOk result (λ g. IsRequest g) }
@@ -88,8 +91,8 @@ fn read_request(alloc: Global, value: &Node<'_, '_>) -> Result<Ground, TagFault>
     }
 }
 
-/// Reads a list of these members, the head included, as a request. Err is the first fault: that of the list or its head, otherwise that
-/// of a member after it, or `Memory`.
+/// Reads a list of these members, the head included, as a request. Err is `EmptyList` without members, `ListHead` or `Hint` for the head,
+/// `StarInRequest` if the head is `*`, otherwise the first fault of a member after it, or `Memory`.
 #[cycle(read_request)]
 fn read_request_list(alloc: Global, members: Members<'_, '_>) -> Result<Ground, TagFault>
     ensures request { IfOk result (λ g. IsRequest g) }
@@ -109,8 +112,8 @@ fn read_request_list(alloc: Global, members: Members<'_, '_>) -> Result<Ground, 
     }
 }
 
-/// Reads a list with this head, which is not `*`, and these members after it as a request. Err is the first fault of a member, or
-/// `Memory`.
+/// Reads a list with this head, which is not `*`, and these members after it as a request. Err is the first fault of a member: `Hint`,
+/// `EmptyList`, `ListHead` or `StarInRequest`; or `Memory`.
 #[cycle(read_request)]
 fn read_headed(alloc: Global, head: &[u8], further: Members<'_, '_>) -> Result<Ground, TagFault>
     requires { IsHead head.now }
@@ -123,7 +126,8 @@ fn read_headed(alloc: Global, head: &[u8], further: Members<'_, '_>) -> Result<G
     Ok(Ground::list(octets, members))
 }
 
-/// Reads each of the members of a list after its head as a request. Returns them in order. Err is the first fault of a member, or `Memory`.
+/// Reads each of the members of a list after its head as a request. Returns them in order. Err is the first fault of a member: `Hint`,
+/// `EmptyList`, `ListHead` or `StarInRequest`; or `Memory`.
 #[cycle(read_request)]
 fn read_request_members(alloc: Global, members: Members<'_, '_>) -> Result<Vec<Ground>, TagFault>
     ensures read { IfOk result (λ gs. AreReadRequests members.entry gs.items) }
@@ -144,8 +148,8 @@ impl Ground {
     /// # Errors
     ///
     /// The first fault, depth first from the left. `Hint`: a string with a display hint. `EmptyList`: a list without
-    /// members. `ListHead`: a list that begins with a list. `StarInRequest`: a list that begins with `*`. `Memory`: memory
-    /// ran out.
+    /// members. `ListHead`: a list that begins with a list. `StarInRequest`: a list that begins with `*`. Or `Memory`:
+    /// memory ran out.
     #[tactic(auto, using(crate::proofs::Faultless::result_refused, crate::proofs::RequestReading::result_faultless))]
     pub fn of(alloc: Global, value: &Node<'_, '_>) -> Result<Ground, TagFault>
         ensures request { IfOk result (λ g. IsRequest g) }
@@ -157,11 +161,11 @@ impl Ground {
         read_request(alloc, value)
     }
 
-    /// Like `of`, for node `n` of a document, which must exist.
+    /// Like `Ground::of`, for a caller that has the number `n` of a node and not the node. The document must have the node.
     ///
     /// # Errors
     ///
-    /// Those of `of`.
+    /// The first fault, depth first from the left: `Hint`, `EmptyList`, `ListHead` or `StarInRequest`; or `Memory`.
     pub fn read(alloc: Global, document: &Doc<'_>, n: NodeId) -> Result<Ground, TagFault>
         requires { IsSome (node document.now n.0) }
         ensures request { IfOk result (λ g. IsRequest g) }

@@ -7,8 +7,8 @@ use crate::shared_tags::tags_in;
 use crate::tag::{Node, Tag};
 
 impl Tag {
-    /// Whether the tag is a set, also `(* set)`, or has a set as a member at any depth. `spki_decision` asks it to know how large
-    /// intersections can become. Allocates nothing.
+    /// Whether the tag is a set, also `(* set)`, or has a set as a member at any depth. `spki_decision` calls this to know how large
+    /// intersections can become: without sets they have at most the sum of the nodes of both tags. Allocates nothing.
     #[cycle(nests_set)]
     pub fn nests_set(&self) -> bool
         ensures { result ≡ nests_set self.now }

@@ -7,10 +7,10 @@ use crate::tag::Tag;
 use std::alloc::AllocError;
 use std::sync::ArcSlice;
 
-/// The members of a list after its head, or those of a set, in order. None if there is none: that takes no memory.
+/// The members of a list after its head, or those of a set, in order. None if there are none: that takes no memory.
 pub(crate) type SharedTags = Option<ArcSlice<Tag>>;
 
-/// The tags of a vector, so that they can be shared. Err if memory ran out.
+/// The tags of a vector, in order, so that they can be shared. Err if memory ran out.
 pub(crate) fn shared(tags: Vec<Tag>) -> Result<SharedTags, AllocError>
     ensures { IfOk result (λ members. shared_items members ≡ tags.items) }
 {
@@ -20,7 +20,7 @@ pub(crate) fn shared(tags: Vec<Tag>) -> Result<SharedTags, AllocError>
     Ok(Some(ArcSlice::from_vec(tags)?))
 }
 
-/// The same tags again. Nothing is copied. Err if they are shared too often to count.
+/// The same tags once more, for a copy of the tag that has them. Nothing is copied. Err if they are shared too often to count.
 pub(crate) fn shared_again(members: &SharedTags) -> Result<SharedTags, AllocError>
     ensures { IfOk result (λ copy. shared_items copy ≡ shared_items members.now) }
 {

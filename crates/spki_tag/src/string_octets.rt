@@ -11,17 +11,18 @@ use std::sync::ArcSlice;
 /// for them would take many times their octets. In a contract they are a list.
 #[derive(Debug, Drop)]
 pub(crate) struct StringOctets {
+    /// The octets, or where they are shared.
     held: Held,
 }
 
-/// Where the octets lie.
+/// The octets of a string, by their number.
 #[derive(Debug, Drop)]
 enum Held {
     /// No octet.
     Nothing,
     /// One octet.
     One(u8),
-    /// Two octets or more.
+    /// Two octets or more, in memory that copies share.
     Shared(ArcSlice<u8>),
 }
 

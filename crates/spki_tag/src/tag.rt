@@ -10,19 +10,23 @@ use crate::string_octets::StringOctets;
 use std::alloc::AllocError;
 use std::marker::Model;
 
-/// A tag: a set of requests, in normal form and of at most 1,000,000 nodes (RFC 2693, section 6.3.1).
+/// A tag: a pattern for requests, in normal form and of at most 1,000,000 nodes (RFC 2693, section 6.3.1). In normal form no set has a
+/// member that is a set or `(*)`, or only one member, and no list has a member `(* set)`. In a contract it is the `Tag` of
+/// `specs/Tag.antt`.
 #[cycle(tag)]
 #[derive(Debug, Drop)]
 pub struct Tag {
+    /// The form of the tag, with what it contains.
     pub(crate) node: Node,
 }
 
+/// The form of a tag. The number of nodes of a list or a set is kept, so that `Tag::nodes` does not count them.
 #[cycle(tag)]
 #[derive(Debug, Drop)]
 pub(crate) enum Node {
     /// A tag without members.
     Leaf(Leaf),
-    /// A head and further members, and the number of nodes of the list: 2, for itself and the head, and those of the members.
+    /// A head and further members, and the number of nodes of the list: 2, for itself and the head, and those of the further members.
     List(SharedOctets, SharedTags, usize),
     /// Members, and the number of nodes of the set: 1 and those of the members.
     Set(SharedTags, usize),
@@ -85,8 +89,8 @@ impl Tag {
         }
     }
 
-    /// The list of a head and further tags, none of which is `(* set)`. So it is in normal form. `Tag::list_of` allows any tags. Err if
-    /// memory ran out.
+    /// The list of a head, which must not be `*`, and further tags, none of which may be `(* set)`. So it is in normal form. It must have
+    /// at most 1,000,000 nodes. `Tag::list_of` allows `(* set)`. Err if memory ran out.
     pub(crate) fn list(head: SharedOctets, further: Vec<Tag>) -> Result<Tag, AllocError>
         requires { spec.IsNormalTag (spec.list (arc_slice_items head) (spec.tags further.items)) }
         ensures { IfOk result (λ t. t ≡ spec.list (arc_slice_items head) (spec.tags further.items)) }
@@ -97,8 +101,8 @@ impl Tag {
         })
     }
 
-    /// The set of these tags, none of which is a set or `(*)`, in normal form. If there is only one, it is that tag; if there is none,
-    /// `(* set)`. `Tag::set_of` allows `(*)`. Err if memory ran out.
+    /// The set of these tags in normal form: if there is only one, it is that tag; if there is none, `(* set)`. Of several, none may be a
+    /// set or `(*)`. It must have at most 1,000,000 nodes. `Tag::set_of` allows `(*)`. Err if memory ran out.
     pub(crate) fn gathered(members: Vec<Tag>) -> Result<Tag, AllocError>
         requires { spec.IsNormalTag (gather members.items) }
         ensures { IfOk result (λ t. t ≡ gather members.items) }
@@ -111,7 +115,8 @@ impl Tag {
         }
     }
 
-    /// The set of these tags, which are not one alone, as `Tag::gathered`. Err if memory ran out.
+    /// The set of these tags: none, or at least two, none of which may be a set or `(*)`. It must have at most 1,000,000 nodes.
+    /// `Tag::gathered` also takes a single tag. Err if memory ran out.
     fn set(members: Vec<Tag>) -> Result<Tag, AllocError>
         requires { spec.IsNormalTag (spec.set (spec.tags members.items)) }
         ensures { IfOk result (λ t. t ≡ spec.set (spec.tags members.items)) }
@@ -122,8 +127,8 @@ impl Tag {
         })
     }
 
-    /// The number of nodes of the tag. A string, a prefix, a range and `(*)` are one. A list or a set is one plus the nodes
-    /// of its members; the head of a list is a member.
+    /// The number of nodes of the tag. A string, a prefix, a range and `(*)` are one. A list or a set is one plus the nodes of its members;
+    /// the head of a list is a member. The clause `normal` is true of every tag, and is there for the proofs of callers.
     pub fn nodes(&self) -> usize
         ensures count { result ≡ spec.nodes self.now }
         ensures normal { spec.IsNormalTag self.now }
@@ -136,7 +141,8 @@ impl Tag {
     }
 }
 
-/// The sum of the numbers of nodes of these tags, which must be at most 1,000,000.
+/// The sum of the numbers of nodes of these tags. The sum must be at most 1,000,000, so no addition overflows; the clause `few` repeats
+/// that for the callers.
 fn nodes_of(members: &[Tag]) -> usize
     requires { spec.nodes_all (spec.tags members.now) ≤ spec.most_nodes }
     ensures count { result ≡ spec.nodes_all (spec.tags members.now) }
@@ -149,7 +155,8 @@ fn nodes_of(members: &[Tag]) -> usize
     sum
 }
 
-/// A copy has the same value. It shares the members of a list or a set, and the octets of strings, so it takes no time for them.
+/// A copy has the same value. It shares the members of a list or a set, and the octets of strings, so it takes no time for them. It fails
+/// only if 2^63 would share them.
 impl Clone for Tag {
     ghost is_clone = { λ t u. u ≡ t };
 

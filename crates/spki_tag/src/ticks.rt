@@ -8,11 +8,14 @@ use std::sync::ledger::{Blank, Book, Ledger, Share};
 /// A count of work. It takes no octets and no time, since it exists only in contracts. Only `tick` and `read` change it, and they
 /// only add. In a contract it is a number.
 ///
-/// `.._counted` adds to the caller's count. Who has none calls `.._with_new_count`, a function of its own because the type `L`, by which
-/// one count is told from another, can only be picked where a generic function is called.
+/// A function whose name ends with `_counted` adds to the count of its caller. One whose name ends with `_with_new_count` makes a count for
+/// a caller that has none. It is a function of its own because the type `L`, by which one count is told from another, can only be picked
+/// where a generic function is called.
 #[derive(Drop)]
 pub struct Ticks<L: Ledger> {
+    /// The total of a ledger: the toolchain's name for a sum that exists only in contracts.
     book: Book<L>,
+    /// A part of the ledger. Only with one may anything be added.
     share: Share<L>,
 }
 
@@ -27,7 +30,7 @@ impl<L: Ledger> Model for Ticks<L> {
 }
 
 impl<L: Ledger> Ticks<L> {
-    /// A count of 0. `blank` opens the toolchain's ledger in which it is kept, and must be that of `L`.
+    /// A count of 0. `blank` is a new ledger of the toolchain, in which the count is kept. It must be that of `L`.
     pub fn new(blank: Blank) -> Ticks<L>
         requires name { blank.name ≡ L.name }
         requires parts { blank.parts ≡ L.parts }
@@ -45,7 +48,7 @@ impl<L: Ledger> Ticks<L> {
         self.book.add(&mut self.share, 1);
     }
 
-    /// Adds this number: of octets that are read or compared, or of names.
+    /// Adds this number: of octets that are read or compared, of members that are copied, or of names.
     pub fn read(&mut self, octets: usize)
         ensures { self.new ≡ self.old + octets }
     {

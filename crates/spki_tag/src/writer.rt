@@ -33,7 +33,7 @@ fn ordering_name(ordering: RangeOrdering) -> &'static [u8]
 }
 
 /// Appends a word and the limit's string to `out`, the members of a range so far. The word is `strict`, `g` or `l`, for a strict limit,
-/// otherwise `inclusive`, `ge` or `le`. Appends nothing if the limit is missing. Err if memory ran out.
+/// otherwise `inclusive`, `ge` or `le`. Appends nothing if the limit is missing. Err if memory ran out; then `out` may have the word alone.
 fn push_limit(
     alloc: Global,
     out: &mut Vec<Sexp>,
@@ -87,7 +87,7 @@ fn write_leaf(alloc: Global, leaf: &Leaf) -> Result<Sexp, AllocError>
 }
 
 impl Tag {
-    /// Writes the tag in normal form (RFC 2693, section 6.3.1).
+    /// Writes the tag, which is in normal form, as an S-expression (RFC 2693, section 6.3.1).
     ///
     /// # Errors
     ///
@@ -114,7 +114,8 @@ impl Tag {
     }
 }
 
-/// Writes each tag, and appends it to `out`, the members of a list or a set so far. Err if memory ran out.
+/// Writes each tag, and appends it to `out`, the members of a list or a set so far. Err if memory ran out; then `out` may have some of
+/// them.
 #[cycle(write)]
 fn push_each(alloc: Global, out: &mut Vec<Sexp>, members: &[Tag]) -> Result<(), AllocError>
     ensures { OnOk result (map sexp_value out.new.items
