@@ -10,8 +10,9 @@ use sexpr_core::{Doc, FormFault, MOST_OCTETS};
 use std::alloc::{AllocError, Global};
 use std::marker::Model;
 
-/// A text in any of the three forms, as it was read: its value in canonical form (RFC 9804, section 6.2), or the fault
-/// of its form. In a contract it is Ok with the canonical octets, or Err with the fault.
+/// A text in any of the three forms, canonical, transport or advanced, as it was read: its value in canonical form (RFC
+/// 9804, section 6.2), or why it has none within the limits. In a contract it is Ok with the canonical octets, or Err
+/// with the fault.
 #[derive(Drop)]
 pub struct CanonicalText<'t> {
     held: HeldText<'t>,
@@ -22,9 +23,11 @@ pub struct CanonicalText<'t> {
 enum HeldText<'t> {
     /// The document of the given text, which is canonical.
     Given(Doc<'t>),
-    /// Canonical octets that were made of the value, since the given text was in another form, or there was none.
+    /// Canonical octets in memory of their own. The given text was in another form, it was copied by `into_owned`, or the
+    /// octets were given to `made`.
     Made(Vec<u8>),
-    /// The given text has no value within the limits, for this fault.
+    /// Why there is no value within the limits: the fault of the given text, or `TooLong` if the canonical octets are too
+    /// many.
     Malformed(FormFault),
 }
 
@@ -45,15 +48,15 @@ impl<'t> Model for CanonicalText<'t> {
 pub enum OpenText<'d> {
     /// The document of the given text.
     Given(&'d Doc<'d>),
-    /// A document that was opened.
+    /// A document that was opened for the canonical octets that were made.
     Opened(Doc<'d>),
 }
 
 impl<'t> CanonicalText<'t> {
     /// Reads a text in canonical, transport or advanced form. A canonical text is not copied, and is parsed once. Another
-    /// text is converted. A text without a value within the limits is no error here: `document` returns its fault, which
-    /// is that of `convert`. The fault is `TooLong` exactly if the text, or its canonical form, has more than 1,048,576
-    /// octets.
+    /// text is converted. A text without a value within the limits is no error here: `document` returns the fault of
+    /// `convert`, or `TooLong` if the canonical form is too long. The fault is `TooLong` exactly if the text, or its
+    /// canonical form, has more than 1,048,576 octets.
     ///
     /// # Errors
     ///
@@ -71,8 +74,9 @@ impl<'t> CanonicalText<'t> {
         }
     }
 
-    /// Converts a text in any of the three forms to canonical form. A text without a value within the limits is Ok too:
-    /// its fault is kept for `document`. Err if memory ran out.
+    /// Converts a text in any of the three forms to canonical form, for `read`, which calls it for a text that is not
+    /// canonical. A text without a value within the limits is Ok too: its fault is kept for `document`. Err if memory ran
+    /// out.
     fn converted(alloc: Global, text: &[u8]) -> Result<CanonicalText<'t>, AllocError>
         ensures read { IfOk result (IsReadAs (IsTextWithin text.now) (RefusesForm text.now)) }
         ensures too_long { 1048576 < length text.now → IsOkAnd result (λ read. read ≡ Err FormFault.TooLong) }
@@ -125,8 +129,8 @@ impl<'t> CanonicalText<'t> {
         }
     }
 
-    /// Returns the same text in memory of its own: the given text may change afterwards. Octets that were made are not
-    /// copied.
+    /// Returns the same text in memory of its own: the given text may change afterwards. A text that is in memory of its
+    /// own already is not copied. A fault stays.
     ///
     /// # Errors
     ///

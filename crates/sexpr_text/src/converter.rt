@@ -26,8 +26,14 @@ pub enum Form {
     Advanced,
 }
 
-/// Reads a text in canonical, transport or advanced form, and returns its value in the form `form`. The value is
-/// written while it is read, without a tree. The refusals are those of `read_any`.
+/// Reads a text in canonical, transport or advanced form, and returns its value in the form `form`. No tree is made. The
+/// result may have more than `MOST_OCTETS` octets: the text may be shorter.
+///
+/// # Errors
+///
+/// TooLong: the text has more than `MOST_OCTETS` octets. Otherwise the first fault from the left: TooDeep, Short, Bad or
+/// Trailing, as `FormFault` says. In transport form the decoded octets are tested at the closing brace, so their fault is
+/// TooDeep, or Bad at this brace. Memory: memory ran out.
 pub fn convert(alloc: Global, form: Form, text: &[u8]) -> Result<Vec<u8>, FormFault>
     ensures read { IfOk result (λ out. (v : Value) × IsTextWithin text.now v × (out.items ≡ written form v)) }
     ensures only { (v : Value) → IsTextWithin text.now v → IsOkUnless result FormFault.Memory }
@@ -41,8 +47,8 @@ pub fn convert(alloc: Global, form: Form, text: &[u8]) -> Result<Vec<u8>, FormFa
     convert_advanced(alloc, form, text)
 }
 
-/// Returns the value of a text in transport form, which is base64 in braces, in the form `form`. The refusals are those
-/// of `unwrap_braces`.
+/// Returns the value of a text in transport form, which is base64 of a canonical form in braces, in the form `form`. Err
+/// is `TooLong`, or the first fault, `TooDeep`, `Short`, `Bad` or `Trailing`, or `Memory`.
 fn convert_braces(alloc: Global, form: Form, text: &[u8]) -> Result<Vec<u8>, FormFault>
     ensures read { IfOk result (λ out. (v : Value) × IsBracedWithin text.now v × (out.items ≡ written form v)) }
     ensures only { (v : Value) → IsBracedWithin text.now v → IsOkUnless result FormFault.Memory }
@@ -66,7 +72,8 @@ fn advanced_of(alloc: Global, octets: &[u8]) -> Result<Vec<u8>, FormFault>
     convert_advanced(alloc, Form::Advanced, octets)
 }
 
-/// Reads a text in advanced form, and returns its value in the form `form`. The refusals are those of `read_advanced`.
+/// Reads a text in advanced form, and returns its value in the form `form`. The value is written while it is read. Err is
+/// `TooLong`, or the first fault, `TooDeep`, `Short`, `Bad` or `Trailing`, or `Memory`.
 fn convert_advanced(alloc: Global, form: Form, text: &[u8]) -> Result<Vec<u8>, FormFault>
     ensures read { IfOk result (λ out. (v : Value) × IsSpelledWithin text.now v × (out.items ≡ written form v)) }
     ensures only { (v : Value) → IsSpelledWithin text.now v → IsOkUnless result FormFault.Memory }
@@ -108,8 +115,8 @@ fn gap_between(form: Form) -> Option<u8>
     }
 }
 
-/// Appends the gap before a member of a list to the output, or nothing for None, which is before the first member and
-/// in canonical form. Err if memory ran out.
+/// Appends the gap before a member of a list to the output: the octet of `gap_between`, or nothing for None, which is
+/// before the first member and in canonical form. Err if memory ran out.
 fn write_gap(gap: Option<u8>, out: &mut Vec<u8>) -> Result<(), AllocError>
     ensures { OnOk result (out.new.items ≡ out.old.items ++ option_to_list gap) }
 {
@@ -120,9 +127,9 @@ fn write_gap(gap: Option<u8>, out: &mut Vec<u8>) -> Result<(), AllocError>
 }
 
 /// Reads the string without a display hint at the offset `at`, whose first octet is `first`, and appends it to `out` in
-/// the form `form`. Returns the offset after it. A token has a way of its own only for speed. The text has at most
-/// `MOST_OCTETS` octets. Err is the first fault, `Short` or `Bad`, or `Memory`. On an error a part of the string may
-/// have been appended.
+/// the form `form`. Returns the offset after it. A token, a string such as `abc` without marks, has a branch of its own
+/// only for speed. The text has at most `MOST_OCTETS` octets. Err is the first fault, `Short` or `Bad`, or `Memory`. On
+/// an error a part of the string may have been appended.
 #[inline(always)]
 fn convert_string(
     alloc: Global,
@@ -148,9 +155,9 @@ fn convert_string(
     Ok(string.end)
 }
 
-/// Reads the token at the offset `at`, and appends it to `out` in the form `form`. Its first octet is `first`, which
-/// may occur in a token and is no digit. Returns the offset after it. Err if memory ran out: then a part of it may have
-/// been appended.
+/// Reads the token, a string such as `abc` without marks, at the offset `at`, and appends it to `out` in the form `form`.
+/// Its first octet is `first`, which may occur in a token and is no digit. Returns the offset after the token. Err if
+/// memory ran out: then a part of the token may have been appended.
 #[inline(always)]
 fn convert_token(
     text: &[u8],
@@ -187,8 +194,8 @@ fn write_token(form: Form, octets: &[u8], out: &mut Vec<u8>) -> Result<(), Alloc
 /// Reads the value at the offset `at`, which may be the end of the text, and appends it to `out` in the form `form`.
 /// Returns the offset after it. The text has at most `MOST_OCTETS` octets. At most `room` lists may be open at once in
 /// the value. Err is the first fault, `TooDeep`, `Short` or `Bad`, or `Memory`. On an error a part of the value may
-/// have been appended. This function and those that it calls for a token are inlined. So a member that is a token takes
-/// one call only, the one that writes it.
+/// have been appended. This function, `convert_string` and `convert_token` are inlined for speed: a member that is a
+/// token needs no call of them.
 #[cycle(converting)]
 #[inline(always)]
 fn convert_value(
@@ -217,7 +224,8 @@ fn convert_value(
 
 /// Reads the list whose opening parenthesis is at `at`, and appends it to `out` in the form `form`. Returns the offset
 /// after it. The text has at most `MOST_OCTETS` octets. At most `room` lists may be open at once, this one included.
-/// Err is as for `convert_value`.
+/// Err is the first fault, `TooDeep`, `Short` or `Bad`, or `Memory`. On an error a part of the list may have been
+/// appended.
 #[cycle(converting)]
 fn convert_list(
     alloc: Global,
@@ -242,9 +250,10 @@ fn convert_list(
     convert_members(alloc, text, at + 1, room - 1, form, out)
 }
 
-/// Reads the members of a list and its closing parenthesis, from the offset `at` on, with whitespace around each, and
-/// appends them to `out` in the form `form`. Returns the offset after the parenthesis. The text has at most
-/// `MOST_OCTETS` octets. At most `room` lists may be open at once in the members. Err is as for `convert_value`.
+/// Reads the members of a list and its closing parenthesis, from the offset `at` on, and appends them to `out` in the
+/// form `form`. Whitespace is allowed around each. Returns the offset after the parenthesis. The text has at most
+/// `MOST_OCTETS` octets. At most `room` lists may be open at once in the members. Err is the first fault, `TooDeep`,
+/// `Short` or `Bad`, or `Memory`. On an error a part of the members may have been appended.
 #[cycle(converting)]
 fn convert_members(
     alloc: Global,
@@ -277,9 +286,9 @@ fn convert_members(
     Err(FormFault::Short)
 }
 
-/// Reads the string with a hint whose opening bracket is at `at`, and appends it to `out` in the form `form`. Returns
-/// the offset after it. The text has at most `MOST_OCTETS` octets. Err is the first fault, `Short` or `Bad`, or
-/// `Memory`. On an error a part of the string may have been appended.
+/// Reads the string with a display hint, such as `[hint]abc`, whose opening bracket is at `at`, and appends it to `out`
+/// in the form `form`, with its hint. Returns the offset after it. The text has at most `MOST_OCTETS` octets. Err is the
+/// first fault, `Short` or `Bad`, or `Memory`. On an error a part of the string may have been appended.
 fn convert_hinted(
     alloc: Global,
     text: &[u8],

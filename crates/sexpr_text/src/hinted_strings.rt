@@ -10,7 +10,7 @@ use sexpr_core::syntax::{octet_at, skip_spaces};
 use std::alloc::Global;
 use std::borrow::CowSlice;
 
-/// The hint and the octets of a string, and the offset after its text.
+/// The display hint and the octets of a string, and the offset after its text.
 #[derive(Drop)]
 pub(crate) struct HintedString<'t> {
     pub(crate) hint: CowSlice<'t, u8, Global>,
@@ -18,8 +18,9 @@ pub(crate) struct HintedString<'t> {
     pub(crate) end: usize,
 }
 
-/// Reads the string with a hint whose opening bracket is at `at`. Whitespace is allowed around the hint and after the
-/// closing bracket. The text has at most `MOST_OCTETS` octets. Err is the first fault, `Short` or `Bad`, or `Memory`.
+/// Reads the string with a display hint, such as `[hint]abc`, whose opening bracket is at `at`. Whitespace is allowed
+/// around the hint and after the closing bracket. The text has at most `MOST_OCTETS` octets. Err is the first fault,
+/// `Short` or `Bad`, or `Memory`.
 pub(crate) fn read_hinted_string<'t>(
     alloc: Global,
     text: &'t [u8],

@@ -1,7 +1,8 @@
 //! S-expressions in advanced form (RFC 9804, section 6.4), which are read and printed, and texts of any form, which are read
 //! and converted.
 //!
-//! `read_advanced`, `read_any` and `print_tree` are only for programs in Rattle that use this library: they read and print trees.
+//! `read_advanced`, `read_any`, `print_advanced` and `print_tree` are only for programs in Rattle that use this library: they read and
+//! print trees.
 //!
 //! `laws` contains what is proved about the definitions.
 #![tactic(auto)]

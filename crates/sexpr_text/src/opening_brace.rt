@@ -4,8 +4,8 @@ ghost use Rattle.std.specs.Prelude.{◌≡◌, ℕ, List, ◌≤◌, ◌↔◌, 
 
 use sexpr_core::syntax::octet_at;
 
-/// Whether an opening brace is at the offset `at`, which may be the end of the text. A text with one as its first octet
-/// past whitespace is read as transport form, and any other as advanced form.
+/// Whether an opening brace is at the offset `at`. False at the end of the text. A text whose first octet past whitespace
+/// is an opening brace is read as transport form, and any other as advanced form.
 pub(crate) fn opens_braces(text: &[u8], at: usize) -> bool
     requires { at ≤ length text.now }
     ensures { IsTrue result ↔ ((rest : List ℕ) × (drop at text.now ≡ 123 ∷ rest)) }

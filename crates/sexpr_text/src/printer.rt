@@ -32,9 +32,9 @@ pub fn print_advanced(alloc: Global, tree: &Sexp) -> Result<Vec<u8>, AllocError>
     Ok(out)
 }
 
-/// Whether an octet may occur in a token: a letter, a digit, or one of `- . / _ : * + =`. Letters are the most
-/// frequent, so they take the fewest comparisons. The octets from `*` to `:` are the digits, `,` and these marks,
-/// except `_` and `=`.
+/// Whether an octet may occur in a token, a string such as `abc` without marks: a letter, a digit, or one
+/// of `- . / _ : * + =`. Small letters take the fewest comparisons, as they are usually the most frequent. The octets from
+/// `*` to `:` are the digits, `,` and these marks, except `_` and `=`.
 pub fn is_token_octet(octet: u8) -> bool
     ensures { result ≡ is_token_octet octet }
 {
@@ -139,8 +139,8 @@ fn print_packed<S: Sink>(octets: &[u8], sink: &mut S)
     sink.put_octet(b'|');
 }
 
-/// Prints a string without a display hint, as `print_advanced` does. Prints nothing to a full sink. Allocates nothing,
-/// unless the sink does.
+/// Prints a string without a display hint, as `print_advanced` does: as a token, quoted or in base64. Prints nothing to a
+/// full sink. Allocates nothing, unless the sink does.
 #[tactic(auto, using(crate::proofs::Printed::printed_token, crate::proofs::Printed::printed_quoted, crate::proofs::Printed::printed_packed))]
 pub fn print_octets<S: Sink>(octets: &[u8], sink: &mut S)
     ensures printed { S.takes sink.old (printed_string octets.now) sink.new }

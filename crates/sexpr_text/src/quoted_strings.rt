@@ -23,7 +23,7 @@ struct Escape {
 }
 
 /// Returns the offset of the first quote or backslash from the offset `at` on, or the length of the text if there is
-/// none. `at` is at most this length.
+/// none. The octets before it mean themselves. `at` is at most the length of the text.
 fn plain_end(text: &[u8], at: usize) -> usize
     requires { at ≤ length text.now }
     ensures { (octets : List ℕ) × ReadsPlain text.now at octets result }
@@ -57,7 +57,7 @@ pub(crate) fn lend_quoted<'t>(text: &'t [u8], at: usize) -> Option<ReadString<'t
 }
 
 /// Reads the quoted string whose opening quote is at `at`, and copies its octets, with what each escape means in its
-/// place. Err is the first fault, `Short` if it does not end or `Bad` in an unknown escape, or `Memory`.
+/// place. Err is the first fault, `Short` if the string does not end or `Bad` in an unknown escape, or `Memory`.
 pub(crate) fn read_quoted(alloc: Global, text: &[u8], at: usize) -> Result<MarkedString, FormFault>
     requires { StandsAt text.now at 34 }
     ensures read { IfOk result (λ read. Reads IsQuoted text.now at read.octets.items read.end) }
@@ -78,7 +78,7 @@ pub(crate) fn read_quoted(alloc: Global, text: &[u8], at: usize) -> Result<Marke
 
 /// Reads the octet at `at`, which is `octet` and no quote, or the escape that begins there, and appends what it means
 /// to `octets`. For an escaped line end nothing is appended. Returns the offset after the octet or the escape. Err is
-/// the fault of the escape, or `Memory`.
+/// the fault of the escape (`Short` or `Bad`), or `Memory`.
 #[tactic(auto, using(crate::proofs::StringLaws::raw_piece))]
 fn read_piece(text: &[u8], at: usize, octet: u8, octets: &mut Vec<u8>) -> Result<usize, FormFault>
     requires begins { StandsAt text.now at octet }
@@ -192,8 +192,8 @@ fn hexadecimal_value(octet: u8) -> Option<u8>
     }
 }
 
-/// The value of the hexadecimal digit at the offset `at`. Err is `Bad` for another octet, or `Short` at the end of the
-/// text.
+/// The value, 0 to 15, of the hexadecimal digit at the offset `at`. Err is `Bad` for another octet, or `Short` at the end
+/// of the text.
 fn read_hexadecimal_digit(text: &[u8], at: usize) -> Result<u8, FormFault>
     requires { at ≤ length text.now }
     ensures read { IfOk result (λ digit. ReadsDigit text.now at digit) }
@@ -227,7 +227,8 @@ fn read_hexadecimal_escape(text: &[u8], at: usize) -> Result<Escape, FormFault>
     })
 }
 
-/// The value of the octal digit at the offset `at`. Err is `Bad` for another octet, or `Short` at the end of the text.
+/// The value, 0 to 7, of the octal digit at the offset `at`. Err is `Bad` for another octet, or `Short` at the end of the
+/// text.
 fn read_octal_digit(text: &[u8], at: usize) -> Result<u8, FormFault>
     requires { at ≤ length text.now }
     ensures read { IfOk result (λ digit. (digit < 8) × StandsAt text.now at (48 + digit)) }
@@ -244,8 +245,9 @@ fn read_octal_digit(text: &[u8], at: usize) -> Result<u8, FormFault>
     Ok(octet - b'0')
 }
 
-/// Reads the three octal digits of an escape, from the offset `at` on. `first` is the value of the first digit, at most
-/// 3, which was read before. Err is `Bad` at the first other octet, or `Short` if the text ends before all three.
+/// Reads the three octal digits of an escape, from the offset `at` on. `first` is the value of the first digit, which was
+/// read before. It is at most 3, so that the octet is at most 255. Err is `Bad` at the first other octet, or `Short` if
+/// the text ends before all three.
 fn read_octal_escape(text: &[u8], at: usize, first: u8) -> Result<Escape, FormFault>
     requires begins { StandsAt text.now at (48 + first) }
     requires low { first < 4 }

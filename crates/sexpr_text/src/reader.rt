@@ -27,8 +27,9 @@ struct ReadMembers {
     end: usize,
 }
 
-/// Reads a text in advanced form, which includes canonical form (RFC 9804, section 6.4). Whitespace is allowed around
-/// the value. The text has at most `MOST_OCTETS` octets, and at most `MOST_LISTS` lists are open in it at once.
+/// Reads a text in advanced form, which includes canonical form (RFC 9804, section 6.4), and returns the tree of its
+/// value. Whitespace is allowed around the value. The text may have at most `MOST_OCTETS` octets, and at most
+/// `MOST_LISTS` lists may be open in it at once.
 ///
 /// # Errors
 ///
@@ -51,8 +52,14 @@ pub fn read_advanced(alloc: Global, text: &[u8]) -> Result<Sexp, FormFault>
     Ok(tree)
 }
 
-/// Reads a text as transport form if its first octet past whitespace is an opening brace, and otherwise as advanced form.
-/// The refusals are those of `unwrap_braces` and `read_advanced`.
+/// Reads a text as transport form if its first octet past whitespace is an opening brace, and otherwise as advanced form,
+/// which includes canonical form. Returns the tree of its value.
+///
+/// # Errors
+///
+/// TooLong: the text has more than `MOST_OCTETS` octets. Otherwise the first fault from the left: TooDeep, Short, Bad or
+/// Trailing, as `FormFault` says. In transport form the decoded octets are tested at the closing brace, so their fault is
+/// TooDeep, or Bad at this brace. Memory: memory ran out.
 pub fn read_any(alloc: Global, text: &[u8]) -> Result<Sexp, FormFault>
     ensures read { IfOk result (λ tree. IsTextWithin text.now (sexp_value tree)) }
     ensures only { (v : Value) → IsTextWithin text.now v → IsOkUnless result FormFault.Memory }
@@ -96,7 +103,8 @@ fn read_tree(alloc: Global, text: &[u8], at: usize, room: usize) -> Result<ReadT
 }
 
 /// Reads the list whose opening parenthesis is at `at`. Returns its tree and the offset after it. The text has at most
-/// `MOST_OCTETS` octets. At most `room` lists may be open at once, this one included. Err is as for `read_tree`.
+/// `MOST_OCTETS` octets. At most `room` lists may be open at once, this one included. Err is the first fault, `TooDeep`,
+/// `Short` or `Bad`, or `Memory`.
 #[cycle(reading)]
 fn read_list(alloc: Global, text: &[u8], at: usize, room: usize) -> Result<ReadTree, FormFault>
     requires short { length text.now ≤ 1048576 }
@@ -116,9 +124,9 @@ fn read_list(alloc: Global, text: &[u8], at: usize, room: usize) -> Result<ReadT
     })
 }
 
-/// Reads the members of a list and its closing parenthesis, from the offset `at` on, with whitespace around each.
-/// Returns their trees and the offset after the parenthesis. The text has at most `MOST_OCTETS` octets. At most `room`
-/// lists may be open at once in the members. Err is as for `read_tree`.
+/// Reads the members of a list and its closing parenthesis, from the offset `at` on. Whitespace is allowed around each.
+/// Returns the members' trees and the offset after the parenthesis. The text has at most `MOST_OCTETS` octets. At most
+/// `room` lists may be open at once in the members. Err is the first fault, `TooDeep`, `Short` or `Bad`, or `Memory`.
 #[cycle(reading)]
 fn read_members(
     alloc: Global,
@@ -149,8 +157,8 @@ fn read_members(
     Err(FormFault::Short)
 }
 
-/// Reads the string with a hint whose opening bracket is at `at`. Returns its tree and the offset after it. The text
-/// has at most `MOST_OCTETS` octets. Err is the first fault, `Short` or `Bad`, or `Memory`.
+/// Reads the string with a display hint, such as `[hint]abc`, whose opening bracket is at `at`. Returns its tree and the
+/// offset after it. The text has at most `MOST_OCTETS` octets. Err is the first fault, `Short` or `Bad`, or `Memory`.
 fn read_hinted(alloc: Global, text: &[u8], at: usize) -> Result<ReadTree, FormFault>
     requires short { length text.now ≤ 1048576 }
     requires begins { StandsAt text.now at 91 }

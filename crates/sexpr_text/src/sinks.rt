@@ -6,27 +6,29 @@ ghost use Rattle.sexpr_text.specs.Sinks.{VectorTakes, IsCounted, lender_of, text
 use std::alloc::AllocError;
 
 /// Takes octets, one piece after another. Printing returns no error: a sink that can fail keeps the failure, and
-/// reports it in a method of its own, such as `VectorSink::end`, whatever is put after it.
+/// reports it in a method of its own, such as `VectorSink::end`, whatever is put after the failure.
 pub trait Sink {
     // What it means that a sink takes octets: the sink before, the octets, and the sink after.
     ghost takes: { Self → List ℕ → Self → Type 0 };
 
-    // The sink stays as it is from now on.
+    // Whether the sink is full: what is put from now on does not matter.
     ghost full: { Self → Bool };
 
-    /// Takes octets, after all that were put before. A full sink may drop them.
+    /// Takes octets, after all that were put before. A sink that is full, or that fails at them, may drop them.
     fn put(&mut self, octets: &[u8])
         ensures { takes self.old octets.now self.new };
 
-    /// Takes one octet, after all that were put before. A full sink may drop it.
+    /// Takes one octet, after all that were put before. A sink that is full, or that fails at it, may drop it.
     fn put_octet(&mut self, octet: u8)
         ensures { takes self.old (octet ∷ []) self.new };
 
-    /// Whether the sink stays as it is, whatever is put from now on. Then a printer may stop early.
+    /// Whether the sink is full: what is put from now on does not matter, as after a failure. Then a printer may stop
+    /// early.
     fn is_full(&self) -> bool
         ensures { result ≡ full self.now };
 
-    // To take nothing changes no sink, two pieces are taken as one that joins them, and a full sink takes anything without a change.
+    // An unchanged sink counts as one that has taken no octets, and if it is full, also as one that has taken any. Two pieces are
+    // taken as one that joins them.
     ghost nothing: { (s : Self) → takes s [] s };
 
     ghost both: { (a b c : Self) (x y : List ℕ) → takes a x b → takes b y c → takes a (x ++ y) c };
@@ -108,6 +110,7 @@ impl<'v> Sink for VectorSink<'v> {
 /// Counts the octets that are put, and keeps none of them: a printer with this sink measures a text without writing it.
 #[derive(Clone, Copy, Debug)]
 pub struct Counter {
+    /// How many octets were put, up to the greatest `u64`.
     count: u64,
 }
 

@@ -15,7 +15,7 @@ use sexpr_core::{FormFault, MOST_OCTETS};
 use std::alloc::{AllocError, Global};
 use std::borrow::CowSlice;
 
-/// The octets of a string, borrowed from the text if it contains them as they are, and the offset after the string's
+/// The octets of a string, borrowed from the text or decoded into memory of their own, and the offset after the string's
 /// text.
 #[derive(Drop)]
 pub(crate) struct ReadString<'t> {
@@ -30,17 +30,18 @@ pub(crate) struct MarkedString {
     pub(crate) end: usize,
 }
 
-/// The length in front of a string, at most `MOST_OCTETS` plus one, and the offset after its digits.
+/// The length in front of a string, and the offset after its digits. A length over `MOST_OCTETS` is `MOST_OCTETS` plus
+/// one here.
 #[derive(Clone, Copy)]
 struct Count {
     number: usize,
     end: usize,
 }
 
-/// Reads the string without a display hint at the offset `at`, which may be the end of the text: a token, a string in
-/// verbatim form, or one between the marks `"`, `#` or `|`, with or without a length in front. A token, a string in
-/// verbatim form and a quoted string without an escape or a length are borrowed from the text. The text has at most
-/// `MOST_OCTETS` octets. Err is the first fault, `Short` or `Bad`, or `Memory`.
+/// Reads the string without a display hint at the offset `at`, which may be the end of the text: a token such as `abc`, a
+/// string in verbatim form such as `3:abc`, or one between marks, `"abc"`, `#616263#` or `|YWJj|`, which may have its
+/// length in front. A token, a string in verbatim form and a quoted string without an escape or a length are borrowed
+/// from the text. The text has at most `MOST_OCTETS` octets. Err is the first fault, `Short` or `Bad`, or `Memory`.
 pub(crate) fn read_string<'t>(
     alloc: Global,
     text: &'t [u8],
@@ -85,8 +86,8 @@ pub(crate) fn own(alloc: Global, octets: CowSlice<'_, u8, Global>) -> Result<Vec
     }
 }
 
-/// Reads the token at the offset `at`. Its first octet is `first`, which may occur in a token and is no digit. It ends
-/// before the next octet that may not occur in one, or with the text.
+/// Reads the token, a string such as `abc` without marks, at the offset `at`. Its first octet is `first`, which may occur
+/// in a token and is no digit. The token ends before the next octet that may not occur in one, or with the text.
 fn read_token<'t>(text: &'t [u8], at: usize, first: u8) -> ReadString<'t>
     requires begins { StandsAt text.now at first }
     requires other { is_digit first ≡ false }
@@ -119,7 +120,8 @@ pub(crate) fn token_end(text: &[u8], at: usize, first: u8) -> usize
 }
 
 /// Reads the string between marks, `"`, `#` or `|`, whose opening mark is at `at`. Err is `Bad` if another octet is
-/// there, `Short` if `at` is the end of the text, the first fault of the string, or `Memory`.
+/// there, `Short` if `at` is the end of the text, which both callers have excluded, the first fault of the string (`Short`
+/// or `Bad`), or `Memory`.
 fn read_marked(alloc: Global, text: &[u8], at: usize) -> Result<MarkedString, FormFault>
     requires { at ≤ length text.now }
     ensures read { IfOk result (λ read. Reads IsMarked text.now at read.octets.items read.end) }
@@ -139,8 +141,9 @@ fn read_marked(alloc: Global, text: &[u8], at: usize) -> Result<MarkedString, Fo
     }
 }
 
-/// Reads the decimal length at the offset `at`, of any size. `first` is its first digit; if this is `0`, it is the
-/// whole length. A length over `MOST_OCTETS` is returned as `MOST_OCTETS` plus one.
+/// Reads the decimal length at the offset `at`, of any number of digits. `first` is its first digit; if this is `0`, it
+/// is the whole length. A length over `MOST_OCTETS` is returned as `MOST_OCTETS` plus one, so that no sum overflows: no
+/// string of a text has as many octets.
 #[tactic(auto, using(crate::proofs::StringLaws::count_first, crate::proofs::StringLaws::count_more))]
 fn read_count(text: &[u8], at: usize, first: u8) -> Count
     requires begins { StandsAt text.now at first }
