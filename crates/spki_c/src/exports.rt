@@ -85,8 +85,8 @@ pub extern "C" fn spki_c_check_accepted(
 ///
 /// Returns `DONE` (6) if there is a string, and sets `at` to the offset of its octets in the text, and `count` to their number.
 /// Otherwise both are unchanged. Returns `NONE` (7) if the path leads to no string, `REFUSED` (2) if the text is no value in
-/// canonical form within the limits, `NO_MEMORY` (8) if memory ran out, and `MISUSED` (5) if the text is not lent whole
-/// (`Text::is_lent`). For a text of more than 1,048,576 octets it returns `REFUSED`, also if memory ran out.
+/// canonical form of at most 1,048,576 octets and 64 open lists, `NO_MEMORY` (8) if memory ran out, and `MISUSED` (5) if the
+/// text is not lent whole (`Text::is_lent`). For a text of more octets it returns `REFUSED`, also if memory ran out.
 #[unsafe(no_mangle)]
 pub extern "C" fn spki_c_string(
     alloc: Global,

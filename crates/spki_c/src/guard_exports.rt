@@ -18,13 +18,13 @@ use spki_guard::refused_list;
 use std::alloc::Global;
 
 /// Reads an access list, in any of the three forms, into a guard on the heap. The caller holds the guard by `handle`, which
-/// must own nothing before. The limits are the first of `limits`, or the default ones if there are none.
+/// must own nothing before. The limits of questions to the guard are the first of `limits`, or the default ones if there are none.
 ///
 /// Returns `DONE` (6) if the handle owns the guard. Otherwise the handle is unchanged. Returns `REFUSED` (2) if the list is
 /// refused or memory ran out: the line that says so is at the front of the buffer. Returns `TOO_SMALL` (4) if the buffer is too
-/// small for that line. Returns `MISUSED` (5) if no policy has this number (0 is strict, 1 is open), a limit is too high
-/// (`limits_of`), or the list is not lent whole (`Text::is_lent`). The buffer is unchanged except with `REFUSED`. `needed` is
-/// the length of the line in octets with `REFUSED` and `TOO_SMALL`, otherwise 0.
+/// small for that line. Returns `MISUSED` (5) if no policy has this number (0 is strict, 1 is open: `policy_of`), a limit is too
+/// high (`limits_of`), or the list is not lent whole (`Text::is_lent`). The buffer is unchanged except with `REFUSED`. `needed`
+/// is the length of the line in octets with `REFUSED` and `TOO_SMALL`, otherwise 0.
 #[unsafe(no_mangle)]
 pub extern "C" fn spki_c_guard_open(
     alloc: Global,

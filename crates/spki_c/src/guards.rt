@@ -8,8 +8,9 @@ use spki_cert::Policy;
 use spki_guard::{AclFault, Guard, Limits, SharedGuard};
 use std::alloc::Global;
 
-/// Reads an access list in any of the three forms into a guard on the heap, for `spki_c_guard_open`. Err is `Form` if the text
-/// has no value within the limits, `Acl` if the value is no access list, or `Memory`.
+/// Reads an access list in any of the three forms into a guard on the heap, for `spki_c_guard_open`. `limits` are those of later
+/// questions. Err is `Form` if the text has no value within the limits of its form, `Acl` if the value is no access list, or
+/// `Memory`.
 pub(crate) fn read_guard(
     alloc: Global,
     list: &[u8],
@@ -27,7 +28,8 @@ pub(crate) fn read_guard(
     }
 }
 
-/// The policy of a number: strict for 0, open for 1. None for any other number.
+/// The policy of a number: for 0 strict, by which hashes by SHA-1 name no key, and for 1 open, by which they do. None for any
+/// other number.
 pub(crate) fn policy_of(number: u32) -> Option<Policy>
     ensures { MatchOption result ((p : Policy) → number ≢ policy_number p) (λ p. number ≡ policy_number p) }
 {

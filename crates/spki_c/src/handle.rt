@@ -22,7 +22,7 @@ impl Model for Handle {
 }
 
 /// A pointer to a guard or a question that a call borrows. The value lasts at least as long as the call. Calls take it by `&mut`,
-/// and change neither the pointer nor the value.
+/// which the proof needs, and change neither the pointer nor the value.
 #[repr(C)]
 pub struct BorrowedHandle {
     /// Where the value is.
@@ -46,7 +46,8 @@ impl Handle {
         self.at = at as *mut u8;
     }
 
-    /// Takes the value over from the handle, and returns its pointer with the right to free it. The handle must own a value.
+    /// Takes the value over from the handle, and returns its pointer with the right to free it, by the allocator `alloc`. The handle
+    /// must own a value.
     pub(crate) fn take(self, alloc: Global) -> BoxPointer<HandleValue, Global>
         requires { IsSome self.held }
         ensures { self.held ≡ Some result.value }
@@ -72,5 +73,5 @@ impl BorrowedHandle {
 // A guard and a question are `Send`, so another thread may free them.
 unsafe impl Send for Handle {}
 
-// Both are `Sync`, so they may be lent to calls in several threads at the same time.
+// A guard and a question are `Sync`, so they may be lent to calls in several threads at the same time.
 unsafe impl Send for BorrowedHandle {}

@@ -9,9 +9,9 @@ use std::alloc::{AllocError, Global};
 /// A value that a C program holds.
 #[derive(Drop)]
 pub enum HandleValue {
-    /// A guard.
+    /// A guard: an access list that was read once.
     Guard(SharedGuard),
-    /// An opened question.
+    /// An opened question: it was read for a guard, and has a mark for each signature that the caller says is valid.
     Question(OwnedQuestion),
 }
 

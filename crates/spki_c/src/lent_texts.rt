@@ -37,7 +37,7 @@ impl Text {
     }
 }
 
-/// Returns the texts of an array, in order: the strings of a request. `readable` has the octets of these texts, for contracts
+/// Returns the texts at `places`, in order: the strings of a request. `readable` has the octets of these texts, for contracts
 /// alone.
 ///
 /// Err is `Unlent` if one of the texts is not lent whole, otherwise `Memory` if memory ran out. So if memory runs out for a text,

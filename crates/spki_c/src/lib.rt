@@ -1,6 +1,6 @@
 //! The proved part of the library for C programs. It runs commands on a text and puts the answer in a buffer. It decides by
-//! signatures that the caller has verified, and answers questions to a guard that the caller holds. `spki.c` calls these
-//! functions. `spki.h` declares what C programs call, and lists what a caller must ensure.
+//! signatures that the caller has verified, and answers questions to a guard, an access list that was read once and that the
+//! caller holds. `spki.c` calls these functions. `spki.h` declares what C programs call, and lists what a caller must ensure.
 #![tactic(auto)]
 
 mod box_pointer;

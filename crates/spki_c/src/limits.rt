@@ -15,9 +15,10 @@ pub struct LimitParts {
     pub certificates: usize,
     /// The most strings of a request.
     pub words: usize,
-    /// For explanations and reductions: the most nodes of two tags whose intersection is formed, as the product of their numbers.
+    /// For explanations and reductions: the greatest product of the numbers of nodes of two tags whose intersection is formed.
     pub nodes: usize,
-    /// For explanations and reductions: the most work of all certificates and all entries together, as `spki_reduce::Work` counts it.
+    /// For explanations and reductions: the most work of all certificates and all entries together. Work is the cost of joining
+    /// certificates, in units of `spki_reduce::Work`.
     pub work: usize,
     /// For explanations and reductions: the most octets of the answer.
     pub answer: usize,

@@ -10,17 +10,17 @@ pub const YES: u32 = 9;
 /// The decision is no. Only decisions have this status.
 pub const NO: u32 = 1;
 
-/// The answer is a refusal.
+/// The answer is a refusal: the text or its contents are refused, or memory ran out.
 pub const REFUSED: u32 = 2;
 
 /// A buffer is too small for the answer.
 pub const TOO_SMALL: u32 = 4;
 
-/// The call is misused: a number has no meaning, a limit is too high, a text is not lent whole, a part of a question is given
-/// both ways, a handle is of the other kind, or no signature is at a place that is marked. There is no answer.
+/// The call is misused: a number has no meaning, a limit is too high, a text is not lent whole (`Text::is_lent`), a part of a
+/// question is given both ways, a handle is of the other kind, or no signature is at a place that is marked. There is no answer.
 pub const MISUSED: u32 = 5;
 
-/// The call is done, and its answer is no decision.
+/// The call is done, and is no decision: this status does not say whether a request is granted.
 pub const DONE: u32 = 6;
 
 /// A path leads to no string, or no signature is at a place that is read.
@@ -29,7 +29,8 @@ pub const NONE: u32 = 7;
 /// Memory ran out in a call that writes no line. The other calls answer `refused Memory`, with the status `REFUSED`.
 pub const NO_MEMORY: u32 = 8;
 
-/// The command with this number, from 0 for `canonical` to 6 for `explain`. None for any other number.
+/// The command with this number, from 0 for `canonical` to 6 for `explain`, as in `enum spki_command` of `spki.h`. None for any
+/// other number.
 pub fn command_of(number: u32) -> Option<Command>
     ensures { MatchOption result ((c : Command) → number ≢ number_of c) (λ c. number ≡ number_of c) }
 {
@@ -45,7 +46,8 @@ pub fn command_of(number: u32) -> Option<Command>
     }
 }
 
-/// The status of the answer to a command: `YES`, `NO` or `REFUSED` for `check`, `DONE` or `REFUSED` for any other.
+/// The status of the answer with this verdict to a command: `YES`, `NO` or `REFUSED` for `check`, `DONE` or `REFUSED` for any other
+/// command.
 pub fn status_number(command: Command, verdict: Verdict) -> u32
     ensures { result ≡ status_of command verdict }
 {
@@ -73,8 +75,8 @@ pub fn query_of(number: u32) -> Option<Query>
     }
 }
 
-/// The status of the answer to a question: `YES`, `NO` or `REFUSED` for a decision, `DONE` or `REFUSED` for any other
-/// query.
+/// The status of the answer with this verdict to an opened question: `YES`, `NO` or `REFUSED` for a decision, `DONE` or `REFUSED`
+/// for any other query.
 pub fn query_status(query: Query, verdict: Verdict) -> u32
     ensures { result ≡ status_for query verdict }
 {

@@ -14,8 +14,8 @@ use std::alloc::Global;
 
 /// Opens the question of these parts for a guard, and puts it on the heap. `texts` are the strings of its request, and used only
 /// if `is_worded` of `parts` is true. The moment is the first of `seconds`, or that of `parts` if there are none. All texts must
-/// be lent whole (`Text::is_lent`). Err is the line of the refusal, such as `refused key Shape` or `refused Memory`, as for
-/// `open_question`.
+/// be lent whole (`Text::is_lent`). Err is the line of the refusal: of the first part with a fault, such as `refused key Shape`,
+/// of a limit of the guard that is exceeded, such as `refused question TooLong`, or `refused Memory`.
 pub(crate) fn open_parts(
     alloc: Global,
     guard: &SharedGuard,
@@ -36,7 +36,8 @@ pub(crate) fn open_parts(
     open_boxed(alloc, guard, &question)
 }
 
-/// Opens a question for a guard, and puts it on the heap. Err is the line of the refusal, as for `open_question`.
+/// Opens a question for a guard, and puts it on the heap. Err is the line of the refusal, as for `open_question`, and
+/// `refused Memory` also if there is no memory to put it there.
 fn open_boxed(
     alloc: Global,
     guard: &SharedGuard,

@@ -6,7 +6,7 @@ use crate::text::Text;
 #[derive(Drop)]
 #[repr(C)]
 pub struct Parts {
-    /// The sequence.
+    /// The sequence: the certificates that the client shows.
     pub sequence: Text,
     /// The key of the client who asks.
     pub key: Text,

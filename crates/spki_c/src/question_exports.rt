@@ -31,10 +31,11 @@ use std::alloc::Global;
 /// they are not used. `readable` exists in contracts alone: it has the octets of `words`. The moment is the first of `seconds`,
 /// or that of `parts` if there are none.
 ///
-/// Returns `DONE` (6) if the handle owns the question. Otherwise the handle is unchanged. Returns `REFUSED` (2) if the question
-/// is refused or memory ran out: the line that says so is at the front of the buffer. Returns `TOO_SMALL` (4) if the buffer is
-/// too small for that line. Returns `MISUSED` (5) if `lent` is the handle of a question, a request or a moment is given both ways
-/// (`Parts::is_ambiguous`), or a text, used or not, has octets at a null pointer or more than memory can have (`Text::is_lent`).
+/// Returns `DONE` (6) if the handle owns the question. Otherwise the handle is unchanged. Returns `REFUSED` (2) if a part of the
+/// question has a fault, a limit of the guard is exceeded, or memory ran out: the line that says so is at the front of the buffer.
+/// Returns `TOO_SMALL` (4) if the buffer is too small for that line. Returns `MISUSED` (5) if `lent` is the handle of a question,
+/// a request or a moment is given both ways (`Parts::is_ambiguous`), or a text, used or not, has octets at a null pointer or more
+/// than memory can have (`Text::is_lent`).
 /// The buffer is unchanged except with `REFUSED`. `needed` is the length of the line in octets with `REFUSED` and `TOO_SMALL`,
 /// otherwise 0.
 #[unsafe(no_mangle)]
@@ -86,7 +87,8 @@ pub extern "C" fn spki_c_guard_ask(
     }
 }
 
-/// The number of signatures that a verifier must decide for the question of `lent`. 0 if `lent` is the handle of a guard.
+/// The number of signatures that a verifier must decide for the question of `lent`. Their places are counted from 0. Returns 0
+/// if `lent` is the handle of a guard.
 #[unsafe(no_mangle)]
 pub extern "C" fn spki_c_asked_count(lent: &mut BorrowedHandle) -> usize
     ensures count { (o : OwnedQuestion) → lent.old.content ≡ HandleValue.Question o → result ≡ length o.signed.items }
@@ -133,7 +135,7 @@ pub extern "C" fn spki_c_asked_signature<'a>(
 }
 
 /// Marks the signature at this place, from 0, as valid: the caller says that a verifier has accepted it. The call takes the
-/// question over from `asked`, to change it, and returns it by `back`, which must own nothing before.
+/// question over from `asked`, to change it, and returns it by `back`. `asked` must own a value before, and `back` nothing.
 ///
 /// Returns `DONE` (6) if the place is marked. Returns `MISUSED` (5) if there is no signature at this place, or `asked` owns a
 /// guard: then `back` owns the same value, unchanged.

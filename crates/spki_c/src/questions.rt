@@ -18,8 +18,8 @@ impl Parts {
     }
 
     /// Whether the request is given both as a text and by its strings, or the moment both as a text and in seconds. A
-    /// text of no octets counts as not given. Both texts must be lent whole. To use one of the two would ignore the other, so
-    /// `spki_c_guard_ask` returns `MISUSED`.
+    /// text of no octets counts as not given. Both texts must be lent whole. Using one of two would ignore the other, so
+    /// `spki_c_guard_ask` returns `MISUSED` if this is true.
     pub(crate) fn is_ambiguous(&mut self, seconds: &[i64]) -> bool
         requires { IsLent self.old.request × IsLent self.old.moment }
         ensures same { self.new ≡ self.old }
@@ -30,7 +30,7 @@ impl Parts {
     }
 
     /// The question with these parts, whose texts must be lent whole. `words` are the strings of the request, and are used only
-    /// if `is_worded` is true. The moment is the first of `seconds`, or the text if there are none.
+    /// if `is_worded` is true. The moment is the first of `seconds`, or the text `moment` if there are none.
     pub(crate) fn question<'a>(&'a mut self, words: &'a [&'a [u8]], seconds: &[i64]) -> Question<'a>
         requires { IsLent self.old.sequence × IsLent self.old.key × IsLent self.old.request × IsLent self.old.moment }
         ensures { IsQuestionBy self.entry.now (map (λ w. w.now) words.entry.now) seconds.now result }
@@ -45,7 +45,7 @@ impl Parts {
     }
 }
 
-/// The request: its strings if `is_worded` is true, otherwise its text.
+/// The request: its strings, `words`, if `is_worded` is true, otherwise its text.
 fn request_of<'a>(is_worded: bool, text: &'a [u8], words: &'a [&'a [u8]]) -> RequestInput<'a>
     ensures { IsRequestBy is_worded text.entry.now (map (λ w. w.now) words.entry.now) result }
 {

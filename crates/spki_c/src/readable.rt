@@ -5,7 +5,7 @@ ghost use Rattle.spki_c.specs.{declared.text.Text.{Text}, contracts.text.Text.{t
 use crate::text::Text;
 use std::marker::Model;
 
-/// A text of an array that C passes: `struct spki_text`. `Readable` says what may be read there.
+/// A text of an array that C passes: `struct spki_text`. Unlike `Text` it does not say what may be read there: `Readable` does.
 #[derive(Clone, Copy)]
 #[repr(C)]
 pub struct TextPlace {

@@ -49,8 +49,9 @@ pub(crate) fn texts_of<'a>(
     })
 }
 
-/// The octets of the string, without its length prefix, if `value` is the canonical form of one string. Ok(None) if it is a list,
-/// or no canonical form within the limits. Err if memory ran out.
+/// The octets of the string, without its length prefix and its display hint, if `value` is the canonical form of one string.
+/// Ok(None) if it is that of a list. Also Ok(None) for octets that are no canonical form within the limits: the value of a
+/// signature always is one. Err if memory ran out.
 fn string_of<'a>(alloc: Global, value: &'a [u8]) -> Result<Option<&'a [u8]>, AllocError>
     ensures { IfOk result (IsStringOf value.now) }
 {

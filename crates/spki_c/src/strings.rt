@@ -14,9 +14,9 @@ pub(crate) struct Place {
     pub(crate) length: usize,
 }
 
-/// The place of a string's octets in the canonical text of a node, which must have at most 1,048,576 octets. The path
-/// leads from the node to the string: each number is that of the list member to enter, from 0. None if it leads to no
-/// string.
+/// The place of a string's octets in the canonical text of a node. That text must have at most 1,048,576 octets. The path
+/// leads from the node to the string: each number is that of the list member to enter, from 0. An empty path leads to the
+/// node itself. None if the path leads to no string.
 pub(crate) fn place_in(node: &Node, path: &[usize]) -> Option<Place>
     requires { length (canon node.now) ≤ 1048576 }
     ensures { MatchOption result (octets_at node.now path.now ≡ None)

@@ -6,7 +6,8 @@ ghost use Rattle.spki_c.specs.Pointers.{text_owns, lent_count};
 use std::marker::Model;
 
 /// A text as C passes it, `struct spki_text`: a pointer to octets, and the number of octets that the caller states. `is_lent`
-/// tests both. The octets last at least as long as the call. The functions take `&mut self`, and change nothing.
+/// tests both. The octets last at least as long as the call. The functions take `&mut self`, which their proofs need, and change
+/// nothing.
 #[repr(C)]
 #[derive(Drop)]
 pub struct Text {
@@ -23,7 +24,7 @@ impl Model for Text {
 }
 
 impl Text {
-    /// The number of octets that the caller states, `length` of `struct spki_text`.
+    /// The number of octets that the caller states, `length` of `struct spki_text`, also if they are not lent (`is_lent`).
     pub(crate) fn count(&mut self) -> usize
         ensures { (self.new ≡ self.old) × (result ≡ self.old.count) × (length self.old.octets ≡ lent_count self.old.at self.old.count) }
     {
@@ -38,7 +39,8 @@ impl Text {
         at.is_null()
     }
 
-    /// The octets of the text, for `octets`, which tests what is required here: `count` must be their number, and not 0.
+    /// The octets of the text. `count` must be their number, and not 0. Only the method `octets` calls this: it also takes a text
+    /// of no octets, whose pointer may be null.
     pub(crate) fn slice(&mut self, count: usize) -> &[u8]
         requires { (count ≡ length self.old.octets) × (0 < count) }
         ensures { result.now ≡ self.entry.now.octets }
