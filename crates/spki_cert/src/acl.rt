@@ -21,8 +21,9 @@ use sexpr_core::syntax::{Members, Node};
 use sexpr_core::{Doc, NodeId};
 use std::alloc::Global;
 
-/// Reads the subject of an entry from its node: a principal, or a name that begins with one. Err is the first fault. It is
-/// `RelativeInEntry` for a name without a principal: an entry has no issuer to which the name could be relative.
+/// Reads the subject of an entry from its node: a principal, or a name that begins with one. Err is the first fault: `Threshold`,
+/// `Keyholder`, that of the principal, or `Shape`, as `written_subject_of` says. After these it is `RelativeInEntry` for a name without a
+/// principal: an entry has no issuer to which the name could be relative. It is `Memory` if memory ran out.
 #[tactic(auto, using(crate::proofs::Heads::heads), unfolding(crate::specs::FieldFaults::entry_subject_fault))]
 fn entry_subject<'a>(alloc: Global, node: &Node<'_, 'a>) -> Result<Subject<'a>, CertFaultKind>
     ensures found { IfOk result (λ subject. SubjectOf node.now subject) }
@@ -35,13 +36,13 @@ fn entry_subject<'a>(alloc: Global, node: &Node<'_, 'a>) -> Result<Subject<'a>, 
     }
 }
 
-/// Reads an entry from its node: `(entry SUBJECT FIELD ..)` (RFC 2693, section 3.4). `Place::Entry` admits no field `issuer` or `subject`,
-/// so both are None in the contents of the fields.
+/// Reads an entry from its node: `(entry SUBJECT FIELD ..)` (RFC 2693, section 3.4). The fields are `(tag T)`, which is required,
+/// `(propagate)`, `(comment ..)`, which is ignored, and the limits of the window. They are in any order, each at most once.
 ///
 /// # Errors
 ///
-/// The first fault from the left. After all others it is `Shape`, if limits are both in `(valid ..)` and outside of it, or if there is no
-/// tag. `Memory` if memory ran out.
+/// The first fault from the left: that of the subject, or of a field. After all others it is `Shape`, if limits are both in `(valid ..)`
+/// and outside of it, or if there is no tag. `Memory` if memory ran out.
 pub fn entry_of<'a>(alloc: Global, node: &Node<'_, 'a>) -> Result<Entry<'a>, CertFaultKind>
     ensures entry { IfOk result (λ entry. EntryOf node.now entry) }
     ensures refused { IfErr result (λ kind. kind ≢ CertFaultKind.Memory → (e : spec.Entry) → EntryOf node.now e → ⊥) }
@@ -63,6 +64,7 @@ pub fn entry_of<'a>(alloc: Global, node: &Node<'_, 'a>) -> Result<Entry<'a>, Cer
         limits,
         valid,
     } = known;
+    // `Place::Entry` admits no field `issuer` or `subject`, so both are None.
     drop((issuer, who));
     let Some(window) = window_of_limits(limits, valid) else {
         drop((subject, tag));
@@ -80,8 +82,8 @@ pub fn entry_of<'a>(alloc: Global, node: &Node<'_, 'a>) -> Result<Entry<'a>, Cer
     })
 }
 
-/// Reads the entries from the members of an access list after its head and version. Err is the first fault, with the
-/// number of its entry, from 1.
+/// Reads the entries from the members of an access list after its head and version. Err is the first fault, with the number of its entry,
+/// from 1, or `Memory` if memory ran out.
 #[tactic(auto, using(crate::proofs::Heads::heads), unfolding(crate::specs::StructureFaults::entries_fault))]
 fn entries_of<'a>(alloc: Global, members: Members<'_, 'a>) -> Result<Vec<Entry<'a>>, CertFault>
     ensures entries { IfOk result (λ entries. AllZip EntryOf members.entry entries.items) }
@@ -97,8 +99,8 @@ fn entries_of<'a>(alloc: Global, members: Members<'_, 'a>) -> Result<Vec<Entry<'
     Ok(entries)
 }
 
-/// Returns the members of an access list that are its entries: those after the head `acl`, and after `(version 0)` if that is the first of them. Err
-/// is `Shape` if the node is not headed `acl`, or the fault of the version.
+/// Returns the members of an access list that are to be read as its entries: those after the head `acl`, and after `(version 0)` if that is
+/// the first of them. Err is `Shape` if the node is not headed `acl`, or the fault of the version, `UnknownVersion` or `Shape`.
 #[tactic(auto, using(crate::proofs::Heads::heads), unfolding(crate::specs::StructureFaults::outer_fault))]
 fn entry_members<'d, 'a>(node: &Node<'d, 'a>) -> Result<Members<'d, 'a>, CertFaultKind>
     ensures found { IfOk result (λ entries. (all : List Value) × (node.now ≡ group (plain (codes "acl") ∷ all))
@@ -108,7 +110,8 @@ fn entry_members<'d, 'a>(node: &Node<'d, 'a>) -> Result<Members<'d, 'a>, CertFau
     let Some(all) = node.headed(b"acl") else {
         return Err(CertFaultKind::Shape);
     };
-    // `all` is what is returned if there is no version. `split_first` consumes the members, so they are taken a second time.
+    // `all` is what is returned if there is no version. `split_first` consumes the members, so they are taken a second time,
+    // which cannot fail.
     let Some(members) = node.headed(b"acl") else {
         return Err(CertFaultKind::Shape);
     };
@@ -126,7 +129,8 @@ fn entry_members<'d, 'a>(node: &Node<'d, 'a>) -> Result<Members<'d, 'a>, CertFau
 ///
 /// # Errors
 ///
-/// Those of `read_acl`: the first fault from the left, with the number of its entry, from 1. The number is 0 for the head and the version.
+/// The first fault from the left, with the number of its entry, counted from 1 after the version. The number is 0 if the node is not headed
+/// `acl` (`Shape`), and for the version (`UnknownVersion` or `Shape`). `Memory` if memory ran out.
 #[tactic(auto, using(crate::proofs::Heads::heads), unfolding(crate::specs::StructureFaults::acl_fault))]
 pub fn acl_of<'a>(alloc: Global, node: &Node<'_, 'a>) -> Result<Vec<Entry<'a>>, CertFault>
     ensures acl { IfOk result (λ entries. AclOf node.now entries.items) }
@@ -141,7 +145,7 @@ pub fn acl_of<'a>(alloc: Global, node: &Node<'_, 'a>) -> Result<Vec<Entry<'a>>, 
 }
 
 /// Reads the entries of an access list like `entries_of`, but returns only the principals of their subjects, in order. Only one entry is in
-/// memory at a time. Err is the first fault, with the number of its entry, from 1.
+/// memory at a time. Err is the first fault, with the number of its entry, from 1, or `Memory` if memory ran out.
 #[tactic(auto, using(crate::proofs::Heads::heads), unfolding(crate::specs::StructureFaults::entries_fault))]
 fn principals_in<'a>(
     alloc: Global,
@@ -174,7 +178,8 @@ fn principals_in<'a>(
 ///
 /// # Errors
 ///
-/// Those of `acl_of`: the first fault from the left, with the number of its entry, from 1. The number is 0 for the head and the version.
+/// The first fault from the left, with the number of its entry, counted from 1 after the version. The number is 0 if the node is not headed
+/// `acl` (`Shape`), and for the version (`UnknownVersion` or `Shape`). `Memory` if memory ran out.
 #[tactic(auto, using(crate::proofs::Heads::heads), unfolding(crate::specs::StructureFaults::acl_fault))]
 pub fn acl_principals<'a>(
     alloc: Global,
@@ -191,13 +196,13 @@ pub fn acl_principals<'a>(
     }
 }
 
-/// Reads node n of a document, which must exist, as an access list (RFC 2693, section 3.4): `(acl entry ..)`, with or without `(version 0)` in front
-/// of the entries.
+/// Reads node n of a document, which must exist, as an access list (RFC 2693, section 3.4): `(acl entry ..)`, with or without `(version 0)`
+/// in front of the entries.
 ///
 /// # Errors
 ///
-/// The first fault from the left, with the number of the entry, counted from 1 after the version. The number is 0 if the
-/// outer list is not headed `acl` (`Shape`), and for its version. `Memory` if memory ran out.
+/// The first fault from the left, with the number of the entry, counted from 1 after the version. The number is 0 if the outer list is not
+/// headed `acl` (`Shape`), and for its version (`UnknownVersion` or `Shape`). `Memory` if memory ran out.
 pub fn read_acl<'a>(
     alloc: Global,
     document: &Doc<'a>,

@@ -6,7 +6,7 @@ ghost use Rattle.spki_cert.specs.{declared.hash.HashAlg.{HashAlg}, Naming.{admit
 use crate::hash::HashAlg;
 use crate::principal::{Policy, Principal};
 
-/// Hash algorithms: those by which a key may have to be digested.
+/// A set of hash algorithms: those by which a key may have to be digested, because it may be compared with hashes by them.
 #[derive(Clone, Copy, Debug, PartialEq, Eq)]
 pub struct Algorithms {
     /// SHA-1 is among them.

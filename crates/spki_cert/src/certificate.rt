@@ -8,12 +8,12 @@ use crate::principal::Principal;
 use crate::window::Window;
 use spki_tag::Tag;
 
-/// An authorization certificate (RFC 2693, sections 3.3 and 6.1).
+/// An authorization certificate: its issuer lets its subject make the requests in its tag (RFC 2693, sections 3.3 and 6.1).
 #[derive(Drop)]
 pub struct AuthCert<'a> {
-    /// The issuer.
+    /// The issuer: a key, or the hash of one.
     pub issuer: Principal<'a>,
-    /// The subject.
+    /// The subject. If it is written as a relative name, its principal is the issuer.
     pub subject: Subject<'a>,
     /// Whether the subject may delegate the authorization.
     pub propagate: bool,
@@ -21,7 +21,7 @@ pub struct AuthCert<'a> {
     pub tag: Tag,
     /// The moments at which they are authorized.
     pub window: Window,
-    /// The certificate's canonical octets.
+    /// The certificate's canonical octets, which are signed.
     pub octets: Octets<'a>,
 }
 
@@ -30,24 +30,24 @@ pub struct AuthCert<'a> {
 pub struct NameCert<'a> {
     /// The principal in whose name space the name is defined.
     pub issuer: Principal<'a>,
-    /// The name.
+    /// The name that is defined.
     pub name: Octets<'a>,
-    /// The subject that the name means.
+    /// The subject that the name means. If it is written as a relative name, its principal is the issuer.
     pub subject: Subject<'a>,
     /// The moments at which the definition applies.
     pub window: Window,
-    /// The certificate's canonical octets.
+    /// The certificate's canonical octets, which are signed.
     pub octets: Octets<'a>,
 }
 
-/// A signature of a certificate.
+/// A signature of a certificate, as it is written. Reading it does not verify it.
 #[derive(Drop)]
 pub struct Signature<'a> {
     /// The algorithm of the digest.
     pub alg: HashAlg,
     /// The digest of what is signed.
     pub digest: Octets<'a>,
-    /// The principal that signed.
+    /// The principal that signed: a key, or the hash of one.
     pub signer: Principal<'a>,
     /// The canonical octets of the signature's value.
     pub value: Octets<'a>,
@@ -56,7 +56,7 @@ pub struct Signature<'a> {
 /// An item of a sequence.
 #[derive(Drop)]
 pub enum SeqItem<'a> {
-    /// A key.
+    /// A key, for certificates whose issuer is a hash of it.
     Key(Key<'a>),
     /// `(do hash alg)`, which has no effect.
     DoHash(HashAlg),

@@ -22,11 +22,13 @@ use std::alloc::Global;
 pub(crate) struct CertParts<'a> {
     /// The issuer, with the name that the certificate defines if it is a name certificate.
     pub issuer: Issuer<'a>,
+    /// The subject, with the issuer's principal if it is written as a relative name.
     pub subject: Subject<'a>,
     /// Whether there is a field `(propagate)`.
     pub propagate: bool,
     /// None if there is no field `tag`.
     pub tag: Option<Tag>,
+    /// The moments at which the certificate applies.
     pub window: Window,
 }
 
@@ -45,8 +47,9 @@ fn issued_to<'a>(who: WrittenSubject<'a>, issuer: &Principal<'a>) -> Subject<'a>
     }
 }
 
-/// Reads the contents of a certificate's fields from the members after its head. Err is the first fault. It is `Shape` if the issuer or the subject
-/// is missing, or if there is a `(valid ..)` and also a limit outside of it.
+/// Reads the contents of a certificate's fields from the members after its head. Err is the first fault: that of a field, and after these
+/// `Shape` if there is a `(valid ..)` and also a limit outside of it, or if the issuer or the subject is missing. It is `Memory` if memory
+/// ran out.
 fn parts_of<'a>(alloc: Global, members: Members<'_, 'a>) -> Result<CertParts<'a>, CertFaultKind>
     ensures found { IfOk result (λ parts. PartsOf members.entry parts) }
     ensures named { IfErr result (λ kind. kind ≢ CertFaultKind.Memory → parts_fault members.entry ≡ Some kind) }
@@ -81,9 +84,10 @@ fn parts_of<'a>(alloc: Global, members: Members<'_, 'a>) -> Result<CertParts<'a>
     })
 }
 
-/// Reads a certificate from its node: an authorization certificate, `SeqItem::Auth`, if the issuer is a principal. If it is a principal
-/// with a name, it is a name certificate, `SeqItem::Name`. Err is the first fault. After all others it is `Shape`, for an authorization
-/// certificate without a tag, and for a name certificate with a tag or `(propagate)`.
+/// Reads a certificate from its node: an authorization certificate, `SeqItem::Auth`, if the issuer is a principal. If the issuer is a
+/// principal with a name, it is a name certificate, `SeqItem::Name`. Err is the first fault, as for `parts_of`, or `Shape` if the node is
+/// not headed `cert`. After all others it is `Shape`, for an authorization certificate without a tag, and for a name certificate with a tag
+/// or `(propagate)`. It is `Memory` if memory ran out.
 pub(crate) fn cert_of<'a>(alloc: Global, node: &Node<'_, 'a>) -> Result<SeqItem<'a>, CertFaultKind>
     ensures found { IfOk result (λ item. CertOf node.now item) }
     ensures named { IfErr result (λ kind. kind ≢ CertFaultKind.Memory → cert_fault node.now ≡ Some kind) }

@@ -29,7 +29,7 @@ impl Model for Date {
 impl Date {
     ghost use Rattle.spki_cert.specs.Time.{upto};
 
-    /// The date with these 19 octets. None if they are no date. `is_date` also checks that there are 19, so the conversion to an array does
+    /// The date with these octets. None if they are no date. `is_date` also checks that there are 19, so the conversion to an array does
     /// not fail. Allocates nothing.
     #[tactic(auto, unfolding(spki_tag::specs::Tag::is_date))]
     pub fn of(octets: &[u8]) -> Option<Date>

@@ -8,7 +8,8 @@ use crate::window::Window;
 use spki_tag::Tag;
 use std::alloc::AllocError;
 
-/// The subject of an authorization (RFC 2693, section 6.1): a principal, or a name in the name space of one.
+/// The subject of an authorization, or of the definition of a name (RFC 2693, sections 6.1 and 6.2): a principal, or a name in the name
+/// space of one.
 #[derive(Drop)]
 pub struct Subject<'a> {
     /// The principal itself, or the one in whose name space the first name is defined.
@@ -21,8 +22,8 @@ pub struct Subject<'a> {
 impl<'a> Clone for Subject<'a> {
     ghost is_clone = { λ subject copy. copy ≡ subject };
 
-    /// Returns a copy. Only the names that were put in front are copied: both share the names that were read, and borrow the octets. Err if memory ran out,
-    /// or if there are too many copies to count.
+    /// Returns a copy. Only the names that were put in front (see `Names`) are copied: both share the names that were read, and borrow the
+    /// octets. Err if memory ran out, or if there are too many copies to count.
     fn clone(&self) -> Result<Subject<'a>, AllocError> {
         Ok(Subject {
             principal: self.principal.share(),

@@ -37,7 +37,9 @@ pub(crate) enum FieldValue<'a> {
     Issuer(Issuer<'a>),
     Subject(WrittenSubject<'a>),
     Tag(Tag),
+    /// The date of a `(not-before DATE)` that is a field of its own, outside of `(valid ..)`.
     NotBefore(Date),
+    /// The same of a `(not-after DATE)`.
     NotAfter(Date),
     /// The limits in `(valid ..)`.
     Valid(Window),
@@ -74,8 +76,8 @@ fn from_tag_fault(fault: TagFault) -> CertFaultKind
     }
 }
 
-/// Reads the tag from the members of `(tag T)` after the head. Err is a fault of the tag, `Shape` if there is not
-/// exactly one member, or `Memory` if memory ran out.
+/// Reads the tag from the members of `(tag T)` after the head. Err is the first fault: `Tag` with the fault of T, or `Shape` if there is no
+/// member or something follows T. It is `Memory` if memory ran out.
 fn tag_in(alloc: Global, members: Members) -> Result<Tag, CertFaultKind>
     ensures found { IfOk result (λ tag. Sole ReadsAs members.entry tag) }
     ensures named { IfErr result (λ kind. kind ≢ CertFaultKind.Memory → sole_fault CertFaultKind.Shape kind_of_tag members.entry ≡ Some kind) }
@@ -95,8 +97,8 @@ fn tag_in(alloc: Global, members: Members) -> Result<Tag, CertFaultKind>
     }
 }
 
-/// Reads the issuer from the members of `(issuer I)` after the head. Err is a fault of the issuer, or `Shape` if there
-/// is not exactly one member.
+/// Reads the issuer from the members of `(issuer I)` after the head. Err is the first fault: that of I, as `issuer_of` says, or `Shape` if
+/// there is no member or something follows I.
 fn issuer_in<'a>(members: Members<'_, 'a>) -> Result<Issuer<'a>, CertFaultKind>
     ensures found { IfOk result (λ issuer. IssuerAt members.entry issuer) }
     ensures named { IfErr result (λ kind. sole_fault CertFaultKind.Shape issuer_fault members.entry ≡ Some kind) }
@@ -113,8 +115,8 @@ fn issuer_in<'a>(members: Members<'_, 'a>) -> Result<Issuer<'a>, CertFaultKind>
     }
 }
 
-/// Reads the subject from the members of `(subject S)` after the head. Err is a fault of the subject, `Shape` if
-/// there is not exactly one member, or `Memory` if memory ran out.
+/// Reads the subject from the members of `(subject S)` after the head. Err is the first fault: that of S, as `written_subject_of` says, or
+/// `Shape` if there is no member or something follows S. It is `Memory` if memory ran out.
 fn subject_in<'a>(
     alloc: Global,
     members: Members<'_, 'a>,
@@ -135,7 +137,8 @@ fn subject_in<'a>(
 
 /// Reads a field that both an entry and a certificate may have: `tag`, `propagate`, `comment` or a field of validity. `(propagate)` has no
 /// content, so it is `Nothing` here; `read_fields` notes by its head that it is there. A `comment` is ignored. Err is the fault of the
-/// field, which is `Online` for `(online ..)` and `Shape` for a field with any other head, or `Memory` if memory ran out for a tag.
+/// field: `Tag` for a tag that is refused, `BadDate` for a limit that is no date, `Online` for `(online ..)`, and `Shape` for anything
+/// else, such as another head. It is `Memory` if memory ran out for a tag.
 #[tactic(auto, using(crate::proofs::Heads::heads), unfolding(crate::specs::FieldFaults::entry_field_fault))]
 fn read_common_field<'a>(alloc: Global, field: &HeadedList) -> Result<FieldValue<'a>, CertFaultKind>
     ensures says { IfOk result (λ said. FieldValueOf field.now said) }
@@ -158,8 +161,8 @@ fn read_common_field<'a>(alloc: Global, field: &HeadedList) -> Result<FieldValue
     read_validity_field(field)
 }
 
-/// Reads a field of validity: `(not-before DATE)`, `(not-after DATE)` or `(valid ..)`. Err is its fault: `Online` for
-/// `(online ..)`, and `Shape` for any other field.
+/// Reads a field of validity: `(not-before DATE)`, `(not-after DATE)` or `(valid ..)`. Err is its fault: `BadDate` for a limit that is no
+/// date, `Online` for `(online ..)`, also in `(valid ..)`, and `Shape` for anything else, such as a field with another head.
 #[tactic(auto, using(crate::proofs::Heads::heads), unfolding(crate::specs::FieldFaults::time_fault, crate::specs::FieldFaults::limit_fault))]
 fn read_validity_field<'a>(field: &HeadedList) -> Result<FieldValue<'a>, CertFaultKind>
     ensures says { IfOk result (λ said. FieldValueOf field.now said) }
@@ -183,7 +186,8 @@ fn read_validity_field<'a>(field: &HeadedList) -> Result<FieldValue<'a>, CertFau
 }
 
 /// Reads any field that a certificate may have: `issuer`, `subject`, `version`, one that is ignored, or one that an entry may have too. Err
-/// is the fault of the field, or `Memory` if memory ran out, as for `read_common_field`.
+/// is the fault of the field, that of the issuer, the subject or the version, or as for `read_common_field`. It is `Memory` if memory ran
+/// out for a subject or a tag.
 #[tactic(auto, using(crate::proofs::Heads::heads), unfolding(crate::specs::FieldFaults::cert_field_fault))]
 fn read_certificate_field<'a>(
     alloc: Global,
@@ -209,7 +213,8 @@ fn read_certificate_field<'a>(
     read_common_field(alloc, field)
 }
 
-/// Whether the field is ignored, whatever it contains: `display`, `issuer-info` or `subject-info`.
+/// Whether the field is ignored, whatever it contains: `display`, `issuer-info` or `subject-info`. `comment` is not among these: an entry
+/// may have it too, so `read_common_field` ignores it.
 fn is_unread(field: &HeadedList) -> bool
     ensures { MatchBool result (IsUnread field.now) (IsUnread field.now → ⊥) }
 {
@@ -225,8 +230,8 @@ fn is_unread(field: &HeadedList) -> bool
     }
 }
 
-/// Reads a field of an entry or of a certificate, as `place` says. Err is the fault of the field, which is `Shape` for a head that has no
-/// place there, or `Memory` if memory ran out.
+/// Reads a field of an entry or of a certificate, as `place` says. Err is the fault of the field. For a head that has no place there it is
+/// `Online` if the head is `online`, otherwise `Shape`. It is `Memory` if memory ran out.
 fn field_value<'a>(
     alloc: Global,
     place: Place,
@@ -283,8 +288,8 @@ fn is_word_among(words: &[Octets], word: &[u8]) -> bool
     words.iter().any(|w| w.as_slice() == word)
 }
 
-/// A field with its head. None if the field is no list that begins with a string without a display hint, or if its head is one of `heads`,
-/// those of the fields before it.
+/// The field as a list with its head. None, which the caller refuses, if the field is no list that begins with a string without a display
+/// hint, or if its head is one of `heads`, those of the fields before it.
 fn new_field<'d, 'a>(field: &Node<'d, 'a>, heads: &[Octets]) -> Option<HeadedList<'d, 'a>>
     ensures { MatchOption result ((head : List ℕ) → IsNew field.now heads.now head → ⊥)
         (λ list. (list ≡ field.now) × ((head : List ℕ) × IsNew field.now heads.now head)) }
@@ -298,8 +303,9 @@ fn new_field<'d, 'a>(field: &Node<'d, 'a>, heads: &[Octets]) -> Option<HeadedLis
 }
 
 /// Reads the fields of an entry or of a certificate, as `place` says, and puts their contents into `known`, which must be empty. Returns
-/// whether one of them is `(propagate)`. Err is the first fault, which is `Shape` for a head that comes twice or has no place there, or `Memory`
-/// if memory ran out. Then `known` keeps what was read before the fault, and the caller frees it.
+/// whether one of them is `(propagate)`. Err is the first fault: `Shape` if a field has no head or that of a field before it, otherwise the
+/// fault of the field, as `field_value` says. It is `Memory` if memory ran out. Then `known` keeps what was read before the fault, and the
+/// caller frees it.
 fn read_fields<'a>(
     alloc: Global,
     place: Place,
@@ -326,7 +332,8 @@ fn read_fields<'a>(
 }
 
 /// Reads all fields of an entry or of a certificate, as `place` says. Fields may be in any order. A missing field is no fault here; its
-/// content is None. Err is as for `read_fields`.
+/// content is None. Err is the first fault: that of a field, `Shape` for a head that comes twice or has no place there (`Online` for
+/// `(online ..)`), or `Memory` if memory ran out.
 pub(crate) fn fields_of<'a>(
     alloc: Global,
     place: Place,

@@ -70,7 +70,7 @@ impl HashAlg {
     }
 }
 
-/// Whether `digest` is the SHA-1 digest of the octets.
+/// The part of `HashAlg::fits` for SHA-1: whether `digest` is the SHA-1 digest of the octets.
 fn fits_sha1(digest: &[u8], octets: &[u8]) -> bool
     ensures { result ≡ is_digest HashAlg.Sha1 digest.now octets.now }
 {
@@ -78,7 +78,7 @@ fn fits_sha1(digest: &[u8], octets: &[u8]) -> bool
     made.as_slice() == digest
 }
 
-/// Whether `digest` is the SHA-256 digest of the octets.
+/// The part of `HashAlg::fits` for SHA-256: whether `digest` is the SHA-256 digest of the octets.
 fn fits_sha256(digest: &[u8], octets: &[u8]) -> bool
     ensures { result ≡ is_digest HashAlg.Sha256 digest.now octets.now }
 {
@@ -86,7 +86,7 @@ fn fits_sha256(digest: &[u8], octets: &[u8]) -> bool
     made.as_slice() == digest
 }
 
-/// Whether `digest` is the SHA-512 digest of the octets.
+/// The part of `HashAlg::fits` for SHA-512: whether `digest` is the SHA-512 digest of the octets.
 fn fits_sha512(digest: &[u8], octets: &[u8]) -> bool
     ensures { result ≡ is_digest HashAlg.Sha512 digest.now octets.now }
 {

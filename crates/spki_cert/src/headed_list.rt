@@ -7,11 +7,13 @@ ghost use Rattle.spki_cert.specs.FieldFaults.{head_of};
 use sexpr_core::syntax::{Members, Node};
 use std::marker::Model;
 
-/// A list whose first member, its head, is a string without a display hint. The head is read once, however many words it is compared
-/// with. In a contract it is the value of the list.
+/// A list whose first member, its head, is a string without a display hint. The head is read once, however many words it is compared with.
+/// In a contract a `HeadedList` is the value of the list.
 #[derive(Drop)]
 pub(crate) struct HeadedList<'d, 'a> {
+    /// The octets of the head.
     head: &'a [u8],
+    /// The members after the head.
     members: Members<'d, 'a>,
 }
 
@@ -47,7 +49,7 @@ impl<'d, 'a> HeadedList<'d, 'a> {
         self.head
     }
 
-    /// The members after the head, if it is `word`. None if it is another.
+    /// The members after the head, if the head is `word`. None if the head is another word.
     pub(crate) fn headed(&self, word: &[u8]) -> Option<Members<'d, 'a>>
         ensures { MatchOption result (IsNotHeaded self.now word.now) (λ vs. self.now ≡ group (plain word.now ∷ vs)) }
     {

@@ -4,8 +4,8 @@ ghost use Rattle.std.specs.Prelude.{◌≡◌, ◌≢◌, ◌∷◌, ◌++◌, �
 
 use crate::fault::{CertFault, CertFaultKind};
 
-/// Appends `read`, the item that was read after those of `items`. If it could not be read, or memory runs out now, Err is the fault with
-/// the number of the item, from 1, and nothing is appended.
+/// Appends the next item to `items`. `read` is the result of reading this item. Err is the fault of `read`, or `Memory` if memory runs out
+/// now, with the number of the item, from 1. Then nothing is appended.
 pub(crate) fn push_read<T: Drop>(
     items: &mut Vec<T>,
     read: Result<T, CertFaultKind>,

@@ -17,11 +17,13 @@ struct Digests {
     sha512: Option<[u8; 64]>,
 }
 
-/// A public key, as its canonical octets (RFC 2693, section 2.5). Two keys are the same if these octets are. A key carries
-/// the digests that `digested` has made of it.
+/// A public key, as its canonical octets (RFC 2693, section 2.5). Two keys are the same if these octets are. A key carries the digests that
+/// `digested` has made of it, so that they are not made at each comparison with a hash.
 #[derive(Debug, Drop)]
 pub struct Key<'a> {
+    /// The canonical octets, borrowed from the text that was read.
     canonical: Octets<'a>,
+    /// The digests of these octets, as far as they were made.
     digests: Digests,
 }
 
@@ -114,8 +116,8 @@ impl<'a> Key<'a> {
         }
     }
 
-    /// Whether `digest` is the digest of the key's canonical octets by this algorithm. Allocates nothing. A digest that
-    /// the key carries is compared. Otherwise the key is digested.
+    /// Whether `digest` is the digest of the key's canonical octets by this algorithm. If the key carries its digest, this one is compared.
+    /// Otherwise the key is digested now. Allocates nothing.
     pub fn has_digest(&self, alg: HashAlg, digest: &[u8]) -> bool
         ensures { result ≡ is_digest alg digest.now self.now }
     {

@@ -52,7 +52,8 @@ pub fn no_fault()
     ensures date { (v : Value) → (date_fault v ≡ None) ↔ ((octets : List ℕ) × DateOf v octets) }
 {}
 
-/// A value has no fault as a principal, a subject or an issuer exactly if it is one.
+/// A value has no fault as a principal, a subject or an issuer exactly if it is one. `subject` is about the subject of a certificate, as it
+/// is written, and `of_entry` about that of an entry, which is no relative name.
 pub fn no_subject_fault()
     ensures principal { (v : Value) → (principal_fault v ≡ None) ↔ ((p : Principal) × PrincipalOf v p) }
     ensures subject { (v : Value) → (subject_fault v ≡ None) ↔ ((p : Option Principal) × (names : List (List ℕ)) × WrittenSubjectOf v p names) }
@@ -83,8 +84,8 @@ pub fn no_sequence_fault()
     ensures sequence { (v : Value) → (sequence_fault v ≡ None) ↔ ((is : List SeqItem) × SeqOf v is) }
 {}
 
-/// If the entries of an access list have a fault, it has the number of the first entry that cannot be read, from 1, and
-/// the fault of that entry. All entries before it can be read.
+/// If the entries of an access list have a fault, it has the number of the first entry that cannot be read, from 1, and the fault of that
+/// entry. All entries before it can be read. `refused_list` says this of the whole list, with its head and version.
 pub fn refused_entry()
     ensures { (vs : List Value) (fault : CertFault) → entries_fault vs ≡ Some fault
         → (v : Value) × IsRefusedAt EntryOf vs fault.item v × (entry_fault v ≡ Some fault.kind) }
@@ -109,9 +110,10 @@ pub fn refused_sequence()
         → (is_headed (codes "sequence") v ≡ false) × (fault.kind ≡ Shape) }
 {}
 
-/// The weight of an entry bounds how much is read to test it: it counts the names and octets of its subject and the nodes and octets of its
-/// tag. It is below the octets of the entry's canonical text. The weight of a sequence bounds the same for its certificates. It is at most
-/// four times the octets of the sequence's canonical text, and may be more than once: a relative name counts its issuer's principal again.
+/// The weight of an entry bounds how much is read to test it: it counts one for the entry, the names and octets of its subject, and the
+/// nodes and octets of its tag. This weight is below the number of octets of the entry's canonical text. The weight of a sequence bounds
+/// the same for its certificates. It is at most four times the number of octets of the sequence's canonical text. It may be more than this
+/// number itself, because a relative name counts its issuer's principal again.
 pub fn weights()
     ensures entry { (v : Value) (e : Entry) → EntryOf v e → entry_weight e < length (canon v) }
     ensures sequence { (v : Value) (is : List SeqItem) → SeqOf v is → items_weight is ≤ 4 * length (canon v) }

@@ -5,7 +5,7 @@ ghost use Rattle.spki_cert.specs.Time.{is_from, is_until, later, earlier, in_ord
 
 use crate::date::Date;
 
-/// A fact for the prover: a limit, if there is one, is a date. Does nothing.
+/// A fact for the prover, from the invariant of `Date`: a limit, if there is one, is a date. Does nothing.
 pub fn prove_limit(limit: Option<Date>)
     ensures { IsLimit limit }
 {
@@ -34,7 +34,8 @@ pub fn is_until(limit: Option<Date>, moment: &Date) -> bool
     }
 }
 
-/// The later of two limits `not_before`, for the window of the moments in two windows. If one is None, the other is returned.
+/// The later of two limits `not_before`, where the intersection of two windows begins (`Window::meet`). If one is None, the other is
+/// returned.
 pub fn later(one: Option<Date>, other: Option<Date>) -> Option<Date>
     ensures chosen { result ≡ later one other }
     ensures limit { IsLimit result }
@@ -46,7 +47,8 @@ pub fn later(one: Option<Date>, other: Option<Date>) -> Option<Date>
     }
 }
 
-/// The earlier of two limits `not_after`, for the window of the moments in two windows. If one is None, the other is returned.
+/// The earlier of two limits `not_after`, where the intersection of two windows ends (`Window::meet`). If one is None, the other is
+/// returned.
 pub fn earlier(one: Option<Date>, other: Option<Date>) -> Option<Date>
     ensures chosen { result ≡ earlier one other }
     ensures limit { IsLimit result }

@@ -8,15 +8,16 @@ use std::alloc::{AllocError, Global};
 use std::marker::Model;
 use std::sync::ArcSlice;
 
-/// The names after a principal, in order (RFC 2693, section 2.8). Copies share the names that were read. Names that were put in front are stored apart,
-/// from the last to the first. So removing the first name, and putting others in front, takes no time for the names that are kept.
+/// The names after a principal, in order (RFC 2693, section 2.8). Copies share the names that were read. Names that were put in front are
+/// stored apart, from the last to the first. So removing the first name, and putting others in front, takes no time for the names that are
+/// kept.
 #[derive(Drop)]
 pub struct Names<'a> {
     /// The names that were put in front, from the last to the first.
     front: Vec<Octets<'a>>,
     /// The names that were read, in order. None if there were none, so that nothing is allocated for them.
     read: Option<ArcSlice<Octets<'a>>>,
-    /// How many of the names that were read are gone, from the first.
+    /// How many of the names that were read are removed, from the first. `behind_first` removes them.
     gone: usize,
 }
 
@@ -28,7 +29,7 @@ impl<'a> Model for Names<'a> {
     ghost view = { λ n. reverse n.front.items ++ drop n.gone (unwrap_or (option_map arc_slice_items n.read) []) };
 }
 
-/// The names that were read and are not gone.
+/// The names that were read and are not removed. `read` and `gone` are the fields of `Names`.
 fn kept<'s, 'a>(read: &'s Option<ArcSlice<Octets<'a>>>, gone: usize) -> &'s [Octets<'a>]
     ensures { result.now ≡ drop gone (unwrap_or (option_map arc_slice_items read.now) []) }
 {
@@ -39,11 +40,11 @@ fn kept<'s, 'a>(read: &'s Option<ArcSlice<Octets<'a>>>, gone: usize) -> &'s [Oct
 }
 
 impl<'a> Names<'a> {
-    /// The names of a vector, in its order.
+    /// The names of a vector, in its order. Nothing is allocated if there are no names.
     ///
     /// # Errors
     ///
-    /// `AllocError` if memory ran out. Nothing is allocated if there are no names.
+    /// `AllocError` if memory ran out.
     pub fn of(names: Vec<Octets<'a>>) -> Result<Names<'a>, AllocError>
         ensures { IfOk result (λ n. n ≡ names.entry.items) }
     {
@@ -60,7 +61,7 @@ impl<'a> Names<'a> {
         })
     }
 
-    /// No names. Allocates nothing.
+    /// No names. Allocates nothing: `alloc` is kept for names that are put in front later.
     pub fn none(alloc: Global) -> Names<'a>
         ensures { result ≡ [] }
     {
@@ -108,7 +109,7 @@ impl<'a> Names<'a> {
         }
     }
 
-    /// All names but the first, which the caller has compared or replaced. Without names the result has no names either.
+    /// Returns these names without the first. The caller has compared or replaced the first. Without names the result has no names either.
     pub fn behind_first(self) -> Names<'a>
         ensures { result ≡ drop 1 self.entry }
     {
@@ -127,7 +128,8 @@ impl<'a> Names<'a> {
         }
     }
 
-    /// Returns `name`, and after it these names.
+    /// Returns `name`, and after it these names. So the name that a definition defines is put in front of the names that remain, where a
+    /// chain is read from its end.
     ///
     /// # Errors
     ///
@@ -149,7 +151,7 @@ impl<'a> Names<'a> {
     ///
     /// # Errors
     ///
-    /// `AllocError` if memory ran out.
+    /// `AllocError` if memory ran out, or if this copy would be one too many to count (`clone`).
     pub fn behind(self, others: &Names<'a>) -> Result<Names<'a>, AllocError>
         ensures { IfOk result (λ names. names ≡ others.now ++ self.entry) }
     {
@@ -174,7 +176,8 @@ impl<'a> Names<'a> {
 impl<'a> Clone for Names<'a> {
     ghost is_clone = { λ names copy. copy ≡ names };
 
-    /// Returns a copy. Only the names that were put in front are copied. Err if memory ran out, or if there are too many copies to count.
+    /// Returns a copy. Only the names that were put in front are copied; those that were read are shared. Err if memory ran out, or if
+    /// there are too many copies to count.
     fn clone(&self) -> Result<Names<'a>, AllocError> {
         let read = match &self.read {
             None => None,

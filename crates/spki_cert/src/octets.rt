@@ -5,8 +5,8 @@ ghost use Rattle.std.specs.Prelude.{◌≡◌, ◌↔◌, ℕ, List, IsTrue};
 use std::alloc::AllocError;
 use std::marker::Model;
 
-/// Octets of a text that was read: a digest, a name, or the canonical form of a certificate or of a
-/// signature's value.
+/// Octets of a text that was read, which they borrow: a digest, a name, or the canonical form of a key, a certificate or a signature's
+/// value.
 #[derive(Debug, Drop)]
 pub struct Octets<'a> {
     octets: &'a [u8],
@@ -54,7 +54,7 @@ impl<'a> Octets<'a> {
 impl<'a> Clone for Octets<'a> {
     ghost is_clone = { λ octets copy. copy ≡ octets };
 
-    /// Returns the same octets again. Never fails. A vector of octets is copied by it.
+    /// Returns the same octets again. Never fails. `Vec::clone` needs this for a vector of octets, as in `Names`.
     fn clone(&self) -> Result<Octets<'a>, AllocError> {
         Ok(self.share())
     }

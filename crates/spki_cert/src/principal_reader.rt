@@ -27,6 +27,7 @@ pub(crate) struct WrittenSubject<'a> {
 /// The issuer of a certificate, and the name that a name certificate defines.
 #[derive(Drop)]
 pub(crate) struct Issuer<'a> {
+    /// The issuer itself. In a name certificate it is the principal in whose name space the name is defined.
     pub principal: Principal<'a>,
     /// The name that is defined. None in an authorization certificate.
     pub name: Option<Octets<'a>>,
@@ -36,8 +37,8 @@ pub(crate) struct Issuer<'a> {
 ///
 /// # Errors
 ///
-/// The fault of the hash if the node is headed `hash`. Otherwise the fault of the key, which is `Shape` for a value that is
-/// neither.
+/// The first fault. If the node is headed `hash`, it is `HashAlg`, `DigestLength` or `Shape`, as for `hash_of`. Otherwise the node is read
+/// as a key: it is `KeyUris`, or `Shape`, also for a value that is neither a key nor a hash.
 #[tactic(auto, using(crate::proofs::Heads::heads), unfolding(crate::specs::FieldFaults::principal_fault))]
 pub fn principal_of<'a>(node: &Node<'_, 'a>) -> Result<Principal<'a>, CertFaultKind>
     ensures found { IfOk result (λ principal. PrincipalOf node.now principal) }
@@ -59,7 +60,7 @@ pub fn principal_of<'a>(node: &Node<'_, 'a>) -> Result<Principal<'a>, CertFaultK
 }
 
 /// Returns `names`, and after them those in `members`, each a string without a display hint. Err is `Shape` if some member is anything
-/// else, or `Memory`.
+/// else, or `Memory` if memory ran out.
 fn names_behind<'a>(
     names: Vec<Octets<'a>>,
     members: Members<'_, 'a>,
@@ -82,8 +83,8 @@ fn names_behind<'a>(
 }
 
 /// Reads the members of a name after the head `name`: a principal and its names, or names alone, which are a relative name. A first member
-/// that is a string without a display hint is a name, anything else is read as a principal. Err is the first fault. It is `Shape` if there
-/// is no name.
+/// that is a string without a display hint is a name, anything else is read as a principal. Err is the first fault: that of the principal,
+/// `Shape` if there is no name or a later member is no name, or `Memory` if memory ran out.
 #[tactic(auto, using(crate::proofs::Heads::heads), unfolding(crate::specs::FieldFaults::names_fault))]
 fn read_name_members<'a>(
     alloc: Global,
@@ -116,7 +117,8 @@ fn read_name_members<'a>(
 }
 
 /// Reads a subject from its node, as it is written: a principal, a name `(name PRINCIPAL N N ..)`, or a relative name `(name N N ..)`. Err
-/// is its first fault. It is `Threshold` for a list headed `k-of-n`, and `Keyholder` for one headed `keyholder`.
+/// is `Threshold` for a list headed `k-of-n`, and `Keyholder` for one headed `keyholder`. Otherwise it is the first fault, that of the
+/// principal or `Shape`, or `Memory` if memory ran out.
 #[tactic(auto, using(crate::proofs::Heads::heads), unfolding(crate::specs::FieldFaults::subject_fault))]
 pub(crate) fn written_subject_of<'a>(
     alloc: Global,
@@ -142,7 +144,8 @@ pub(crate) fn written_subject_of<'a>(
 }
 
 /// Reads the issuer of a certificate from its node: a principal, or, in a name certificate, `(name PRINCIPAL N)` with exactly one name. Err
-/// is its first fault. It is `Shape` if the name N is missing, is no string without a display hint, or is followed by anything.
+/// is the first fault: that of the principal, or `Shape` if the principal or the name N is missing, if N is no string without a display
+/// hint, or if anything follows N. Allocates nothing.
 #[tactic(auto, using(crate::proofs::Heads::heads), unfolding(crate::specs::FieldFaults::issuer_fault))]
 pub(crate) fn issuer_of<'a>(node: &Node<'_, 'a>) -> Result<Issuer<'a>, CertFaultKind>
     ensures found { IfOk result (λ issuer. IssuerOf node.now issuer.principal issuer.name) }

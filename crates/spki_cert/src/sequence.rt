@@ -28,7 +28,7 @@ fn is_headed(node: &Node, word: &[u8]) -> bool
 }
 
 /// Reads an item of a sequence from its node by its head: a certificate, a signature or an operation. A value with any other head is read
-/// as a key. Err is the fault of the item.
+/// as a key. Err is the fault of the item, or `Memory` if memory ran out for a certificate.
 #[tactic(auto, using(crate::proofs::Heads::heads), unfolding(crate::specs::StructureFaults::item_fault))]
 fn item_of<'a>(alloc: Global, node: &Node<'_, 'a>) -> Result<SeqItem<'a>, CertFaultKind>
     ensures found { IfOk result (λ item. ItemOf node.now item) }
@@ -46,9 +46,10 @@ fn item_of<'a>(alloc: Global, node: &Node<'_, 'a>) -> Result<SeqItem<'a>, CertFa
     Ok(SeqItem::Key(key_of(node)?))
 }
 
-/// Checks that the item with this number may come here. `waits` is the number of the certificate before it that is still without its
-/// signature, or None if there is no such certificate. Err is `StraySignature`, with the number of the item, for a signature if `waits` is
-/// None. It is `UnsignedCert`, with the number of the certificate, if the item is neither a signature nor an operation and `waits` is Some.
+/// Checks that the item with this number, from 1, may come here. `waits` is the number of the certificate before it that is still without
+/// its signature, or None if there is no such certificate. Err is `StraySignature`, with the number of the item, for a signature if `waits`
+/// is None. It is `UnsignedCert`, with the number of the certificate, if the item is neither a signature nor an operation and `waits` is
+/// Some.
 fn check_place(node: &Node, waits: Option<usize>, number: usize) -> Result<(), CertFault>
     ensures faultless { IfOk result (λ _. place_fault waits number node.now ≡ None) }
     ensures named { IfErr result (λ fault. place_fault waits number node.now ≡ Some fault) }
@@ -74,8 +75,9 @@ fn check_place(node: &Node, waits: Option<usize>, number: usize) -> Result<(), C
     }
 }
 
-/// The number of the certificate that is still without its signature after this item, or None. `before` is that number before the item, and `number`
-/// the number of the item itself.
+/// The number of the certificate that is still without its signature after this item, or None. `before` is that number before the item, and
+/// `number` the number of the item itself. If the item is a certificate, `before` is None, because `check_place` refuses the item
+/// otherwise.
 fn waiting(node: &Node, before: Option<usize>, number: usize) -> Option<usize>
     ensures { result ≡ waiting node.now before number }
 {
@@ -89,8 +91,9 @@ fn waiting(node: &Node, before: Option<usize>, number: usize) -> Option<usize>
     }
 }
 
-/// Reads the items from the members of a sequence after its head. Err is the first fault, with the number of its item, from 1. It is also
-/// `UnsignedCert` if the sequence ends without the signature of its last certificate.
+/// Reads the items from the members of a sequence after its head. Err is the first fault, with the number of its item, from 1. If the
+/// sequence ends without the signature of its last certificate, it is `UnsignedCert`, with the number of this certificate. It is `Memory`
+/// if memory ran out.
 #[tactic(auto, using(crate::proofs::Heads::heads), unfolding(crate::specs::StructureFaults::items_fault))]
 fn items_of<'a>(alloc: Global, members: Members<'_, 'a>) -> Result<Vec<SeqItem<'a>>, CertFault>
     ensures items { IfOk result (λ items. AllZip ItemOf members.entry items.items) }
@@ -117,11 +120,13 @@ fn items_of<'a>(alloc: Global, members: Members<'_, 'a>) -> Result<Vec<SeqItem<'
     }
 }
 
-/// Reads a sequence from its node: `(sequence item ..)`, in which each certificate is followed by its signature.
+/// Reads a sequence from its node: `(sequence item ..)`, in which each certificate is followed by its signature, with only `do` items
+/// between.
 ///
 /// # Errors
 ///
-/// Those of `read_sequence`: the first fault from the left, with the number of its item, from 1. The number is 0 for the head.
+/// The first fault from the left, with the number of its item, from 1, or 0 if the node is not headed `sequence` (`Shape`). The number of
+/// `UnsignedCert` is that of the certificate that lacks its signature. `Memory` if memory ran out.
 #[tactic(auto, using(crate::proofs::Heads::heads), unfolding(crate::specs::StructureFaults::sequence_fault))]
 pub fn sequence_of<'a>(alloc: Global, node: &Node<'_, 'a>) -> Result<Vec<SeqItem<'a>>, CertFault>
     ensures sequence { IfOk result (λ items. SeqOf node.now items.items) }

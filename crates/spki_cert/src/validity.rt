@@ -12,8 +12,8 @@ use crate::value_readers::date_of;
 use crate::window::Window;
 use sexpr_core::syntax::{Members, Node};
 
-/// Reads the date from the members of `(not-before DATE)` or `(not-after DATE)` after the head. Err is `BadDate`, or `Shape` if there is
-/// not exactly one member.
+/// Reads the date from the members of `(not-before DATE)` or `(not-after DATE)` after the head. Err is `BadDate` if the first member is no
+/// date. Otherwise it is `Shape`: there is no member, or others follow the date.
 pub(crate) fn date_in(members: Members) -> Result<Date, CertFaultKind>
     ensures found { IfOk result (λ date. Sole DateOf members.entry date) }
     ensures faultless { IfOk result (λ _. sole_fault CertFaultKind.Shape date_fault members.entry ≡ None) }
@@ -31,8 +31,9 @@ pub(crate) fn date_in(members: Members) -> Result<Date, CertFaultKind>
     }
 }
 
-/// Adds the limit in a member of `(valid ..)`, `(not-before DATE)` or `(not-after DATE)`, to the window, which has the limits before it.
-/// Err is the fault of the member: `Shape` if the window has this limit already, `Online` for `(online ..)`, and `Shape` for anything else.
+/// Returns `window` with one more limit. `field` is a member of `(valid ..)`: `(not-before DATE)` or `(not-after DATE)`. `window` has the
+/// limits of the members before it. Err is `Shape` if the window has this limit already, otherwise `BadDate` or `Shape` for its date. It is
+/// `Online` for `(online ..)`, and `Shape` for anything else.
 fn with_limit(field: &Node, window: Window) -> Result<Window, CertFaultKind>
     ensures found { IfOk result (λ after. AddsLimit field.now window after) }
     ensures faultless { IfOk result (λ _. LimitLook window field.now None) }
@@ -66,7 +67,8 @@ fn with_limit(field: &Node, window: Window) -> Result<Window, CertFaultKind>
 }
 
 /// Reads a window from the members of `(valid ..)` after the head: limits, each at most once. Without members the window has no limits. Err
-/// is the first fault.
+/// is the first fault: `BadDate` for a limit that is no date, `Online` for `(online ..)`, and `Shape` for anything else, such as a limit
+/// that comes twice.
 pub(crate) fn valid_in(members: Members) -> Result<Window, CertFaultKind>
     ensures found { IfOk result (λ window. ValidOf members.entry window) }
     ensures faultless { IfOk result (λ _. fields_fault limit_fault members.entry ≡ None) }

@@ -42,8 +42,8 @@ pub fn key_of<'a>(node: &Node<'_, 'a>) -> Result<Key<'a>, CertFaultKind>
     }
 }
 
-/// Whether the node can be the list `(ALG PART ..)` in a key: a list that begins with a string without a display hint. ALG and the parts
-/// are not tested.
+/// Whether the node can be the list `(ALG PART ..)` in a key: a list that begins with a string without a display hint. What ALG and the
+/// parts contain is not tested.
 fn is_algorithm(node: &Node) -> bool
     ensures { MatchBool result (IsAlgorithm node.now) (IsAlgorithm node.now → ⊥) }
 {
@@ -124,8 +124,9 @@ fn ends_in_uris(rest: Members) -> bool
     }
 }
 
-/// Reads a hash from its node: `(hash ALG DIGEST)`, or with `(uri x ..)` after the digest. Returns its algorithm and its digest. Err is the
-/// first fault: `HashAlg`, `DigestLength` or `Shape`, as `read_hash` says.
+/// Reads a hash from its node: `(hash ALG DIGEST)`, or with `(uri x ..)` after the digest, which is ignored. Returns its algorithm and its
+/// digest. Err is the first fault: `HashAlg` if ALG is a string other than `sha1`, `sha256` and `sha512`, or has a display hint,
+/// `DigestLength` if DIGEST does not have the length of this algorithm's digests, otherwise `Shape`.
 #[tactic(auto, using(crate::proofs::Heads::heads), unfolding(crate::specs::FieldFaults::hash_fault))]
 pub fn hash_of<'a>(node: &Node<'_, 'a>) -> Result<(HashAlg, Octets<'a>), CertFaultKind>
     ensures hash { IfOk result (λ h. HashOf node.now h.0 h.1) }
@@ -156,7 +157,7 @@ pub fn hash_of<'a>(node: &Node<'_, 'a>) -> Result<(HashAlg, Octets<'a>), CertFau
 ///
 /// # Errors
 ///
-/// The first fault from the left: `KeyUris` if a list headed `uri` follows the algorithm's list, otherwise `Shape`. The item
+/// The first fault from the left: `KeyUris` if a list headed `uri` follows the algorithm's list, otherwise `Shape`. The item of the fault
 /// is 0.
 pub fn read_key<'a>(document: &Doc<'a>, n: NodeId) -> Result<Key<'a>, CertFault>
     requires { IsSome (node document.now n.0) }
@@ -173,13 +174,14 @@ pub fn read_key<'a>(document: &Doc<'a>, n: NodeId) -> Result<Key<'a>, CertFault>
     }
 }
 
-/// Reads node n of a document, which must exist, as a hash: `(hash alg digest)` or `(hash alg digest (uri x ..))`. Returns its algorithm and its
-/// digest. Allocates nothing.
+/// Reads node n of a document, which must exist, as a hash: `(hash alg digest)` or `(hash alg digest (uri x ..))`. Returns its algorithm
+/// and its digest. Allocates nothing.
 ///
 /// # Errors
 ///
 /// The first fault from the left. `HashAlg`: the algorithm is a string other than `sha1`, `sha256` and `sha512`, or has a display hint.
-/// `DigestLength`: the digest does not have its 20, 32 or 64 octets. Otherwise `Shape`. The item is 0.
+/// `DigestLength`: the digest does not have the 20, 32 or 64 octets of its algorithm's digests. Otherwise `Shape`. The item of the fault is
+/// 0.
 pub fn read_hash<'a>(document: &Doc<'a>, n: NodeId) -> Result<(HashAlg, Octets<'a>), CertFault>
     requires { IsSome (node document.now n.0) }
     ensures hash { IfSome (node document.now n.0) (λ value. IfOk result (λ hash. HashOf value hash.0 hash.1)) }
@@ -195,11 +197,12 @@ pub fn read_hash<'a>(document: &Doc<'a>, n: NodeId) -> Result<(HashAlg, Octets<'
     }
 }
 
-/// Reads node n of a document, which must exist, as a date: a string without a display hint, of the form `YYYY-MM-DD_HH:MM:SS`. Allocates nothing.
+/// Reads node n of a document, which must exist, as a date: a string without a display hint, of the form `YYYY-MM-DD_HH:MM:SS`. Allocates
+/// nothing.
 ///
 /// # Errors
 ///
-/// Only `BadDate`. The item is 0.
+/// Only `BadDate`. The item of the fault is 0.
 pub fn read_date(document: &Doc, n: NodeId) -> Result<Date, CertFault>
     requires { IsSome (node document.now n.0) }
     ensures date { IfSome (node document.now n.0) (λ value. IfOk result (λ date. DateOf value date)) }

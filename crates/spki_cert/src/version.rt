@@ -8,7 +8,8 @@ use crate::fault::CertFaultKind;
 use sexpr_core::syntax::{Members, NodeKind};
 
 /// Checks that the members after the head `version` are the string `0`, without a display hint, alone. Err is `UnknownVersion` if the first
-/// is any other string. Otherwise it is `Shape`: there is no member, the first is a list, or others follow `0`.
+/// is any other string, also `0` with a display hint. Otherwise it is `Shape`: there is no member, the first is a list, or others follow
+/// `0`.
 #[tactic(auto, using(crate::proofs::Heads::heads), unfolding(crate::specs::FieldFaults::version_fault))]
 pub(crate) fn check_version(members: Members) -> Result<(), CertFaultKind>
     ensures found { IfOk result (λ _. members.entry ≡ plain (codes "0") ∷ []) }

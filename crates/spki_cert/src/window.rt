@@ -3,7 +3,8 @@
 use crate::date::Date;
 use crate::limit::{earlier, is_from, is_in_order, is_until, later, prove_limit};
 
-/// The moments from a first to a last one, both included. A missing limit does not limit.
+/// The moments from a first to a last one, both included. A missing limit does not limit. If the first is after the last, the window
+/// contains no moment.
 #[derive(Clone, Copy, Debug)]
 pub struct Window {
     /// The first moment. None if all moments until the last are in the window.
