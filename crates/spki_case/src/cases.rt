@@ -27,22 +27,22 @@ pub enum CaseFault {
     /// after each of `key`, `request` and `at`, and the word `strict` after `policy`.
     #[error("not built as a case")]
     Shape,
-    /// The fault of the access list. Its item is the number of the entry, from 1, or 0 if the list has another head or version.
+    /// The fault of the access list. Its item is the number of the entry, from 1, or 0 for a wrong version of the list.
     #[error("access list: {0}")]
     Acl(CertFault),
     /// The fault of the accepted list. Its item is the number of the row, from 1.
     #[error("accepted list: {0}")]
     Accepted(CertFault),
-    /// The fault of the sequence. Its item is counted in the sequence, from 1, or 0 if the list has another head.
+    /// The fault of the sequence. Its item is counted in the sequence, from 1.
     #[error("sequence: {0}")]
     Sequence(CertFault),
-    /// The fault of the key. Its item is 0.
+    /// The fault of the key, `KeyUris` or `Shape`. Its item is 0.
     #[error("key: {0}")]
     Key(CertFault),
     /// The fault of the request.
     #[error("request: {0}")]
     Request(TagFault),
-    /// The fault of the moment. Its item is 0.
+    /// The fault of the moment, `BadDate`. Its item is 0.
     #[error("moment: {0}")]
     At(CertFault),
     /// Memory ran out.
@@ -50,7 +50,7 @@ pub enum CaseFault {
     Memory,
 }
 
-/// A case.
+/// A case: a request by a key at a moment, and the access list, signatures and certificates by which it is decided.
 #[derive(Drop)]
 pub struct Case<'a> {
     /// The access list: what the service lets each subject do.
@@ -61,15 +61,17 @@ pub struct Case<'a> {
     pub sequence: Vec<SeqItem<'a>>,
     /// The client's key.
     pub key: Key<'a>,
-    /// The request.
+    /// What the client asks for.
     pub request: Ground,
-    /// The moment.
+    /// The moment for which the request is decided.
     pub moment: Date,
-    /// Which hashes name keys.
+    /// Which hashes name keys: under `Strict` none by SHA-1.
     pub policy: Policy,
-    /// The greatest product of the numbers of nodes of two tags that are intersected.
+    /// The greatest product of the numbers of nodes of two tags that are intersected. A node is each string, star, prefix, range, list and
+    /// set in a tag. A call that would intersect larger tags fails with `TooLarge`.
     pub most_nodes: usize,
-    /// The most work of all entries together that are joined with the certificates, as `spki_reduce::Work` counts it.
+    /// The most work of all entries together that are joined with the certificates, as `spki_reduce::Work` counts it. A call that would
+    /// take more fails with `TooLarge`.
     pub most_work: usize,
     /// A chain, an entry with all certificates, does not count as work if it is small by this limit. It is small if the product of the
     /// numbers of nodes of its tags is at most this. If no tag has a set, it is also small if the number of nodes of all its tags together,
@@ -77,9 +79,9 @@ pub struct Case<'a> {
     pub uncounted: usize,
     /// Each certificate is followed by its signature.
     ghost signed: { AreSigned sequence.items },
-    /// The limit is at most that of all tags.
+    /// `most_nodes` is at most 1,000,000, the limit for any two tags.
     ghost bounded: { most_nodes ≤ 1000000 },
-    /// A chain that does not count is within the limit.
+    /// A chain that does not count as work is within `most_nodes`.
     ghost small: { uncounted ≤ most_nodes },
 }
 
@@ -97,8 +99,9 @@ impl<'a> Case<'a> {
     ///
     /// # Errors
     ///
-    /// `Form` if the text is no canonical form within the limits; `Form(TooLong)` exactly if it has more than 1,048,576
-    /// octets. Otherwise the faults of `of`. `Memory` if memory ran out.
+    /// `Form` if the text is no canonical form within the limits; `Form(TooLong)` exactly if it has more than 1,048,576 octets. `Shape` if
+    /// its value does not have the outer structure of a case. Otherwise the fault of the first part, in the order of `CaseFault`, that
+    /// cannot be read. `Memory` if memory ran out.
     pub fn read(alloc: Global, text: &'a [u8]) -> Result<Case<'a>, CaseFault>
         ensures read { IfOk result (λ c. IsCaseText text.entry.now (model c)) }
         ensures too_long { IsErrOf result (CaseFault.Form FormFault.TooLong) ↔ (1048576 < length text.entry.now) }
@@ -112,13 +115,14 @@ impl<'a> Case<'a> {
     }
 
     /// Reads a case from its node: `(case (acl ..) (accepted ..) (sequence ..) (key K) (request G) (at DATE))`, with or without
-    /// `(policy strict)` behind the moment. Its limits are those of `read`: `MOST_NODES` and `MOST_WORK`. Its keys get the digests by which
-    /// they may be compared with hashes (module `digests`); this saves time and changes no answer.
+    /// `(policy strict)` behind the moment. Its `most_nodes` and `uncounted` are `MOST_NODES`, and its `most_work` is `MOST_WORK`, as in
+    /// `read`. Its keys get the digests by which they may be compared with hashes (module `digests`); this saves time and changes no
+    /// answer.
     ///
     /// # Errors
     ///
-    /// `Shape` if the value does not have the outer structure of a case. Otherwise the fault of the first part, in the
-    /// order of `CaseFault`, that cannot be read. `Memory` if memory ran out.
+    /// `Shape` if the value does not have the outer structure of a case. Otherwise the fault of the first part, in the order of
+    /// `CaseFault`, that cannot be read. `Memory` if memory ran out.
     pub fn of(alloc: Global, node: &Node<'_, 'a>) -> Result<Case<'a>, CaseFault>
         ensures read { IfOk result (λ c. CaseOf node.now (model c)) }
         ensures refused { IfErr result (λ fault. fault ≢ CaseFault.Memory → ValueRefused node.now fault) }
@@ -168,10 +172,10 @@ impl<'a> Case<'a> {
     }
 
     /// Makes a case with an empty access list and an empty accepted list, for a question to a separate access list, such as that of a
-    /// guard. Each certificate in `sequence` must be followed by its signature. `most_nodes`, which must be at most 1,000,000, and
-    /// `most_work` become the fields of these names. `uncounted` is 0, so all chains count as work, and `most_work` bounds it. `algorithms`
-    /// are those of the hashes in the separate list that may name keys under the policy. The keys get the digests by which they may be
-    /// compared with these hashes and with those in the sequence; this saves time and changes no answer.
+    /// guard, which reads its list once. Each certificate in `sequence` must be followed by its signature. `most_nodes`, which must be at
+    /// most 1,000,000, and `most_work` become the fields of these names. `uncounted` is 0, so all chains count as work, and `most_work`
+    /// bounds it. `algorithms` are those of the hashes in the separate list that may name keys under the policy. The keys get the digests
+    /// by which they may be compared with these hashes and with those in the sequence; this saves time and changes no answer.
     ///
     /// # Errors
     ///
@@ -225,7 +229,8 @@ impl<'a> Case<'a> {
     }
 }
 
-/// The fault of a part that has no items, the key or the moment: `kind`, with the item 0.
+/// The fault of a part that has no items, the key or the moment: `kind`, with the item 0. `kind` is never `Memory`, because reading these
+/// parts allocates nothing.
 fn fault_of_part(kind: CertFaultKind) -> CertFault
     ensures { result ≡ record { item = 0; kind = kind } }
 {

@@ -6,9 +6,9 @@ ghost use Rattle.std.specs.Prelude.{◌≡◌};
 
 use spki_cert::{Algorithms, Entry, Key, Policy, Principal, SeqItem};
 
-/// The same items of a sequence, with keys that carry their digests (RFC 2693, section 2.5). The digests are by the algorithms of the
-/// hashes that the keys may be compared with. These are `algorithms`, which are those of the subjects in the access list, and those of the
-/// sequence. Allocates nothing.
+/// The same items of a sequence, with keys that carry their digests by the algorithms of the hashes that they may be compared with (RFC
+/// 2693, section 2.5). These hashes are the subjects in the access list, whose algorithms are `algorithms`, and those in the sequence that
+/// may name keys under `policy`. Allocates nothing.
 pub(crate) fn digested_items<'a>(
     items: Vec<SeqItem<'a>>,
     algorithms: Algorithms,
@@ -24,9 +24,10 @@ pub(crate) fn digested_items<'a>(
     items
 }
 
-/// The client's key, with its digest by the algorithm of the hash that it may be compared with. A chain ends at the client, so that is the
-/// subject of the last certificate in `items`: the loop keeps the last. If there is no certificate, the subjects of the access list
-/// are compared with the key. Then the digests are by `algorithms`, which are those of these subjects. Allocates nothing.
+/// Returns `key`, the client's key, with its digest by the algorithm of the hash that it may be compared with. A chain ends at this key, so
+/// it is compared with the subject of the last certificate in `items`: the loop keeps the last. It needs a digest only if this subject has
+/// a hash that may name keys under `policy`. If there is no certificate, it is compared with the subjects of the access list. Then the
+/// digests are by `algorithms`, which are those of these subjects. Allocates nothing.
 pub(crate) fn client_key<'a>(
     key: &Key<'a>,
     algorithms: Algorithms,
@@ -45,7 +46,7 @@ pub(crate) fn client_key<'a>(
 }
 
 /// Gives a key in a sequence, or the key of a certificate's issuer, its digests by these algorithms. An operation or a signature does not
-/// change.
+/// change. A key in a certificate's subject gets none: it is compared by its octets, never with a hash.
 fn digest_item(item: &mut SeqItem, algorithms: Algorithms)
     ensures { item.new ≡ item.old }
 {
@@ -68,7 +69,8 @@ fn digest_principal(principal: &mut Principal, algorithms: Algorithms)
     }
 }
 
-/// Returns `algorithms`, and those of the hashes in a sequence that may name keys under the policy.
+/// Returns `algorithms`, and those of the hashes in a sequence that may name keys under the policy. `item_algorithms` says which hashes an
+/// item has.
 fn all_algorithms(algorithms: Algorithms, items: &[SeqItem], policy: Policy) -> Algorithms {
     let mut algorithms = algorithms;
     for item in items {

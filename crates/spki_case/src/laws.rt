@@ -31,7 +31,8 @@ pub fn one_case()
     ensures text { (text : List ℕ) (c d : Case) → IsCaseText text c → IsCaseText text d → c ≡ d }
 {}
 
-/// A value that is refused as a case, or as an accepted list, is refused for one fault: the same part, item and kind.
+/// A value that is refused as a case, or as an accepted list, is refused for one fault only: two faults for which it is refused have the
+/// same part, item and kind.
 pub fn one_fault()
     ensures case { (v : Value) (f g : CaseFault) → ValueRefused v f → ValueRefused v g → f ≡ g }
     ensures rows { (v : Value) (f g : RowsFault) → NoRows v f → NoRows v g → f ≡ g }

@@ -9,7 +9,7 @@ ghost use Rattle.spki_case.specs.Case as spec;
 use sexpr_core::syntax::{Members, Node};
 use spki_cert::Policy;
 
-/// The parts of a case. Only the policy is read; the others are nodes that are read later.
+/// The parts of a case. Only the policy is read; the others are nodes, or members of a list, that are read later.
 #[derive(Drop)]
 pub(crate) struct Parts<'d, 'a> {
     /// The whole list `(acl ..)`.
@@ -24,6 +24,7 @@ pub(crate) struct Parts<'d, 'a> {
     pub request: Node<'d, 'a>,
     /// DATE of `(at DATE)`.
     pub at: Node<'d, 'a>,
+    /// `Strict` if there is a `(policy strict)`, otherwise `Open`.
     pub policy: Policy,
 }
 
@@ -91,8 +92,8 @@ fn policy_in(members: Members) -> Option<Policy>
     }
 }
 
-/// The parts of a case in this value, which is a list headed `case`. None if the value does not have the outer structure of a case
-/// (`CaseFault::Shape`). Of the parts only the policy is read.
+/// The parts of a case from the node of its value, `(case ..)`. None if the value has another head, or does not have the outer structure of
+/// a case (`CaseFault::Shape`). Of the parts only the policy is read.
 pub(crate) fn parts_of<'d, 'a>(node: &Node<'d, 'a>) -> Option<Parts<'d, 'a>>
     ensures { MatchOption result ((p : spec.Parts) → node.now ≢ case_value p)
         (λ p. (parts : spec.Parts) × (node.now ≡ case_value parts) × ArePartsOf (part_values parts) p parts) }
@@ -100,8 +101,9 @@ pub(crate) fn parts_of<'d, 'a>(node: &Node<'d, 'a>) -> Option<Parts<'d, 'a>>
     parts_in(node.headed(b"case")?)
 }
 
-/// The parts of a case in the members after its head. None if they are not `(acl ..) (accepted ..) (sequence ..) (key K)
-/// (request G) (at DATE)` in this order, with `(policy strict)` or nothing behind. K, G and DATE are any values here.
+/// The parts of a case in the members after its head. None if they are not
+/// `(acl ..) (accepted ..) (sequence ..) (key K) (request G) (at DATE)` in this order, with `(policy strict)` or nothing behind. K, G, DATE
+/// and what is in the lists are any values here.
 fn parts_in<'d, 'a>(members: Members<'d, 'a>) -> Option<Parts<'d, 'a>>
     ensures { MatchOption result ((p : spec.Parts) → members.entry ≢ part_values p)
         (λ p. (parts : spec.Parts) × ArePartsOf members.entry p parts) }

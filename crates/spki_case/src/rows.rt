@@ -35,8 +35,9 @@ impl<'a> AcceptedTable<'a> {
     ///
     /// # Errors
     ///
-    /// `Form` if the text is no canonical form within the limits; `Form(TooLong)` exactly if it has more than 1,048,576
-    /// octets. Otherwise the faults of `of`. `Memory` if memory ran out.
+    /// `Form` if the text is no canonical form within the limits; `Form(TooLong)` exactly if it has more than 1,048,576 octets. `Shape` if
+    /// its value is no list with the head `accepted`. Otherwise `Row` with the fault of the first row that cannot be read. `Memory` if
+    /// memory ran out.
     pub fn read(alloc: Global, text: &'a [u8]) -> Result<AcceptedTable<'a>, RowsFault>
         ensures read { IfOk result (λ table. IsRowsText text.entry.now (rows_of table)) }
         ensures too_long { IsErrOf result (RowsFault.Form FormFault.TooLong) ↔ (1048576 < length text.entry.now) }
@@ -80,8 +81,8 @@ fn fault_of_row(fault: CertFault) -> RowsFault
 }
 
 /// Reads a row from its node: `(by KEY HASH VALUE)`. It says that VALUE is a signature of KEY over the message with this HASH. HASH must be
-/// by SHA-256. VALUE is any value: only its canonical octets are kept. Err is the first fault from the left: that of KEY or of HASH, or
-/// `Shape`. Allocates nothing.
+/// by SHA-256. VALUE is any value: only its canonical octets are kept. Err is the first fault from the left: that of KEY (`key_of`), that
+/// of HASH (`sha256_of`), or `Shape` if the head is not `by` or the members are not exactly these three. Allocates nothing.
 fn row_at<'a>(node: &Node<'_, 'a>) -> Result<Row<'a>, CertFaultKind>
     ensures row { IfOk result (λ row. RowOf node.now (row_of row)) }
     ensures named { IfErr result (λ kind. row_fault node.now ≡ Some kind) }
@@ -110,8 +111,8 @@ fn row_at<'a>(node: &Node<'_, 'a>) -> Result<Row<'a>, CertFaultKind>
     })
 }
 
-/// Reads the digest from the node of a hash by SHA-256: `(hash sha256 DIGEST)`. Err is the first fault of the hash, or `HashAlg` if it is a
-/// hash by SHA-1 or SHA-512.
+/// Reads the digest from the node of a hash by SHA-256: `(hash sha256 DIGEST)`. Err is the first fault of the hash, as `hash_of` says, or
+/// `HashAlg` if it is a hash by SHA-1 or SHA-512. Allocates nothing.
 fn sha256_of<'a>(node: &Node<'_, 'a>) -> Result<Octets<'a>, CertFaultKind>
     ensures digest { IfOk result (λ digest. HashOf node.now HashAlg.Sha256 digest) }
     ensures named { IfErr result (λ kind. sha256_fault node.now ≡ Some kind) }
@@ -123,8 +124,8 @@ fn sha256_of<'a>(node: &Node<'_, 'a>) -> Result<Octets<'a>, CertFaultKind>
     }
 }
 
-/// Reads the rows from the members of an accepted list after its head. Err is the first fault, with the number of its
-/// row, from 1, or `Memory`.
+/// Reads the rows from the members of an accepted list after its head. Err is the first fault, with the number of its row, from 1, or
+/// `Memory` if memory ran out.
 fn read_rows<'a>(alloc: Global, members: Members<'_, 'a>) -> Result<Vec<Row<'a>>, CertFault>
     ensures rows { IfOk result (λ rows. AllZip RowOf members.entry (map row_of rows.items)) }
     ensures named { IfErr result (λ fault. fault.kind ≢ CertFaultKind.Memory → rows_fault members.entry ≡ Some fault) }

@@ -11,13 +11,14 @@ use std::alloc::{AllocError, Global};
 pub struct Row<'a> {
     /// The key that signed.
     pub key: Key<'a>,
-    /// The SHA-256 digest of the message.
+    /// The SHA-256 digest of the message. The message of a certificate's signature is the certificate's canonical octets.
     pub digest: Octets<'a>,
     /// The signature's value, in canonical form.
     pub value: Octets<'a>,
 }
 
-/// A row's digest, value and key. They are compared in this order, so a key is compared only where the others are equal.
+/// The octets of a row's digest, value and key, borrowed. They are compared in this order, so a key is compared only where the others are
+/// equal.
 pub(crate) type SortedRow<'a> = (&'a [u8], &'a [u8], &'a [u8]);
 
 /// Signatures that the service has verified. As a verifier it accepts these and no others.
@@ -25,9 +26,9 @@ pub(crate) type SortedRow<'a> = (&'a [u8], &'a [u8], &'a [u8]);
 pub struct AcceptedTable<'a> {
     /// The signatures, in any order.
     pub rows: Vec<Row<'a>>,
-    /// The digest, value and key of each of these rows, sorted, for the binary search of the verifier.
+    /// The digest, value and key of each of these rows, sorted by these in this order, for the binary search of the verifier.
     pub(crate) sorted: Vec<SortedRow<'a>>,
-    /// The same signatures, in order.
+    /// `sorted` has the same signatures as `rows`, in order.
     ghost found: { AreSorted rows.items sorted.items },
 }
 
@@ -46,7 +47,7 @@ impl<'a> AcceptedTable<'a> {
     }
 }
 
-/// The digest, value and key of each row, sorted in this order. Err if memory ran out.
+/// The digest, value and key of each row, sorted by these in this order. Err if memory ran out.
 fn sorted_rows<'a>(alloc: Global, rows: &[Row<'a>]) -> Result<Vec<SortedRow<'a>>, AllocError>
     ensures { IfOk result (λ sorted. AreSorted rows.now sorted.items) }
 {

@@ -16,7 +16,7 @@ pub trait Verifier {
     /// message.
     ghost accepted: { Self → List ℕ → List ℕ → List ℕ → Type 0 };
 
-    /// Whether the value, in canonical form, is a signature of the key over the message.
+    /// Whether the value, in canonical form, is a signature of the key over the message. `alloc` is for a verifier that needs memory.
     ///
     /// # Errors
     ///
@@ -31,8 +31,8 @@ pub trait Verifier {
         ensures { IfOk result (λ yes. IsTrue yes ↔ accepted self.now key.now message.now value.now) };
 
     /// Whether the value is a signature of the key over the message, like `accepts`. `digest` must be the SHA-256 digest of the message,
-    /// which a caller may have already. So a verifier that looks for the digest does not digest the message again. One that does not use it
-    /// keeps this body, which ignores `digest`.
+    /// which a caller may have already. So a verifier that searches by the digest does not digest the message again. One that does not use
+    /// it keeps this body, which ignores `digest`.
     ///
     /// # Errors
     ///
