@@ -106,7 +106,7 @@ pub(crate) fn copied_limit(limit: &Option<Limit>) -> Result<Option<Limit>, Alloc
     }
 }
 
-/// Adds a tick, which is a unit of work, for each octet of the limit's string, and none for a missing limit. It only counts: `holds` and
+/// Adds a tick for each octet of the limit's string, and none for a missing limit. It only counts: `holds` and
 /// `meet` compare the octets.
 fn count_limit<L: Ledger>(limit: &Option<Limit>, ticks: &mut Ticks<L>)
     ensures { ticks.new ≡ ticks.old + limit_octets (limit_of limit.now) }
@@ -134,7 +134,7 @@ impl Leaf {
         }
     }
 
-    /// Like `holds`, and adds a tick, which is a unit of work, for each octet of the tag's strings, whether it is compared or not. The
+    /// Like `holds`, and adds a tick for each octet of the tag's strings, whether it is compared or not. The
     /// caller counts the tag itself, which is the 1 in the contract.
     pub(crate) fn holds_counted<L: Ledger>(&self, octets: &[u8], ticks: &mut Ticks<L>) -> bool
         ensures answer { result ≡ contains (leaf_tag self.now) (string octets.now) }
@@ -144,7 +144,7 @@ impl Leaf {
         self.holds(octets)
     }
 
-    /// Adds a tick, which is a unit of work, for each octet of the tag's strings: those of a string, a prefix, or the limits of a range. It
+    /// Adds a tick for each octet of the tag's strings: those of a string, a prefix, or the limits of a range. It
     /// only counts, for callers that compare them. The caller counts the tag itself, which is the 1 in the contract.
     pub(crate) fn count_strings<L: Ledger>(&self, ticks: &mut Ticks<L>)
         ensures { ticks.new + 1 ≡ ticks.old + weight (leaf_tag self.now) }

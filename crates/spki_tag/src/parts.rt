@@ -31,7 +31,7 @@ pub(crate) fn push_kept(met: &mut Vec<Tag>, tag: Tag) -> Result<(), AllocError>
 }
 
 /// Appends a copy of each of `members`, which only the longer of two lists has, to `met`, the members of their intersection so far. Adds a
-/// tick, which is a unit of work, for each. Err if memory ran out; then `met` may have some of them.
+/// tick for each. Err if memory ran out; then `met` may have some of them.
 #[tactic(auto, using(crate::proofs::Members::fewer_than_nodes))]
 pub(crate) fn push_copies<L: Ledger>(
     met: &mut Vec<Tag>,

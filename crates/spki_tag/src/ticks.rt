@@ -1,11 +1,11 @@
-//! Counts of work, which exist only in contracts and cost nothing at run time.
+//! Counts of steps, which exist only in contracts and cost nothing at run time.
 
 ghost use Rattle.std.specs.Prelude.{◌≡◌, ◌+◌, ◌<◌};
 
 use std::marker::Model;
 use std::sync::ledger::{Blank, Book, Ledger, Share};
 
-/// A count of work. It takes no octets and no time, since it exists only in contracts. Only `tick` and `read` change it, and they
+/// A count of steps, which are ticks. It takes no octets and no time, since it exists only in contracts. Only `tick` and `read` change it, and they
 /// only add. In a contract it is a number.
 ///
 /// A function whose name ends with `_counted` adds to the count of its caller. One whose name ends with `_with_new_count` makes a count for
