@@ -19,11 +19,11 @@ use std::marker::Brand;
 use std::sync::ledger::{Blank, Ledger};
 
 /// Joins the authorization `first` with the steps after it, one after another from the left (RFC 2693, sections 6.3 and
-/// 6.4). Each authorization is joined by `Five::then`, and each definition by `Five::resolve`. Without steps the result
-/// is a copy of `first`. `policy` says by which hashes a principal may name a key.
+/// 6.4). Each authorization is joined as by `Five::then`, and each definition as by `Five::resolve`. Without steps the
+/// result is a copy of `first`. `policy` says by which hashes a principal may name a key.
 ///
 /// If a step does not join the result of the steps before it, the chain stops there, and the answer is its number, from
-/// 1, and the cause. Then no derivation over the same tuples grants anything, in any bracketing.
+/// 1, and the cause. Then no derivation over the same tuples grants anything, in whatever order neighbours are joined.
 ///
 /// # Errors
 ///
@@ -64,15 +64,15 @@ pub fn fold_chain<'a>(
     fold_owned(alloc, own, steps, policy, MOST_NODES, &mut Work::new(None))
 }
 
-/// Like `fold_chain`, but consumes `first`, so that it is not copied. `most`, which must be at most 1,000,000, is the
-/// greatest product of the nodes of two tags. `work` bounds the cost of all steps together: each step that joins, at least
-/// except for its tag, subtracts from it what `Work` says.
+/// Like `fold_chain`, but consumes `first`, so that it is not copied, and the caller sets the limits. `most`, which must be
+/// at most 1,000,000, is the greatest product of the numbers of nodes of two tags that are intersected. `work` bounds the
+/// cost of all steps together: each step that joins, at least except for its tag, subtracts from `work` what `Work` says.
 ///
 /// # Errors
 ///
-/// `TooLarge` if a step joins except for its tag, and the product of the nodes of this tag and of the intersection before
-/// it is over `most`; or if a step costs more than `work` still has. `Memory` if memory ran out. What was taken from `work`
-/// before an error stays taken.
+/// `TooLarge` if a step joins except for its tag, and the product of the nodes of this tag and of the intersection of the
+/// tags before it is over `most`; or if a step costs more than `work` still has. `Memory` if memory ran out. What was taken
+/// from `work` before an error stays taken.
 pub fn fold_owned<'a>(
     alloc: Global,
     first: Five<'a>,
@@ -108,8 +108,9 @@ pub fn fold_owned<'a>(
     fold_with_new_count::<Brand>(alloc, first, steps, policy, most, work, Blank::new(1))
 }
 
-/// Calls `fold_owned_counted` with a new count, which `blank` opens. The count exists only in contracts, and is dropped afterwards.
-/// `Ticks` says why this is a function of its own.
+/// Does what `fold_owned` does, with its errors `TooLarge` and `Memory`: calls `fold_owned_counted` with a new count of ticks, kept in the
+/// ledger of the toolchain that `blank` opens. The count exists only in contracts, and is dropped afterwards. This is a function of its own,
+/// since only the call of a generic function can pick the type `L` of a count.
 fn fold_with_new_count<'a, L: Ledger>(
     alloc: Global,
     first: Five<'a>,
@@ -157,13 +158,14 @@ fn fold_with_new_count<'a, L: Ledger>(
     )
 }
 
-/// Does what `fold_owned` does, and counts it in `ticks`. Each step that is looked at is a tick. One that joins, at least except for its
-/// tag, costs one unit of `work` or more, and adds at most three ticks for each unit. So there are at most four ticks for each unit that
-/// is taken from `work`, and one more for a step at which the chain ends early.
+/// Does what `fold_owned` does, and adds its work to `ticks`, a count that exists only in contracts. Each step that is looked at is a tick.
+/// One that joins, at least except for its tag, costs one unit of `Work` or more, and adds at most three ticks for each unit. So there are
+/// at most four ticks for each unit that the steps cost, and one more for a step at which the chain ends early.
 ///
 /// # Errors
 ///
-/// Those of `fold_owned`.
+/// `TooLarge` if the product of the nodes of two tags that are to be intersected is over `most`, or a step costs more than `work` still
+/// has. `Memory` if memory ran out. What was taken from `work` before an error stays taken.
 pub fn fold_owned_counted<'a, L: Ledger>(
     alloc: Global,
     first: Five<'a>,
@@ -221,7 +223,7 @@ pub fn fold_owned_counted<'a, L: Ledger>(
 }
 
 impl<'a> Five<'a> {
-    /// Returns a copy of the authorization. Err if memory ran out.
+    /// Returns a copy of the authorization. Err if memory ran out, or if there are too many copies to count.
     pub(crate) fn copy(&self) -> Result<Five<'a>, AllocError>
         ensures { IfOk result (λ f. five_tuple f ≡ five_tuple self.now) }
     {
@@ -234,8 +236,8 @@ impl<'a> Five<'a> {
         })
     }
 
-    /// What joining this authorization with a step takes from a `Work`. None if it is 2^64 or more. 0 if they do not join for
-    /// another reason than their tags: then no tags are intersected, and nothing is copied.
+    /// What joining this authorization with a step takes from a `Work`, in units. None if it is 2^64 or more. 0 if they do not
+    /// join, and their tags are not the cause: then no tags are intersected, and nothing is copied.
     fn cost_with(&self, step: &Step<'a>, policy: Policy) -> Option<usize>
         ensures { (n : ℕ) × IsNumber result n × IsCostOf policy (five_tuple self.now) self.now.tag (step_tuple step.now) n }
     {
@@ -260,8 +262,9 @@ impl<'a> Five<'a> {
     /// Joins this authorization with a step: an authorization by `into_then`, a definition by `into_resolve_counted`. If they do
     /// not join, the result is `Stopped` with the cause. `policy` says which hashes may name keys. `most`, which must be at most
     /// 1,000,000, is the greatest product of the numbers of nodes of two tags that are intersected. Err is `TooLarge` if the step
-    /// is an authorization and this product is greater, or `Memory`. There are at most three ticks for each unit of `cost_with`.
-    /// If they do not join, and the cause is not `NoTag`, `cost_with` is 0, so there are no ticks.
+    /// is an authorization, they join except for their tags and this product is greater, or `Memory`. `ticks` counts the work, and
+    /// exists only in contracts: at most three ticks are added for each unit of `cost_with`. If they do not join, and the cause is
+    /// not `NoTag`, `cost_with` is 0, so there are no ticks.
     #[tactic(auto, using(crate::proofs::ReducedForms::unrefused))]
     fn joined<L: Ledger>(
         self,

@@ -10,11 +10,11 @@ use thiserror::Error;
 /// Why tuples were not reduced, although they may join.
 #[derive(Clone, Copy, Debug, PartialEq, Eq, Error)]
 pub enum ReduceFault {
-    /// The product of the nodes of two tags is over the limit: 1,000,000, or what the caller set. Or a step costs more than the caller's
-    /// `Work` has left.
+    /// The product of the numbers of nodes (`Tag::nodes`) of two tags that are to be intersected is over the limit: 1,000,000, or the `most`
+    /// that the caller passes. Or a step costs more than the caller's `Work` has left.
     #[error("the tags are too large")]
     TooLarge,
-    /// Memory ran out.
+    /// Memory ran out, or a tag or a list of names has too many copies to count.
     #[error("out of memory")]
     Memory,
 }

@@ -2,7 +2,7 @@
 
 use crate::tuple::Five;
 
-/// Why two tuples do not reduce to one (RFC 2693, section 6.3). If there are several reasons, the first of them.
+/// Why two tuples do not reduce to one (RFC 2693, section 6.3). If there are several reasons, the first in this order.
 #[derive(Clone, Copy, Debug, PartialEq, Eq)]
 pub enum Cause {
     /// The left subject is not the issuer of the right authorization.
@@ -13,7 +13,7 @@ pub enum Cause {
     NoDelegation,
     /// No moment is within both windows.
     NoValidity,
-    /// No request is in both tags.
+    /// The intersection of both tags is `(* set)`: no request is in both.
     NoTag,
 }
 
@@ -22,7 +22,7 @@ pub enum Cause {
 pub enum Joined<T> {
     /// The tuple that they become.
     Done(T),
-    /// They do not join.
+    /// They do not join, for this cause.
     Stopped(Cause),
 }
 
@@ -33,7 +33,7 @@ pub enum Fold<'a> {
     Done(Five<'a>),
     /// A step of the chain does not join the result of those before it.
     Stopped {
-        /// The number of the step, from 1.
+        /// The number of the step, from 1. The first authorization of the chain is not counted.
         step: usize,
         /// Why it does not join.
         cause: Cause,

@@ -17,8 +17,8 @@ use std::alloc::{AllocError, Global};
 use std::marker::Brand;
 use std::sync::ledger::{Blank, Ledger};
 
-/// The greatest product of the numbers of nodes of two tags that `Five::then` and `fold_chain` intersect. It is also the greatest limit
-/// (`most`) that the other functions take.
+/// The greatest product of the numbers of nodes of two tags that `Five::then` and `fold_chain` intersect. It is also the greatest limit,
+/// `most`, that other functions may be passed.
 pub(crate) const MOST_NODES: usize = 1_000_000;
 
 impl<'a> Five<'a> {
@@ -27,8 +27,8 @@ impl<'a> Five<'a> {
     /// next one may be.
     ///
     /// They do not join if this one's subject is not the next one's issuer, or if this one may not be delegated. Nor do they
-    /// if no moment is within both windows, or if the intersection of their tags is `(* set)`. The first of these four is
-    /// the cause.
+    /// if no moment is within both windows, or if the intersection of their tags is `(* set)`. The first of these four that
+    /// holds is the cause. `policy` says which hashes may name keys.
     ///
     /// # Errors
     ///
@@ -60,12 +60,13 @@ impl<'a> Five<'a> {
         }
     }
 
-    /// Like `then`, with two differences. It consumes `self`, so its tag is not copied if that of `next` is `(*)`. The greatest product of
-    /// the nodes of both tags is `most`, which must be at most 1,000,000. Err is `TooLarge` if they join except for their tags, and the
-    /// product is over `most`; or `Memory`.
+    /// Like `then`, with three differences. It consumes `self`, which a fold does not need again. The greatest product of the numbers of
+    /// nodes of both tags is `most`, which must be at most 1,000,000. The work is added to `ticks`, a count that exists only in contracts.
+    /// Err is `TooLarge` if they join except for their tags, and the product is over `most`; or `Memory`.
     ///
-    /// A tick is one of `Tag::meet_counted`, or a name of the next subject. There are at most three for each unit of `cost_with`, so
-    /// none if they do not join for another reason than their tags.
+    /// A tick is one of `Tag::meet_counted` (a pair of tags that is looked at, a member that is copied, an octet that is compared), or a name
+    /// of the next subject. There are at most three for each unit of `cost_with`, so none if they do not join and their tags are not the
+    /// cause.
     pub(crate) fn into_then<L: Ledger>(
         self,
         alloc: Global,
@@ -110,10 +111,10 @@ impl<'a> Five<'a> {
     /// the intersection of both windows. Everything else is kept.
     ///
     /// They do not join if this one's subject does not begin with the name that is defined, or if no moment is within both
-    /// windows. The first of these is the cause.
+    /// windows. The first of these that holds is the cause. `policy` says which hashes may name keys.
     ///
-    /// `_alloc` is not used, since names and tags are copied with the allocator of the vectors that they are in. It is there so
-    /// that `resolve` has the parameters of `then`.
+    /// `_alloc` is not used, since names are copied with the allocator of their vector, and a copy of a tag shares its parts. It
+    /// is there so that `resolve` has the parameters of `then`.
     ///
     /// # Errors
     ///
@@ -133,7 +134,7 @@ impl<'a> Five<'a> {
         self.copy()?.into_resolve(definition, policy)
     }
 
-    /// Like `resolve`, but consumes `self`, so that neither its tag nor the names of its subject are copied.
+    /// Like `resolve`, but consumes `self`, so that it is not copied first.
     ///
     /// # Errors
     ///
@@ -152,8 +153,9 @@ impl<'a> Five<'a> {
         self.into_resolve_with_new_count::<Brand>(definition, policy, Blank::new(1))
     }
 
-    /// Calls `into_resolve_counted` with a new count, which `blank` opens. The count exists only in contracts, and is dropped afterwards.
-    /// `Ticks` says why this is a function of its own.
+    /// Does what `into_resolve` does, with its only error `Memory`: calls `into_resolve_counted` with a new count of ticks, kept in the ledger
+    /// of the toolchain that `blank` opens. The count exists only in contracts, and is dropped afterwards. This is a function of its own,
+    /// since only the call of a generic function can pick the type `L` of a count.
     fn into_resolve_with_new_count<L: Ledger>(
         self,
         definition: &Four<'a>,
@@ -172,8 +174,9 @@ impl<'a> Five<'a> {
         self.into_resolve_counted(definition, policy, &mut Ticks::<L>::new(blank))
     }
 
-    /// Does what `into_resolve` does, and counts it in `ticks`. If the name and the windows fit, there is one tick for the definition, and
-    /// one for each name of both subjects, also if memory runs out then. Otherwise there is none: comparing the name is not counted.
+    /// Does what `into_resolve` does, and adds its work to `ticks`, a count that exists only in contracts. If the name and the windows fit,
+    /// there is one tick for the definition, and one for each name of both subjects, also if memory runs out then. Otherwise there is none:
+    /// comparing the name is not counted. Err is only `Memory`.
     #[tactic(auto, using(crate::proofs::ReducedForms::resolves))]
     pub(crate) fn into_resolve_counted<L: Ledger>(
         self,
@@ -270,8 +273,9 @@ impl<'a> Five<'a> {
     }
 }
 
-/// The authorization with this issuer, tag and window, and with the subject and delegation of `next`. `tag` is the
-/// intersection of both tags. `Stopped(NoTag)` if it is `(* set)`. Err if memory ran out.
+/// What an authorization and `next`, the one after it, become: an authorization with this issuer, tag and window, and with the
+/// subject and delegation of `next`. `issuer` is that of the first, and `tag` and `window` are the intersections of those of
+/// both. `Stopped(NoTag)` if `tag` is `(* set)`. Err if memory ran out.
 fn narrowed<'a>(
     issuer: Issuer<'a>,
     tag: Tag,
@@ -307,9 +311,10 @@ impl<'a> Four<'a> {
     /// intersection of both windows. The name that this one defines is kept.
     ///
     /// They do not join if this one's subject does not begin with the name that the next one defines. Nor do they if no
-    /// moment is within both windows. The first of these is the cause.
+    /// moment is within both windows. The first of these that holds is the cause. `policy` says which hashes may name keys.
     ///
-    /// `_alloc` is not used, as in `Five::resolve`.
+    /// No fold calls it, since a chain begins with an authorization. `_alloc` is not used: it is there so that this `then` has
+    /// the parameters of `Five::then`.
     ///
     /// # Errors
     ///

@@ -21,8 +21,8 @@ pub enum MissingGrant {
 
 impl<'a> Five<'a> {
     /// What the authorization lacks to grant the key the request at the moment: the first, in the order of `MissingGrant`, of the tests
-    /// that it does not pass. None if it passes all three. Its issuer is not tested. Whether it may be delegated does not matter.
-    /// Allocates nothing. `prove_well_formed` is only for the prover.
+    /// that it does not pass. None if it passes all three. Its issuer is not tested. Whether it may be delegated does not matter. `policy`
+    /// says which hashes may name keys. Allocates nothing. `prove_well_formed` is only for the prover.
     pub fn missing_grant(
         &self,
         key: &Key,

@@ -10,8 +10,8 @@ ghost use Rattle.spki_reduce.specs.Reduction.{Tuple, tags_of, windows_of, Tree, 
 ghost use Rattle.spki_reduce.specs.{declared.{fold.Cause.{Cause}, tuple.{Five.{Five}, Step.{Step}}}, Chain.{tuples_of, FoldsTo, HasMet, StopsAt}};
 ghost use Rattle.spki_reduce.specs.Written.{IsWrittenFive};
 
-/// What is derived or supported in any bracketing is so when the same tuples are joined from the left, one after
-/// another (RFC 2693, sections 6.3 and 6.4). So it is enough to look for a derivation in that bracketing.
+/// What is derived or supported in any bracketing, such as `a (b c)`, is so when the same tuples are joined from the left, one
+/// after another, as `(a b) c` (RFC 2693, sections 6.3 and 6.4). So it is enough to look for a derivation in that bracketing.
 ///
 /// The converse does not hold: see `not_every_bracketing`.
 pub fn any_bracketing()
@@ -33,7 +33,8 @@ pub fn one_root()
         root ≡ another }
 {}
 
-/// A chain stops at most at one step, for one cause, and then becomes no authorization.
+/// A chain stops at most at one step, for one cause. Then it becomes no authorization whose tag is the intersection of all tags, one
+/// after another: the tag that `fold_chain` gives.
 pub fn one_stop()
     ensures stop { (policy : Policy) (first : Tuple) (steps : List Step) (s t : ℕ) (a b : Cause) →
         StopsAt policy first (tuples_of steps) s a → StopsAt policy first (tuples_of steps) t b → (s ≡ t) × (a ≡ b) }
@@ -42,8 +43,9 @@ pub fn one_stop()
         (f : Five) → FoldsTo policy first (tuples_of steps) f → HasMet first (tuples_of steps) f → ⊥ }
 {}
 
-/// A chain of at least two tuples becomes at most one authorization: its tag and its window are determined too. The premises
-/// `IsLimit` always hold in a program: the limits of every `Window` are dates (`Window::prove_limits`).
+/// A chain of at least two tuples becomes at most one authorization whose tag is the intersection of all tags, one after another: the
+/// tag that `fold_chain` gives. Its window is determined too: it has a moment, and windows with the same moments, and at least one, are
+/// the same. The premises `IsLimit` always hold in a program: the limits of every `Window` are dates (`Window::prove_limits`).
 pub fn one_fold()
     ensures { (policy : Policy) (first : Tuple) (others : List Tuple) (f g : Five) → others ≢ [] →
         IsLimit f.window.not_before → IsLimit g.window.not_before →
@@ -66,7 +68,7 @@ pub fn not_every_bracketing()
 {}
 
 /// No restriction is lost: the root of a derivation has the tags and the windows of all leaves, in their order
-/// (RFC 2693, sections 6.3.1 and 6.3.2).
+/// (RFC 2693, sections 6.3.1 and 6.3.2). A tuple of the definitions has lists of tags and windows, all of which apply.
 #[tactic(auto, using(crate::proofs::Derivations::all_tags, crate::proofs::Derivations::all_windows))]
 pub fn every_restriction()
     ensures tags { (policy : Policy) (tree : Tree) (root : Tuple) → Derives policy tree root →
@@ -75,7 +77,7 @@ pub fn every_restriction()
         windows_of root ≡ flat_map windows_of (leaves tree) }
 {}
 
-/// What is derived or supported under the strict policy is derived or supported under the open one.
+/// What is derived or supported under the strict policy, by which no SHA-1 hash names a key, is derived or supported under the open one.
 #[tactic(auto, using(crate::proofs::Derivations::derived_openly, crate::proofs::Derivations::supported_openly))]
 pub fn strict_implies_open()
     ensures derives { (tree : Tree) (root : Tuple) → Derives Strict tree root → Derives Open tree root }

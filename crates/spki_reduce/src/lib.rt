@@ -1,7 +1,7 @@
 //! Reduction of tuples (RFC 2693, section 6).
 //!
-//! `fold_owned_counted` reduces for the other crates. `fold_chain`, `fold_owned`, `Five::then`, `Five::resolve`, `Four::then` and `Five::write` are
-//! only for programs in Rattle that use this library.
+//! `fold_owned_counted` reduces for the other crates. `fold_chain`, `fold_owned`, `Five::then`, `Five::resolve`, `Five::into_resolve`, `Four::then`
+//! and `Five::write` are only for programs in Rattle that use this library.
 #![tactic(auto)]
 
 mod chain;

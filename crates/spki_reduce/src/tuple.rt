@@ -52,7 +52,7 @@ pub enum Step<'a> {
 }
 
 impl<'a> Issuer<'a> {
-    /// Returns the same issuer again, and allocates nothing.
+    /// Returns the same issuer again, for another tuple. Allocates nothing, since a key borrows its octets.
     pub fn share(&self) -> Issuer<'a>
         ensures { result ≡ self.now }
     {

@@ -9,9 +9,10 @@ use crate::tuple::{Five, Four};
 use spki_cert::Subject;
 use spki_tag::Tag;
 
-/// How much work may still be done. A step that joins two authorizations takes, for each node of the intersection of the tags before it,
-/// 32 and the `Tag::node_cost` of its own tag; and one for each name of its subject. A step that applies a definition takes one, and one
-/// for each name of both subjects.
+/// How much work the steps of chains may still take, in units. A step that joins two authorizations takes, for each node of the intersection
+/// of the tags before it, 32 and the `Tag::node_cost` of its own tag (the cost of intersecting one node with that tag); and one for each name
+/// of its subject. A step that applies a definition takes one, and one for each name of both subjects. A step that does not join takes
+/// nothing, unless only the tags prevent it.
 #[derive(Clone, Copy, Debug, PartialEq, Eq)]
 pub struct Work {
     /// The units that may still be taken. None if there is no bound.
@@ -60,9 +61,10 @@ fn rest_of(left: usize, work: Option<usize>) -> Option<usize>
     left.checked_sub(work)
 }
 
-/// What it costs to join an authorization that has this tag with the next one. Each node of `tag` costs the `node_cost` of the next tag,
-/// and 32 more, since what is left of it is looked for and kept apart. With this number a unit takes at most 5 ns, by measurement. Each
-/// name of the next subject costs one. None if it is 2^64 or more.
+/// What it costs, in units of `Work`, to join an authorization that has this tag with the next one. Each node of `tag` costs the `node_cost`
+/// of the next tag (the cost of intersecting one node with it). It costs 32 more, since what is left of the node is looked for and kept
+/// apart. With the number 32 a unit takes at most 5 ns, by measurement. Each name of the next subject costs one. None if the sum is 2^64
+/// or more.
 pub(crate) fn intersection_cost(tag: &Tag, next: &Five) -> Option<usize>
     ensures { (path : List (List ℕ)) → IsNumber result (step_cost tag.now path (five (five_tuple next.now))) }
 {
@@ -78,8 +80,8 @@ pub(crate) fn intersection_cost(tag: &Tag, next: &Five) -> Option<usize>
     product.checked_add(next.subject.names.len())
 }
 
-/// What it costs to resolve the first name of an authorization's subject by a definition: one, and one for each name of both subjects.
-/// None if it is 2^64 or more.
+/// What it costs, in units of `Work`, to resolve the first name of `subject`, that of an authorization, by a definition: one, and one for
+/// each name of `subject` and of the definition's subject. None if the sum is 2^64 or more.
 pub(crate) fn resolution_cost(subject: &Subject, definition: &Four) -> Option<usize>
     ensures { (tag : Written) → IsNumber result (step_cost tag subject.now.names (four (four_tuple definition.now))) }
 {

@@ -11,7 +11,7 @@ use spki_cert::{Date, HashAlg, Key, Names, Principal, Window};
 use std::alloc::{AllocError, Global};
 
 impl<'a> Five<'a> {
-    /// A fact for the prover: an authorization can be written, however it was made. Does nothing.
+    /// A fact for the prover: there is a value that `write` may return for the authorization, however it was made. Does nothing.
     pub fn prove_writable(&self)
         ensures { (v : Value) × IsWrittenFive self.now v }
     {
@@ -19,9 +19,9 @@ impl<'a> Five<'a> {
         prove_principal(&self.subject.principal);
     }
 
-    /// Writes the authorization: `(five (issuer K) (subject S) (propagate) (tag T) (valid ..))`. The issuer is omitted if it
+    /// Returns the authorization as `(five (issuer K) (subject S) (propagate) (tag T) (valid ..))`. The issuer is omitted if it
     /// is the owner of the access list. `(propagate)` is omitted if the authorization may not be delegated, and `(valid ..)`
-    /// if the window has no limits. A hash is written without `uri`.
+    /// if the window has no limits. A hash is written without the `uri` where the key can be found.
     ///
     /// # Errors
     ///
@@ -41,7 +41,7 @@ impl<'a> Five<'a> {
     }
 }
 
-/// A fact for the prover: an issuer can be written. Does nothing.
+/// A fact for the prover: there are members that `push_issuer` may append for the issuer. Does nothing.
 fn prove_issuer(issuer: &Issuer)
     ensures { (written : List Value) × IsWrittenIssuer issuer.now written }
 {
@@ -50,7 +50,7 @@ fn prove_issuer(issuer: &Issuer)
     }
 }
 
-/// A fact for the prover: a principal can be written. Does nothing.
+/// A fact for the prover: there is a value that `write_principal` may return for the principal. Does nothing.
 fn prove_principal(principal: &Principal)
     ensures { (owner : Value) × IsWrittenPrincipal principal.now owner }
 {
@@ -59,7 +59,7 @@ fn prove_principal(principal: &Principal)
     }
 }
 
-/// Returns the members of a new list: only its head, a string without a hint. Err if memory ran out.
+/// Returns the members of a new list: only its head, a string without a display hint. The caller appends any others. Err if memory ran out.
 fn begun(alloc: Global, head: &[u8]) -> Result<Vec<Sexp>, AllocError>
     ensures { IfOk result (λ members. map sexp_value members.items ≡ plain head.now ∷ []) }
 {
@@ -84,15 +84,15 @@ fn push_headed(
     Ok(())
 }
 
-/// Returns the tree of a key. Err if memory ran out. Only the readers make keys, so a key is a canonical form within the limits. So
-/// memory is the only fault of `decode` here, and `map_err` drops no other.
+/// Returns a key as a value, from its canonical form. Err if memory ran out. Only the readers make keys, so a key is a canonical form within
+/// the limits. So memory is the only fault of `decode` here, and `map_err` drops no other.
 fn write_key(alloc: Global, key: &Key) -> Result<Sexp, AllocError>
     ensures { IfOk result (λ s. key.now ≡ canon (sexp_value s)) }
 {
     decode(alloc, key.as_slice()).map_err(|_| AllocError)
 }
 
-/// Writes `(hash ALG DIGEST)`, without the `uri` where the key can be found. Err if memory ran out.
+/// Returns `(hash ALG DIGEST)`, without the `uri` where the key can be found. Err if memory ran out.
 fn write_hash(alloc: Global, alg: HashAlg, digest: &[u8]) -> Result<Sexp, AllocError>
     ensures { IfOk result (λ s. IsWrittenPrincipal (Principal.Hash alg digest.now) (sexp_value s)) }
 {
@@ -102,7 +102,7 @@ fn write_hash(alloc: Global, alg: HashAlg, digest: &[u8]) -> Result<Sexp, AllocE
     Ok(Sexp::list(members))
 }
 
-/// Writes a principal, which is a key or a hash of one. Err if memory ran out.
+/// Returns a principal as a value: a key, or the hash of one. Err if memory ran out.
 fn write_principal(alloc: Global, principal: &Principal) -> Result<Sexp, AllocError>
     ensures { IfOk result (λ s. IsWrittenPrincipal principal.now (sexp_value s)) }
 {
@@ -112,7 +112,7 @@ fn write_principal(alloc: Global, principal: &Principal) -> Result<Sexp, AllocEr
     }
 }
 
-/// Appends each name to the members, as a string without a hint. Err if memory ran out.
+/// Appends each name to the members, as a string without a display hint. Err if memory ran out.
 #[tactic(auto, using(crate::proofs::WrittenNames::name_written_at))]
 fn push_names(alloc: Global, members: &mut Vec<Sexp>, names: &Names) -> Result<(), AllocError>
     ensures { OnOk result (map sexp_value members.new.items ≡ map sexp_value members.old.items ++ plains names.now) }
@@ -123,7 +123,7 @@ fn push_names(alloc: Global, members: &mut Vec<Sexp>, names: &Names) -> Result<(
     Ok(())
 }
 
-/// Returns the principal, or `(name PRINCIPAL N N ..)` if there are names. Err if memory ran out.
+/// Returns a subject as a value: the principal, or `(name PRINCIPAL N N ..)` if there are names. Err if memory ran out.
 fn with_names(alloc: Global, principal: Sexp, names: &Names) -> Result<Sexp, AllocError>
     ensures { IfOk result (λ s. sexp_value s ≡ named (sexp_value principal) names.now) }
 {
@@ -163,7 +163,7 @@ fn push_delegation(
     Ok(())
 }
 
-/// Appends `(WORD DATE)` to the members, or nothing if there is no limit. Err if memory ran out.
+/// Appends `(WORD DATE)`, a limit of a window, to the members, or nothing if there is no limit. Err if memory ran out.
 fn push_limit(
     alloc: Global,
     members: &mut Vec<Sexp>,
