@@ -8,8 +8,8 @@ use crate::sizes::Sizes;
 use spki_case::Case;
 use spki_reduce::{Step, Work};
 
-/// How much work may still be done on the entries of a case, and the numbers of nodes of the certificates' tags. An entry whose intersections are
-/// small by these numbers (`Sizes::are_small`) is spared: it takes no work.
+/// How much work may still be done on the entries of a case, and the numbers of nodes of the certificates' tags. Work is what the steps of a
+/// chain cost (`spki_reduce::Work`). An entry whose intersections are small by these numbers (`Sizes::are_small`) is spared: it takes no work.
 #[derive(Clone, Copy)]
 pub struct Budget {
     /// The work that the entries still to be joined may take together.

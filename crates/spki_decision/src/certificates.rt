@@ -26,7 +26,7 @@ pub struct ShownCert<'s, 'a> {
     pub item: usize,
     /// The certificate.
     pub certificate: Certificate<'s, 'a>,
-    /// Its signature: the next item after it that is no operation. None if that item is no signature.
+    /// Its signature: the next item after it that is no operation, `(do ..)`. None if that item is no signature, or if there is none.
     pub signature: Option<&'s Signature<'a>>,
 }
 
@@ -53,7 +53,7 @@ impl<'s, 'a> Certificate<'s, 'a> {
 
     /// The certificate's tuple, a 5-tuple or a 4-tuple (RFC 2693, sections 6.1 and 6.2). A tuple has a key as its issuer, and
     /// a certificate may name it by a hash, so the caller passes the issuer's key as `holder`. Whether the certificate's issuer names this
-    /// key is not tested. Err if memory ran out.
+    /// key is not tested. Err if memory ran out, or if there are too many copies to count.
     pub fn step(&self, holder: &Key<'a>) -> Result<Step<'a>, AllocError>
         ensures { IfOk result (λ step. step_tuple step ≡ tuple_of holder.now (certificate_of self.now)) }
     {
@@ -65,7 +65,7 @@ impl<'s, 'a> Certificate<'s, 'a> {
 }
 
 /// An authorization certificate's 5-tuple. Its issuer is the key `holder`: the certificate may name its issuer by a hash, and a tuple has
-/// a key. Err if memory ran out.
+/// a key. Err if memory ran out, or if there are too many copies to count.
 fn five_of<'a>(cert: &AuthCert<'a>, holder: &Key<'a>) -> Result<Five<'a>, AllocError>
     ensures { IfOk result (λ f. five_tuple f ≡ auth_tuple holder.now cert.now) }
 {
@@ -78,7 +78,8 @@ fn five_of<'a>(cert: &AuthCert<'a>, holder: &Key<'a>) -> Result<Five<'a>, AllocE
     })
 }
 
-/// A name certificate's 4-tuple, which defines the name in the name space of `holder`. Err if memory ran out.
+/// A name certificate's 4-tuple, which defines the name in the name space of `holder`, the issuer's key. Err if memory ran out, or if there
+/// are too many copies to count.
 fn four_of<'a>(cert: &NameCert<'a>, holder: &Key<'a>) -> Result<Four<'a>, AllocError>
     ensures { IfOk result (λ f. four_tuple f ≡ name_tuple holder.now cert.now) }
 {
@@ -90,7 +91,7 @@ fn four_of<'a>(cert: &NameCert<'a>, holder: &Key<'a>) -> Result<Four<'a>, AllocE
     })
 }
 
-/// Whether the item is `(do ..)`.
+/// Whether the item is an operation, `(do ..)`: it may be between a certificate and its signature, and has no effect.
 fn is_operation(item: &SeqItem) -> bool
     ensures { result ≡ is_operation item.now }
 {

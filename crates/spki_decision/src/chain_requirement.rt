@@ -21,17 +21,17 @@ use std::alloc::{AllocError, Global};
 use std::marker::Brand;
 use std::sync::ledger::{Blank, Ledger};
 
-/// What certificates require of an entry, so that both grant what a case asks.
+/// What certificates require of an entry, so that both together grant what a case asks.
 #[derive(Drop)]
 pub struct ChainRequirement<'a> {
-    /// The subject that the entry must have. None if no entry is granted with these certificates.
+    /// The subject that the entry must have. None if no entry grants the request with these certificates.
     pub(crate) required: Option<RequiredSubject<'a>>,
     /// The least not-after of the certificates' windows. None if none of them ends. It means nothing if `required` is None.
     pub(crate) until: Option<Date>,
 }
 
 impl<'a> ChainRequirement<'a> {
-    /// What certificates with the tuples `steps` require of an entry, so that both grant what the case asks. If a
+    /// What certificates with the tuples `steps` require of an entry, so that both together grant what the case asks. If a
     /// step's tag lacks the request, or its window the moment, no entry is enough. `of_counted` says how long it takes.
     ///
     /// # Errors
@@ -48,8 +48,9 @@ impl<'a> ChainRequirement<'a> {
         ChainRequirement::of_with_new_count::<Brand>(alloc, case, steps, Blank::new(1))
     }
 
-    /// Calls `of_counted` with a new count, which `blank` opens. The count exists only in contracts, and is dropped afterwards.
-    /// `Ticks` says why this is a function of its own.
+    /// Does what `of` does: calls `of_counted` with a new count of ticks, kept in the ledger of the toolchain that `blank` opens. The count
+    /// exists only in contracts, and is dropped afterwards. This is a function of its own, since only the call of a generic function can
+    /// pick the type `L` of a count. Err if memory ran out.
     fn of_with_new_count<L: Ledger>(
         alloc: Global,
         case: &Case<'a>,
@@ -65,9 +66,10 @@ impl<'a> ChainRequirement<'a> {
         ChainRequirement::of_counted(alloc, case, steps, &mut Ticks::<L>::new(blank))
     }
 
-    /// What certificates require of an entry, as `of`. A tick is a certificate, a tag or a name that is looked at, or an octet that is
-    /// compared. There are at most three for each certificate (for its tag and window, for its step, and for a name that it defines),
-    /// and one for each tag, name and octet in its tag and its subject. `prove_well_formed` is only for the prover.
+    /// What certificates require of an entry, as `of`. The work is added to `ticks`, a count that exists only in contracts. A tick is a
+    /// certificate, a tag or a name that is looked at, or an octet that is compared. There are at most three for each certificate (for its
+    /// tag and window, for its step, and for a name that it defines), and one for each tag, name and octet in its tag and its subject.
+    /// `prove_well_formed` is only for the prover.
     ///
     /// # Errors
     ///
@@ -103,8 +105,9 @@ impl<'a> ChainRequirement<'a> {
         self.grants_with_new_count::<Brand>(entry, case, Blank::new(1))
     }
 
-    /// Calls `grants_counted` with a new count, which `blank` opens. The count exists only in contracts, and is dropped afterwards.
-    /// `Ticks` says why this is a function of its own.
+    /// Does what `grants` does: calls `grants_counted` with a new count of ticks, kept in the ledger of the toolchain that `blank` opens. The
+    /// count exists only in contracts, and is dropped afterwards. This is a function of its own, since only the call of a generic function
+    /// can pick the type `L` of a count.
     fn grants_with_new_count<L: Ledger>(&self, entry: &Entry, case: &Case, blank: Blank) -> bool
         requires name { blank.name ≡ L.name }
         requires parts { blank.parts ≡ L.parts }
@@ -115,8 +118,9 @@ impl<'a> ChainRequirement<'a> {
         self.grants_counted(entry, case, &mut Ticks::<L>::new(blank))
     }
 
-    /// Whether an entry and the certificates grant what this case asks, as `grants`. A tick is the entry, or a name or a tag in it that
-    /// is looked at, or an octet of it that is compared. Digests are not counted.
+    /// Whether an entry and the certificates grant what this case asks, as `grants`. The work is added to `ticks`, a count that exists only
+    /// in contracts. A tick is the entry, or a name or a tag in it that is looked at, or an octet of it that is compared. Making the digest
+    /// of a key is not counted.
     pub fn grants_counted<L: Ledger>(
         &self,
         entry: &Entry,
@@ -139,8 +143,8 @@ impl<'a> ChainRequirement<'a> {
         }
     }
 
-    /// The last moment at which an entry and the certificates grant what the case of `of` asks: the earliest not-after of their windows.
-    /// None if none of them ends. It means nothing if `grants` is false for the entry. Allocates nothing.
+    /// The last moment at which an entry and the certificates grant what the case that `of` was called with asks: the earliest not-after of
+    /// their windows. None if no window ends. The result means nothing if `grants` is false for the entry. Allocates nothing.
     pub fn until(&self, entry: &Entry) -> Option<Date>
         ensures { (tuples : List Tuple) → IsUntil tuples self.now entry.now result }
     {
@@ -149,7 +153,7 @@ impl<'a> ChainRequirement<'a> {
 }
 
 /// Whether the tags of all steps contain the request of a case, and their windows its moment. If so, `until` becomes the least not-after of
-/// these windows and of what it was. If not, some windows may be left out, and `until` means nothing.
+/// these windows and of what it was. If not, some windows may be left out, and `until` means nothing. Ticks are those of `contains`.
 fn all_contain<L: Ledger>(
     steps: &[Step],
     case: &Case,
@@ -205,7 +209,7 @@ fn earlier_end(limit: &Option<Date>, window: &Window) -> Option<Date>
 }
 
 /// Whether the tag of a step contains the request of a case, and its window the moment. A definition has no tag, so only its window
-/// counts.
+/// counts. A tick is the step, a tag in its tag that is looked at, or an octet that is compared.
 fn contains<L: Ledger>(step: &Step, case: &Case, ticks: &mut Ticks<L>) -> bool
     ensures answer { IsTrue result ↔ ((in_each case.now.request (tags_of (step_tuple step.now)) ≡ true)
         × (within_each case.now.moment (windows_of (step_tuple step.now)) ≡ true)) }

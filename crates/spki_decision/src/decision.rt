@@ -24,12 +24,12 @@ use std::sync::ledger::{Blank, Ledger};
 pub enum Decision {
     /// This entry, counted from 1, grants the request, and no entry before it does.
     Yes(usize),
-    /// No entry does.
+    /// No entry grants the request.
     No,
 }
 
 impl Decision {
-    /// Whether it is yes.
+    /// Whether the decision is yes, by whatever entry.
     pub fn is_yes(self) -> bool
         ensures { IsTrue result ↔ IsYes self }
     {
@@ -42,14 +42,14 @@ impl Decision {
 
 /// Decides a case (RFC 2693, section 6). The answer is yes exactly if every certificate of its sequence passes its tests, and an
 /// entry and all certificates, in their order, reduce to an authorization that grants the request. The four tests
-/// are those of `Stop`; the last is that the verifier accepts its signature. The case's accepted list
+/// are those of `Stop`; the last is that the verifier accepts the certificate's signature. The case's accepted list
 /// counts only if it is given as the verifier.
 ///
 /// # Errors
 ///
 /// `TooLarge` only if the certificates pass their tests, and for an entry with no granted entry before it the tag of a certificate is
-/// too large for what the entry and the certificates before it became: the product of their nodes is over `most_nodes`. Or
-/// with this entry the work is over `most_work`. `Memory` if memory ran out, here or in the verifier.
+/// too large for what the entry and the certificates before it became: the product of the nodes of both tags is over the case's
+/// `most_nodes`. Or the work of the entries up to this one is over `most_work`. `Memory` if memory ran out, here or in the verifier.
 #[tactic(auto, using(crate::proofs::EntryChains::one_fails, crate::proofs::CertificateTests::none_shown))]
 pub fn decide<V: Verifier>(alloc: Global, case: &Case, verifier: &V) -> Result<Decision, GuardFault>
     ensures exact { IfOk result (IsDecision (model case.now) (V.accepted verifier.now)) }
@@ -68,7 +68,7 @@ pub fn decide<V: Verifier>(alloc: Global, case: &Case, verifier: &V) -> Result<D
 /// The first entry, from 1, of a case's access list that grants the request with certificates whose tuples are `steps`.
 /// `No` if no entry does. `ChainRequirement` decides without intersections, and refuses nothing. But `decide` must refuse an entry that is
 /// too large (its clause `within_limit`), so `require_small` tests each entry up to the first that grants, and no later one. `blank`
-/// opens a count, which exists only in contracts and is dropped afterwards.
+/// opens the count of ticks that `fold_entry` needs. It exists only in contracts, and is dropped afterwards.
 ///
 /// # Errors
 ///
@@ -99,8 +99,9 @@ fn first_within_limit<'a, L: Ledger>(
 }
 
 /// Checks that the intersections of this entry's tag with the tags of the steps are within the limits of nodes and work. An entry that is
-/// spared (`Sizes::are_small`) passes. Any other is joined with the steps only to check this, and its work is taken from the budget.
-/// Whether it joins does not matter. Err is `TooLarge`, or `Memory`.
+/// spared passes: the numbers of nodes alone show that its intersections are small (`Sizes::are_small`). Any other is joined with the steps
+/// only to check the limits, and its work is taken from the budget. Whether it joins does not matter. `ticks` is only for the call of
+/// `fold_entry`. Err is `TooLarge` if the product of the nodes of two tags, or the work, is over its limit; or `Memory`.
 fn require_small<'a, L: Ledger>(
     alloc: Global,
     entry: &Entry<'a>,

@@ -14,20 +14,20 @@ use std::alloc::{AllocError, Global};
 /// Why a certificate fails verification: the first of four tests that it does not pass (RFC 2693, section 6).
 #[derive(Clone, Copy, Debug, PartialEq, Eq)]
 pub enum Stop {
-    /// The issuer is a hash that names no key of the sequence.
+    /// The issuer is a hash that names no key of the sequence under the policy.
     KeyNotShown,
-    /// The digest in its signature is not that of its canonical form.
+    /// The digest in the certificate's signature is not that of the certificate's canonical form.
     DigestDiffers,
-    /// The principal of its signature does not name the issuer's key.
+    /// The signer in the certificate's signature does not name the issuer's key.
     SignerDiffers,
     /// The verifier does not accept the signature.
     NotAccepted,
 }
 
-/// The evidence of a sequence: whether all its certificates pass the tests.
+/// The evidence of a sequence: whether all its certificates pass the four tests of `Stop`.
 #[derive(Drop)]
 pub enum Evidence<'a> {
-    /// Each certificate is verified. These are their tuples, in order.
+    /// Each certificate passes the tests. These are their tuples, in order.
     Verified(Vec<Step<'a>>),
     /// The first certificate that fails a test.
     Fails {
@@ -40,7 +40,8 @@ pub enum Evidence<'a> {
 
 /// Returns the evidence of a sequence: the tuples of its certificates, or the first that fails one of the four tests (RFC 2693, section 6).
 /// Each certificate must be followed by its signature. The message that the verifier is passed is a certificate's canonical form. The
-/// verifier is asked only about certificates before the one that `examine` finds to fail, so a refused signature is the first failure.
+/// verifier is asked only about certificates before the one that `examine` finds to fail. So if the verifier does not accept a signature, the
+/// certificate of the first such signature is the first that fails. `policy` says which hashes may name keys.
 ///
 /// # Errors
 ///
@@ -87,8 +88,8 @@ pub fn first_refused<V: Verifier>(
     Ok(None)
 }
 
-/// Whether the verifier accepts a signature. A digest by SHA-256 is passed to the verifier, so that a certificate is
-/// digested once. With another algorithm the verifier gets only the message, since `accepts_digested` takes no other digest.
+/// Whether the verifier accepts a signature. A digest by SHA-256 is passed to the verifier, which then need not digest the
+/// certificate again. With another algorithm the verifier gets only the message, since `accepts_digested` takes no other digest.
 /// Err if memory ran out in the verifier.
 fn is_accepted<V: Verifier>(
     alloc: Global,

@@ -17,16 +17,17 @@ use spki_cert::{Octets, Policy, SeqItem};
 use spki_reduce::Step;
 use std::alloc::{AllocError, Global};
 
-/// A sequence whose certificates passed the tests that need no verifier, up to the first that fails one.
+/// What `examine` returns: the results of the three tests of `Stop` that need no verifier, for the certificates of a sequence.
 #[derive(Drop)]
 pub struct ExaminedSequence<'a> {
-    /// The signatures of the certificates that pass, in order: what a verifier is asked about.
+    /// The signatures of the certificates before the first that fails one of these tests, or of all, in order: what a verifier is asked
+    /// about.
     pub signed: Vec<Signed<'a>>,
     /// What the certificates say if all these signatures are valid.
     pub unverified: Unverified<'a>,
 }
 
-/// What the certificates of a sequence say, as long as no signature is verified.
+/// What the certificates of a sequence say, if the signatures that a verifier is asked about are valid.
 #[derive(Drop)]
 pub enum Unverified<'a> {
     /// Each certificate passes the tests that need no verifier. These are their tuples, in order.
@@ -41,7 +42,8 @@ pub enum Unverified<'a> {
 }
 
 impl<'a> Unverified<'a> {
-    /// The evidence, once every signature of `ExaminedSequence::signed` is found to be valid. It tests nothing: the caller has.
+    /// The evidence, once every signature of `ExaminedSequence::signed` is found to be valid. It tests nothing: the caller has asked the
+    /// verifier.
     pub(crate) fn verified(self) -> Evidence<'a>
         ensures { (policy : Policy) (items : List SeqItem) → IsUnverified policy items self.entry
             → IsEvidence policy every items result }
@@ -56,7 +58,7 @@ impl<'a> Unverified<'a> {
 /// The result of the first three of the four tests of one certificate.
 #[derive(Drop)]
 pub(crate) enum Tested<'a> {
-    /// It passes them, and this is its signature.
+    /// The certificate passes them, and this is its signature.
     Passes(Signed<'a>),
     /// The first test that it does not pass.
     Fails(Stop),
@@ -64,7 +66,8 @@ pub(crate) enum Tested<'a> {
 
 /// Does the first three tests of each certificate, in order, up to the first that fails (RFC 2693, section 6). These
 /// tests of `Stop` need no verifier. Returns the signatures of the certificates that pass, and what the certificates say if
-/// all of these are valid. Each certificate of the sequence must be followed by its signature.
+/// all of these are valid. Each certificate of the sequence must be followed by its signature. `policy` says which hashes
+/// may name keys.
 ///
 /// # Errors
 ///
@@ -86,7 +89,7 @@ pub fn examine<'a>(
 }
 
 /// Does what `examine` does. `keys` are the keys that the sequence shows; `test` may add an index to them, so they are `&mut`. It is a
-/// function of its own, so that `examine` drops the keys in one place.
+/// function of its own, so that `examine` drops the keys in one place. Err if memory ran out.
 fn examine_by<'a>(
     alloc: Global,
     sequence: &[SeqItem<'a>],
@@ -134,10 +137,10 @@ fn add_passed<'a>(
     Ok(())
 }
 
-/// Does, in order, the three tests of a certificate that need no verifier. The sequence shows the key of its issuer, `holder`. The digest
-/// in its signature is that of the certificate's octets. The signer names `holder`. Returns the signature, or the first test that is not
-/// passed. The certificate must have a signature, so `unreachable!()` is not reached. `keys` are `&mut` since an index may be added; the
-/// keys stay the same. Err if memory ran out.
+/// Does, in order, the three tests of a certificate that need no verifier: whether its issuer is a key or names a key of the sequence, this
+/// key being `holder`; whether the digest in its signature is that of the certificate's octets; whether the signer names `holder`. Returns the
+/// signature, or the first test that is not passed. The certificate must have a signature, so `unreachable!()` is not reached. `keys`, those
+/// of the sequence, are `&mut` since an index may be added; the keys stay the same. Err if memory ran out.
 fn test<'a>(
     alloc: Global,
     shown: &ShownCert<'_, 'a>,

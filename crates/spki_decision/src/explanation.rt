@@ -35,7 +35,7 @@ pub enum Reason {
 /// Why the entries of a case grant the request or do not.
 #[derive(Drop)]
 pub enum Explanation {
-    /// The first certificate that fails a test. So no entry grants anything.
+    /// The first certificate that fails a test of `Stop`. So no entry grants anything.
     Evidence {
         /// The number of its item, from 1.
         item: usize,
@@ -47,16 +47,16 @@ pub enum Explanation {
 }
 
 /// Explains a case (RFC 2693, section 6). If every certificate of its sequence passes its tests, the answer is for each entry why
-/// it and all certificates, in their order, grant the request or do not. Otherwise it is the first certificate that
-/// fails a test of `Stop`, of which the last is that the verifier accepts its signature.
+/// it and all certificates, in their order, grant the request or do not. Otherwise the answer is the first certificate that
+/// fails a test of `Stop`, of which the last is that the verifier accepts the certificate's signature.
 ///
 /// The reason is `Grants` for exactly the entries that are granted. `decide` names the first of them. `prove_well_formed` is only for the prover.
 ///
 /// # Errors
 ///
 /// `TooLarge` only if the certificates pass their tests, and for some entry the tag of a certificate is too large for what the entry
-/// and the certificates before it became: the product of their nodes is over `most_nodes`. Or the work of the entries is over
-/// `most_work`. `Memory` if memory ran out, here or in the verifier.
+/// and the certificates before it became: the product of the nodes of both tags is over the case's `most_nodes`. Or the work of the
+/// entries is over `most_work`. `Memory` if memory ran out, here or in the verifier.
 #[tactic(auto, using(crate::proofs::EntryChains::as_many, crate::proofs::EntryChains::all_stand))]
 pub fn explain<V: Verifier>(
     alloc: Global,
@@ -90,7 +90,8 @@ pub struct ReasonSink<'c, 'a> {
 impl<'c, 'a> FoldSink<'a> for ReasonSink<'c, 'a> {
     ghost takes = { TakesReasons };
 
-    /// Appends the entry's reason. `_entry` and `_alloc` are not used: the reasons come in order, and the vector has its allocator.
+    /// Appends the entry's reason. Err if memory ran out. `_entry` and `_alloc` are not used: the reasons come in order, and the vector has
+    /// its allocator.
     fn put(
         &mut self,
         _alloc: Global,

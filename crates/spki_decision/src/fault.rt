@@ -9,11 +9,11 @@ use thiserror::Error;
 /// The error of a decision, an explanation or a reduction: why a case has no answer.
 #[derive(Clone, Copy, Debug, PartialEq, Eq, Error)]
 pub enum GuardFault {
-    /// The product of the nodes of a certificate's tag and of what the entry and the certificates before it became is over
-    /// the case's `most_nodes`. Or the work of the entries is over its `most_work`.
+    /// The product of the numbers of nodes of a certificate's tag, and of the tag of what the entry and the certificates before it
+    /// became, is over the case's `most_nodes`. Or the work of the entries (`spki_reduce::Work`) is over the case's `most_work`.
     #[error("the tags are too large")]
     TooLarge,
-    /// Memory ran out, in the guard or in the verifier.
+    /// Memory ran out, in this library or in the verifier. Or a tag or a list of names has too many copies to count.
     #[error("out of memory")]
     Memory,
 }

@@ -6,7 +6,8 @@ ghost use Rattle.spki_decision.specs.{declared.reduction.EntryFold.{EntryFold}, 
 use crate::reduction::EntryFold;
 use std::alloc::{AllocError, Global};
 
-/// Takes what each entry of an access list becomes with all certificates, one entry after another.
+/// Takes what each entry of an access list becomes with all certificates, one entry after another. So a caller need not keep all of it:
+/// `reduce_case` does, and `explain` keeps only reasons.
 pub trait FoldSink<'a> {
     // What it means that a sink takes entries: the sink before, what these entries become, and the sink after.
     ghost takes: { Self → List EntryFold → Self → Type 0 };
@@ -25,11 +26,12 @@ pub trait FoldSink<'a> {
     ghost nothing: { (s : Self) → takes s [] s };
 }
 
-/// A vector takes all, and keeps it.
+/// A vector keeps what each entry becomes, in order.
 impl<'a> FoldSink<'a> for Vec<EntryFold<'a>> {
     ghost takes = { TakesFolds };
 
-    /// Appends what the entry becomes. `_entry` and `_alloc` are not used: the entries come in order, and the vector has its allocator.
+    /// Appends what the entry becomes. Err if memory ran out. `_entry` and `_alloc` are not used: the entries come in order, and the vector
+    /// has its allocator.
     fn put(
         &mut self,
         _alloc: Global,

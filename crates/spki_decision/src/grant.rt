@@ -6,7 +6,7 @@ ghost use Rattle.spki_decision.specs.Until.{decision_of};
 use crate::decision::Decision;
 use spki_cert::Date;
 
-/// A yes.
+/// A yes: which entry grants the request, and until when.
 #[derive(Clone, Copy, Debug)]
 pub struct Grant {
     /// This entry, counted from 1, grants the request, and no entry before it does.

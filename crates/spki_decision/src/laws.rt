@@ -34,9 +34,9 @@ pub fn decided_as_explained<V: Verifier>()
         → Agrees explanation decision }
 {}
 
-/// By one verifier, a text or a case has at most one answer of `decide`: a decision, or the refusal `TooLarge`. The
-/// same holds for a text by its own accepted list. Without the limit of nodes a case has at most one decision, and
-/// `decide` returns it unless the answer is `TooLarge`.
+/// By one verifier, a text or a case has at most one answer of `decide`, apart from the error `Memory`: a decision, or the refusal
+/// `TooLarge`. The same holds for a text by its own accepted list. Without the limits of nodes and of work a case has at most one
+/// decision, and `decide` returns it unless the answer is `TooLarge`.
 pub fn one_decision<V: Verifier>()
     ensures verified { (verifier : V) (text : List ℕ) (c d : Case) (x y : Result Decision GuardFault)
         → IsCaseText text c → IsCaseText text d
@@ -51,9 +51,9 @@ pub fn one_decision<V: Verifier>()
         → IsDecided c (V.accepted verifier) x → IsDecision c (V.accepted verifier) d → (x ≡ Ok d) ⊎ (x ≡ Err GuardFault.TooLarge) }
 {}
 
-/// By one verifier, a text or a case has at most one answer of `explain`: the first certificate that fails a test of
-/// `Stop`, with that test; or the reason of each entry; or the refusal `TooLarge`. The same holds for a text by its own
-/// accepted list.
+/// By one verifier, a text or a case has at most one answer of `explain`, apart from the error `Memory`: the first certificate that
+/// fails a test of `Stop`, with that test; or the reason of each entry; or the refusal `TooLarge`. The same holds for a text by its
+/// own accepted list.
 pub fn one_explanation<V: Verifier>()
     ensures verified { (verifier : V) (text : List ℕ) (c d : Case) (x y : Result Explanation GuardFault)
         → IsCaseText text c → IsCaseText text d
@@ -64,9 +64,9 @@ pub fn one_explanation<V: Verifier>()
         → IsExplained c (accepted_by c) x → IsExplained d (accepted_by d) y → AreSame IsSameExplanation x y }
 {}
 
-/// By one verifier, a text or a case has at most one answer of `reduce_case`: the first certificate that fails a test
-/// of `Stop`, with that test; or what each entry becomes; or the refusal `TooLarge`. The same holds for a text by its
-/// own accepted list.
+/// By one verifier, a text or a case has at most one answer of `reduce_case`, apart from the error `Memory`: the first certificate
+/// that fails a test of `Stop`, with that test; or what each entry becomes; or the refusal `TooLarge`. The same holds for a text by
+/// its own accepted list.
 pub fn one_reduction<V: Verifier>()
     ensures verified { (verifier : V) (text : List ℕ) (c d : Case) (x y : Result Reduction GuardFault)
         → IsCaseText text c → IsCaseText text d
@@ -86,15 +86,16 @@ pub fn no_refusal<V: Verifier>()
         → IsUnrefused c (V.accepted verifier) decision → ¬ IsTooLarge c (V.accepted verifier) }
 {}
 
-/// An entry may be left out of an access list if its subject's principal does not name the key of the first issuer, or the client's key
-/// if no certificate is shown. Such an entry never grants the request, and its chain is never too large.
+/// An entry may be left out of an access list if its subject's principal does not name the key of the first certificate's issuer, or the
+/// client's key if no certificate is shown. Such an entry never grants the request, and its chain is never too large: no product of the nodes
+/// of two tags that it intersects is over the case's `most_nodes`.
 pub fn left_out()
     ensures grants { (c : Case) (tuples : List Tuple) (e : Entry) → IsLeftOut c tuples e → ¬ Supported c tuples e }
     ensures small { (c : Case) (tuples : List Tuple) (e : Entry) → IsLeftOut c tuples e
         → ¬ TooLargeAt c.most_nodes c.policy (five (entry_tuple e)) tuples }
 {}
 
-/// If some entries of `left_out` are removed from an access list, and the others keep their numbers, the decision stays
+/// If entries that may be left out (`left_out`) are removed from an access list, and the others keep their numbers, the decision stays
 /// the same. So does the answer of `decide`: the decision or the refusal `TooLarge`. So entries may be stored in any way and
 /// found by the principal of their subject.
 #[tactic(auto, using(crate::proofs::KeptEntries::renumbered, crate::proofs::KeptEntries::answered))]
@@ -107,8 +108,8 @@ pub fn decided_by_kept<V: Verifier>()
         → IsSameAnswer kept x y → IsDecided c (V.accepted verifier) y }
 {}
 
-/// Two verifiers that agree on the signatures that they are asked about give the same answers, whatever else they accept.
-/// The decision is no if one of these signatures is not accepted.
+/// If two verifiers agree on the signatures that they are asked about, then `decide`, `explain` and `reduce_case` give the same answers
+/// by both, whatever else the verifiers accept. The decision is no if one of these signatures is not accepted.
 #[tactic(auto, using(crate::proofs::ListedSignatures::decided_by, crate::proofs::ListedSignatures::decision_by, crate::proofs::ListedSignatures::explained_by, crate::proofs::ListedSignatures::reduced_by, crate::proofs::ListedSignatures::no_by, crate::proofs::ListedSignatures::none_by))]
 pub fn asks_whole<V: Verifier>()
     ensures refused { (verifier : V) (c : Case) (place : ℕ) (s : Signed) (x : Result Decision GuardFault)
@@ -128,17 +129,18 @@ pub fn asks_whole<V: Verifier>()
 {}
 
 /// For every verifier: if an entry is granted, each certificate of the sequence is followed by its own signature. The digest in it is
-/// that of the certificate. Its signer names the key of the certificate's issuer, and the verifier accepts it for this key. It is
-/// listed among the signatures that a verifier is asked about, in the order of the certificates.
+/// that of the certificate. Its signer names the key of the certificate's issuer, and the verifier accepts the signature for this key. The
+/// signature is listed among those that a verifier is asked about, in the order of the certificates.
 pub fn own_signatures<V: Verifier>()
     ensures { (verifier : V) (c : Case) (n place : ℕ) (certificate : Certificate) → Granted n c (V.accepted verifier)
         → slice_get c.items place ≡ Some (item_of certificate)
         → IsSignedByIssuer c (V.accepted verifier) (suc place) certificate (drop (suc place) c.items) }
 {}
 
-/// No key in a chain gives what it does not have. If an entry and tuples support the request, all of them contain the request
-/// and the moment, and all of them but the last authorization may be delegated. Both also hold for a granted entry and the
-/// certificates of the sequence. The key that issued an authorization is supported itself, by the entry and the tuples before it.
+/// No key in a chain gives what it does not have. If an entry and tuples support the request, the tags of the entry and of all
+/// authorizations contain the request. The windows of the entry and of all tuples, also of definitions, contain the moment. The entry, and
+/// each authorization, may be delegated if an authorization comes after it. All this also holds for a granted entry and the certificates of
+/// the sequence. The entry and the tuples before an authorization support the same request for the key that issued this authorization.
 pub fn no_amplification<V: Verifier>()
     ensures chain { (c : Case) (tuples : List Tuple) (e : Entry) → Supported c tuples e → IsHeldThroughout c tuples e }
     ensures issuers { (c : Case) (tuples : List Tuple) (e : Entry) → Supported c tuples e → HaveIssuers c tuples e }
@@ -146,8 +148,8 @@ pub fn no_amplification<V: Verifier>()
         → n ≡ suc place → slice_get c.entries place ≡ Some e → IsHeldByAll c e }
 {}
 
-/// Entries that are appended to an access list change no yes, no number and no refusal. A no may become a yes, with the number of an
-/// appended entry.
+/// Entries that are appended to an access list change no yes, no number and no refusal `TooLarge`. A no may become a yes, with the number
+/// of an appended entry, or a refusal.
 pub fn more_entries<V: Verifier>()
     ensures answer { (verifier : V) (c : Case) (more : List Entry) (x : Result Decision GuardFault)
         → IsDecided c (V.accepted verifier) x → x ≢ Ok No → IsDecided (with_entries c (c.entries ++ more)) (V.accepted verifier) x }
@@ -157,8 +159,8 @@ pub fn more_entries<V: Verifier>()
         → IsDecision (with_entries c (c.entries ++ more)) (V.accepted verifier) (Yes n) → length c.entries < n }
 {}
 
-/// If the decision by an access list is no, it is no by a list that has only entries of it. If `decide` answers no, and not `TooLarge`, by
-/// the whole list, it answers no by the list with some entries removed.
+/// If the decision by an access list is no, it is no by each list that has only entries of this one. If `decide` answers no, and not
+/// `TooLarge`, by the whole list, it answers no by the list with some entries removed.
 pub fn fewer_entries<V: Verifier>()
     ensures no { (verifier : V) (c : Case) (some : List Entry) → AreAmong some c.entries → IsDecision c (V.accepted verifier) No
         → IsDecision (with_entries c some) (V.accepted verifier) No }
@@ -167,7 +169,7 @@ pub fn fewer_entries<V: Verifier>()
 {}
 
 /// What narrower tuples support, wider ones support. An entry, or a certificate that passes its tests, becomes narrower if its tag is smaller, its
-/// window shorter, or it may no longer be delegated. In a case this grants no further entry, and the decision `No` stays `No`. A case with
+/// window shorter, or it may no longer be delegated. In a case narrowing grants no further entry, and the decision `No` stays `No`. A case with
 /// narrower entries is a narrower case.
 pub fn narrower<V: Verifier>()
     ensures chain { (c : Case) (narrow wide : List Tuple) (e f : Entry) → IsRequest c.request → is_date c.moment ≡ true
@@ -183,7 +185,8 @@ pub fn narrower<V: Verifier>()
 {}
 
 /// An entry that is granted is granted at each other moment within its window and those of all certificates. The decision is a yes
-/// then, and is not refused if it was not before. Its number is at most that of the entry: an earlier one may be granted then.
+/// then. Its number is at most that of the entry: an earlier one may be granted then. If `decide` names this entry at the moment of the case,
+/// it does not refuse the case at the other moment.
 pub fn other_moment<V: Verifier>()
     ensures chain { (c : Case) (moment : List ℕ) (tuples : List Tuple) (e : Entry) → Supported c tuples e
         → within moment e.window ≡ true → within_each moment (all_windows tuples) ≡ true → Supported (at_moment c moment) tuples e }

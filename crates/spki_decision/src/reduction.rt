@@ -39,7 +39,7 @@ pub enum EntryFold<'a> {
 /// What a case's entries become.
 #[derive(Drop)]
 pub enum Reduction<'a> {
-    /// The first certificate that fails a test.
+    /// The first certificate that fails a test of `Stop`. So no entry is joined with the certificates.
     Evidence {
         /// The number of its item, from 1.
         item: usize,
@@ -51,14 +51,14 @@ pub enum Reduction<'a> {
 }
 
 /// Reduces a case (RFC 2693, section 6.3). If every certificate of its sequence passes its tests, the answer is for each entry
-/// what it and all certificates, in their order, become. Otherwise it is the first certificate that fails a test. The
-/// four tests are those of `Stop`; the last is that the verifier accepts its signature.
+/// what it and all certificates, in their order, become. Otherwise the answer is the first certificate that fails a test.
+/// The four tests are those of `Stop`; the last is that the verifier accepts the certificate's signature.
 ///
 /// # Errors
 ///
 /// `TooLarge` only if the certificates pass their tests, and for some entry the tag of a certificate is too large for what the entry
-/// and the certificates before it became: the product of their nodes is over `most_nodes`. Or the work of the entries is over
-/// `most_work`. `Memory` if memory ran out, here or in the verifier.
+/// and the certificates before it became: the product of the nodes of both tags is over the case's `most_nodes`. Or the work of the
+/// entries is over `most_work`. `Memory` if memory ran out, here or in the verifier.
 #[tactic(auto, using(crate::proofs::EntryChains::as_many, crate::proofs::EntryChains::all_stand))]
 pub fn reduce_case<'a, V: Verifier>(
     alloc: Global,
@@ -82,8 +82,12 @@ pub fn reduce_case<'a, V: Verifier>(
 }
 
 /// Puts into `sink` what each entry of `acl` and the certificates of the case become. `steps` are the tuples of all certificates, in
-/// order. `acl` is the case's own list: a parameter, since the lemmas of the proof are about any list. Err is that of `entry_fold` at the
-/// first entry that has one, or `Memory`. After an error, `sink` may have taken what some of the entries become.
+/// order. `acl` is the case's own list: a parameter, since the lemmas of the proof are about any list.
+///
+/// # Errors
+///
+/// `TooLarge` at the first entry for which two tags that are to be intersected, or the work of the entries up to it, are over the limits of
+/// the case. `Memory` if memory ran out, here or in the sink. After an error, `sink` may have taken what some of the entries become.
 pub(crate) fn put_folds<'a, S: FoldSink<'a>>(
     alloc: Global,
     acl: &[Entry<'a>],
@@ -109,13 +113,14 @@ pub(crate) fn put_folds<'a, S: FoldSink<'a>>(
 }
 
 /// Returns what an entry and the certificates of the case become. `shown` are all of these certificates, in order, and `steps` their
-/// tuples: if a step stops the chain, `shown` has the number of its item. The work of an entry is taken from the budget, unless the entry
-/// is spared (`Sizes::are_small`).
+/// tuples: if a step stops the chain, `shown` has the number of its item. The budget must be one of `Budget::of` for these steps, or what
+/// earlier entries left of it. The work of an entry is taken from it, unless the entry is spared, since the numbers of nodes alone show that
+/// its intersections are small (`Sizes::are_small`).
 ///
 /// # Errors
 ///
-/// `TooLarge` if the product of the nodes of two tags is over the case's `most_nodes`, or the work is more than the budget has.
-/// `Memory` if memory ran out.
+/// `TooLarge` if the product of the nodes of two tags that are to be intersected is over the case's `most_nodes`, or the work is more than
+/// the budget has. `Memory` if memory ran out.
 pub fn entry_fold<'a>(
     alloc: Global,
     case: &Case<'a>,
@@ -143,8 +148,9 @@ pub fn entry_fold<'a>(
     entry_fold_with_new_count::<Brand>(alloc, case, entry, shown, steps, budget, Blank::new(1))
 }
 
-/// Calls `entry_fold_counted` with a new count, which `blank` opens. The count exists only in contracts, and is dropped afterwards.
-/// `Ticks` says why this is a function of its own.
+/// Does what `entry_fold` does, with its errors `TooLarge` and `Memory`: calls `entry_fold_counted` with a new count of ticks, kept in the
+/// ledger of the toolchain that `blank` opens. The count exists only in contracts, and is dropped afterwards. This is a function of its own,
+/// since only the call of a generic function can pick the type `L` of a count.
 fn entry_fold_with_new_count<'a, L: Ledger>(
     alloc: Global,
     case: &Case<'a>,
@@ -184,13 +190,14 @@ fn entry_fold_with_new_count<'a, L: Ledger>(
     )
 }
 
-/// Folds an entry as `entry_fold` does, and adds to `ticks` what it costs: at most four ticks for each unit of the work of the steps, and one
-/// more for a step at which the chain ends early. This holds also of an entry whose work is not taken from `budget`. The call of
-/// `prove_limits` does nothing: it tells the prover that the limits of the window are dates.
+/// Folds an entry as `entry_fold` does, and adds its work to `ticks`, a count that exists only in contracts: at most four ticks for each unit
+/// that the steps cost (`spki_reduce::Work`), and one more for a step at which the chain ends early. This holds also of an entry whose work
+/// is not taken from `budget`. The call of `prove_limits` does nothing: it tells the prover that the limits of the window are dates.
 ///
 /// # Errors
 ///
-/// Those of `entry_fold`.
+/// `TooLarge` if the product of the nodes of two tags that are to be intersected is over the case's `most_nodes`, or the work is more than
+/// the budget has. `Memory` if memory ran out.
 pub fn entry_fold_counted<'a, L: Ledger>(
     alloc: Global,
     case: &Case<'a>,

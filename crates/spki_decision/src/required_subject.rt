@@ -1,4 +1,5 @@
-//! The subject that certificates require of an entry, whatever their tags and windows are (RFC 2693, sections 6.3 and 6.4).
+//! The subject that certificates require of an entry, whatever their tags and windows are (RFC 2693, sections 6.3 and 6.4). `ticks` counts the
+//! work, and exists only in contracts.
 
 ghost use Rattle.std.specs.Prelude.{◌≡◌, ◌≢◌, ◌≤◌, ◌<◌, ◌+◌, ◌↔◌, ◌∷◌, ◌++◌, ℕ, List, drop, length, IsTrue, IfOk, IfNone, IfSome};
 ghost use Rattle.spki_reduce.specs.{Reduction.{five, four, five_tuple, four_tuple, step_tuple}, Chain.{tuples_of}};
@@ -11,12 +12,13 @@ use spki_tag::Ticks;
 use std::alloc::{AllocError, Global};
 use std::sync::ledger::Ledger;
 
-/// What an authorization's subject must be so that certificates lead from it to a key.
+/// What an authorization's subject must be so that certificates lead from it to a key: joined with them in order, whatever the tags and
+/// windows are, the authorization becomes one for this key.
 #[derive(Drop)]
 pub(crate) struct RequiredSubject<'a> {
     /// Its principal names this key.
     pub(crate) key: Key<'a>,
-    /// It has these names.
+    /// It has exactly these names after its principal.
     pub(crate) names: Names<'a>,
     /// Whether an authorization to this subject must have `propagate`, so that the subject may delegate it.
     pub(crate) delegation: bool,
@@ -25,9 +27,9 @@ pub(crate) struct RequiredSubject<'a> {
 /// Returns the subject that an entry must have so that the certificates with the tuples `steps` lead from it to the
 /// key. None if there is no such subject.
 ///
-/// After the last step it is the key without names, and need not be allowed to delegate. From the last step to the first, what is
-/// required after a step determines what is required before it. A tick is a step, or a name of its subject that is looked at, or an octet
-/// of it that is compared.
+/// After the last step the required subject is the key without names, and it need not be allowed to delegate. From the last step to the
+/// first, what is required after a step determines what is required before it. A tick of `ticks`, which exist only in contracts, is a step,
+/// a name that a definition puts in front, a name of a step's subject that is looked at, or an octet of this subject that is compared.
 ///
 /// # Errors
 ///
@@ -60,7 +62,7 @@ pub(crate) fn required_subject<'a, L: Ledger>(
 
 impl<'a> RequiredSubject<'a> {
     /// Whether a subject is as required: it names the key under the policy, has exactly the names, and may delegate if it must. `propagate` says
-    /// whether it may. Allocates nothing.
+    /// whether it may. A tick is a name of the subject that is looked at, or an octet of it that is compared. Allocates nothing.
     pub(crate) fn is_met_by<L: Ledger>(
         &self,
         subject: &Subject,
@@ -78,7 +80,7 @@ impl<'a> RequiredSubject<'a> {
     }
 
     /// The subject that is required before a step, if `self` is required after it. None if there is no such subject. Err if memory
-    /// ran out.
+    /// ran out. Ticks are those of `required_subject`.
     fn before<L: Ledger>(
         self,
         alloc: Global,
@@ -99,7 +101,7 @@ impl<'a> RequiredSubject<'a> {
 
     /// The subject that is required before `next`, an authorization step, if `self` is required after it. It is the key of the step's
     /// issuer, without names, and it must be allowed to delegate (the field `delegation`), since it issued `next`. None if the subject and
-    /// `propagate` of `next` are not as `self` requires, or if its issuer is the owner of the access list.
+    /// `propagate` of `next` are not as `self` requires, or if its issuer is the owner of the access list. Ticks are those of `is_met_by`.
     fn before_authorization<L: Ledger>(
         self,
         alloc: Global,
@@ -127,7 +129,8 @@ impl<'a> RequiredSubject<'a> {
     /// The subject that is required before a name's definition, if `self` is required after it. Its key is the definition's. Its names are
     /// the defined name, and after it the names of `self` without those of the definition's subject, with which they must begin. It must
     /// be allowed to delegate if `self` must. None if the names of `self` begin otherwise, or if the principal of the definition's subject
-    /// does not name the key of `self`. Err if memory ran out.
+    /// does not name the key of `self`. Err if memory ran out. A tick is an octet of this principal, a name of the definition's subject that is
+    /// compared, one of its octets, or the defined name.
     fn before_definition<L: Ledger>(
         self,
         definition: &Four<'a>,
@@ -187,7 +190,8 @@ fn has_first(names: &Names, name: &Octets) -> bool
     }
 }
 
-/// Whether both have the same names in the same order. Each name of `one` that is compared is a tick, and so is each of its octets.
+/// Whether `one` and `other` are the same names in the same order. Each name of `one` that is compared is a tick, and so is each of its
+/// octets.
 #[tactic(auto, using(crate::proofs::ChainRequirements::same_more, crate::proofs::Costs::names_step))]
 fn are_same_names<L: Ledger>(one: &Names, other: &Names, ticks: &mut Ticks<L>) -> bool
     ensures answer { IsTrue result ↔ (one.now ≡ other.now) }

@@ -10,7 +10,7 @@ use std::alloc::{AllocError, Global};
 use std::collections::BTreeMap;
 use std::marker::Model;
 
-/// For each digest the first key that has it.
+/// For each digest, by one algorithm, the first key of the sequence that has it.
 type FirstKeys<'a> = BTreeMap<Vec<u8>, Key<'a>>;
 
 /// The keys of a sequence, in order, with an index of their digests for each algorithm of a hash that was looked for. In a
@@ -51,8 +51,9 @@ impl<'a> ShownKeys<'a> {
         }
     }
 
-    /// The key of a certificate's issuer: the issuer itself if it is a key, or the first key of the sequence that it names under
-    /// the policy. None if there is none. The keys stay the same; an index may be added, so `self` is `&mut`. Err if memory ran out.
+    /// The key of a certificate's issuer: the issuer itself if it is a key. If it is a hash, the first key of the sequence that the hash
+    /// names under the policy, or None if there is none. The keys stay the same; an index may be added, so `self` is `&mut`. Err if
+    /// memory ran out.
     #[tactic(auto, using(crate::proofs::CertificateTests::found_none))]
     pub(crate) fn holder(
         &mut self,
@@ -134,7 +135,7 @@ fn first_keys<'a>(
     Ok(first)
 }
 
-/// Adds a key to the map at its digest by the algorithm, unless the map has a key there. Err if memory ran out.
+/// Adds a key to the map at its digest by the algorithm, unless the map has a key there: the first one stays. Err if memory ran out.
 fn add_key<'a>(
     first: &mut FirstKeys<'a>,
     alloc: Global,

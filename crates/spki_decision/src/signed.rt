@@ -18,7 +18,7 @@ pub struct Signed<'a> {
     pub value: Octets<'a>,
     /// The algorithm of the digest in the signature.
     pub alg: HashAlg,
-    /// The digest of the message.
+    /// The digest of the message, as it is in the signature.
     pub digest: Octets<'a>,
     /// The digest is that of the message.
     ghost fits: { digest_of alg message ≡ digest },

@@ -12,7 +12,7 @@ use spki_tag::Tag;
 /// so a greater number is over every limit, and is kept as None.
 const MOST_NODES: usize = 1_000_000;
 
-/// What is kept of the numbers of nodes of the certificates' tags.
+/// What is kept of the numbers of nodes of the certificates' tags, which are counted once for all entries.
 #[derive(Clone, Copy)]
 pub(crate) struct Sizes {
     /// The product of the numbers, if it is at most 1,000,000.
