@@ -32,8 +32,8 @@ impl<'a> PreparedQuestion<'a> {
 
     /// What the question is granted: the entry that `decide` names, and until when the yes holds. None if the decision is no.
     ///
-    /// Until the least not-after of that entry's window and of those of all certificates, definitions of names too, the same question is
-    /// a yes, if the verifier accepts the same signatures.
+    /// The yes holds until the least not-after of the windows of that entry and of all certificates, definitions of names too: at each later
+    /// moment up to this limit the same question is a yes, if the verifier accepts the same signatures.
     ///
     /// # Errors
     ///
@@ -78,6 +78,7 @@ impl<'a> PreparedQuestion<'a> {
     pub fn grant_by(&self, alloc: Global) -> Result<Option<Grant>, AllocError>
         ensures { IfOk result (GrantsMarked self.now) }
     {
+        // `Brand` and `Blank` are for a count of ticks, which exists only in contracts: see `spki_tag::Ticks`.
         self.grant_by_with_new_count::<Brand>(alloc, Blank::new(1))
     }
 
@@ -97,7 +98,7 @@ impl<'a> PreparedQuestion<'a> {
     }
 
     /// Whether the question is granted if all listed signatures are valid. If it is not, no marks make it a yes, and no signature has to be
-    /// verified. So it is asked before the signatures are verified. True is not yet a yes.
+    /// verified. So a service calls this before it verifies signatures. True is not yet a yes.
     ///
     /// # Errors
     ///
@@ -116,6 +117,7 @@ impl<'a> PreparedQuestion<'a> {
     pub(crate) fn granted(&self, alloc: Global) -> Result<Option<Grant>, AllocError>
         ensures { IfOk result (Grants every self.now) }
     {
+        // `Brand` and `Blank` are for a count of ticks, which exists only in contracts: see `spki_tag::Ticks`.
         self.granted_with_new_count::<Brand>(alloc, Blank::new(1))
     }
 
@@ -135,6 +137,7 @@ impl<'a> PreparedQuestion<'a> {
     ) -> Result<Explanation, GuardFault>
         ensures { Answers (λ c answer. IsExplained c (V.accepted verifier.now) answer) self.now result }
     {
+        // `Brand` and `Blank` are for a count of ticks, which exists only in contracts: see `spki_tag::Ticks`.
         match first_refused(alloc, &self.examined.signed, verifier)? {
             None => self.explained_with_new_count::<Brand>(alloc, Blank::new(1)),
             Some(place) => Ok(Explanation::Evidence {
@@ -144,14 +147,17 @@ impl<'a> PreparedQuestion<'a> {
         }
     }
 
-    /// Explains the question, if exactly the marked signatures are valid.
+    /// Explains the question, as `explain`, if exactly the marked signatures are valid. A certificate whose listed signature has no mark
+    /// fails the last test of `Stop`.
     ///
     /// # Errors
     ///
-    /// Those of `explain`.
+    /// `TooLarge` if the product of the nodes of two tags to be intersected is over the guard's limit `nodes`, or the work of all
+    /// entries together over its limit `work`. `Memory` if memory ran out.
     pub fn explain_by(&self, alloc: Global) -> Result<Explanation, GuardFault>
         ensures { ExplainsMarked self.now result }
     {
+        // `Brand` and `Blank` are for a count of ticks, which exists only in contracts: see `spki_tag::Ticks`.
         self.explain_by_with_new_count::<Brand>(alloc, Blank::new(1))
     }
 
@@ -162,7 +168,8 @@ impl<'a> PreparedQuestion<'a> {
     ///
     /// # Errors
     ///
-    /// Those of `explain`.
+    /// `TooLarge` if the product of the nodes of two tags to be intersected is over the guard's limit `nodes`, or the work of all
+    /// entries together over its limit `work`. `Memory` if memory ran out, here or in the verifier.
     pub fn reduce<V: Verifier>(
         &self,
         alloc: Global,
@@ -171,6 +178,7 @@ impl<'a> PreparedQuestion<'a> {
         ensures reduced { Answers (λ c answer. IsReduced c (V.accepted verifier.now) answer) self.now result }
         ensures end { IfOk result EndAtDates }
     {
+        // `Brand` and `Blank` are for a count of ticks, which exists only in contracts: see `spki_tag::Ticks`.
         match first_refused(alloc, &self.examined.signed, verifier)? {
             None => self.reduced_with_new_count::<Brand>(alloc, Blank::new(1)),
             Some(place) => Ok(Reduction::Evidence {
@@ -180,15 +188,18 @@ impl<'a> PreparedQuestion<'a> {
         }
     }
 
-    /// Reduces the question, if exactly the marked signatures are valid.
+    /// Reduces the question, as `reduce`, if exactly the marked signatures are valid. A certificate whose listed signature has no mark
+    /// fails the last test of `Stop`.
     ///
     /// # Errors
     ///
-    /// Those of `explain`.
+    /// `TooLarge` if the product of the nodes of two tags to be intersected is over the guard's limit `nodes`, or the work of all
+    /// entries together over its limit `work`. `Memory` if memory ran out.
     pub fn reduce_by(&self, alloc: Global) -> Result<Reduction<'a>, GuardFault>
         ensures reduced { ReducesMarked self.now result }
         ensures end { IfOk result EndAtDates }
     {
+        // `Brand` and `Blank` are for a count of ticks, which exists only in contracts: see `spki_tag::Ticks`.
         self.reduce_by_with_new_count::<Brand>(alloc, Blank::new(1))
     }
 
@@ -198,7 +209,9 @@ impl<'a> PreparedQuestion<'a> {
     ///
     /// # Errors
     ///
-    /// Those of `explain`. After an error, `sink` may have taken what some of the entries become.
+    /// `TooLarge` if the product of the nodes of two tags to be intersected is over the guard's limit `nodes`, or the work of all
+    /// entries together over its limit `work`. `Memory` if memory ran out, here or in the sink. After an error, `sink` may have taken what
+    /// some of the entries become.
     pub fn reduce_into<S: FoldSink<'a>>(
         &self,
         alloc: Global,
@@ -219,7 +232,8 @@ impl<'a> PreparedQuestion<'a> {
     }
 
     /// Puts what each entry becomes into `sink`, if all listed signatures are valid. Returns the first certificate that fails another test,
-    /// and then puts nothing. None if all certificates pass. Err is `TooLarge` or `Memory`, as for `reduce_into`.
+    /// and then puts nothing. None if all certificates pass. Err is `TooLarge` or `Memory`. When, and what `sink` has then, is as for
+    /// `reduce_into`.
     fn put_folds<S: FoldSink<'a>>(
         &self,
         alloc: Global,

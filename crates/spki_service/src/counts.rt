@@ -21,7 +21,8 @@ use std::alloc::Global;
 ///
 /// # Errors
 ///
-/// `TooManyCertificates`, otherwise `TooManyWords`, which is about the strings of the request. `Memory` if memory ran out.
+/// `TooManyCertificates` if there are more certificates than `limits.certificates`. Otherwise `TooManyWords` if the request has more strings
+/// than `limits.words`. `Memory` if memory ran out. `Form` is not returned: the text of the request was read before.
 pub(crate) fn check_counts(
     alloc: Global,
     case: &Case,
@@ -43,7 +44,7 @@ pub(crate) fn check_counts(
     Ok(())
 }
 
-/// Whether more than `most` of the items are certificates.
+/// Whether more than `most` of the items of a sequence are certificates, definitions of names too.
 fn has_more_certificates(items: &[SeqItem], most: usize) -> bool
     ensures { IsTrue result ↔ (most < certificates_in items.now) }
 {
@@ -71,7 +72,7 @@ fn certificate_count(item: &SeqItem) -> usize
 }
 
 /// Whether the value of a request's text has more than `most` strings. Err is `Form` if the text has no value within the limits of its
-/// form, which cannot be for a question that was read, or `Memory`.
+/// form, which does not happen for a question that was read, or `Memory`.
 fn has_more_strings(alloc: Global, text: &CanonicalText, most: usize) -> Result<bool, AskFault>
     ensures tells { IfOk result (λ has_more. OfText text.now (TellsStrings most has_more)) }
     ensures refused { IfErr result (λ fault. fault ≢ AskFault.Memory → NamesForm Part.Request text.now fault) }

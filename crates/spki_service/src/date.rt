@@ -7,10 +7,11 @@ ghost use Rattle.spki_service.specs.Questions.{date_octets, IsDateAt, IsAtNoDate
 use jiff_core::civil::{Date as CivilDate, DateTime};
 use spki_cert::{Date, Window};
 
-/// The last second, since 1970-01-01 00:00:00 UTC, that is not after a date: until when a grant holds, for a caller whose clock has
-/// seconds. It is the date's own second, and negative before 1970. If the month does not have the date's day (`constrain` lowers it), it is
-/// the last second of the month, number 86,399 of its day. Otherwise a second 60 counts as 59. The offsets are those of a date such as
-/// `2024-01-01_00:00:00`. The window is only for `prove_limits`, a fact for the prover: the octets are a date.
+/// The last second, counted from 1970-01-01 00:00:00 UTC, that is not after a date. A grant holds until a date: this is the same limit for a
+/// caller whose clock counts seconds. Usually the result is the second of the date itself, which is negative before 1970. There are two
+/// exceptions. If the month does not have the date's day, as for 30 February, the result is the last second of the month: `constrain` lowers
+/// the day to the last one, whose last second is number 86,399 from 0. Otherwise a second 60 counts as 59. The offsets in the code are those
+/// of a date such as `2024-01-01_00:00:00`. The window is only for `prove_limits`, which tells the prover that the octets are those of a date.
 pub fn last_second(date: &Date) -> i64
     ensures { result ≡ last_second date.now }
 {
@@ -41,7 +42,7 @@ fn seconds_of(day: i32, clock: u32) -> i64
     day as i64 * 86_400 + clock as i64
 }
 
-/// The seconds since midnight of a time of day. Its octets `HH:MM:SS` begin at the offset `place`. A second 60 counts as 59.
+/// The seconds since midnight of a time of day, whose octets `HH:MM:SS` begin at the offset `place`. A second 60, a leap second, counts as 59.
 fn clock_at(octets: &[u8], place: usize) -> u32
     requires within { place + 7 < length octets.now }
     requires hour { IsNumberUpto octets.now place 23 }
@@ -65,7 +66,8 @@ fn number_at(octets: &[u8], place: usize) -> u8
     10 * (octets[place] - b'0') + (octets[place + 1] - b'0')
 }
 
-/// The date of seconds since 1970-01-01 00:00:00 UTC. None if they are negative, or the year is after 9999. Allocates nothing.
+/// The date of a number of seconds since 1970-01-01 00:00:00 UTC. None if it is negative, as of a clock that failed, or the year is after
+/// 9999 (`Err` of `from_nanosecond`). `Date::of` does not return None here, since `octets_of` makes a date. Allocates nothing.
 pub(crate) fn date_at(seconds: i64) -> Option<Date>
     ensures { MatchOption result (IsAtNoDate seconds) (λ date. IsDateAt seconds date) }
 {
@@ -78,14 +80,15 @@ pub(crate) fn date_at(seconds: i64) -> Option<Date>
     }
 }
 
-/// The same number of seconds, in nanoseconds, as `DateTime::from_nanosecond` takes them.
+/// A number of seconds as nanoseconds, which `DateTime::from_nanosecond` takes.
 fn nanoseconds_of(seconds: i64) -> i128
     ensures { result ≡ seconds *ℤ pos 1_000_000_000 }
 {
     seconds as i128 * 1_000_000_000
 }
 
-/// The 19 octets of a date, such as `2024-01-01_00:00:00`. The year must not be negative. `of_century` are the last two digits of the year.
+/// The 19 octets of a date, such as `2024-01-01_00:00:00`. The year must not be negative; a `DateTime` has none after 9999. `century` is the
+/// number of the first two of the year's four digits, and `of_century` that of the last two.
 fn octets_of(civil: DateTime) -> [u8; 19]
     requires { pos 0 ≤ℤ civil.date.year }
     ensures { result ≡ date_octets (unsigned_abs civil.date.year) civil.date.month civil.date.day civil.time.hour civil.time.minute civil.time.second }

@@ -19,9 +19,10 @@ use std::marker::Brand;
 use std::sync::ledger::{Blank, Ledger};
 
 impl<'a> PreparedQuestion<'a> {
-    /// Decides the question by the marks, as `decide_by`. A tick is a signature, a certificate, an entry, a tag or a name that is looked
-    /// at, or an octet that is read or compared. There are at most four for each octet of the sequence's canonical text (`shown`), and
-    /// two for each octet of the entries that the index finds (`found`). `docs/PERFORMANCE.md` says what is not counted.
+    /// Decides the question by the marks, as `decide_by`, for a caller whose contract bounds the ticks, which exist only in contracts. A tick
+    /// is a signature, a certificate, an entry, a tag or a name that is looked at, or an octet that is read or compared. There are at most
+    /// four for each octet of the sequence's canonical text (`shown`), and two for each octet of the entries that the index finds (`found`).
+    /// `docs/PERFORMANCE.md` says what is not counted.
     ///
     /// # Errors
     ///
@@ -37,8 +38,8 @@ impl<'a> PreparedQuestion<'a> {
         Ok(Grant::decision(self.grant_by_counted(alloc, ticks)?))
     }
 
-    /// What is granted by the marks, as by `grant_by`, in at most as many ticks as `decide_by_counted`. None if a listed signature has no
-    /// mark, a certificate fails another test, or no entry grants the request.
+    /// What is granted by the marks, as by `grant_by`, in at most as many ticks (operations that contracts count) as `decide_by_counted`.
+    /// None if a listed signature has no mark, a certificate fails another test, or no entry grants the request. Err if memory ran out.
     fn grant_by_counted<L: Ledger>(
         &self,
         alloc: Global,
@@ -53,8 +54,9 @@ impl<'a> PreparedQuestion<'a> {
         }
     }
 
-    /// Does the work of `grant_by`, whose caller has no count: calls `grant_by_counted` with a new one, which `blank` opens. It exists only
-    /// in contracts, and is dropped afterwards.
+    /// Does the work of `grant_by`, whose caller has no count of ticks: calls `grant_by_counted` with a new one, which `blank` opens. The
+    /// count, of operations, exists only in contracts, and is dropped afterwards. `Ticks` says why this is a function of its own. Err if
+    /// memory ran out.
     pub(crate) fn grant_by_with_new_count<L: Ledger>(
         &self,
         alloc: Global,
@@ -68,8 +70,9 @@ impl<'a> PreparedQuestion<'a> {
         self.grant_by_counted(alloc, &mut Ticks::<L>::new(blank))
     }
 
-    /// What is granted if all listed signatures are valid, as by `granted`. None if a certificate fails another test, or no entry grants
-    /// the request. The bound on its ticks includes one for each listed signature, which the caller has counted before.
+    /// What is granted if all listed signatures are valid, as by `granted`. None if a certificate fails another test, or no entry grants the
+    /// request. Err if memory ran out. The bound on the ticks (operations that contracts count) leaves room for one for each listed
+    /// signature, which `grant_by_counted` counts before it calls this function.
     fn granted_counted<L: Ledger>(
         &self,
         alloc: Global,
@@ -85,8 +88,9 @@ impl<'a> PreparedQuestion<'a> {
         }
     }
 
-    /// Does the work of `granted`, whose caller has no count: calls `granted_counted` with a new one, which `blank` opens. It exists only
-    /// in contracts, and is dropped afterwards.
+    /// Does the work of `granted`, whose caller has no count of ticks: calls `granted_counted` with a new one, which `blank` opens. The
+    /// count, of operations, exists only in contracts, and is dropped afterwards. `Ticks` says why this is a function of its own. Err if
+    /// memory ran out.
     pub(crate) fn granted_with_new_count<L: Ledger>(
         &self,
         alloc: Global,
@@ -101,8 +105,8 @@ impl<'a> PreparedQuestion<'a> {
     }
 
     /// What is granted if the certificates have passed their tests, and `steps` are their tuples. Only the entries that the index finds for
-    /// `first_key` are read. None if none of them grants the request. Err if memory ran out. The bound on its ticks is as for
-    /// `granted_counted`.
+    /// `first_key` are read. None if none of them grants the request. Err if memory ran out. The bound on the ticks (operations that
+    /// contracts count) is that of `granted_counted`.
     fn granted_after<'s, L: Ledger>(
         &'s self,
         alloc: Global,
@@ -121,7 +125,8 @@ impl<'a> PreparedQuestion<'a> {
         first_granted(alloc, &guard.texts, &numbers, &self.case, steps, ticks)
     }
 
-    /// The first listed signature without a mark at its place. None if each has one. Each signature that is looked at is a tick.
+    /// The first listed signature without a mark at its place. None if each has one. Each signature that is looked at adds 1 to `ticks`, a
+    /// count that exists only in contracts.
     pub(crate) fn unmarked_counted<L: Ledger>(&self, ticks: &mut Ticks<L>) -> Option<&Signed<'a>>
         ensures answer { MatchOption result (AllMarked (asked self.now.case) self.now.marks)
             (λ one. IsUnmarked (asked self.now.case) self.now.marks (signed_of one.now)) }

@@ -14,7 +14,8 @@ use std::alloc::{AllocError, Global};
 use std::sync::ledger::Ledger;
 
 /// Returns the canonical texts of the entries of an access list, in order. The list's version, if it has one before them, is left out.
-/// `list` must be an access list, so it has the head `acl`, and `count` must be the number of its entries. Err if memory ran out.
+/// `list` must be an access list, so it has the head `acl` and the `else` is not reached. `count` must be the number of its entries. Err if
+/// memory ran out.
 pub(crate) fn entry_texts(alloc: Global, list: &Node, count: usize) -> Result<TextList, AllocError>
     ensures { (version entries : List Value) → IsVersion version
         → list.now ≡ group (plain (codes "acl") ∷ (version ++ entries)) → length entries ≡ count
@@ -69,7 +70,8 @@ pub(crate) fn entry_in<'a>(alloc: Global, text: &'a [u8]) -> Result<Entry<'a>, A
     }
 }
 
-/// Reads an entry from its canonical text, as `entry_in`. The entry and each octet of its text is a tick.
+/// Reads an entry from its canonical text, as `entry_in`, and adds to `ticks`, a count that exists only in contracts: one for the entry, and one
+/// for each octet of its text. Err if memory ran out.
 pub(crate) fn entry_counted<'a, L: Ledger>(
     alloc: Global,
     text: &'a [u8],

@@ -28,11 +28,13 @@ impl<'a> PreparedQuestion<'a> {
     /// Explains the question by the marks, as `explain_by`. A tick is a signature, an entry or a step of a chain that is looked at, an
     /// octet of an entry that is read, or what an intersection compares or copies. There are at most four for each unit of the guard's
     /// limit of work, one for each octet of the access list's entries, two for each entry, and one for each listed signature, also if the
-    /// answer is an error. `uncounted` is 0 in each question that a guard has read. `docs/PERFORMANCE.md` says what is not counted.
+    /// answer is an error. This requires that the case's `uncounted`, the size up to which a chain takes no work, is 0, as it is in each
+    /// question that a guard has read. `docs/PERFORMANCE.md` says what is not counted.
     ///
     /// # Errors
     ///
-    /// Those of `explain`.
+    /// `TooLarge` if the product of the nodes of two tags to be intersected is over the guard's limit `nodes`, or the work of all
+    /// entries together over its limit `work`. `Memory` if memory ran out.
     pub fn explain_by_counted<L: Ledger>(
         &self,
         alloc: Global,
@@ -50,8 +52,9 @@ impl<'a> PreparedQuestion<'a> {
         }
     }
 
-    /// Does the work of `explain_by`, whose caller has no count: calls `explain_by_counted` with a new one, which `blank` opens. It exists
-    /// only in contracts, and is dropped afterwards.
+    /// Does the work of `explain_by`, whose caller has no count of ticks: calls `explain_by_counted` with a new one, which `blank` opens. The
+    /// count, of operations, exists only in contracts, and is dropped afterwards. `Ticks` says why this is a function of its own. Err is
+    /// `TooLarge` or `Memory`, as for `explain_by_counted`.
     pub(crate) fn explain_by_with_new_count<L: Ledger>(
         &self,
         alloc: Global,
@@ -65,11 +68,12 @@ impl<'a> PreparedQuestion<'a> {
         self.explain_by_counted(alloc, &mut Ticks::<L>::new(blank))
     }
 
-    /// Reduces the question by the marks, as `reduce_by`, in at most as many ticks as `explain_by_counted`.
+    /// Reduces the question by the marks, as `reduce_by`, in at most as many ticks (operations that contracts count) as `explain_by_counted`.
     ///
     /// # Errors
     ///
-    /// Those of `explain`.
+    /// `TooLarge` if the product of the nodes of two tags to be intersected is over the guard's limit `nodes`, or the work of all
+    /// entries together over its limit `work`. `Memory` if memory ran out.
     pub fn reduce_by_counted<L: Ledger>(
         &self,
         alloc: Global,
@@ -88,8 +92,9 @@ impl<'a> PreparedQuestion<'a> {
         }
     }
 
-    /// Does the work of `reduce_by`, whose caller has no count: calls `reduce_by_counted` with a new one, which `blank` opens. It exists
-    /// only in contracts, and is dropped afterwards.
+    /// Does the work of `reduce_by`, whose caller has no count of ticks: calls `reduce_by_counted` with a new one, which `blank` opens. The
+    /// count, of operations, exists only in contracts, and is dropped afterwards. `Ticks` says why this is a function of its own. Err is
+    /// `TooLarge` or `Memory`, as for `reduce_by_counted`.
     pub(crate) fn reduce_by_with_new_count<L: Ledger>(
         &self,
         alloc: Global,
@@ -104,13 +109,15 @@ impl<'a> PreparedQuestion<'a> {
         self.reduce_by_counted(alloc, &mut Ticks::<L>::new(blank))
     }
 
-    /// Reduces the question by the marks, and puts what each entry becomes into `sink`, as `reduce_into`, in at most as many ticks as
-    /// `explain_by_counted`. What the sink does is not counted. Returns the first certificate that fails a test, and then puts nothing.
-    /// None if all certificates pass.
+    /// Reduces the question by the marks, and puts what each entry becomes into `sink`, as `reduce_into`, in at most as many ticks
+    /// (operations that contracts count) as `explain_by_counted`. What the sink does is not counted. Returns the first certificate that fails
+    /// a test, and then puts nothing. None if all certificates pass. A listed signature without a mark fails the last test.
     ///
     /// # Errors
     ///
-    /// Those of `explain`. After an error, `sink` may have taken what some of the entries become.
+    /// `TooLarge` if the product of the nodes of two tags to be intersected is over the guard's limit `nodes`, or the work of all
+    /// entries together over its limit `work`. `Memory` if memory ran out, here or in the sink. After an error, `sink` may have taken what
+    /// some of the entries become.
     pub fn reduce_into_counted<L: Ledger, S: FoldSink<'a>>(
         &self,
         alloc: Global,
@@ -132,8 +139,8 @@ impl<'a> PreparedQuestion<'a> {
         }
     }
 
-    /// The explanation if all listed signatures are valid; the marks are not looked at. Err is `TooLarge` or `Memory`, as for `explain`.
-    /// `prove_well_formed` is only for the prover.
+    /// The explanation if all listed signatures are valid; the marks are not looked at. Its ticks (operations that contracts count) are those
+    /// of `explain_by_counted` without the signatures. Err is `TooLarge` or `Memory`, as there. `prove_well_formed` is only for the prover.
     fn explained_counted<L: Ledger>(
         &self,
         alloc: Global,
@@ -154,8 +161,9 @@ impl<'a> PreparedQuestion<'a> {
         }
     }
 
-    /// The explanation if all listed signatures are valid, for `explain`, whose caller has no count: calls `explained_counted` with a new
-    /// one, which `blank` opens. It exists only in contracts, and is dropped afterwards.
+    /// The explanation if all listed signatures are valid, for `explain`, whose caller has no count of ticks: calls `explained_counted` with
+    /// a new one, which `blank` opens. The count, of operations, exists only in contracts, and is dropped afterwards. `Ticks` says why this
+    /// is a function of its own. Err is `TooLarge` or `Memory`, as for `explained_counted`.
     pub(crate) fn explained_with_new_count<L: Ledger>(
         &self,
         alloc: Global,
@@ -169,7 +177,8 @@ impl<'a> PreparedQuestion<'a> {
         self.explained_counted(alloc, &mut Ticks::<L>::new(blank))
     }
 
-    /// The reduction if all listed signatures are valid; the marks are not looked at. Err is `TooLarge` or `Memory`, as for `reduce`.
+    /// The reduction if all listed signatures are valid; the marks are not looked at. Its ticks (operations that contracts count) are those
+    /// of `reduce_by_counted` without the signatures. Err is `TooLarge` or `Memory`, as there.
     fn reduced_counted<L: Ledger>(
         &self,
         alloc: Global,
@@ -187,8 +196,9 @@ impl<'a> PreparedQuestion<'a> {
         }
     }
 
-    /// The reduction if all listed signatures are valid, for `reduce`, whose caller has no count: calls `reduced_counted` with a new one,
-    /// which `blank` opens. It exists only in contracts, and is dropped afterwards.
+    /// The reduction if all listed signatures are valid, for `reduce`, whose caller has no count of ticks: calls `reduced_counted` with a new
+    /// one, which `blank` opens. The count, of operations, exists only in contracts, and is dropped afterwards. `Ticks` says why this is a
+    /// function of its own. Err is `TooLarge` or `Memory`, as for `reduced_counted`.
     pub(crate) fn reduced_with_new_count<L: Ledger>(
         &self,
         alloc: Global,
@@ -203,8 +213,9 @@ impl<'a> PreparedQuestion<'a> {
         self.reduced_counted(alloc, &mut Ticks::<L>::new(blank))
     }
 
-    /// Puts what each entry becomes into `sink`, as `put_folds`, if all listed signatures are valid. Returns the first certificate that
-    /// fails another test, and then puts nothing. None if all certificates pass.
+    /// Puts what each entry becomes into `sink`, as `put_folds`, if all listed signatures are valid. Returns the first certificate that fails
+    /// another test, and then puts nothing. None if all certificates pass. Its ticks (operations that contracts count) are those of
+    /// `reduce_into_counted` without the signatures. Err is `TooLarge` or `Memory`, as there.
     fn put_folds_counted<L: Ledger, S: FoldSink<'a>>(
         &self,
         alloc: Global,
@@ -230,13 +241,14 @@ impl<'a> PreparedQuestion<'a> {
     }
 }
 
-/// Puts into `sink` what each entry becomes with the certificates of the case, as `fold_texts`. An entry is a tick, and so is each octet of
-/// its text, once. To these come the ticks of `entry_fold_counted`, which joins the entry with the certificates. What the sink does is not
-/// counted.
+/// Puts into `sink` what each entry becomes with the certificates of the case, as `fold_texts`, and counts ticks, in contracts only. An entry is
+/// a tick, and so is each octet of its text, once. To these come the ticks of `entry_fold_counted`, which joins the entry with the certificates.
+/// What the sink does is not counted.
 ///
 /// # Errors
 ///
-/// Those of `fold_texts`.
+/// `TooLarge` if the product of the nodes of two tags to be intersected is over the case's limit of nodes, or the work of all entries together
+/// over its limit of work. `Memory` if memory ran out, here or in the sink. `sink` then has what the entries before became.
 fn fold_texts_counted<'a, L: Ledger, S: FoldSink<'a>>(
     alloc: Global,
     texts: &'a TextList,
@@ -251,7 +263,7 @@ fn fold_texts_counted<'a, L: Ledger, S: FoldSink<'a>>(
     ensures too_large { (es : List Entry) → AreEntries texts.entry.now es → IsErrOf result GuardFault.TooLarge →
         HasLargeTags (with_entries (model case.now) es) (tuples_of steps.now)
         ⊎ HasMuchWork (with_entries (model case.now) es) (tuples_of steps.now) }
-    // If no entry is spared, the work of all is within the case's limit, also if they are refused.
+    // `uncounted` is the size up to which a chain takes no work. If it is 0, the work of all entries is within the limit, also if they are refused.
     ensures cost { case.now.uncounted ≡ 0
         → ticks.new ≤ ticks.old + 4 * case.now.most_work + all_octets texts.entry.now + 2 * length texts.entry.now }
     ensures each { OnOk result (ticks.old + all_octets texts.entry.now + length texts.entry.now ≤ ticks.new) }

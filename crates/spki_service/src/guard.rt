@@ -70,9 +70,9 @@ impl Guard {
     ///
     /// # Errors
     ///
-    /// `Form` if the text has no value in any of these forms within their limits, which `FormFault` names. `Form(TooLong)` exactly if the
-    /// text or its canonical form has more than 1,048,576 octets. Otherwise `Acl` if the value is no access list, with the first fault from
-    /// the left. `Memory` if memory ran out.
+    /// `Form`, with the fault of the text, if it has no value in any of these forms within their limits. `Form(TooLong)` exactly if the text
+    /// or its canonical form has more than 1,048,576 octets. Otherwise `Acl` if the value is no access list, with the first fault from the
+    /// left. `Memory` if memory ran out.
     pub fn read(
         alloc: Global,
         list: &[u8],
@@ -112,7 +112,7 @@ impl Guard {
     ///
     /// # Errors
     ///
-    /// `TooLong` exactly if the question's texts together have more octets than the guard's limit, before any of them is
+    /// `TooLong` exactly if the question's texts together have more octets than the guard's limit. This is tested before any of them is
     /// read. `Memory` if memory ran out.
     pub fn texts<'q>(&self, alloc: Global, question: &Question<'q>) -> Result<Texts<'q>, AskFault>
         ensures texts { IfOk result (IsTextsOf question.now) }
@@ -122,16 +122,16 @@ impl Guard {
         texts_of(alloc, question, self.limits.octets)
     }
 
-    /// Reads the parts of a question, each by itself, in the order sequence, key, request, moment, and examines the
-    /// certificates. No signature is marked.
+    /// Reads the parts of a question, each by itself, in the order sequence, key, request, moment, and examines the certificates: does those
+    /// tests of `Stop` that need no verifier. In the result no signature is marked as valid. `texts` are what `Guard::texts` returned.
     ///
     /// # Errors
     ///
-    /// `TooLong` exactly if the texts have more octets than this guard's limit. `Guard::texts` tests this too, but perhaps another guard,
-    /// with a higher limit, made the texts. Otherwise the first part that cannot be read is named: `Form` if its text has no value within
-    /// the limits of its form, otherwise the fault of its value. If all can be read: `TooManyCertificates` or `TooManyWords`, tested in
-    /// this order, if there are more certificates, or more strings of the request, than the guard's limit. No certificate is examined
-    /// before these tests. `Memory` if memory ran out.
+    /// `TooLong` exactly if the texts together have more octets than this guard's limit. `Guard::texts` tests this too, but perhaps another
+    /// guard, with a higher limit, made the texts. Otherwise the first part that cannot be read is named: `Form` if its text has no value
+    /// within the limits of its form, otherwise `Sequence`, `Key`, `Request` or `Moment` with the fault of its value. If all can be read:
+    /// `TooManyCertificates` or `TooManyWords`, tested in this order, if there are more certificates, or more strings of the request, than
+    /// the guard's limit. No certificate is examined before these tests. `Memory` if memory ran out.
     pub fn ask<'a>(
         &'a self,
         alloc: Global,
@@ -171,7 +171,7 @@ impl Guard {
     }
 
     /// The numbers, ascending and counted from 1, of the entries whose subject's principal names the key under the guard's
-    /// policy. Empty if `key` is None. Err if memory ran out.
+    /// policy. Empty if `key` is None, which `first_key` explains. Err if memory ran out.
     pub(crate) fn numbers_of(
         &self,
         alloc: Global,
@@ -186,7 +186,8 @@ impl Guard {
         }
     }
 
-    /// Makes a guard from the node of an access list. Err is `Acl` if the node is no access list, or `Memory`.
+    /// Makes a guard from the node of an access list. `acl_principals` reads each entry, and so checks the list. Err is `Acl`, with the first
+    /// fault from the left, if the node is no access list, or `Memory`.
     fn of(alloc: Global, list: &Node, policy: Policy, limits: Limits) -> Result<Guard, AclFault>
         ensures list { IfOk result (λ g. HoldsValue list.now g.texts) }
         ensures given { IfOk result (λ g. (g.policy ≡ policy) × HasLimits g limits) }

@@ -61,8 +61,9 @@ impl EntryIndex {
         })
     }
 
-    /// The algorithms by which `found` may digest a key: those of the hashes in the index that may name keys under the
-    /// policy. `Guard::ask` has the question's keys carry these digests, since `found` digests only a key without them.
+    /// The algorithms by which `found` needs digests of a key: those of the hashes in the index that may name keys under the policy.
+    /// `Guard::ask` makes these digests when it reads a question. The keys that `found` is called with carry them, so it does not make them
+    /// again. There is no contract: a digest that is missing costs time and changes no answer.
     pub(crate) fn algorithms(&self, policy: Policy) -> Algorithms {
         Algorithms {
             sha1: !self.sha1.is_empty() && policy.admits(HashAlg::Sha1),
@@ -72,8 +73,8 @@ impl EntryIndex {
     }
 
     /// The numbers of the entries whose subject's principal names the key under the policy (RFC 2693, section 2.5), ascending and counted from 1.
-    /// Names after the principal are not compared. This takes at most four pairs of binary searches, three digests, and steps in proportion to the
-    /// numbers found.
+    /// Names that follow the principal in a subject are not compared. This takes at most four pairs of binary searches, the digests that the key
+    /// does not carry yet, at most three, and steps in proportion to the numbers found.
     ///
     /// # Errors
     ///
@@ -137,8 +138,8 @@ impl EntryIndex {
         }
     }
 
-    /// Those of the rows whose principal has these octets, by two binary searches: for where they begin, and for how many they are. The
-    /// rows must be in the order of `compare`.
+    /// Those of `rows` whose principal has these octets, by two binary searches: for where they begin, and for how many they are. `rows` must
+    /// be in the order of `compare`.
     fn rows_at<'i>(&'i self, rows: &'i [Row], octets: &[u8]) -> &'i [Row]
         ensures { IsInOrder self.now.principals rows.now
             → map row_number result.now ≡ numbers_with self.now.principals octets.now rows.now }
@@ -152,7 +153,7 @@ impl EntryIndex {
     }
 }
 
-/// Returns the octets of the principals, in order. Err if memory ran out.
+/// Returns for each of these principals its octets, in order: those of the key, or the digest. Err if memory ran out.
 fn principals_of(alloc: Global, owners: &[Principal]) -> Result<TextList, AllocError>
     ensures { IfOk result (λ principals. principals ≡ map octets_of owners.now) }
 {
@@ -228,8 +229,8 @@ fn rows_of(
     Ok(rows)
 }
 
-/// The last eight octets as a number, in little-endian order. 0 if there are fewer. Rows are compared by it first, which is fast. Any
-/// other order of the octets would do as well.
+/// The last eight octets as a number, in little-endian order. 0 if there are fewer. Rows are compared by this number first, which is fast.
+/// Big-endian order would do as well: the rows need only one fixed order.
 fn tail_of(octets: &[u8]) -> u64
     ensures { result ≡ tail_of octets.now }
 {

@@ -20,7 +20,7 @@ ghost use Rattle.spki_service.specs.Questions.{IsDateAt, IsAtNoDate, last_second
 use spki_case::Verifier;
 
 /// A guard contains an access list as the canonical texts of its entries. A text gives at most one list of such texts, or at most one
-/// fault, and never both. The texts in a guard are those of at most one list of entries.
+/// fault (besides `Memory`), and never both. The texts in a guard are those of at most one list of entries.
 pub fn one_list()
     ensures list { (text : List ℕ) (a b : List (List ℕ)) → HoldsList text a → HoldsList text b → a ≡ b }
     ensures entries { (texts : List (List ℕ)) (es fs : List Entry) → AreEntries texts es → AreEntries texts fs → es ≡ fs }
@@ -28,8 +28,9 @@ pub fn one_list()
     ensures fault { (text : List ℕ) (f g : AclFault) → IsNoAccessList text f → IsNoAccessList text g → f ≡ g }
 {}
 
-/// Under one policy and the same limits of nodes and work, a question is read as at most one case, or refused for at most one fault, and never both.
-/// So the fault depends only on the question's parts: it is that of the first part that cannot be read.
+/// Under one policy and the same limits of nodes and work, a question is read as at most one case, or refused for at most one fault of a part, and
+/// never both. The case's `uncounted` must be the same too: it is 0 in each question that a guard reads. The fault of a part depends only on the
+/// question's parts: it is that of the first part that cannot be read. Other faults, such as `TooLong` and `Memory`, are not meant here.
 pub fn one_asking()
     ensures case { (q : Question) (c d : Case) → IsAskedCase q c → IsAskedCase q d → c.policy ≡ d.policy
         → c.most_nodes ≡ d.most_nodes → c.most_work ≡ d.most_work → c.uncounted ≡ d.uncounted → c ≡ d }
@@ -76,8 +77,7 @@ pub fn marked_as_verified<V: Verifier>()
         → DecidesMarked a d → Decides (V.accepted verifier) a d }
 {}
 
-/// A yes by marks means that the signature of each certificate that is listed has a mark at its place. So without one of them the answer is
-/// no.
+/// A yes by marks means that each listed signature has a mark at its place. So if one of them has no mark, the answer is no.
 pub fn own_marks()
     ensures yes { (a : PreparedModel) (n : ℕ) → DecidesMarked a (Yes n) → AllMarked (asked a.case) a.marks }
     ensures no { (a : PreparedModel) (d : Decision) (one : Signed) → IsUnmarked (asked a.case) a.marks one → DecidesMarked a d → d ≡ No }
@@ -89,9 +89,9 @@ pub fn possible()
     ensures { (a : PreparedModel) (es : List Entry) (n : ℕ) → AreEntries a.texts es → IsPossible a false → ¬ DecidesMarked a (Yes n) }
 {}
 
-/// A guard's decision by marks is that of the command `check`. An auditor composes the case of the guard's entries and policy and the question's
-/// parts, with rows for exactly the marked signatures. If signatures of equal key, digest and value are marked alike, and the case is not refused,
-/// `check` answers the same.
+/// A guard's decision by marks can be repeated by the command `check`. An auditor composes the case of the guard's entries and policy and the
+/// question's parts, with rows for exactly the marked signatures. If signatures of equal key, digest and value are marked alike, and the case is
+/// not refused, `check` answers the same.
 pub fn as_check()
     ensures { (a : PreparedModel) (es : List Entry) (c : Case) (x y : Decision) → AreEntries a.texts es → IsCaseOfParts a es c
         → AreRowsOf c.rows (asked a.case) a.marks → AreMarkedAlike (asked a.case) a.marks

@@ -9,15 +9,15 @@ pub struct Limits {
     pub octets: usize,
     /// The most certificates of a sequence.
     pub certificates: usize,
-    /// The most strings of a request.
+    /// The most strings of a request, those in nested lists too.
     pub words: usize,
-    /// For explanations and reductions: the greatest product of the numbers of nodes of two tags whose intersection is formed. At most
-    /// 1,000,000.
+    /// For explanations and reductions: the greatest product of the numbers of nodes of two tags whose intersection is formed. The nodes of
+    /// a tag are its strings, stars, prefixes, ranges, lists and sets. At most 1,000,000.
     pub nodes: usize,
-    /// For explanations and reductions: the most work of all certificates and all entries together, as `spki_reduce::Work` counts it. At
+    /// For explanations and reductions: the most work of joining all certificates with all entries, in the units of `spki_reduce::Work`. At
     /// most 1,000,000,000.
     pub work: usize,
-    /// For explanations and reductions: the most octets of all lines of the answer together.
+    /// For explanations and reductions: the most octets of all lines of the answer together. The code that prints the lines tests this limit.
     pub answer: usize,
     ghost octets_within: { octets ≤ 1048576 },
     ghost nodes_within: { nodes ≤ 1000000 },
@@ -25,9 +25,9 @@ pub struct Limits {
 }
 
 impl Limits {
-    /// These limits, or `None` if `octets` is over 1,048,576, `nodes` over 1,000,000 or `work` over 1,000,000,000. The longest text
-    /// that is read has 1,048,576 octets, `spki_reduce` intersects tags up to a product of 1,000,000 nodes, and 1,000,000,000 of work takes
-    /// up to some 5 s.
+    /// Makes limits from the values of the fields. None if `octets` is over 1,048,576, `nodes` over 1,000,000 or `work` over 1,000,000,000,
+    /// for three reasons: the longest text that is read has 1,048,576 octets, `spki_reduce` intersects tags up to a product of 1,000,000
+    /// nodes, and 1,000,000,000 of work takes up to some 5 s. The other fields may be any numbers.
     pub fn new(
         octets: usize,
         certificates: usize,
@@ -55,7 +55,7 @@ impl Limits {
     }
 
     /// The highest limits: 1,048,576 octets, 1,000,000 nodes, 1,000,000,000 of work, and 2^64 - 1 certificates, strings and
-    /// octets of an answer, which is no limit. On some questions within them an explanation takes seconds.
+    /// octets of an answer, which is no limit. On some questions within these limits an explanation takes seconds.
     pub fn highest() -> Limits
         ensures { (result.octets ≡ 1048576) × (result.certificates ≡ 18446744073709551615) × (result.words ≡ 18446744073709551615)
             × (result.nodes ≡ 1000000) × (result.work ≡ 1000000000) × (result.answer ≡ 18446744073709551615) }
@@ -78,7 +78,7 @@ impl Default for Limits {
     ghost is_default = { λ limits. (limits.octets ≡ 65536) × (limits.certificates ≡ 16) × (limits.words ≡ 64)
         × (limits.nodes ≡ 1000000) × (limits.work ≡ 2000000) × (limits.answer ≡ 1048576) };
 
-    /// The limits that a guard has if the service sets none.
+    /// The default limits, which the comment of this `impl` lists: for a service that needs no others.
     fn default() -> Limits {
         Limits {
             octets: 65_536,

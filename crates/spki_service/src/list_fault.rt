@@ -10,13 +10,13 @@ use thiserror::Error;
 /// Why a text is no access list.
 #[derive(Clone, Copy, Debug, PartialEq, Eq, Error)]
 pub enum AclFault {
-    /// The text has no value within the limits.
+    /// The text has no value within the limits of its form, for this fault.
     #[error("form: {0}")]
     Form(FormFault),
-    /// Its value is no access list. The fault's item is the number of the entry, from 1, or 0 for the whole list.
+    /// Its value is no access list. The fault's item is the number of the entry, from 1, or 0 if the list has another head or version.
     #[error("access list: {0}")]
     Acl(CertFault),
-    /// Memory ran out.
+    /// Memory ran out. A fault inside one of the others is never `Memory`.
     #[error("out of memory")]
     Memory,
 }
@@ -26,7 +26,7 @@ impl From<AllocError> for AclFault {
 
     ghost from_gives = { λ _ fault. fault ≡ Memory };
 
-    /// An allocation that failed is the fault `Memory`.
+    /// An allocation that failed is the fault `Memory`. So `?` converts the error.
     fn from(_error: AllocError) -> AclFault {
         AclFault::Memory
     }

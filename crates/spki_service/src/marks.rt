@@ -8,7 +8,7 @@ use std::alloc::{AllocError, Global};
 use std::marker::Brand;
 use std::sync::ledger::{Blank, Ledger};
 
-/// Returns `count` places for marks, none of which is marked. Err if memory ran out.
+/// Returns `count` places for marks, one for each listed signature, without any mark. Err if memory ran out.
 pub(crate) fn no_marks(alloc: Global, count: usize) -> Result<Vec<bool>, AllocError>
     ensures counted { IfOk result (λ marks. length marks.items ≡ count) }
     ensures none { IfOk result (λ marks. NoneMarked marks.items) }
@@ -34,11 +34,13 @@ pub(crate) fn mark_at(marks: &mut [bool], place: usize) -> bool
 pub(crate) fn first_unmarked(count: usize, marks: &[bool]) -> Option<usize>
     ensures { IsFirstUnmarked count marks.now result }
 {
+    // `Brand` and `Blank` are for a count of ticks, which exists only in contracts: see `Ticks`.
     first_unmarked_with_new_count::<Brand>(count, marks, Blank::new(1))
 }
 
-/// Does the work of `first_unmarked`, whose caller has no count of ticks: calls `first_unmarked_counted` with a new one, which `blank`
-/// opens. It exists only in contracts, and is dropped afterwards. The number `count` is another thing: how many places there are.
+/// Does the work of `first_unmarked`, whose caller has no count of ticks: calls `first_unmarked_counted` with a new one, which `blank` opens. The
+/// new count, of operations, exists only in contracts, and is dropped afterwards. `Ticks` says why this is a function of its own. The parameter
+/// `count` is another thing: how many places there are.
 fn first_unmarked_with_new_count<L: Ledger>(
     count: usize,
     marks: &[bool],
@@ -52,7 +54,8 @@ fn first_unmarked_with_new_count<L: Ledger>(
     first_unmarked_counted(count, marks, &mut Ticks::<L>::new(blank))
 }
 
-/// The first place below `count` without a mark, as `first_unmarked`. None if each has one. Each place that is looked at is a tick.
+/// The first place, from 0 and below `count`, without a mark, as `first_unmarked`. None if each of these places has one. Each place that is
+/// looked at adds 1 to `ticks`, a count that exists only in contracts.
 pub(crate) fn first_unmarked_counted<L: Ledger>(
     count: usize,
     marks: &[bool],

@@ -1,5 +1,5 @@
-//! The number of octets of a question's texts. Where a function has `room`, this is how many octets may still come. It returns what is
-//! left.
+//! The number of octets of a question's texts. Where a function has `room`, this is how many octets may still come. The function returns how
+//! many are left after what it counts.
 
 ghost use Rattle.std.specs.Prelude.{◌≡◌, ◌<◌, ◌≤◌, ◌+◌, map, length, MatchOption};
 ghost use Rattle.sexpr_core.specs.Value.{canon, decimal, verbatim};
@@ -48,7 +48,7 @@ fn subtract_request(room: usize, wanted: &RequestInput) -> Option<usize>
 }
 
 /// Subtracts the number of octets that `words_text` makes of a request's strings from `room`, without making them: the canonical text of
-/// the list of the strings, with 2 octets for the parentheses, or of the string if there is only one. None if the text has more.
+/// the list of the strings, with 2 octets for the parentheses, or of the string if there is only one. None if the text has more than `room`.
 fn subtract_words(room: usize, words: &[&[u8]]) -> Option<usize>
     ensures { MatchOption result (room < length (canon (words_value (map (λ w. w.now) words.now))))
         (λ left. left + length (canon (words_value (map (λ w. w.now) words.now))) ≡ room) }
@@ -64,7 +64,7 @@ fn subtract_words(room: usize, words: &[&[u8]]) -> Option<usize>
 }
 
 /// Subtracts the number of octets of a string's canonical form, such as `3:abc`, from `room`: its own, the digits of its length, and one
-/// for the colon. None if the form has more.
+/// for the colon. None if the form has more than `room`.
 fn subtract_string(room: usize, octets: &[u8]) -> Option<usize>
     ensures { MatchOption result (room < length (verbatim octets.now)) (λ left. left + length (verbatim octets.now) ≡ room) }
 {
@@ -73,7 +73,7 @@ fn subtract_string(room: usize, octets: &[u8]) -> Option<usize>
     subtract(left, 1)
 }
 
-/// The number of digits of a number in decimal.
+/// The number of digits of a number in decimal. `bound` is only for the prover: the sum does not overflow.
 fn decimal_length(number: usize) -> usize
     ensures digits { result ≡ length (decimal number) }
     ensures bound { result ≤ number + 1 }

@@ -32,7 +32,9 @@ impl OwnedQuestion {
     ///
     /// # Errors
     ///
-    /// Those of `Guard::texts` and `Guard::ask`.
+    /// `TooLong` exactly if the question's texts together have more octets than the guard's limit. Otherwise the first part that cannot be read
+    /// is named: `Form` if its text has no value within the limits of its form, otherwise `Sequence`, `Key`, `Request` or `Moment` with the
+    /// fault of its value. If all can be read: `TooManyCertificates` or `TooManyWords`, by the guard's limits. `Memory` if memory ran out.
     pub fn open(
         alloc: Global,
         guard: &SharedGuard,
@@ -70,7 +72,8 @@ impl OwnedQuestion {
     }
 
     /// Says that the signature is valid that `signed` lists at this place, from 0, as `PreparedQuestion::mark` does. Returns false, and changes
-    /// nothing, if nothing is listed there. `mark_at` makes the same test of the place again.
+    /// nothing, if nothing is listed there. The place is tested before `marks` is borrowed, so it is plain that nothing changes then; `mark_at`
+    /// makes the same test again.
     pub fn mark(&mut self, place: usize) -> bool
         ensures listed { IsTrue result ↔ (place < length self.old.marks.items) }
         ensures marked { IsTrue result → HasMark self.old place self.new }
@@ -111,7 +114,7 @@ impl OwnedQuestion {
         self.if_valid.is_some()
     }
 
-    /// Reads the question again, from the texts that it owns, since an explanation or a reduction needs its parts. The question that is
+    /// Reads the question again, from the texts that `self` owns, since an explanation or a reduction needs the parts. The question that is
     /// returned has the same marks.
     ///
     /// # Errors
@@ -132,8 +135,9 @@ impl OwnedQuestion {
     }
 }
 
-/// Reads a question from its texts. Returns copies of its signatures, and what is granted if the verifier accepts all of
-/// them. Its errors are those of `Guard::ask`.
+/// Reads a question from its texts. Returns copies of the signatures that a verifier is asked about, and what is granted if all of them are
+/// valid. Err is that of `Guard::ask`: `TooLong`, the fault of the first part that cannot be read, `TooManyCertificates`, `TooManyWords`, or
+/// `Memory`.
 fn conditional_grant(
     alloc: Global,
     guard: &Guard,
@@ -152,8 +156,8 @@ fn conditional_grant(
     Ok(kept?)
 }
 
-/// Returns copies of the signatures of a question that was read, and what is granted if the verifier accepts all of them. Err if memory
-/// ran out.
+/// Returns copies of the signatures that a verifier is asked about in a question that was read, and what is granted if all of them are valid.
+/// It is a function of its own so that `conditional_grant` drops the question in one place. Err if memory ran out.
 fn conditional_grant_from(
     alloc: Global,
     read: &PreparedQuestion,

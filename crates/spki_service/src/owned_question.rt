@@ -1,4 +1,4 @@
-//! Questions that own what they need. `spki_asked` of C points to one.
+//! Questions that own what they need. The handle `spki_asked` of `spki.h` points to one.
 
 use crate::owned_signed::OwnedSigned;
 use crate::shared::SharedGuard;

@@ -1,4 +1,4 @@
-//! Signatures that a verifier is asked about, with texts of their own.
+//! Signatures that a verifier is asked about, as copies that borrow nothing.
 
 ghost use Rattle.std.specs.Prelude.{◌≡◌, ◌≤◌, map, length, IfOk, IfErr};
 ghost use Rattle.spki_decision.specs.CertificateTests.{signed_of};
@@ -12,7 +12,7 @@ use std::sync::Arc;
 /// How many octets of two keys `is_before` compares at once. The order is the same by any number over 0: this one is only for speed.
 const PIECE: usize = 1024;
 
-/// A signature that a verifier is asked about, with texts of its own. A key that several signatures have is in memory once.
+/// A signature that a verifier is asked about, as a copy that borrows nothing. A key that several signatures have is in memory once.
 ///
 /// In a contract it is the signature.
 #[derive(Drop)]
@@ -91,8 +91,8 @@ fn owned_one(alloc: Global, one: &Signed, key: Arc<Vec<u8>>) -> Result<OwnedSign
 }
 
 /// Returns the octets of a key: those that a signature of `owned` has already, or otherwise a copy. `order` lists for
-/// each key the place in `owned` of the first signature by it, sorted by the keys' octets. The place of a new key is
-/// added. Err if memory ran out.
+/// each key the place in `owned`, from 0, of the first signature by it, sorted by the keys' octets. The place of a new key is
+/// added: the end of `owned`, where the caller then puts the signature. Err if memory ran out.
 fn shared_key(
     alloc: Global,
     owned: &[OwnedSigned],
@@ -111,8 +111,8 @@ fn shared_key(
     }
 }
 
-/// The key with these octets, if a signature of `owned` has it. Otherwise Err is the place in `order` where it would be. `order`
-/// is as for `shared_key`: each of its numbers is a place in `owned`, so the `else` is not reached.
+/// The key with these octets, if a signature of `owned` has it. Otherwise Err is the place in `order`, from 0, at which a signature by this key
+/// must be inserted. `order` is as for `shared_key`: each of its numbers is a place in `owned`, so the `else` is not reached.
 fn found_key<'o>(
     owned: &'o [OwnedSigned],
     order: &[usize],
@@ -140,8 +140,8 @@ fn found_key<'o>(
     Err(low)
 }
 
-/// Whether `one` is before `other` in the order of their octets. Long equal beginnings are skipped by a test for
-/// equality, which takes a tenth of the time of a comparison by order.
+/// Whether `one` is before `other` in the order of their octets. Long equal beginnings are skipped by a test for equality, which takes a tenth of
+/// the time of a comparison by order. There is no contract: by another order `found_key` might miss a key, which is then only copied again.
 fn is_before(one: &[u8], other: &[u8]) -> bool {
     for (mine, its) in one.chunks(PIECE).zip(other.chunks(PIECE)) {
         if mine != its {

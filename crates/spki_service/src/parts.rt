@@ -22,14 +22,15 @@ use spki_cert::{
 use spki_tag::{Ground, TagFault};
 use std::alloc::Global;
 
-/// Reads the case of a question, without entries, with a guard's policy and limits of nodes and work. The other limits are not tested here.
-/// The parts are read in the order sequence, key, request, moment. `algorithms` are those of the hashes in the access list. The keys of the
-/// case carry their digests by these and by those of the hashes in the sequence, so that a key is not digested again for each comparison.
+/// Reads the case of a question. It has no entries, which are the guard's, and it has the guard's policy and limits of nodes and work. The other
+/// limits are not tested here. The parts are read in the order sequence, key, request, moment. `algorithms` are those of the hashes in the
+/// access list that may name keys. The keys of the case get the digests by which they may be compared with these hashes and with those in the
+/// sequence, so that a key is not digested again for each comparison.
 ///
 /// # Errors
 ///
-/// The first part that cannot be read is named: `Form` if its text has no value within the limits, otherwise the fault of
-/// its value. `Memory` if memory ran out.
+/// The first part that cannot be read is named: `Form` if its text has no value within the limits of its form, otherwise `Sequence`, `Key`,
+/// `Request` or `Moment` with the fault of its value. `Memory` if memory ran out.
 pub(crate) fn case_of<'a>(
     alloc: Global,
     texts: &'a Texts<'_>,
@@ -121,7 +122,7 @@ fn date_in(alloc: Global, text: &CanonicalText) -> Result<Date, AskFault>
 }
 
 /// The date of a moment that was given as a text or as seconds. For a text, Err is that of `date_in`: `Form`, `Moment` or `Memory`.
-/// For seconds without a date it is `Moment(BadDate)`.
+/// For seconds that are negative or in a year after 9999 it is `Moment(BadDate)`.
 fn moment_in(alloc: Global, text: &MomentText) -> Result<Date, AskFault>
     ensures read { IfOk result (λ date. HasDate text.now date) }
     ensures refused { IfErr result (λ fault. fault ≢ AskFault.Memory → NamesDate text.now fault) }
@@ -132,7 +133,7 @@ fn moment_in(alloc: Global, text: &MomentText) -> Result<Date, AskFault>
     }
 }
 
-/// The date of seconds since 1970-01-01 00:00:00 UTC. Err is `Moment(BadDate)` if its year is not from 0 to 9999.
+/// The date of a number of seconds since 1970-01-01 00:00:00 UTC. Err is `Moment(BadDate)` if it is negative or the year is after 9999.
 fn date_of_seconds(seconds: &i64) -> Result<Date, AskFault>
     ensures read { IfOk result (IsDateAt seconds.now) }
     ensures refused { IfErr result (λ fault. (fault ≡ AskFault.Moment CertFaultKind.BadDate) × IsAtNoDate seconds.now) }
@@ -144,7 +145,7 @@ fn date_of_seconds(seconds: &i64) -> Result<Date, AskFault>
     }
 }
 
-/// Reads a sequence from its node. Err is `Sequence` with the first fault, or `Memory`.
+/// Reads a sequence from its node. Err is `Sequence` with the first fault from the left, or `Memory`.
 fn sequence_at<'a>(alloc: Global, node: &Node<'_, 'a>) -> Result<Vec<SeqItem<'a>>, AskFault>
     ensures read { IfOk result (λ items. SeqOf node.now items.items) }
     ensures signed { IfOk result (λ items. AreSigned items.items) }
@@ -166,7 +167,7 @@ fn fault_of_sequence(fault: CertFault) -> AskFault
     }
 }
 
-/// Reads the client's key from its node. Err is `Key` with the fault.
+/// Reads the client's key from its node. Err is `Key` with the first fault. Allocates nothing, so Err is never `Memory`.
 fn key_at<'a>(node: &Node<'_, 'a>) -> Result<Key<'a>, AskFault>
     ensures read { IfOk result (λ key. KeyOf node.now key) }
     ensures refused { IfErr result (λ fault. fault ≢ AskFault.Memory → NamesKey fault node.now) }
@@ -177,7 +178,7 @@ fn key_at<'a>(node: &Node<'_, 'a>) -> Result<Key<'a>, AskFault>
     }
 }
 
-/// Reads a request from its node. Err is `Request` with the fault, or `Memory`.
+/// Reads a request from its node. Err is `Request` with the first fault, or `Memory`.
 fn request_at(alloc: Global, node: &Node) -> Result<Ground, AskFault>
     ensures read { IfOk result (λ request. RequestOf node.now request) }
     ensures refused { IfErr result (λ fault. fault ≢ AskFault.Memory → NamesRequest fault node.now) }
@@ -198,7 +199,7 @@ fn fault_of_request(fault: TagFault) -> AskFault
     }
 }
 
-/// Reads the date of a moment from its node. Err is `Moment` with the fault.
+/// Reads the date of a moment from its node. Err is always `Moment(BadDate)`.
 fn date_of_node(node: &Node) -> Result<Date, AskFault>
     ensures read { IfOk result (λ date. DateOf node.now date) }
     ensures refused { IfErr result (λ fault. fault ≢ AskFault.Memory → NamesMoment fault node.now) }

@@ -9,8 +9,8 @@ use spki_tag::TagFault;
 use std::alloc::{AllocError, AllocFailed};
 use thiserror::Error;
 
-/// A question that is put to a guard. Each part is a separate text, in any of the three forms. Each text must be one value,
-/// so no octets of one part can become part of another.
+/// A question that is put to a guard. Each part is a separate text, in canonical, advanced or transport form; the request may also be strings,
+/// and the moment seconds. Each text must be one value, so no octets of one part can become part of another.
 #[derive(Clone, Copy)]
 pub struct Question<'q> {
     /// The sequence that is shown: `(sequence ..)`.
@@ -19,11 +19,11 @@ pub struct Question<'q> {
     pub key: &'q [u8],
     /// The request.
     pub request: RequestInput<'q>,
-    /// The moment.
+    /// The moment of the request.
     pub moment: Moment<'q>,
 }
 
-/// A request.
+/// A request, as it is given in a question.
 #[derive(Clone, Copy)]
 pub enum RequestInput<'q> {
     /// As a text.
@@ -33,7 +33,7 @@ pub enum RequestInput<'q> {
     Words(&'q [&'q [u8]]),
 }
 
-/// A moment.
+/// A moment, as it is given in a question.
 #[derive(Clone, Copy)]
 pub enum Moment<'q> {
     /// As the text of a date.
@@ -42,7 +42,7 @@ pub enum Moment<'q> {
     Seconds(i64),
 }
 
-/// A part of a question.
+/// A part of a question, as the fault `Form` names it.
 #[derive(Clone, Copy, Debug, PartialEq, Eq, Error)]
 pub enum Part {
     /// The sequence.
@@ -59,20 +59,20 @@ pub enum Part {
     Moment,
 }
 
-/// Why a question is refused. The parts are read in the order sequence, key, request, moment. The first that cannot be read
-/// is named, with the fault of its own text.
+/// Why a question is refused. `TooLong` is tested first. Then the parts are read in the order sequence, key, request, moment. The first that
+/// cannot be read is named, with the fault of its own text or value. `TooManyCertificates` and then `TooManyWords` are tested last.
 #[derive(Clone, Copy, Debug, PartialEq, Eq, Error)]
 pub enum AskFault {
-    /// The four texts together have too many octets.
+    /// The four texts together have more octets than the guard's limit.
     #[error("the texts are too long")]
     TooLong,
-    /// The sequence has too many certificates.
+    /// The sequence has more certificates, definitions of names too, than the guard's limit.
     #[error("too many certificates")]
     TooManyCertificates,
-    /// The request has too many strings.
+    /// The request has more strings than the guard's limit.
     #[error("too many strings of the request")]
     TooManyWords,
-    /// The text of the part has no value within the limits.
+    /// The text of the part has no value within the limits of its form.
     #[error("{part}: form: {fault}")]
     Form {
         /// The part.
@@ -80,20 +80,20 @@ pub enum AskFault {
         /// The fault of its text.
         fault: FormFault,
     },
-    /// The fault of the sequence. Its item is counted in the sequence, from 1.
+    /// The fault of the sequence. Its item is counted in the sequence, from 1, or 0 if the list has another head.
     #[error("sequence: {0}")]
     Sequence(CertFault),
-    /// The fault of the key.
+    /// The fault of the key: `KeyUris` or `Shape`.
     #[error("key: {0}")]
     Key(CertFaultKind),
     /// The fault of the request.
     #[error("request: {0}")]
     Request(TagFault),
-    /// The fault of the moment. Seconds below 0 or above 253,402,300,799 are `BadDate`: a clock that failed, or a year
-    /// after 9999.
+    /// The fault of the moment, which is always `BadDate`: the value is no date, or the seconds are below 0 or above 253,402,300,799, as of a
+    /// clock that failed or in a year after 9999.
     #[error("moment: {0}")]
     Moment(CertFaultKind),
-    /// Memory ran out.
+    /// Memory ran out. A fault inside one of the others is never `Memory`.
     #[error("out of memory")]
     Memory,
 }
@@ -101,7 +101,7 @@ pub enum AskFault {
 impl From<AllocError> for AskFault {
     ghost from_gives = { λ _ fault. fault ≡ Memory };
 
-    /// An allocation that failed is the fault `Memory`.
+    /// An allocation that failed is the fault `Memory`. So `?` converts the error.
     fn from(_error: AllocError) -> AskFault {
         AskFault::Memory
     }
@@ -110,7 +110,7 @@ impl From<AllocError> for AskFault {
 impl<T: Drop> From<AllocFailed<T>> for AskFault {
     ghost from_gives = { λ _ fault. fault ≡ Memory };
 
-    /// A value that could not be stored, for want of memory, is the fault `Memory`. The error has the value, which is dropped.
+    /// A value that could not be stored, for want of memory, is the fault `Memory`. So `?` converts the error, and drops the value in it.
     fn from(_error: AllocFailed<T>) -> AskFault {
         AskFault::Memory
     }

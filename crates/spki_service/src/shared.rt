@@ -12,6 +12,7 @@ use std::sync::Arc;
 /// In a contract it is the guard.
 #[derive(Drop)]
 pub struct SharedGuard {
+    /// The guard, with the count of its owners.
     guard: Arc<Guard>,
 }
 
@@ -42,7 +43,7 @@ impl SharedGuard {
     ///
     /// # Errors
     ///
-    /// `AllocError` if there are 2^63 owners.
+    /// `AllocError` if there are 2^63 owners, the most that are counted. Memory does not run out here: nothing is allocated.
     pub fn share(&self) -> Result<SharedGuard, AllocError>
         ensures { IfOk result (λ shared. shared ≡ self.now) }
     {

@@ -5,14 +5,16 @@ ghost use Rattle.std.specs.Prelude.{◌≡◌, ◌∷◌, ◌++◌, [], length, 
 use std::alloc::{AllocError, Global};
 use std::marker::Model;
 
-/// Where a text begins and where it ends in a buffer, in octets.
+/// Where a text is in a buffer. Both offsets are in octets, from 0.
 #[derive(Clone, Copy)]
 struct Place {
+    /// The offset of its first octet.
     start: usize,
+    /// The offset behind its last octet.
     end: usize,
 }
 
-/// A list of texts. Their octets are behind one another in one buffer.
+/// A list of texts. Their octets are behind one another in one buffer, so that a long list does not take an allocation for each text.
 ///
 /// In a contract it is these texts, in order.
 #[derive(Drop)]
@@ -45,7 +47,7 @@ impl TextList {
         }
     }
 
-    /// Adds a copy of a text at the end. Err if memory ran out.
+    /// Adds a copy of a text at the end. Err if memory ran out: then the list has the same texts as before.
     pub(crate) fn push(&mut self, text: &[u8]) -> Result<(), AllocError>
         ensures { OnOk result (self.new ≡ self.old ++ text.now ∷ []) }
     {

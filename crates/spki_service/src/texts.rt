@@ -19,24 +19,28 @@ pub(crate) enum MomentText<'q> {
     Seconds(i64),
 }
 
-/// The texts of a question's parts, in canonical form. If the text of a part has no value within the limits, its field has the fault of its
-/// form instead.
+/// The texts of a question's parts, in canonical form. If the text of a part has no value within the limits of its form (1,048,576 octets, 64
+/// lists that are open at once), its field has the fault instead. `Guard::texts` makes them, and the question that `Guard::ask` reads borrows them.
 #[derive(Drop)]
 pub struct Texts<'q> {
+    /// The text of the sequence.
     pub(crate) sequence: CanonicalText<'q>,
+    /// The text of the client's key.
     pub(crate) key: CanonicalText<'q>,
+    /// The text of the request, also if the request was given as strings.
     pub(crate) request: CanonicalText<'q>,
+    /// The text of the moment, or its seconds.
     pub(crate) moment: MomentText<'q>,
     /// How many octets the question's texts, as they were given, have together, as `octets_within` counts them.
     pub(crate) octets: usize,
 }
 
-/// Returns the canonical texts of a question's parts. A text that is already canonical is not copied. A part without a
-/// canonical text is no error here: `case_of` names the first part that is refused.
+/// Returns the canonical texts of a question's parts. A text that is already canonical is not copied. A text that has no value within the
+/// limits of its form is no error here: `case_of` names the first part that is refused.
 ///
 /// # Errors
 ///
-/// `TooLong` exactly if the four texts together have more than `most_octets` octets, before any of them is read. Strings
+/// `TooLong` exactly if the four texts together have more than `most_octets` octets. This is tested before any of them is read. Strings
 /// count as the canonical form of their value, and seconds as that of a date. `Memory` if memory ran out.
 pub(crate) fn texts_of<'q>(
     alloc: Global,
@@ -59,8 +63,9 @@ pub(crate) fn texts_of<'q>(
     })
 }
 
-/// Returns the canonical text of a request, which is made here if the request was given as strings. A text without a value within the
-/// limits, or strings of too many octets, are Ok too: the `CanonicalText` then has the fault. Err only if memory ran out.
+/// Returns the canonical text of a request, which is made here if the request was given as strings. A text without a value within the limits of
+/// its form, or strings whose canonical text has more than 1,048,576 octets, are Ok too: the `CanonicalText` then has the fault. Err only if
+/// memory ran out.
 fn wanted_text<'q>(
     alloc: Global,
     wanted: &RequestInput<'q>,
@@ -73,8 +78,9 @@ fn wanted_text<'q>(
     }
 }
 
-/// Returns the canonical text of a moment that was given as a text, or its seconds. A text without a value within the limits is Ok too: the
-/// `CanonicalText` then has the fault. Seconds are not tested here. Err only if memory ran out.
+/// Returns the canonical text of a moment that was given as a text, or its seconds. A text without a value within the limits of its form is Ok
+/// too: the `CanonicalText` then has the fault. Seconds are not tested here: `date_of_seconds` refuses those without a date. Err only if memory
+/// ran out.
 fn moment_text<'q>(alloc: Global, moment: &Moment<'q>) -> Result<MomentText<'q>, AllocError>
     ensures { IfOk result (IsMomentText moment.now) }
 {
@@ -85,8 +91,8 @@ fn moment_text<'q>(alloc: Global, moment: &Moment<'q>) -> Result<MomentText<'q>,
 }
 
 impl Texts<'_> {
-    /// Returns the same texts in memory of their own: the question's texts may change afterwards. A text that was made here, of another
-    /// form or of strings, is not copied. The fault of a part stays.
+    /// Returns the same texts in memory of their own: the question's texts may change afterwards. A text that `texts_of` has made, of another
+    /// form or of strings, is not copied again. A part that has a fault in place of a text keeps it.
     ///
     /// # Errors
     ///
@@ -111,7 +117,7 @@ impl Texts<'_> {
     }
 }
 
-/// Returns the same text in memory of its own, or the same seconds. Err if memory ran out.
+/// Returns the same text of a moment in memory of its own, or the same seconds. Err if memory ran out.
 fn owned_moment(alloc: Global, text: MomentText) -> Result<MomentText<'static>, AllocError>
     ensures { IfOk result (λ owned. owned ≡ text.entry) }
 {
