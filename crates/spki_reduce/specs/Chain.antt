@@ -188,7 +188,7 @@ IsCostOf policy left tag right n =
 -- ---- ticks
 
 -- The ticks of a chain, from the number before it to that after it: at most four for each unit of the work of some of its steps, which
--- is what was taken, and one.
+-- is what was taken if there is a limit, and one.
 pub record AreTicksOfSteps (before after : Option ℕ) (old new : ℕ) (policy : Policy) (first : Tuple) (others : List Tuple) : Type 0 where
   pub steps : ℕ
   pub within : steps ≤ length others

@@ -33,7 +33,7 @@ abbrev pub AreEntries : List (List ℕ) → List Entry → Type 0
 AreEntries texts es = AllZip IsEntryText texts es
 
 -- What a guard is in a contract: the canonical texts of its entries, the policy, and the limits. These are on the octets, certificates
--- and strings of a question, the nodes of an intersection, the nodes of all intersections of a question, and the octets of an answer.
+-- and strings of a question, the product of the nodes of two tags, the work of all entries, and the octets of an answer.
 pub record GuardModel : Type 0 where
   pub texts : List (List ℕ)
   pub policy : Policy
