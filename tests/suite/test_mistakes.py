@@ -508,8 +508,8 @@ class OfStreams(Room):
             self.assertEqual((done.returncode, what in done.stderr, "Traceback" in done.stderr), (3, True, False), done.stderr)
 
     def test_what_a_stream_does_not_take_is_escaped(self):
-        """What the encoding of standard output lacks is escaped: here ü, where it is ASCII. A control character of a label is escaped in any encoding,
-        and ä is not where the encoding has it. (The first label of a key stays, so carol.pub is removed: x.pub has the same key.)"""
+        """What the encoding of standard output lacks is escaped: here ü, where it is ASCII. A control character of a label is escaped in any
+        encoding, and ä is not where the encoding has it. (The first label of a key stays, so carol.pub is removed: x.pub has the same key.)"""
         self.done("sign", "--by", "alice", "--to", "bob.pub", "--tag", TAG, "--days", "1", "--comment", "für Bob\udcff", "-o", "c.sexp")
         self.write("x.pub", self.pairs["carol"][1] + " \x1b[2Jcarol ä".encode())
         status, said = Child(self.room, ("show", "--labels", ".", "c.sexp"), self.settings, stdout=output("out", "ascii")).ended()

@@ -23,7 +23,7 @@ Example, which writes (1:a3:b c):
 /// The text that `details` returns for `canonical`. Those for the other commands follow.
 const CANONICAL: &str = "\
 Reads the text of one value on standard input, in any of the three forms of RFC 9804.
-Writes the value in canonical form, with no line feed behind it.
+Writes the value in canonical form, without a line feed at the end.
 
 Exit status:
   0  the value is written
@@ -66,7 +66,7 @@ Writes the tag of the requests that both A and B contain, in advanced form, on a
 
 Exit status:
   0  the tag is written
-  2  the text is refused, or the tags are too large to meet; a line says why
+  2  the text is refused, or the tags are too large to intersect; a line says why
   3  reading or writing failed
 
 Example, which writes (ftp a):
@@ -75,14 +75,14 @@ Example, which writes (ftp a):
 
 const REDUCE: &str = "\
 Reads a case on standard input, as check does: see spki check --help
-Writes a line for each entry of the access list: entry N and what it comes to with the certificates, as (five ..), or
-entry N item J and why item J does not join. Writes one line item J and why, where certificate J does not stand,
-and no entries, where the list has none.
+Writes a line for each entry of the access list: entry N and what it becomes with the certificates, as (five ..), or
+entry N item J and why item J does not join. If certificate J fails a test of its own, the only line is item J and
+which test. If the list is empty, the line is no entries.
 
 Exit status:
-  0  some entry comes to a (five ..)
+  0  some entry becomes a (five ..)
   1  none does
-  2  the text is refused, or its tags are too large to meet; a line says why
+  2  the text is refused, or its tags are too large to intersect; a line says why
   3  reading or writing failed
 
 Example, which writes entry 1 (five (subject (public-key (test a))) (tag (ftp))):
@@ -99,7 +99,7 @@ or no.
 Exit status:
   0  yes
   1  no
-  2  the text is refused, or its tags are too large to meet; a line says why
+  2  the text is refused, or its tags are too large to intersect; a line says why
   3  reading or writing failed
 
 Example, which writes yes entry 1:
@@ -109,14 +109,15 @@ Example, which writes yes entry 1:
 
 const EXPLAIN: &str = "\
 Reads a case on standard input, as check does: see spki check --help
-Writes a line for each entry of the access list: entry N grants; or entry N and what it comes to lacks with the
-certificates: NotTheKey, TagLacks the request, WindowLacks the moment; or entry N item J and why item J does not
-join. Writes one line item J and why, where certificate J does not stand, and no entries, where the list has none.
+Writes a line for each entry of the access list: entry N grants; or entry N NotTheKey, TagLacks or WindowLacks, if what
+it becomes with the certificates is for another key, without the request, or not for the moment; or entry N item J
+and why item J does not join. If certificate J fails a test of its own, the only line is item J and which test. If the
+list is empty, the line is no entries.
 
 Exit status:
   0  some entry grants the request
   1  none does
-  2  the text is refused, or its tags are too large to meet; a line says why
+  2  the text is refused, or its tags are too large to intersect; a line says why
   3  reading or writing failed
 
 Example, which writes entry 1 grants:
@@ -131,7 +132,7 @@ pub(crate) fn about(command: Command) -> &'static str {
         Command::Advanced => "Writes a value in advanced form",
         Command::Transport => "Writes a value in transport form",
         Command::Intersect => "Writes the tag of the requests that two tags both contain",
-        Command::Reduce => "Shows what each entry of an access list comes to with the certificates",
+        Command::Reduce => "Shows what each entry of an access list becomes with the certificates",
         Command::Check => "Decides whether a key may have what it asks for",
         Command::Explain => "Explains for each entry why it grants what is asked, or does not",
     }
