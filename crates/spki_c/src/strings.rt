@@ -35,7 +35,7 @@ pub(crate) fn place_in(node: &Node, path: &[usize]) -> Option<Place>
     }
 }
 
-/// The place of a string's octets in the string's own canonical text, which ends with them: in `3:abc` it is 2. None for a list.
+/// The place of a string's octets in the string's own canonical text, which ends with them: in `3:abc` they are 3 octets at 2. None for a list.
 fn place_of_octets(node: &Node) -> Option<Place>
     ensures { MatchOption result (octets_of node.now ≡ None)
         (λ p. StandsIn (canon node.now) (octets_of node.now) p.at p.length) }

@@ -180,8 +180,8 @@ pub fn read_key<'a>(document: &Doc<'a>, n: NodeId) -> Result<Key<'a>, CertFault>
 /// # Errors
 ///
 /// The first fault from the left. `HashAlg`: the algorithm is a string other than `sha1`, `sha256` and `sha512`, or has a display hint.
-/// `DigestLength`: the digest does not have the 20, 32 or 64 octets of its algorithm's digests. Otherwise `Shape`. The item of the fault is
-/// 0.
+/// `DigestLength`: the digest is a string without a display hint, and does not have the 20, 32 or 64 octets of its algorithm's digests.
+/// Otherwise `Shape`. The item of the fault is 0.
 pub fn read_hash<'a>(document: &Doc<'a>, n: NodeId) -> Result<(HashAlg, Octets<'a>), CertFault>
     requires { IsSome (node document.now n.0) }
     ensures hash { IfSome (node document.now n.0) (λ value. IfOk result (λ hash. HashOf value hash.0 hash.1)) }

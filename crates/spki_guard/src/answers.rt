@@ -1,4 +1,4 @@
-//! Answers, before they are printed. Printing them allocates nothing.
+//! Answers, before they are printed. Printing them allocates nothing, unless the sink does.
 ghost use Rattle.std.specs.Prelude.{◌≡◌, ℕ, List, [], ◌∷◌, ◌++◌, ◌+◌, ◌<◌, length, IfSome};
 ghost use Rattle.sexpr_text.specs.AdvancedForm.{adv};
 ghost use Rattle.spki_tag.specs.Tag.{tag_value};

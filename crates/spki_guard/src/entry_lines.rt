@@ -1,4 +1,4 @@
-//! Prints the lines for entries, and for a certificate that fails a test. Allocates nothing.
+//! Prints the lines for entries, and for a certificate that fails a test. Allocates nothing, unless the sink does.
 ghost use Rattle.std.specs.Prelude.{◌≡◌, [], ◌∷◌, ◌++◌, codes};
 ghost use Rattle.sexpr_core.specs.Value.{decimal};
 ghost use Rattle.spki_guard.specs.Lines.{cause_name, stop_name, item_line, entry_line, stopped_line, reason_line};

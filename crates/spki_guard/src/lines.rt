@@ -1,4 +1,4 @@
-//! Prints lines: words with a space between two of them, and a line feed. Allocates nothing.
+//! Prints lines: words with a space between two of them, and a line feed. Allocates nothing, unless the sink does.
 ghost use Rattle.std.specs.Prelude.{◌≡◌, ◌∷◌, map};
 ghost use Rattle.spki_guard.specs.Lines.{line, yes_entry, no_line, no_entries, refused_memory};
 

@@ -27,10 +27,10 @@ pub struct OpenedAnswer {
 ///
 /// # Errors
 ///
-/// The line is `refused question TooLong` exactly if the question's parts together have more octets than the guard's limit. Otherwise
-/// it names the first part that has no reading, and its fault, such as `refused sequence Bad 5`; the word for the moment is `at`. If
-/// all parts have a reading, it is `refused question TooManyCertificates` or then `refused question TooManyWords` if they exceed the
-/// guard's limits. If memory ran out, the line is `refused Memory`.
+/// If memory ran out, also for the line, it is `refused Memory`. Otherwise it is `refused question TooLong` exactly if the question's parts
+/// together have more octets than the guard's limit. Otherwise it names the first part that has no reading, and its fault, such as `refused
+/// sequence Bad 5`; the word for the moment is `at`. If all parts have a reading, it is `refused question TooManyCertificates` or then
+/// `refused question TooManyWords` if they exceed the guard's limits.
 pub fn open_question(
     alloc: Global,
     guard: &SharedGuard,
@@ -51,8 +51,8 @@ pub fn open_question(
 /// reads nothing again. An explanation and a reduction read the parts again, from the texts that the question owns.
 ///
 /// `refused TooLarge` is an answer of `Explain` and `Reduce` alone: the product of the nodes of two tags to be intersected is over the
-/// guard's limit of nodes, the work of all entries together over its limit of work, or the lines are longer than its limit of octets. If
-/// memory ran out, the line is `refused Memory`.
+/// guard's limit `nodes`, the work of all entries together over its limit `work`, or the lines together have more octets than its limit
+/// `answer`. If memory ran out, the line is `refused Memory`.
 pub fn answer_opened(alloc: Global, query: Query, opened: &OwnedQuestion) -> OpenedAnswer
     ensures answer { (q : Question) → IsOpened opened.now.guard q opened.now
         → IsAnswerHeld query opened.now.guard q opened.now.marks.items result.answer.verdict (written_by result.answer) }

@@ -1,4 +1,4 @@
-//! Prints authorizations in advanced form, member by member. Allocates nothing.
+//! Prints authorizations in advanced form, member by member. Allocates nothing, unless the sink does.
 
 ghost use Rattle.std.specs.Prelude.{◌≡◌, List, [], ◌∷◌, codes};
 ghost use Rattle.sexpr_core.specs.Value.{Value, values, plain, canon};

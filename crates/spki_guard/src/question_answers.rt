@@ -27,16 +27,20 @@ pub fn refused_list(alloc: Global, fault: AclFault) -> Printed
 pub(crate) fn answer_asked(alloc: Global, query: Query, read: &PreparedQuestion) -> Printed
     ensures { AnswersAsked query read.now result.verdict (written_by result) ⊎ RefusesForMemory result.verdict (written_by result) }
 {
-    match answer_query(alloc, query, read) {
+    match lines_of_query(alloc, query, read) {
         Ok(printed) => printed,
         Err(fault) => Printed::of(alloc, &Answer::Refused(Refusal::Decision(fault))),
     }
 }
 
-/// The lines of `query` for a question whose parts were read. Err is `TooLarge` if the product of the nodes of two tags to be intersected is
-/// over the guard's limit of nodes, the work of all entries together over its limit of work, or the lines are longer than its limit of
-/// octets; or `Memory`. A decision is never `TooLarge`.
-fn answer_query(alloc: Global, query: Query, read: &PreparedQuestion) -> Result<Printed, GuardFault>
+/// The lines of `query` for a question whose parts were read, if exactly the signatures that it has marked are valid. Err is `TooLarge` if the
+/// product of the nodes of two tags to be intersected is over the guard's limit `nodes`, the work of all entries together over its limit
+/// `work`, or the lines together have more octets than its limit `answer`; or `Memory`. A decision is never `TooLarge`.
+fn lines_of_query(
+    alloc: Global,
+    query: Query,
+    read: &PreparedQuestion,
+) -> Result<Printed, GuardFault>
     ensures written { IfOk result (λ a. WritesAsked query read.now a.verdict (written_by a)) }
     ensures large { IsErrOf result GuardFault.TooLarge → IsTooLargeFor query read.now }
 {
@@ -55,7 +59,7 @@ fn decided(alloc: Global, read: &PreparedQuestion) -> Result<Printed, AllocError
     Ok(Printed::whole(alloc, &answer_of_decision(decision))?)
 }
 
-/// The lines of the explanation by the marks. Err is `TooLarge`, as `answer_query` says, or `Memory`.
+/// The lines of the explanation by the marks. Err is `TooLarge`, as `lines_of_query` says, or `Memory`.
 fn explained(alloc: Global, read: &PreparedQuestion) -> Result<Printed, GuardFault>
     ensures written { IfOk result (λ a. WritesAsked Query.Explain read.now a.verdict (written_by a)) }
     ensures large { IsErrOf result GuardFault.TooLarge → IsTooLargeFor Query.Explain read.now }
@@ -66,7 +70,7 @@ fn explained(alloc: Global, read: &PreparedQuestion) -> Result<Printed, GuardFau
 }
 
 /// The lines of the reduction by the marks, or the one line of the first certificate that fails a test: then nothing was put into
-/// the printer. Err is `TooLarge`, as `answer_query` says, or `Memory`.
+/// the printer. Err is `TooLarge`, as `lines_of_query` says, or `Memory`.
 fn reduced(alloc: Global, read: &PreparedQuestion) -> Result<Printed, GuardFault>
     ensures written { IfOk result (λ a. WritesAsked Query.Reduce read.now a.verdict (written_by a)) }
     ensures large { IsErrOf result GuardFault.TooLarge → IsTooLargeFor Query.Reduce read.now }

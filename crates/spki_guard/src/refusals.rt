@@ -1,4 +1,4 @@
-//! Why something is refused, and the lines that say so. Printing them allocates nothing.
+//! Why something is refused, and the lines that say so. Printing them allocates nothing, unless the sink does.
 ghost use Rattle.std.specs.Prelude.{◌≡◌, ◌∷◌, map};
 ghost use Rattle.spki_case.specs.Case.{IsOuter};
 ghost use Rattle.spki_guard.specs.Lines.{refused_line, refused, refused_item, refused_tag, refused_at, refused_text, refused_in, refused_case, refused_rows, refused_decision, refused_intersect, refused_list, refused_question, part_word, tag_kind, kind_name};

@@ -1,5 +1,5 @@
-//! The lines of a case's reduction (what each entry becomes with the certificates) and of its explanation: one for each entry.
-//! Printing them allocates nothing.
+//! The lines of a reduction (what each entry becomes with the certificates) and of an explanation: one for each entry.
+//! Printing them allocates nothing, unless the sink does.
 ghost use Rattle.std.specs.Prelude.{◌≡◌, ℕ, List, [], ◌∷◌};
 ghost use Rattle.sexpr_core.specs.Value.{Value};
 ghost use Rattle.sexpr_text.specs.AdvancedForm.{adv};

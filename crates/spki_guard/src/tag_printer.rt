@@ -1,4 +1,4 @@
-//! Prints tags in advanced form. Allocates nothing.
+//! Prints tags in advanced form. Allocates nothing, unless the sink does.
 
 ghost use Rattle.std.specs.Prelude.{◌≡◌, [], ◌∷◌, if◌then◌else◌};
 ghost use Rattle.sexpr_core.specs.Value.{plain, values};

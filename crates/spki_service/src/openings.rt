@@ -34,7 +34,8 @@ impl OwnedQuestion {
     ///
     /// `TooLong` exactly if the question's texts together have more octets than the guard's limit. Otherwise the first part that cannot be read
     /// is named: `Form` if its text has no value within the limits of its form, otherwise `Sequence`, `Key`, `Request` or `Moment` with the
-    /// fault of its value. If all can be read: `TooManyCertificates` or `TooManyWords`, by the guard's limits. `Memory` if memory ran out.
+    /// fault of its value. If all can be read: `TooManyCertificates` or `TooManyWords`, by the guard's limits. `Memory` if memory ran out, or if
+    /// the guard has too many owners to be counted (`SharedGuard::share`).
     pub fn open(
         alloc: Global,
         guard: &SharedGuard,

@@ -80,7 +80,7 @@ pub enum AskFault {
         /// The fault of its text.
         fault: FormFault,
     },
-    /// The fault of the sequence. Its item is counted in the sequence, from 1, or 0 if the list has another head.
+    /// The fault of the sequence. Its item is counted in the sequence, from 1, or 0 if the value is no list with the head `sequence`.
     #[error("sequence: {0}")]
     Sequence(CertFault),
     /// The fault of the key: `KeyUris` or `Shape`.
