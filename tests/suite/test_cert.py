@@ -545,6 +545,29 @@ class OfWords(Case):
         self.assertGreaterEqual(len(said), 2, text)
         return [answer.chosen.word]
 
+    def test_a_name_at_the_end(self):
+        """What is said where the right ends at `builders of alice`, by the certificates at hand: for each its issuer, the name that it defines, and
+        the subject. One of the issuers is the hash of Alice's key."""
+        alice, bob, carol = ([b"public-key", [b"test", name]] for name in (b"alice", b"bob", b"carol"))
+        for_bob = "and that is a name, which a certificate at hand defines for bob (NotTheKey)"
+        none, another = "and that is a name, and no certificate says who it is", "which is another name (NotTheKey)"
+        labels = Labels()
+        for key, label in ((alice, "alice"), (bob, "bob"), (carol, "carol")):
+            labels.add(key, label)
+        for defined, said in [
+                ([(alice, b"builders", bob)], for_bob), ([(keys.hash_of(alice), b"builders", bob)], for_bob),
+                ([(alice, b"builders", bob), (bob, b"builders", carol)], for_bob), ([(bob, b"builders", carol), (alice, b"builders", bob)], for_bob),
+                ([(bob, b"builders", bob), (carol, b"builders", bob)], f"{none}; there is builders of bob, {another}"),
+                ([(alice, b"bilders", bob), (bob, b"builders", bob)], f"{none}; there is builders of bob, {another}"),
+                ([(alice, b"writers", bob), (alice, b"bilders", bob)], f"{none}; there is bilders of alice, {another}"),
+                ([(alice, b"writers", bob)], f"{none} (NotTheKey)")]:
+            with self.subTest(said, defined=defined):
+                sequences = [[b"sequence", [b"cert", [b"issuer", [b"name", issuer, name]], [b"subject", subject]], [b"signature"]]
+                             for issuer, name, subject in defined]
+                asked = asking.Asked([b"acl", [b"entry", [b"name", alice, b"builders"], [b"tag", [b"*"]]]], carol, b"x", NOW, labels, sequences)
+                answer = asking.Answer([b"sequence"], None, [Reason(1, None, "NotTheKey")], [])
+                self.assertEqual(list(asking.Words(asked, answer).lines())[-1], f"  the right ends at builders of alice, {said}")
+
 
 @needs.needs("ssh-keygen", *needs.LIBRARY)
 class OfAnswers(Case):

@@ -154,7 +154,7 @@ def rank(answer: Answer) -> tuple[bool, int]:
 def sequences_to(asked: Asked, steps: Steps) -> Iterator[Value]:
     """The sequences of the chains that lead from an entry to the key, from the certificates at hand whose signatures are valid. If there is no such
     chain, one of all certificates, so that it can be said what stops it. Sets `steps.is_cut` if some are left out."""
-    keys = Keys([asked.key, *(key for one in asked.sequences for key in keys_in(one)), *asked.labels.keys.by_hash.values()])
+    keys = keys_at_hand(asked)
     certificates = [it for one in asked.sequences for it in certificates_in(one)]
     # (in a case the rows decide about signatures, and each certificate may be in a chain)
     valid = [it for it in certificates if asked.accepted is not None or fault_of_signature(it, keys) is None]
@@ -167,6 +167,11 @@ def sequences_to(asked: Asked, steps: Steps) -> Iterator[Value]:
         yield sequence_of(chain, keys)
     if not count and len(valid) < len(certificates):
         yield from (sequence_of(it, keys) for it in itertools.islice(chains(entries, certificates, keys, asked.key, steps), 1))
+
+
+def keys_at_hand(asked: Asked) -> Keys:
+    """The keys that hashes may name: the one that requests, those of the sequences that are given, and those with labels."""
+    return Keys([asked.key, *(key for one in asked.sequences for key in keys_in(one)), *asked.labels.keys.by_hash.values()])
 
 
 def case_of(asked: Asked, sequence: Value) -> Value:
@@ -192,7 +197,6 @@ class Words:
     def __init__(self, asked: Asked, answer: Answer) -> None:
         self.asked, self.answer, self.labels = asked, answer, asked.labels
         self.entries, self.chain = entries_of(asked.access_list), certificates_in(answer.sequence)
-        self.keys = Keys([asked.key, *keys_in(answer.sequence)])
         # (what the key that requests is called)
         self.asker = self.labels.of(asked.key)
 
@@ -255,19 +259,28 @@ class Words:
                 yield f"{name} begins on {terms.begins.decode()}"
 
     def not_the_key(self, chosen: Reason) -> Iterator[str]:
-        """Who has the right at the end of the chain, instead of the one who asks."""
-        holder, names = self.holder(chosen)
-        if names:
-            defined = {it.terms.name: self.labels.of(it.terms.issuer) for one in self.asked.sequences for it in certificates_in(one) if it.terms.name}
-            other = next((f"; there is {on_one_line(name)} of {issuer}, which is another name" for name, issuer in defined.items()
-                          if name == names[0] or meant(string_of(names[0]) or b"", [name])), "")
-            yield f"the right ends at {holder}, and that is a name, and no certificate says who it is{other}"
-        else:
+        """Yields the line that says who has the right at the end of the chain, instead of the one who asks. If that is a name, the line also says for
+        whom a certificate at hand defines it. If none does, it mentions one that defines the same string for another issuer, or else a string that
+        is spelt nearly so: the name was perhaps mistyped. `chosen` is the reason NotTheKey."""
+        principal, names = self.holder(chosen)
+        holder = self.labels.of_subject(subject_of(principal, names))
+        if not names:
             yield f"the right ends at {holder}, and {self.asker} is another key"
+            return
+        keys, name = keys_at_hand(self.asked), string_of(names[0])
+        at_hand = [it.terms for one in self.asked.sequences for it in certificates_in(one) if it.terms.name is not None]
+        same = [it for it in at_hand if it.name == name and keys.are_one(it.issuer, principal)]
+        if same:
+            yield f"the right ends at {holder}, and that is a name, which a certificate at hand defines for {self.labels.of_subject(same[0].subject)}"
+            return
+        # (`meant` returns an empty string where nothing is similar)
+        similar = [it for it in at_hand if it.name == name] or [it for it in at_hand if meant(name, [it.name or b""]) != ""]
+        there = "".join(f"; there is {on_one_line(it.name or b'')} of {self.labels.of(it.issuer)}, which is another name" for it in similar[:1])
+        yield f"the right ends at {holder}, and that is a name, and no certificate says who it is{there}"
 
-    def holder(self, chosen: Reason) -> tuple[str, list[Value]]:
-        """Who has the right where the chain of a reason stops, in words, and the names of that subject which no certificate before has defined. The
-        certificates before must join."""
+    def holder(self, chosen: Reason) -> tuple[Value, list[Value]]:
+        """Who has the right where the chain of a reason stops: the principal of that subject, and those of its names which no certificate before has
+        defined. The certificates before must join."""
         principal: Value = b""
         # (the last name first. A right begins anew, and a definition takes the first name away; then come the names of the new subject)
         left: list[Value] = []
@@ -276,14 +289,14 @@ class Words:
             del left[-1:]
             left += reversed(terms.names)
             principal = terms.principal
-        names = left[::-1]
-        return self.labels.of_subject([b"name", principal, *names] if names else principal), names
+        return principal, left[::-1]
 
     def why_it_stops(self, item: Signed, chosen: Reason) -> str:
         """Why a certificate stops the chain, in words, by the cause in a reason. A cause in FAULTS is about its signature alone."""
         if chosen.word in FAULTS:
             return FAULTS[chosen.word]
-        issuer, (holder, names) = self.labels.of(item.terms.issuer), self.holder(chosen)
+        issuer, (principal, names) = self.labels.of(item.terms.issuer), self.holder(chosen)
+        holder = self.labels.of_subject(subject_of(principal, names))
         is_meant = meant(item.terms.name, [string_of(it) or b"" for it in names[:1]])
         if chosen.word == "NoTag":
             tags = [terms.tag for _, terms in self.way(chosen)] + [item.terms.tag]
@@ -293,6 +306,11 @@ class Words:
             "NotTheName": f"it defines {on_one_line(item.terms.name or b'')} of {issuer}, and the right is with {holder} there{is_meant}",
             "NoDelegation": f"{issuer} may not delegate the right: what comes before it has no (propagate)",
             "NoValidity": f"it is valid {item.terms.window}, and no moment of that is in the windows before it"}[chosen.word]
+
+
+def subject_of(principal: Value, names: list[Value]) -> Value:
+    """The subject that a principal and the names behind it are."""
+    return [b"name", principal, *names] if names else principal
 
 
 def asked_of_case(case: Value, labels: Labels) -> Asked:
