@@ -204,12 +204,27 @@ class OfWriting(Room):
             self.assertEqual((octets_in(self.at("c.sexp")), [it for it in os.listdir(self.room) if it.startswith(".")]), (b"before", []))
 
     def test_a_folder_that_is_not_on_the_disk_is_said(self):
-        """The file is there then. A file system that does not do this for folders is no fault."""
-        for number, (errors, status) in enumerate([((None, OSError(5, "Input/output error")), 3), ((None, OSError(22, "Invalid argument")), 0)]):
-            with mock.patch.object(os, "fsync", side_effect=errors):
+        """The file is there then. A folder that may not be read, and a file system that does not sync folders, are no fault."""
+        for number, (opens, syncs, status) in enumerate([
+                (None, OSError(5, "Input/output error"), 3), (None, OSError(22, "Invalid argument"), 0),
+                (OSError(5, "Input/output error"), None, 3), (OSError(22, "Invalid argument"), None, 3),
+                (OSError(24, "Too many open files"), None, 3), (PermissionError(13, "Permission denied"), None, 0)]):
+            with self.subTest(opens=opens, syncs=syncs), mock.patch.object(os, "fsync", side_effect=(None, syncs)), \
+                    mock.patch.object(os, "open", self.opened_unless(opens)):
                 said = self.sign("-o", f"{number}.sexp", wanted=status)
-            self.assertEqual("is written, but the system does not say" in said, status == 3)
+                self.assertEqual(("is written, but the system does not say" in said, "as before" in said), (status == 3, False), said)
             self.verified(f"{number}.sexp")
+
+    def opened_unless(self, error):
+        """A function in place of `os.open`, which raises an error for the folder of the test. It opens all if the error is None."""
+        folder, opens = os.path.realpath(self.room), os.open
+
+        def opened(path, *words, **named):
+            if error is not None and path == folder:
+                raise error
+            return opens(path, *words, **named)
+
+        return opened
 
 
 @needs.needs(*needs.LIBRARY)

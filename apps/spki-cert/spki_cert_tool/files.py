@@ -351,16 +351,27 @@ def replace(place: str, octets: bytes, mode: int, before: os.stat_result | None)
 
 
 def wait_for_disk(folder: str) -> None:
-    """Waits until the names in a folder are on the disk, if it may be read, and its file system does that. Raises Failed."""
-    with contextlib.suppress(PermissionError):
+    """Waits until the names in a folder are on the disk. Does nothing if the folder may not be read, or its file system cannot sync folders (EINVAL).
+    Raises Failed if the system reports another error: the file is in its place then."""
+    try:
         handle = os.open(folder, os.O_RDONLY)
-        try:
-            os.fsync(handle)
-        except OSError as why:
-            if why.errno != errno.EINVAL:
-                raise Failed(f"{folder}: the file is written, but the system does not say that it is on the disk: {why.strerror}") from None
-        finally:
+    except PermissionError:
+        return
+    except OSError as why:
+        raise not_on_disk(folder, why) from None
+    try:
+        os.fsync(handle)
+    except OSError as why:
+        if why.errno != errno.EINVAL:
+            raise not_on_disk(folder, why) from None
+    finally:
+        with contextlib.suppress(OSError):
             os.close(handle)
+
+
+def not_on_disk(folder: str, why: OSError) -> Failed:
+    """The exception for a file that is in its place in a folder, of which the system does not say that it is on the disk."""
+    return Failed(f"{folder}: the file is written, but the system does not say that it is on the disk: {why.strerror}")
 
 
 @contextlib.contextmanager
