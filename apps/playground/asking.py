@@ -6,7 +6,7 @@ A job that takes too long is ended by the one who asked for it, who keeps the pa
 import moments
 from chain import chain
 from engine import PARTS, Question, Refused, string
-from given import MOST_LETTERS, Given, GivenCase, text
+from given import MOST_LETTERS, Given, GivenCase, text, words_of
 from labels import Labels
 from place import places, shown_places
 from sentences import ONE_STRING, REFUSED, is_one_string_of_words, right_left, sentence_of, title
@@ -31,8 +31,13 @@ def labels_of(engine, given):
 
 def question(engine, sent):
     """Yields the answer to the question in boxes that the page sent, in parts, the decision first."""
-    given, labels = Given(engine, sent), labels_of(engine, sent)
+    labels = labels_of(engine, sent)
     yield {"labelFaults": labels.faults}
+    try:
+        given = Given(engine, sent)
+    except Refused as why:
+        yield {"kind": "refused", "line": why.line, "title": f"The question cannot be read: {why.line.removeprefix('refused: ')}.", "faults": {}}
+        return
     try:
         signatures = given.signatures(labels)
         yield from explained(given, labels)
@@ -104,8 +109,8 @@ def five_of(line):
 
 def times(engine, sent):
     """Yields the spans of time in which the answer to the question that the page sent stays the same, each with this answer."""
-    given = Given(engine, sent)
     try:
+        given = Given(engine, sent)
         acl, sequence, *_ = given.values()
         yield moments.spans((acl, sequence), lambda date: engine.lines(given.question._replace(at=string(date)), "check")[0])
     except Refused as why:
@@ -114,7 +119,11 @@ def times(engine, sent):
 
 def tags(engine, sent):
     """Yields which of the two tags that the page sent contains the request that it sent, and then their intersection."""
-    words = tuple(it.encode(errors="replace") for it in sent.get("request") or [] if isinstance(it, str))
+    try:
+        words = words_of(sent)
+    except Refused as why:
+        yield {name: {"requestLine": why.line} for name in ("first", "second")}
+        return
     octets = {name: text(sent, name).encode(errors="replace") for name in ("first", "second")}
     done = {name: containment(engine, octets[name], words) for name in octets}
     yield dict(done)

@@ -2,7 +2,7 @@
 import functools
 
 from completion import VALUE, completed
-from engine import Question, case_text, request_text, string
+from engine import Question, Refused, case_text, request_text, string
 from place import heads_in, numbered, places, shown_places
 from spki_cert_tool.sexp import canonical, on_one_line, read
 
@@ -16,16 +16,31 @@ def text(given, name):
     return value if isinstance(value, str) else ""
 
 
+def members(given, name, kind, wanted):
+    """The members of the list that is the field `name` of the object that the page sent, as a tuple. It is empty if there is no such field.
+    Raises `Refused`, which says what is `wanted`, for what is no list, or if a member is not of the type `kind`."""
+    value = given.get(name)
+    if value is None:
+        value = []
+    if not isinstance(value, list) or any(type(it) is not kind for it in value):
+        raise Refused(f"refused: the field `{name}` must be {wanted}")
+    return tuple(value)
+
+
+def words_of(given):
+    """The strings of the request of the object that the page sent, as octets. Raises `Refused`."""
+    return tuple(word.encode(errors="replace") for word in members(given, "request", str, "a list of strings"))
+
+
 class Given:
-    """A question of separate boxes, as octets. `given` is the object that the page sent, whose fields may have wrong types. `sequence` has the
-    signatures that the page made up too. Methods that ask the engine raise `Refused`."""
+    """A question of separate boxes, as octets. `given` is the object that the page sent, whose fields may have wrong types: a text that is no string
+    is taken as empty, and for a list of another type the class raises `Refused`. `sequence` has the signatures that the page made up too. Methods
+    that ask the engine raise `Refused`."""
 
     def __init__(self, engine, given):
         self.engine, self.box = engine, {name: text(given, name).encode(errors="replace") for name in ("acl", "sequence", "key", "at")}
-        words = [it for it in given.get("request") or [] if isinstance(it, str)]
-        self.words = tuple(word.encode(errors="replace") for word in words)
+        self.words, refused = words_of(given), members(given, "refused", int, "a list of whole numbers")
         self.sequence = completed(engine, self.box["sequence"])
-        refused = tuple(it for it in given.get("refused") or [] if isinstance(it, int))
         self.question = Question(self.box["acl"], self.sequence.text, self.box["key"], self.words, string(self.box["at"]),
                                  given.get("strict") is not False, refused)
 

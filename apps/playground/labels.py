@@ -26,7 +26,7 @@ class Labels:
         try:
             if not found or not found[1]:
                 raise Refused("write a label and then a key, as in: Alice (public-key (test alice))")
-            self.of_values[engine.canonical(found[2].strip().encode())] = found[1][:MOST_LETTERS]
+            self.of_values[engine.canonical(found[2].strip().encode(errors="replace"))] = found[1][:MOST_LETTERS]
         except Refused as why:
             self.faults.append({"line": number, "why": why.line})
 
@@ -46,11 +46,11 @@ class Labels:
                 self.learn_comment(part)
 
     def learn_comment(self, part):
-        """Takes the comment of an entry or a certificate as a label of its subject."""
+        """Takes the comment of an entry or a certificate as a label of its subject. In a tag or a key there may be lists with these heads alone."""
         comment = field(part, b"comment")
-        subject = part[1] if part[0] == b"entry" else (field(part, b"subject") or [None, None])[1]
-        if comment and len(comment) == 2 and isinstance(comment[1], bytes) and isinstance(subject, list):
-            self.of_values.setdefault(canonical(subject), comment[1].decode(errors="replace")[:MOST_LETTERS])
+        subject = part[1:2] if part[0] == b"entry" else (field(part, b"subject") or [])[1:2]
+        if comment and len(comment) == 2 and isinstance(comment[1], bytes) and subject and isinstance(subject[0], list):
+            self.of_values.setdefault(canonical(subject[0]), comment[1].decode(errors="replace")[:MOST_LETTERS])
 
     def key(self, principal):
         """The key that a principal names, if it is known, else the principal."""

@@ -292,11 +292,28 @@ class Answers(OfPage):
         self.assertEqual(met, ("no", "item 1 NotAccepted", False))
 
     def test_what_is_no_question(self) -> None:
-        """Whatever object is sent gets an answer, and is no fault of the server."""
+        """Whatever object is sent gets an answer, and is no fault of the server. A list of a wrong type is named, and not taken for another one."""
         for question in ({}, {"acl": 5, "request": "x", "refused": "x"}, {"request": [1, None]}, {"acl": "(" * 100_000}, {"acl": "\ud800"}):
             self.assertEqual(self.page.ask("question", **question)["kind"], "refused")
+        for name, wanted, values in (("request", "a list of strings", (5, "x", {}, [*STORY["request"], 5])),
+                                     ("refused", "a list of whole numbers", (True, 5, ["0"], [True], [0.0]))):
+            why = f"the field `{name}` must be {wanted}"
+            for value in values:
+                answer = self.page.ask("question", **{**STORY, name: value})
+                self.assertEqual([answer.get(word) for word in ("kind", "line", "title")],
+                                 ["refused", f"refused: {why}", f"The question cannot be read: {why}."], value)
+                self.assertEqual(self.page.ask("times", **{**STORY, name: value}), {"refused": f"refused: {why}"})
+        self.assertIn("must be a list of strings", self.page.ask("tags", request=5)["first"]["requestLine"])
         for job in ("case", "tags", "forms", "times"):
-            self.assertIsInstance(self.page.ask(job), dict)
+            self.assertNotIn("notice", self.page.ask(job))
+
+    def test_what_looks_like_a_certificate(self) -> None:
+        """Lists in a tag and in the labels, which have the heads of an entry or a certificate and nothing behind them, get an answer too."""
+        for tag in ("(entry)", "(cert)", "(cert (subject))", "(cert (comment x))"):
+            answer = self.page.ask("question", **{**STORY, "acl": f"(acl (entry {STORY['key']} (tag {tag})))"})
+            self.assertEqual((answer.get("kind"), answer.get("notice")), ("no", None), tag)
+        answer = self.page.ask("question", **{**STORY, "labels": "Carol (public-key \ud800)"})
+        self.assertEqual((answer.get("line"), answer["labelFaults"][0]["line"]), ("yes entry 1", 1))
 
     def test_text_stays_text(self) -> None:
         for name in (*BOXES, "at"):
