@@ -48,7 +48,8 @@ class Chain:
     def begin(self, number):
         """Adds the access list and one of its entries, by its number."""
         entry = self.story.entries[number - 1]
-        self.box("list", "Access list", f"{len(self.story.entries)} entries")
+        count = len(self.story.entries)
+        self.box("list", "Access list", "1 entry" if count == 1 else f"{count} entries")
         self.steps.append(arrow("plain", *terms(f"entry {number}", entry), whole=on_one_line(entry)))
         self.person(entry[1])
 
@@ -113,10 +114,13 @@ def chain(story, reason):
 
 
 def shortened(steps, behind):
-    """The steps, without the middle if they are more than MOST_STEPS, and `behind`, which is how many certificates behind them are not drawn."""
-    if len(steps) > MOST_STEPS:
-        # (a certificate is two steps: an arrow and a box)
-        half = MOST_STEPS // 2
-        left_out = arrow("faint", f"{(len(steps) - MOST_STEPS) // 2} certificates are not drawn")
+    """The steps, without the middle if they are more than MOST_STEPS + 1, and `behind`, which is how many certificates behind them are not drawn."""
+    half = MOST_STEPS // 2
+    between = steps[half:-half]
+    # (a single step may be a box, so it is drawn)
+    if len(between) > 1:
+        # (a certificate is an arrow, and a box if its subject is another one than before)
+        count = sum(step["kind"] == "arrow" for step in between)
+        left_out = arrow("faint", "1 certificate is not drawn" if count == 1 else f"{count} certificates are not drawn")
         steps = [*steps[:half], left_out, *steps[-half:]]
     return {"steps": steps, "behind": behind}

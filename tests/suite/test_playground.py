@@ -315,6 +315,21 @@ class Answers(OfPage):
         answer = self.page.ask("question", **{**STORY, "labels": "Carol (public-key \ud800)"})
         self.assertEqual((answer.get("line"), answer["labelFaults"][0]["line"]), ("yes entry 1", 1))
 
+    def test_counts_of_the_picture(self) -> None:
+        """The picture says how many entries the list has, and how many certificates of a long chain are left out, if there are any. A certificate
+        for the key that has the right already is one step, and any other one is two."""
+        key = STORY["key"]
+        self.assertEqual([self.page.ask("question", **{**STORY, "acl": acl})["chain"]["steps"][0]["whole"] for acl in (
+            f"(acl (entry {key} (tag x)))", f"(acl (entry {key} (tag x)) (entry {key} (tag x)))")], ["1 entry", "2 entries"])
+        line = [f"(public-key (test k{place}))" for place in range(32)]
+        for holders, drawn, said in ((line[:29], 28, []), (line[:30], 28, ["1 certificate is not drawn"]),
+                                     (line, 28, ["3 certificates are not drawn"]), (line[:1] * 70, 55, ["14 certificates are not drawn"])):
+            certificates = [f"(cert (issuer {one}) (subject {other}) (propagate) (tag (*)))" for one, other in zip(holders, holders[1:])]
+            asked = {**STORY, "acl": f"(acl (entry {holders[0]} (propagate) (tag (*))))", "key": holders[-1]}
+            steps = self.page.ask("question", **{**asked, "sequence": f"(sequence {' '.join(certificates)})"})["chain"]["steps"]
+            lines = [it for step in steps for it in step.get("lines", [])]
+            self.assertEqual((sum(it.startswith("certificate ") for it in lines), [it for it in lines if it.endswith("drawn")]), (drawn, said))
+
     def test_text_stays_text(self) -> None:
         for name in (*BOXES, "at"):
             answer = self.page.reply("POST", self.page.address.path + "question", json.dumps({**STORY, name: MARKUP}), Origin=self.page.origin,
