@@ -3,12 +3,14 @@
 A request is answered only if it comes to this host and port, and has the token in its path. A request that asks something must also come
 from the page itself: its origin is this host and port. So no other page of the browser can ask, also not by a name that leads here.
 """
+import contextlib
 import hmac
 import http
 import http.server
 import json
 import os
 import secrets
+import sys
 import threading
 
 HERE = os.path.dirname(os.path.abspath(__file__))
@@ -38,7 +40,7 @@ class Handler(http.server.BaseHTTPRequestHandler):
     """One connection."""
 
     protocol_version = "HTTP/1.1"
-    server_version, sys_version = "playground", ""
+    server_version = "playground"
     timeout = SECONDS
     # (an answer is two writes, and the second must not wait for the first to be acknowledged)
     disable_nagle_algorithm = True
@@ -46,6 +48,27 @@ class Handler(http.server.BaseHTTPRequestHandler):
 
     def do_GET(self):
         """Answers with a file of the page."""
+        self.answer_by(self.give_file)
+
+    do_HEAD = do_GET
+
+    def do_POST(self):
+        """Does a job, and answers with its result in JSON."""
+        self.answer_by(self.do_job)
+
+    def answer_by(self, method):
+        """Answers by a method. If it raises an error that is not one of the connection, answers with status 500, and raises the error again."""
+        try:
+            method()
+        except (ConnectionError, TimeoutError):
+            raise
+        except Exception:
+            with contextlib.suppress(OSError):
+                self.refuse(http.HTTPStatus.INTERNAL_SERVER_ERROR)
+            raise
+
+    def give_file(self):
+        """Answers with the file of the page that is asked for."""
         name = self.name_asked("index.html")
         if name is None:
             return
@@ -55,10 +78,8 @@ class Handler(http.server.BaseHTTPRequestHandler):
         kind, octets = self.server.files[name]
         self.reply(http.HTTPStatus.OK, kind, octets)
 
-    do_HEAD = do_GET
-
-    def do_POST(self):
-        """Does a job, and answers with its result in JSON."""
+    def do_job(self):
+        """Does the job that is asked for, and answers with its result in JSON."""
         name = self.name_asked("")
         if name is None:
             return
@@ -124,8 +145,8 @@ class Handler(http.server.BaseHTTPRequestHandler):
             self.wfile.write(octets)
         self.wfile.flush()
 
-    # (the header Server, without the version of Python)
     def version_string(self):
+        """The header `Server`. The base class would add a space and the version of Python."""
         return self.server_version
 
     def log_message(self, *_):
@@ -158,7 +179,12 @@ class Server(http.server.ThreadingHTTPServer):
         if not self.room.acquire(blocking=False):
             self.shutdown_request(request)
             return
-        super().process_request(request, client_address)
+        try:
+            super().process_request(request, client_address)
+        except Exception:
+            # (no thread has started, which would make room)
+            self.room.release()
+            raise
 
     def process_request_thread(self, request, client_address):
         """Serves a connection, and then makes room for another one."""
@@ -168,4 +194,6 @@ class Server(http.server.ThreadingHTTPServer):
             self.room.release()
 
     def handle_error(self, request, client_address):
-        """Prints nothing of a connection that breaks."""
+        """Prints the error that ended a request, with its place. Prints nothing of a connection that breaks or takes too long."""
+        if not isinstance(sys.exc_info()[1], (ConnectionError, TimeoutError)):
+            super().handle_error(request, client_address)

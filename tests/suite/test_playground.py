@@ -9,16 +9,21 @@ says this command where nothing is built.
 """
 import contextlib
 import http.client
+import io
 import json
 import os
 import re
 import shutil
+import socket
 import subprocess
 import sys
 import tempfile
+import threading
 import time
+import unittest
 from concurrent.futures import ThreadPoolExecutor
 from typing import Any
+from unittest import mock
 from urllib.parse import urlsplit
 
 from harness import building, built, needs
@@ -433,6 +438,7 @@ class Doors(OfPage):
             self.assertIn("default-src 'none'", headers["Content-Security-Policy"])
             self.assertIn("require-trusted-types-for 'script'", headers["Content-Security-Policy"])
             self.assertEqual((headers["X-Content-Type-Options"], headers["X-Frame-Options"]), ("nosniff", "DENY"))
+            self.assertEqual(headers["Server"], "playground")
             self.assertNotIn("Access-Control-Allow-Origin", headers)
 
     def test_listens_on_loopback_alone(self) -> None:
@@ -443,6 +449,47 @@ class Doors(OfPage):
             text = text_of(os.path.join("apps", "playground", "page", name))
             for word in ("innerHTML", "outerHTML", "insertAdjacentHTML", "document.write", "eval(", "Function(", "srcdoc", "https://"):
                 self.assertNotIn(word, text, name)
+
+
+class Faults(unittest.TestCase):
+    """What the server does if an answer fails, or a connection. It runs in this process, and its jobs raise an error."""
+
+    def setUp(self) -> None:
+        self.server = loaded(os.path.join(FOLDER, "server.py")).Server(0, mock.Mock(), {"question": None}, b"{}")
+        self.addCleanup(self.server.server_close)
+        thread = threading.Thread(target=self.server.serve_forever, args=(0.01,))
+        thread.start()
+        self.addCleanup(thread.join)
+        self.addCleanup(self.server.shutdown)
+
+    def asked(self, answers):
+        """The first line of what the server sends until it closes the connection, and all that it prints. `answers` is what the question is answered
+        with, or an error that is raised instead."""
+        self.server.workers.answer.side_effect = [answers]
+        host = self.server.hosts[0][0]
+        with contextlib.redirect_stderr(io.StringIO()) as printed, socket.create_connection(self.server.server_address, SECONDS) as connection:
+            connection.sendall(f"POST /{self.server.token}/question HTTP/1.1\r\nHost: {host}\r\nOrigin: http://{host}\r\nConnection: close\r\n"
+                               "Content-Type: application/json\r\nContent-Length: 2\r\n\r\n{}".encode())
+            sent = connection.makefile("rb").read()
+        return sent.split(b"\r\n")[0].decode(), printed.getvalue()
+
+    def test_what_fails_is_printed(self) -> None:
+        """A fault gets status 500, and is printed. A connection that breaks or takes too long is not."""
+        for error, line, said in [
+                (KeyError("lost"), "HTTP/1.1 500 Internal Server Error", "KeyError: 'lost'"),
+                (OSError(24, "Too many open files"), "HTTP/1.1 500 Internal Server Error", "Too many open files"),
+                (BrokenPipeError("lost"), "", ""), (ConnectionResetError("lost"), "", ""), (TimeoutError("lost"), "", "")]:
+            with self.subTest(error=error):
+                first, printed = self.asked(error)
+                self.assertEqual((first, printed.count("Traceback"), said in printed), (line, int(bool(said)), True), printed)
+
+    def test_a_thread_that_does_not_start(self) -> None:
+        """The connection is closed, and its place is free for the next one: there is one place."""
+        self.server.room = threading.BoundedSemaphore(1)
+        with mock.patch.object(threading.Thread, "start", side_effect=RuntimeError("can't start new thread")):
+            first, printed = self.asked({})
+        self.assertEqual((first, "can't start new thread" in printed), ("", True))
+        self.assertEqual(self.asked({}), ("HTTP/1.1 200 OK", ""))
 
 
 @needs.needs(*needs.BROWSER)
