@@ -15,6 +15,7 @@ from asking import JOBS
 from engine import Failed, choose_engine
 
 SECONDS, MOST_WORKERS, MEMORY = 2, 6, 2 << 30
+TOO_LARGE = "The text is too large for this page."
 
 
 def serve(pipe, wanted, seconds):
@@ -37,7 +38,7 @@ def serve(pipe, wanted, seconds):
                 pipe.send(part)
             pipe.send(None)
         except (RecursionError, MemoryError, Failed) as why:
-            pipe.send({"notice": str(why) or "The text is too large for this page."})
+            pipe.send({"notice": str(why) if isinstance(why, Failed) else TOO_LARGE})
             pipe.send(None)
         signal.alarm(0)
 
@@ -62,6 +63,9 @@ class Worker:
                 if part is None:
                     return whole, True
                 whole |= part
+        except RecursionError:
+            # (what the page sent is nested too deeply for the pipe, and nothing of it is sent)
+            return {"notice": TOO_LARGE}, True
         except (EOFError, OSError):
             return whole | {"notice": "The answer was stopped."}, False
         late = "The explanation" if "kind" in whole else "The answer"

@@ -311,6 +311,11 @@ class Answers(OfPage):
         self.assertIn("must be a list of strings", self.page.ask("tags", request=5)["first"]["requestLine"])
         for job in ("case", "tags", "forms", "times"):
             self.assertNotIn("notice", self.page.ask(job))
+        nested: Any = []
+        for _ in range(700):
+            nested = [nested]
+        # (what Python copies to another process may be nested less deeply than what it reads)
+        self.assertIn(self.page.ask("question", request=nested).get("notice"), (None, "The text is too large for this page."))
 
     def test_what_looks_like_a_certificate(self) -> None:
         """Lists in a tag and in the labels, which have the heads of an entry or a certificate and nothing behind them, get an answer too."""
