@@ -12,6 +12,7 @@ Usage: examples/picture.py CASE [PROGRAM]
 import collections
 import os
 import re
+import subprocess
 import sys
 
 sys.path.append(os.path.join(os.path.dirname(os.path.abspath(__file__)), "..", "tests"))
@@ -22,21 +23,32 @@ REASON = re.compile(r"^(?:entry (\d+) )?(?:item (\d+) )?(\w+)$", re.MULTILINE)
 Reason = collections.namedtuple("Reason", "entry item word")
 
 
+class NotDrawn(Exception):
+    """The program refuses the case, or fails. The message is one line."""
+
+
+def answer(program, command, text):
+    """What the program writes for a command and a text. Raises `NotDrawn` if it refuses the text, fails or writes nothing."""
+    status, lines = run(program, command, text)
+    if status not in (0, 1) or not lines:
+        raise NotDrawn(lines.decode(errors="replace").strip() or f"{program} {command} ended with status {status} and no answer")
+    return lines
+
+
 def drawn(program, path, width=WIDTH):
-    """The drawing of the case in a file. None if the case is refused: then the line of the refusal is printed."""
+    """The drawing (`drawing.Drawing`) of the case in the file at `path`, by what `program`, the path of `spki`, says of it. A line of text has at
+    most `width` letters. Raises `OSError` if the file cannot be read or the program cannot be run, `NotDrawn` if the program refuses the case or
+    fails, and `subprocess.TimeoutExpired` if it does not end."""
     with open(path, "rb") as file:
         text = file.read()
-    status, lines = run(program, "explain", text)
-    if status not in (0, 1):
-        print(lines.decode(), end="", file=sys.stderr)
-        return None
+    lines = answer(program, "explain", text)
 
     def reduced(entry):
         """What `spki reduce` writes of an entry, by its number from 1."""
-        line = run(program, "reduce", text)[1].split(b"\n")[entry - 1]
-        return read(run(program, "canonical", line.split(b" ", 2)[2])[1])
+        line = answer(program, "reduce", text).split(b"\n")[entry - 1]
+        return read(answer(program, "canonical", line.split(b" ", 2)[2]))
 
-    case = read(run(program, "canonical", text)[1])
+    case = read(answer(program, "canonical", text))
     reasons = [Reason(*(int(number) if number else None for number in numbers), word) for *numbers, word in REASON.findall(lines.decode())]
     return drawing_of_case(case, reasons, reduced, width=width)
 
@@ -60,8 +72,10 @@ def dot_of(drawing):
 def main():
     if len(sys.argv) < 2 or sys.argv[1].startswith("-"):
         sys.exit(__doc__)
-    drawing = drawn(given_program(2), sys.argv[1])
-    if drawing is None:
+    try:
+        drawing = drawn(given_program(2), sys.argv[1])
+    except (OSError, NotDrawn, subprocess.TimeoutExpired) as why:
+        print(why, file=sys.stderr)
         return 2
     print(*dot_of(drawing), sep="\n")
     return 0

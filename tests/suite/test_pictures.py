@@ -4,7 +4,7 @@ import os
 from collections.abc import Callable
 
 from harness import built, needs
-from harness.support import EXAMPLES, TOP, output_of
+from harness.support import EXAMPLES, TOP, output_of, room_for
 
 # A case of examples/, and what its picture has.
 CASES = {
@@ -39,8 +39,23 @@ class Pictures(built.OfProgram):
         status, said = output_of(os.path.join(TOP, "docs", "pictures", "draw.py"), "--check", self.program)
         self.assertEqual(status, 0, said)
 
-    def test_refused_case(self) -> None:
-        self.assertEqual(self.drawn("bad-date.csexp"), (2, "refused at BadDate\n"))
+    def test_what_is_not_drawn(self) -> None:
+        """A case that is refused, a file that is not there, and a program that fails at a command each end in one line and status 2. The program is a
+        script, which does `fails` for the command."""
+        program = os.path.join(room_for(self), "spki")
+        for case, command, fails, said in [
+                ("bad-date.csexp", "", ":", "refused at BadDate"), ("none", "", ":", "No such file or directory"),
+                ("delegation.sexp", "explain", "exit 3", "explain ended with status 3 and no answer"),
+                ("delegation.sexp", "explain", "exit 0", "explain ended with status 0 and no answer"),
+                ("delegation.sexp", "explain", "kill -9 $$", "explain ended with status -9 and no answer"),
+                ("delegation.sexp", "reduce", "echo refused Memory; exit 2", "refused Memory"),
+                ("delegation.sexp", "canonical", "echo refused Memory; exit 2", "refused Memory")]:
+            with open(program, "w", encoding="utf-8") as file:
+                file.write(f"#!/bin/sh\n[ \"$1\" != '{command}' ] || {{ {fails}; }}\nexec '{self.program}' \"$@\"\n")
+            os.chmod(program, 0o755)
+            with self.subTest(said, command=command):
+                status, written = output_of(os.path.join(EXAMPLES, "picture.py"), os.path.join(EXAMPLES, case), program)
+                self.assertEqual((status, written.count("\n"), said in written), (2, 1, True), written)
 
 
 def add(name: str) -> None:
