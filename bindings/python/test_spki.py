@@ -297,6 +297,15 @@ class Opened(unittest.TestCase):
             opened.verify(lambda it: len(places) < 4)
         self.assertEqual(places, [0, 0, 1, 2])
 
+    def test_each_text_is_copied_once(self):
+        """The key, the message and the value. The octets of the value are a part of it."""
+        with mock.patch.object(_library, "memory", mock.MagicMock()) as memory, self.guard.ask(asked()) as opened:
+            memory.__getitem__.side_effect = lambda places: ctypes.string_at(places.start, places.stop - places.start)
+            for read in (opened.signatures, lambda: opened.verify(right)):
+                memory.__getitem__.reset_mock()
+                read()
+                self.assertEqual(memory.__getitem__.call_count, 3)
+
 
 class Copies(unittest.TestCase):
     """A guard and an opened question are of one process, and a question is its parts."""

@@ -403,10 +403,10 @@ def _texts(handle: c_void_p, place: int, room: _Room) -> tuple[int, ...]:
 def _signature(handle: c_void_p, place: int, keys: dict[bytes, bytes]) -> Signature:
     """Copies a signature of an opened question. `keys` has the keys of those that were copied before, so that equal keys are one object."""
     room = _take_room()
-    numbers = _texts(handle, place, room)
+    at, length, message, message_length, value, value_length, _, _ = _texts(handle, place, room)
     _spare.append(room)
-    key, message, value, _ = (of.memory[at:at + length] for at, length in zip(numbers[::2], numbers[1::2]))
-    return signature_of(keys.setdefault(key, key), message, value)
+    memory, key = of.memory, of.memory[at:at + length]
+    return signature_of(keys.setdefault(key, key), memory[message:message + message_length], memory[value:value + value_length])
 
 
 def _count_valid(handle: c_void_p, count: int, verify: Verify) -> int:
