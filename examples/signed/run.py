@@ -108,11 +108,13 @@ def shown(sequence):
     return f"{{{base64.b64encode(octets).decode()}}}"
 
 
-def asked_by(pair, words, sequence="(sequence)", name=NAME, key=None):
-    """The method, the target and the fields of a request that the holder of a pair signs. A forger says that it is by another key."""
+def asked_by(pair, words, sequence="(sequence)", name=NAME, named=None):
+    """The method, the target and the fields of a request that the holder of `pair` signs. `words` are those of the request, such as READ. `sequence`
+    is what is shown, as `shown` takes it, and `name` the host for which it is signed. A forger says that it is by the key of another pair
+    (`named`)."""
     method = next(each for each, word in METHODS.items() if word == words[1])
     target = urllib.parse.quote(words[2])
-    signer = spki_http.Signer(sexp.canonical((key or pair).key), pair.sign, shown(sequence))
+    signer = spki_http.Signer(sexp.canonical((named or pair).key), pair.sign, shown(sequence))
     return method, target, signer.fields(method, f"https://{name}{target}")
 
 
@@ -146,7 +148,7 @@ def requests(story):
     yield "Carol signs her request", good, None
     yield "the same comes again, and its nonce is used up", good, "nonce-seen"
     yield "Alice signs one, by RSA", asked_by(alice, WRITE), None
-    yield "Bob shows Carol's key and signs by his own", asked_by(bob, READ, key=carol), "invalid-signature"
+    yield "Bob shows Carol's key and signs by his own", asked_by(bob, READ, named=carol), "invalid-signature"
     yield "Carol signed it for another service", asked_by(carol, READ, name="other.example"), "invalid-signature"
     yield "the path is another", (method, target + "x", fields), "invalid-signature"
     yield "reading was signed, and writing is asked for", ("PUT", target, fields), "body-without-digest"

@@ -86,7 +86,7 @@ def proofs(story: LastingStory) -> Iterator[tuple[str, Sent, bool]]:
     once = asked_by(carol, READ, right)
     yield "a request", once, True
     yield "the request again", once, False
-    yield "another has signed", asked_by(bob, READ, right, key=carol), False
+    yield "another has signed", asked_by(bob, READ, right, named=carol), False
     yield "it was signed for another service", asked_by(carol, READ, right, name="other.example"), False
     method, target, fields = asked_by(carol, READ, right)
     for remark, sent in {
