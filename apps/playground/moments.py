@@ -11,8 +11,10 @@ MOST_LIMITS = 100
 
 
 def parts_of(date):
-    """The six numbers of a date, from the year to the second."""
-    return tuple(map(int, DATE.match(date).groups()))
+    """The six numbers of a date, from the year to the second. None if the library reads no such date."""
+    found = DATE.match(date)
+    parts = tuple(map(int, found.groups())) if found else ()
+    return parts if found and all(first <= it <= last for first, it, last in zip(FIRST, parts, LAST)) else None
 
 
 def date_of(parts):
@@ -29,13 +31,13 @@ def after(parts):
 
 
 def limits_of(value):
-    """The limits in a value: the moments of `not-before` and of `not-after`."""
+    """The limits in a value: the moments of `not-before` and of `not-after`. A tag may have lists of this form too, with any string."""
     found, waiting = {b"not-before": set(), b"not-after": set()}, [value]
     while waiting:
         part = waiting.pop()
         if not isinstance(part, list):
             continue
-        if len(part) == 2 and part[0] in (b"not-before", b"not-after") and isinstance(part[1], bytes) and DATE.match(part[1]):
+        if len(part) == 2 and part[0] in (b"not-before", b"not-after") and isinstance(part[1], bytes) and parts_of(part[1]):
             found[part[0]].add(parts_of(part[1]))
         waiting += part
     return found

@@ -266,6 +266,10 @@ class Answers(OfPage):
         spans = self.page.ask("times", **{**STORY, "acl": text})["spans"]
         self.assertEqual(spans, [{"answer": "no", "begin": None, "end": begin}, {"answer": "yes entry 1", "begin": begin, "end": limit},
                                  {"answer": "no", "begin": limit}])
+        # (a tag may have what looks like a limit, and is no date)
+        for word, date in (("not-before", "2026-13-01_00:00:00"), ("not-after", "2026-01-01_24:00:00")):
+            text = f'(acl (entry {STORY["key"]} (tag ({word} "{date}"))))'
+            self.assertEqual(self.page.ask("times", **{**STORY, "acl": text})["spans"], [{"answer": "no", "begin": None}])
 
     def test_tags(self) -> None:
         """Whether each of two tags and their intersection contain a request. A mistake in a tag has its place."""
