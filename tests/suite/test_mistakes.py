@@ -215,6 +215,15 @@ class OfWriting(Room):
                 self.assertEqual(("is written, but the system does not say" in said, "as before" in said), (status == 3, False), said)
             self.verified(f"{number}.sexp")
 
+    def test_a_temporary_file_that_stays_is_named(self):
+        """Whether the file is written is said too, and signals are no longer held back then."""
+        for syncs, state in ((None, "written"), (OSError(28, "No space left on device"), "as before")):
+            name, made = f"{state}.sexp", f"its temporary file {re.escape(os.path.realpath(self.room))}/\\.spki-cert-\\w+"
+            with self.subTest(state), mock.patch.object(os, "unlink", side_effect=OSError(5, "Input/output error")), \
+                    mock.patch.object(os, "fsync", side_effect=syncs):
+                self.assertRegex(self.sign("-o", name, wanted=3), f"{name}: the file is {state}, and {made} cannot be deleted: Input/output error")
+            self.assertEqual((os.path.exists(self.at(name)), signal.pthread_sigmask(signal.SIG_BLOCK, [])), (syncs is None, set()))
+
     def opened_unless(self, error):
         """A function in place of `os.open`, which raises an error for the folder of the test. It opens all if the error is None."""
         folder, opens = os.path.realpath(self.room), os.open

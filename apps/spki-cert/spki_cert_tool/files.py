@@ -318,10 +318,11 @@ def write(*parts: tuple[str | None, bytes], mode: int = 0o644, force: bool = Fal
 
 def replace(place: str, octets: bytes, mode: int, before: os.stat_result | None) -> None:
     """Puts a file in its place, by a temporary one beside it. `before` is the state of the file that is replaced, which keeps its mode, its owner and
-    its attributes. For None there is none, and the new file has `mode`. A signal waits until the file is there."""
+    its attributes. For None there is none, and the new file has `mode`. A signal waits until the file is there. Raises OSError if the file is as
+    before, and Failed, which says what it is, after it was put in its place or if the temporary one stays."""
     import shutil
     import tempfile
-    blocked, made = signal.pthread_sigmask(signal.SIG_BLOCK, signal.valid_signals()), ""
+    blocked, made, state = signal.pthread_sigmask(signal.SIG_BLOCK, signal.valid_signals()), "", "as before"
     try:
         handle, made = tempfile.mkstemp(prefix=".spki-cert-", dir=os.path.dirname(place))
         with open(handle, "wb") as file:
@@ -343,11 +344,17 @@ def replace(place: str, octets: bytes, mode: int, before: os.stat_result | None)
                 raise
             # (a file system without links)
             os.rename(made, place)
+        state = "written"
         wait_for_disk(os.path.dirname(place))
     finally:
-        with contextlib.suppress(FileNotFoundError):
+        try:
             os.unlink(made)
-        signal.pthread_sigmask(signal.SIG_SETMASK, blocked)
+        except FileNotFoundError:
+            pass
+        except OSError as why:
+            raise Failed(f"{place}: the file is {state}, and its temporary file {made} cannot be deleted: {why.strerror}") from None
+        finally:
+            signal.pthread_sigmask(signal.SIG_SETMASK, blocked)
 
 
 def wait_for_disk(folder: str) -> None:
