@@ -545,6 +545,15 @@ class OfWords(Case):
         self.assertGreaterEqual(len(said), 2, text)
         return [answer.chosen.word]
 
+    def test_a_search_that_was_cut(self):
+        """That no chain leads to the key is said only if all chains were searched."""
+        alice, bob = ([b"public-key", [b"test", name]] for name in (b"alice", b"bob"))
+        asked = asking.Asked([b"acl", [b"entry", alice, [b"tag", [b"*"]]]], bob, b"x", NOW, Labels())
+        for is_cut, said in ((False, ["no chain leads"]), (True, ["no chain was found that leads", "the search for chains ended after"])):
+            answer = asking.Answer([b"sequence"], None, [Reason(1, None, "NotTheKey")], [], 2, is_cut)
+            lines = list(asking.Words(asked, answer).lines())[-len(said):]
+            self.assertTrue(all(words in line for words, line in zip(said, lines)), lines)
+
     def test_a_name_at_the_end(self):
         """What is said where the right ends at `builders of alice`, by the certificates at hand: for each its issuer, the name that it defines, and
         the subject. One of the issuers is the hash of Alice's key."""

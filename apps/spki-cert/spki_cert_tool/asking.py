@@ -212,7 +212,8 @@ class Words:
             yield from (f"  {name}: {self.step(terms)}" for name, terms in self.way(chosen, is_whole=True))
         yield from self.lines_of_cause(chosen)
         if self.answer.unused:
-            yield f"  of the {self.answer.unused} certificates at hand, no chain leads from an entry to {self.asker}"
+            leads = "no chain was found that leads" if self.answer.is_cut else "no chain leads"
+            yield f"  of the {self.answer.unused} certificates at hand, {leads} from an entry to {self.asker}"
         if self.answer.is_cut:
             yield f"  the search for chains ended after {Steps.most:,} steps or {MOST_CHAINS} chains: give only the certificates of the chain"
 
