@@ -4,7 +4,6 @@ Both give the same lines. The library takes the parts of a question as separate 
 canonical forms, so that no part can become another one.
 """
 import ctypes
-import ctypes.util
 import functools
 import hashlib
 import os
@@ -102,8 +101,8 @@ class ByLibrary(Engine):
         sys.path.append(os.path.join(TOP, "bindings", "python"))
         import spki
         self.spki = spki
-        self.call = ctypes.CDLL(os.environ.get("SPKI_LIBRARY") or ctypes.util.find_library("spki_c")).spki_answer
-        self.call.argtypes = [ctypes.c_int, ctypes.c_char_p, ctypes.c_size_t, ctypes.c_void_p, ctypes.c_size_t, ctypes.c_void_p]
+        # (of the library that the package has loaded, with the types of its arguments)
+        self.call = spki.library.spki_answer
         self.guard = functools.lru_cache(2)(self.open_guard)
 
     def answer(self, name, text):

@@ -768,5 +768,20 @@ class Starting(built.OfProgram):
                 started.terminate()
             self.assertEqual((lines[0][:17], lines[1]), ("http://127.0.0.1:", "spki, compiled without proofs, decides; ctrl-c ends the page\n"))
 
+    @needs.needs(*needs.LIBRARY)
+    def test_starts_with_the_library_of_the_package(self) -> None:
+        """If the library is nowhere but in the package `spki`, as pip installs it, it decides."""
+        with tempfile.TemporaryDirectory() as room:
+            for name in ("apps/playground", "apps/spki-cert", "bindings/python", "examples/guide"):
+                shutil.copytree(os.path.join(TOP, name), os.path.join(room, name))
+            shutil.copy(built.shared(), os.path.join(room, "bindings", "python", "spki", "libspki_c.so"))
+            bare = {name: value for name, value in os.environ.items() if name not in ("SPKI_LIBRARY", "SPKI_PROGRAM")}
+            with subprocess.Popen([sys.executable, os.path.join(room, "apps", "playground"), "--no-browser", "--engine", "library"], env=bare,
+                                  stdout=subprocess.PIPE, text=True) as started:
+                self.addCleanup(started.kill)
+                lines = [started.stdout.readline() for _ in range(2)] if started.stdout else []
+                started.terminate()
+            self.assertEqual(lines[1], "libspki_c.so decides; ctrl-c ends the page\n")
+
     def test_the_command_is_right(self) -> None:
         self.assertIn('"test_words"', re.findall(r"^QUICK = (.*)$", text_of("tests/run"), re.MULTILINE)[0])
