@@ -53,7 +53,7 @@ class Refused(Exception):
 
 
 class Failed(Exception):
-    """The program ended without an answer."""
+    """The program cannot be run, or ended without an answer."""
 
 
 class Signed(NamedTuple):
@@ -160,7 +160,10 @@ class ByProgram(Engine):
 
     def answer(self, name, text):
         """The octets that the program writes for a text that it gets with the command `name`. Raises `Failed`."""
-        done = subprocess.run([self.program, name], input=text, stdout=subprocess.PIPE, stderr=subprocess.DEVNULL)
+        try:
+            done = subprocess.run([self.program, name], input=text, stdout=subprocess.PIPE, stderr=subprocess.DEVNULL)
+        except OSError as why:
+            raise Failed(f"The program cannot be run: {why.strerror}.") from None
         if done.returncode not in (0, 1, 2) or not done.stdout:
             raise Failed(f"The program ended with status {done.returncode} and no answer.")
         return done.stdout

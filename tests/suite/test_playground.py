@@ -768,6 +768,12 @@ class Starting(built.OfProgram):
                 started.terminate()
             self.assertEqual((lines[0][:17], lines[1]), ("http://127.0.0.1:", "spki, compiled without proofs, decides; ctrl-c ends the page\n"))
 
+    def test_a_program_that_is_gone(self) -> None:
+        """A program that was there at the start, and cannot be run any more, is said."""
+        engine = loaded(os.path.join(FOLDER, "engine.py"))
+        with self.assertRaisesRegex(engine.Failed, "The program cannot be run: No such file or directory."):
+            engine.ByProgram(os.path.join(FOLDER, "none")).command("canonical", b"x")
+
     @needs.needs(*needs.LIBRARY)
     def test_starts_with_the_library_of_the_package(self) -> None:
         """If the library is nowhere but in the package `spki`, as pip installs it, it decides."""
