@@ -44,8 +44,14 @@ def main():
     except LookupError as why:
         print(why, file=sys.stderr)
         return 2
-    workers = Workers(given.engine, given.seconds)
-    with Server(given.port, workers, JOBS, start(decides.name)) as server:
+    first, workers = start(decides.name), Workers(given.engine, given.seconds)
+    try:
+        server = Server(given.port, workers, JOBS, first)
+    except (OSError, OverflowError) as why:
+        print(f"port {given.port}: {why}", file=sys.stderr)
+        workers.end()
+        return 2
+    with server:
         print(f"{server.address}\n{decides.name} decides; ctrl-c ends the page", flush=True)
         if not given.no_browser:
             webbrowser.open(server.address)

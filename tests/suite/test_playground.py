@@ -768,6 +768,13 @@ class Starting(built.OfProgram):
                 started.terminate()
             self.assertEqual((lines[0][:17], lines[1]), ("http://127.0.0.1:", "spki, compiled without proofs, decides; ctrl-c ends the page\n"))
 
+    def test_a_port_that_is_not_free(self) -> None:
+        with socket.create_server(("127.0.0.1", 0)) as other:
+            for port, said in ((other.getsockname()[1], "Address already in use"), (65_536, "must be 0-65535")):
+                done = subprocess.run([sys.executable, FOLDER, "--no-browser", "--engine", "program", "--port", str(port)], capture_output=True,
+                                      env={**os.environ, "SPKI_PROGRAM": self.program}, text=True, timeout=SECONDS)
+                self.assertEqual((done.returncode, done.stdout, done.stderr.count("\n"), said in done.stderr), (2, "", 1, True), done.stderr)
+
     def test_a_program_that_is_gone(self) -> None:
         """A program that was there at the start, and cannot be run any more, is said."""
         engine = loaded(os.path.join(FOLDER, "engine.py"))
