@@ -24,7 +24,7 @@ from generators.questions import question
 from harness import built, needs
 from harness.support import TESTS, TOP, output_of, room_for, text_of
 from model import answers, guard, tags as model_tags, values as model_values
-from rows.mistakes import MISTAKES
+from rows.mistakes import MISTAKES, certificate
 from suite import test_guide
 from spki_cert_tool import arguments, asking, commands, keys, sexp, tag_words
 from spki_cert_tool.certificates import Keys, certificates_in, fault_of_signature, keys_in
@@ -442,6 +442,22 @@ class OfMistakes(Case):
                 said = remarks_on(self.at(name), NOW)[1]
                 self.assertEqual([(it.line, it.column, it.is_refused) for it in said[:1]], [(*place, is_refused)], said)
                 self.assertIn(words, said[0].text)
+
+    def test_what_only_looks_like_a_part(self):
+        """What has the head of an entry, a certificate or a hash, where any list may be, gets no remark: in the value of a signature, and in fields
+        that are not read."""
+        signed = ('(sequence (cert (issuer (public-key (test a))) (subject (public-key (test b))) (tag (packages)) '
+                  '(not-after "2099-01-01_00:00:00"))\n'
+                  f" (signature (hash sha256 #{'00' * 32}#) (public-key (test a)) VALUE))")
+        for text in (signed, *(certificate(f'(tag (packages)) (not-after "2099-01-01_00:00:00") ({name} VALUE)')
+                               for name in ("comment", "display", "issuer-info", "subject-info"))):
+            for value in ("(entry)", "(cert (subject x))", "(hash sha1 x)"):
+                with self.subTest(text=text, value=value):
+                    said = []
+                    for each in ("x", value):
+                        self.write("c.sexp", text.replace("VALUE", each))
+                        said.append([it.text for it in remarks_on(self.at("c.sexp"), NOW)[1]])
+                    self.assertEqual(said[0], said[1])
 
     def test_what_is_refused_is_what_the_model_refuses(self):
         """An access list that `check` calls refused is refused by the model too when a guard is opened with it, and no other one."""

@@ -18,6 +18,8 @@ from .tag_words import MOST_PRODUCTS, contains, is_everything, remarks
 S_EXPRESSIONS, OTHER_KEYS = (".sexp", ".csexp", ".tsexp"), (".pub", ".pem", ".key")
 # The heads of all kinds of texts, which a misspelled head is compared with.
 HEADS = (*BY_HEAD, *ALONE, b"tag", b"request", b"private-key")
+# The lists in which entries, certificates, keys and hashes are looked for. Other lists, such as tags, may have any heads in them.
+PARTS = (b"acl", b"case", b"cert", b"entry", b"issuer", b"key", b"name", b"sequence", b"signature", b"subject")
 # How many keys of a file are looked at.
 MOST_KEYS = 1000
 # How many entries for one subject are compared with each other.
@@ -143,8 +145,10 @@ def mistakes_in_parts(node: Node, moment: bytes) -> Iterator[tuple[int, str]]:
             yield from mistakes_in_key(each)
         elif each.head == b"hash" and each.members and each.members[1].body == b"sha1":
             yield each.begin, "a hash by sha1 names no key under the strict policy; `spki-cert key --hash` writes one by sha256"
-        elif each.head not in (b"tag", b"request", b"comment", b"accepted"):
-            waiting += [member for member in each.members or [] if member.members is not None]
+        elif each.head in PARTS:
+            # (the hash and the principal of a signature, and not its value)
+            parts = each.rest[:2] if each.head == b"signature" else each.rest
+            waiting += [part for part in parts if part.members is not None]
 
 
 def mistakes_in_terms(node: Node, moment: bytes) -> Iterator[tuple[int, str]]:
