@@ -102,7 +102,8 @@ class Command(OfStore):
         self.assertEqual(self.does(0, "diff", path), "entries that differ: 0\n")
         added = self.does(0, "add", self.file(b"(entry (public-key (test b)) (tag (packages read)))", "entry"))
         self.assertEqual(added, "entry 3\n")
-        self.assertEqual(self.does(0, "remove", "1"), "entries removed: 1\n")
+        # (a number that is given twice is one)
+        self.assertEqual(self.does(0, "remove", "1", "1"), "entries removed: 1\n")
         self.assertIn("entry 1 is not there", self.does(1, "remove", "1"))
         self.assertEqual(self.does(1, "diff", path).splitlines(), ["- 3 (entry (public-key (test b)) (tag (packages read)))",
                                                                    "+ (entry (public-key (test a)) (tag *))".replace("*", "(*)"),

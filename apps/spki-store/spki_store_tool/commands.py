@@ -60,11 +60,12 @@ def add(store: Store, given: argparse.Namespace) -> int:
 
 def remove(store: Store, given: argparse.Namespace) -> int:
     """Removes entries by their numbers. The status is FOUND if one is not there."""
-    there = [number for number in given.numbers if store.remove(number)]
+    numbers = list(dict.fromkeys(given.numbers))
+    there = [number for number in numbers if store.remove(number)]
     put(f"entries removed: {len(there)}")
-    for number in sorted(set(given.numbers) - set(there)):
+    for number in sorted(set(numbers) - set(there)):
         print(f"spki-store: entry {number} is not there", file=sys.stderr)
-    return DONE if len(there) == len(given.numbers) else FOUND
+    return DONE if there == numbers else FOUND
 
 
 def end(store: Store, given: argparse.Namespace) -> int:
