@@ -130,7 +130,8 @@ impl<N: TakeNonce> Requests<N> {
         self.check_parameters(&input, now)?;
         let (text, digest) = self.check_message(message, &input)?;
         let (key, kind) = self.signer_of(message, &input)?;
-        if octets.len() != kind.octets {
+        // (a modulus of RSA without octets has signatures without octets, and they have no value)
+        if octets.is_empty() || octets.len() != kind.octets {
             return Err(Unproved::InvalidSignature);
         }
         let signed = Signature {

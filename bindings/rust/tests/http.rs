@@ -35,6 +35,19 @@ struct Row {
     gives: String,
 }
 
+impl Row {
+    /// The fields, as a message has them.
+    fn fields(&self) -> Vec<(&str, &[u8])> {
+        let all = self.fields.iter();
+        all.map(|(name, value)| (&name[..], &value[..])).collect()
+    }
+
+    /// The message, with these fields.
+    fn message<'a>(&'a self, fields: &'a [(&'a str, &'a [u8])]) -> Message<'a> {
+        Message::new(&self.on[0], &self.on[2], &self.on[1], fields)
+    }
+}
+
 /// The octets of a line of the table, which writes some as `\t`, `\n`, `\r` or `\xHH`. Behind another backslash is the octet itself.
 fn unescaped(text: &str) -> Vec<u8> {
     let mut made = Vec::new();
@@ -118,12 +131,8 @@ fn is_digest_of(digest: Option<&ContentDigest>, body: &[u8]) -> bool {
 
 /// Proves the request of a row, and compares its body. Returns `valid`, or the name of the refusal.
 fn answer(requests: &Requests, row: &Row, now: u64) -> &'static str {
-    let fields: Vec<(&str, &[u8])> = row
-        .fields
-        .iter()
-        .map(|(name, value)| (&name[..], &value[..]))
-        .collect();
-    let message = Message::new(&row.on[0], &row.on[2], &row.on[1], &fields);
+    let fields = row.fields();
+    let message = row.message(&fields);
     match requests.prove(&message, now, |signed: Signature| Openssl.verify(signed)) {
         Err(unproved) => unproved.name(),
         Ok(proof)
@@ -170,6 +179,31 @@ fn a_wrong_hash_proves_no_key() {
             "{}",
             row.name
         );
+    }
+}
+
+/// A stranger may send a key by RSA whose modulus has no octets but 00, so that its signature has none. It proves nothing.
+#[test]
+fn a_modulus_of_nothing_proves_no_key() {
+    let input = format!(
+        "spki=(\"@method\" \"@authority\" \"@path\" \"@query\" \"x-spki-public-key\");created={START};expires={};\
+         nonce=\"sFzj0lYlX0wQm6ZCXPBvTw\";keyid=\"{}\";alg=\"rsa-v1_5-sha256\";tag=\"spki\"",
+        START + 300,
+        "00".repeat(32)
+    );
+    for key in [
+        "{KDEwOnB1YmxpYy1rZXkoMzpyc2EoMTpuMDopKDE6ZTM6AQABKSkp}",
+        "{KDEwOnB1YmxpYy1rZXkoMzpyc2EoMTpuMToAKSgxOmUzOgEAASkpKQ==}",
+    ] {
+        let fields: &[(&str, &[u8])] = &[
+            ("X-Spki-Public-Key", key.as_bytes()),
+            ("Signature-Input", input.as_bytes()),
+            ("Signature", b"spki=::"),
+        ];
+        let message = Message::new("GET", "example.com", "/", fields);
+        let requests = Requests::new(&["example.com"], Nonces::new(10), START, |_| [0; 32]);
+        let met = requests.prove(&message, START + 100, |_: Signature| true);
+        assert_eq!(met.err(), Some(Unproved::InvalidSignature), "{key}");
     }
 }
 
@@ -230,12 +264,8 @@ fn nonces_are_kept_in_two_sets() {
 #[test]
 fn a_verifier_that_fails_proves_nothing() {
     let row = &rows()[0];
-    let fields: Vec<(&str, &[u8])> = row
-        .fields
-        .iter()
-        .map(|(name, value)| (&name[..], &value[..]))
-        .collect();
-    let message = Message::new(&row.on[0], &row.on[2], &row.on[1], &fields);
+    let fields = row.fields();
+    let message = row.message(&fields);
     let requests = Requests::new(&["example.com"], Nonces::new(10), START, sha256);
     assert_eq!(
         requests
