@@ -351,7 +351,8 @@ static bool may_have_body(const struct http_request *request)
     for (size_t i = 0; i < request->field_count; i++)
         if (equals_ignoring_case(request->fields[i].name, literal("content-length")) && !is_text(trimmed(request->fields[i].value), "0"))
             return true;
-    return !(is_text(request->method, "GET") || is_text(request->method, "HEAD")) || count_lines(request, "transfer-encoding", NULL) > 0;
+    bool is_read = is_text(request->method, "GET") || is_text(request->method, "HEAD");
+    return request->has_body || !is_read || count_lines(request, "transfer-encoding", NULL) > 0;
 }
 
 /* ---- the signed text */

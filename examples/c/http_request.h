@@ -16,11 +16,14 @@ struct http_field {
     struct spki_text name, value;
 };
 
-/* A request, as it was sent: the name that the client asks with its port, and the path with the query as in the first line of HTTP/1.1. */
+/* A request, as it was sent: the name that the client asks with its port, and the path with the query as in the first line of HTTP/1.1. If `has_body`
+ * is false, the method and the fields say whether the request may have a body. That is enough for HTTP/1.1. By HTTP/2 or HTTP/3 a GET or a HEAD may
+ * have a body without `Content-Length`, so set there what the server knows. */
 struct http_request {
     struct spki_text method, authority, target;
     const struct http_field *fields;
     size_t field_count;
+    bool has_body;
 };
 
 /* A service: its names in small letters, with ports that are not 443, and the time before which nothing may be created, since its nonce may be

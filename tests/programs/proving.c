@@ -1,5 +1,6 @@
 /* Proves requests by examples/c/http_request.c. Reads strings from standard input, each as LENGTH:OCTETS, for each request: the method, the
- * authority, the target, the time, how long before the same came or an empty string, the number of fields, and the name and the value of each.
+ * authority, the target, the time, how long before the same came or an empty string, `1` if it has a body that no field says or an empty string, the
+ * number of fields, and the name and the value of each.
  * Writes a line for each: the refusal or `valid`, and behind it the digest of the body. */
 #include "http_request.h"
 
@@ -8,7 +9,7 @@
 
 enum { MOST_FIELDS = 64 };
 /* The strings of a request before its fields. */
-enum { METHOD, AUTHORITY, TARGET, TIME, BEFORE, FIELD_COUNT, HEAD };
+enum { METHOD, AUTHORITY, TARGET, TIME, BEFORE, BODY, FIELD_COUNT, HEAD };
 
 /* Reads LENGTH:OCTETS. An octet 00 that does not count is behind the octets. False at the end of the input, and if memory ran out. */
 static bool read_string(struct spki_text *string)
@@ -45,7 +46,7 @@ static void answer(const struct spki_text *head, struct spki_text *of_fields, si
     const struct spki_text names[] = {SPKI_LITERAL("example.com")};
     struct http_field *fields = malloc((count + 1) * sizeof *fields);
     struct http_service service = {names, 1, 1792000000, http_nonces_take, http_nonces_open(4)};
-    struct http_request request = {head[METHOD], head[AUTHORITY], head[TARGET], fields, count};
+    struct http_request request = {head[METHOD], head[AUTHORITY], head[TARGET], fields, count, head[BODY].length > 0};
     struct http_proof proof = {.digest_length = 0};
     long long now = atoll(head[TIME].octets);
     if (!fields || !service.store)

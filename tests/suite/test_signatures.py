@@ -181,7 +181,8 @@ class InC(unittest.TestCase):
         """The answers of a program to the requests of rows, and to their bodies by the digests that it returns."""
         strings: list[bytes] = []
         for _, message, now, again, _ in rows:
-            words = [message.method, message.authority, message.target, str(now), "" if again is None else str(again), str(len([*message.fields]))]
+            words = [message.method, message.authority, message.target, str(now), "" if again is None else str(again),
+                     "1" if message.has_body else "", str(len([*message.fields]))]
             strings += [word.encode("latin-1") for word in [*words, *(it for pair in message.fields for it in pair)]]
         done = subprocess.run([program], input=b"".join(map(string, strings)), stdout=subprocess.PIPE, timeout=SECONDS)
         self.assertEqual(done.returncode, 0)
@@ -217,12 +218,32 @@ class InC(unittest.TestCase):
             self.assertEqual(answer, right, f"seed {seed}: {row}")
 
     @needs.needs("openssl/evp.h")
+    def test_bodies(self) -> None:
+        """A request with a body that no field says, as HTTP/2 may send it, is answered as the verifier in Python answers it: a GET needs a digest."""
+        import test_spki_http
+        rows: list[Row] = [(name, dataclasses.replace(message, has_body=True), now, None, "") for name, message, now, _, _ in test_spki_http.rows()]
+        wanted = [checked(test_spki_http.verifier_at([row[2]]), row[1]) for row in rows]
+        self.assertLessEqual({"valid", "body-without-digest"}, set(wanted))
+        answers = self.answers(self.compiled("verify_openssl", "-lcrypto"), rows)
+        self.assertEqual([*zip([row[0] for row in rows], answers)], [*zip([row[0] for row in rows], wanted)])
+
+    @needs.needs("openssl/evp.h")
     def test_by_openssl(self) -> None:
         self.agrees("verify_openssl", "-lcrypto")
 
     @needs.needs("/usr/include/gcrypt.h")
     def test_by_gcrypt(self) -> None:
         self.agrees("verify_gcrypt", "-lgcrypt")
+
+
+def checked(verifier: Any, message: Any) -> str:
+    """What a verifier in Python says of a request: `valid`, or the name of the refusal."""
+    import spki_http
+    try:
+        verifier.check(message)
+    except spki_http.Refused as why:
+        return why.name
+    return "valid"
 
 
 def mutated(row: Row, chance: random.Random) -> Row:

@@ -182,6 +182,31 @@ fn a_wrong_hash_proves_no_key() {
     }
 }
 
+/// By HTTP/2 a GET may have a body that no field says. Then its digest must be covered. What the method or a field says is not taken back.
+#[test]
+fn a_body_that_no_field_says_needs_a_digest() {
+    let rows = rows();
+    for (name, has_body, wanted) in [
+        ("Ed25519", false, None),
+        ("Ed25519", true, Some(Unproved::BodyWithoutDigest)),
+        ("a body that is not known", true, None),
+        ("a body that is not known", false, None),
+        ("another method", true, Some(Unproved::BodyWithoutDigest)),
+        (
+            "a method in small letters",
+            false,
+            Some(Unproved::BodyWithoutDigest),
+        ),
+    ] {
+        let row = rows.iter().find(|row| row.name == name).expect("a row");
+        let fields = row.fields();
+        let message = row.message(&fields).with_body(has_body);
+        let requests = Requests::new(&["example.com"], Nonces::new(10), START, sha256);
+        let met = requests.prove(&message, START + 100, |it: Signature| Openssl.verify(it));
+        assert_eq!(met.err(), wanted, "{name}, {has_body}");
+    }
+}
+
 /// A stranger may send a key by RSA whose modulus has no octets but 00, so that its signature has none. It proves nothing.
 #[test]
 fn a_modulus_of_nothing_proves_no_key() {

@@ -13,11 +13,12 @@ pub struct Message<'a> {
     pub(super) authority: &'a str,
     pub(super) target: &'a str,
     pub(super) fields: &'a [(&'a str, &'a [u8])],
+    has_body: bool,
 }
 
 impl<'a> Message<'a> {
     /// A request: its method, the name that the client asks with its port, the path and the query as in the first line of HTTP/1.1, and its
-    /// fields, each line of them.
+    /// fields, each line of them. For HTTP/2 and HTTP/3 [`with_body`](Message::with_body) says whether it has a body.
     #[must_use]
     pub fn new(
         method: &'a str,
@@ -30,7 +31,22 @@ impl<'a> Message<'a> {
             authority,
             target,
             fields,
+            has_body: false,
         }
+    }
+
+    /// The same request, which has a body if `has_body` is true. If it is false, the method and the fields say whether the request may have one. That
+    /// is enough for HTTP/1.1. By HTTP/2 or HTTP/3 a GET or a HEAD may have a body without `Content-Length`, so say there what the server knows.
+    ///
+    /// ```
+    /// # use spki::http::Message;
+    /// # let is_end_of_stream = true; // (what the server says behind the fields)
+    /// let message = Message::new("GET", "files.example.org", "/web/index.html", &[]).with_body(!is_end_of_stream);
+    /// ```
+    #[must_use]
+    pub fn with_body(mut self, has_body: bool) -> Message<'a> {
+        self.has_body = has_body;
+        self
     }
 
     /// The values of a field, one for each of its lines, without the spaces around them.
@@ -62,7 +78,8 @@ impl<'a> Message<'a> {
 
     /// Whether the request may have a body, so that a digest must be covered.
     pub(super) fn may_have_body(&self) -> bool {
-        !matches!(self.method, "GET" | "HEAD")
+        self.has_body
+            || !matches!(self.method, "GET" | "HEAD")
             || self.values("content-length").any(|value| value != b"0")
             || self.values("transfer-encoding").next().is_some()
     }
