@@ -52,6 +52,15 @@ func (a *Asked) lock() (askedHandle, error) {
 	return a.held.handle, nil
 }
 
+// expectOpen returns nil if the question is open, and otherwise ErrClosed.
+func (a *Asked) expectOpen() error {
+	_, err := a.lock()
+	if err == nil {
+		a.held.mutex.Unlock()
+	}
+	return err
+}
+
 // A Signature is to be verified, and a ProvenKey is the key of who asks: package spki has both.
 type (
 	Signature = spki.Signature
@@ -65,7 +74,7 @@ func (a *Asked) Count() int {
 
 // Each calls a function with the place, from 0, of each signature that the decision depends on, and with the signature, in order, until it returns
 // false. A signature is copied when it is its turn, and one whose key is that of the signature before has the same octets for it: do not change
-// them. The error is ErrClosed if the question is closed meanwhile.
+// them. The error is ErrClosed if the question is closed, also meanwhile and also if it has no signature, or ErrMemory.
 func (a *Asked) Each(use func(place int, signed Signature) bool) error {
 	var signed Signature
 	for place := 0; place < a.count; place++ {
@@ -78,10 +87,11 @@ func (a *Asked) Each(use func(place int, signed Signature) bool) error {
 		}
 		signed = next
 	}
-	return nil
+	return a.expectOpen()
 }
 
-// Signatures returns all signatures that the decision depends on, in order, and nil after Close.
+// Signatures returns copies of all signatures that the decision depends on, in order; nil if the question is closed, or an allocation failed.
+// Neighbours with equal keys share the octets of the key: do not change them.
 func (a *Asked) Signatures() []Signature {
 	listed := make([]Signature, 0, a.count)
 	if a.Each(func(_ int, signed Signature) bool { listed = append(listed, signed); return true }) != nil {

@@ -694,20 +694,22 @@ func TestSignaturesAreCopiedOneByOne(t *testing.T) {
 	}
 }
 
-// TestEachEndsWithItsQuestion closes a question while its first signature is looked at. Each stops before the second with ErrClosed.
+// TestEachEndsWithItsQuestion closes a question while its first signature is looked at. Each stops there with ErrClosed, also if it is the last.
 func TestEachEndsWithItsQuestion(t *testing.T) {
-	asked, err := opened(t, list).Ask(shown(3))
-	if err != nil {
-		t.Fatal(err)
-	}
-	calls := 0
-	err = asked.Each(func(int, guard.Signature) bool {
-		calls++
-		asked.Close()
-		return true
-	})
-	if calls != 1 || !errors.Is(err, guard.ErrClosed) || asked.Signatures() != nil {
-		t.Errorf("%d calls, %v", calls, err)
+	for _, times := range []int{1, 3} {
+		asked, err := opened(t, list).Ask(shown(times))
+		if err != nil {
+			t.Fatal(err)
+		}
+		calls := 0
+		err = asked.Each(func(int, guard.Signature) bool {
+			calls++
+			asked.Close()
+			return true
+		})
+		if calls != 1 || !errors.Is(err, guard.ErrClosed) || asked.Signatures() != nil {
+			t.Errorf("%d calls, %v", calls, err)
+		}
 	}
 }
 

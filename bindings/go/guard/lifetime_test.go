@@ -32,12 +32,36 @@ func TestClose(t *testing.T) {
 	if err := asked.Mark(0); !errors.Is(err, guard.ErrClosed) {
 		t.Error(err)
 	}
-	if err := asked.Verify(valid); !errors.Is(err, guard.ErrClosed) {
+	expectUnlisted(t, asked)
+}
+
+// TestCloseOfNoSignatures closes a question that lists no signature. Before, an empty list is no error. After, each call is ErrClosed.
+func TestCloseOfNoSignatures(t *testing.T) {
+	asked := marked(t, opened(t, list), shown(0))
+	if listed := asked.Signatures(); listed == nil || len(listed) != 0 || asked.Verify(valid) != nil {
+		t.Errorf("%v", listed)
+	}
+	asked.Close()
+	expectUnlisted(t, asked)
+}
+
+// expectUnlisted calls what lists the signatures of a question that is closed. Each call must be ErrClosed, and pass on no signature.
+func expectUnlisted(t *testing.T, asked *guard.Asked) {
+	t.Helper()
+	never := func(guard.Signature) bool { t.Error("a signature is passed on"); return true }
+	if err := asked.Each(func(_ int, signed guard.Signature) bool { return never(signed) }); !errors.Is(err, guard.ErrClosed) {
 		t.Error(err)
+	}
+	if err := asked.Verify(never); !errors.Is(err, guard.ErrClosed) {
+		t.Error(err)
+	}
+	if listed := asked.Signatures(); listed != nil {
+		t.Error(listed)
 	}
 }
 
-// TestCopies copies a guard and a question by value. A copy is the same guard: nothing is freed while one of them is used.
+// TestCopies copies a guard and a question by value and drops the originals. The collector must free nothing while a copy is left: it runs twice
+// in each of 20 turns, since finalizers run later. Closing one copy closes all of them, and each may be closed again.
 func TestCopies(t *testing.T) {
 	copies := func() (guard.Guard, guard.Asked) {
 		made, err := guard.Open([]byte(list), guard.Strict, guard.Limits{})
@@ -86,9 +110,10 @@ func TestZerosAreClosed(t *testing.T) {
 	if decision, err := made.Decide(shown(1), valid); !errors.Is(err, guard.ErrClosed) || decision.Granted() || made.Entries() != 0 {
 		t.Errorf("%v, %v", decision, err)
 	}
-	if decision, err := asked.Decide(); !errors.Is(err, guard.ErrClosed) || decision.Granted() || asked.Signatures() != nil && asked.Count() != 0 {
+	if decision, err := asked.Decide(); !errors.Is(err, guard.ErrClosed) || decision.Granted() || asked.Count() != 0 {
 		t.Errorf("%v, %v", decision, err)
 	}
+	expectUnlisted(t, &asked)
 }
 
 // TestGoroutines uses one guard and one question in eight goroutines.
