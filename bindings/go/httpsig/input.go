@@ -12,7 +12,7 @@ const (
 	tag   = "spki"
 )
 
-// The most octets of `Signature-Input`, components, and digits of a number.
+// The most octets of `Signature-Input` and of `Signature`, components, and digits of a number.
 const (
 	mostInput      = 8192
 	mostComponents = 32
