@@ -83,7 +83,8 @@ impl<E: fmt::Display> fmt::Display for Denied<E> {
 impl<E: Error + 'static> Error for Denied<E> {
     fn source(&self) -> Option<&(dyn Error + 'static)> {
         match self {
-            Denied::Verifier(error) => Some(error),
+            // (the text has the verifier's error, so its cause is next)
+            Denied::Verifier(error) => error.source(),
             _ => None,
         }
     }

@@ -130,4 +130,12 @@ impl<E: fmt::Display> fmt::Display for NotProved<E> {
     }
 }
 
-impl<E: Error + 'static> Error for NotProved<E> {}
+impl<E: Error + 'static> Error for NotProved<E> {
+    fn source(&self) -> Option<&(dyn Error + 'static)> {
+        match self {
+            // (the text has the verifier's error, so its cause is next)
+            NotProved::Verifier(error) => error.source(),
+            NotProved::No => None,
+        }
+    }
+}

@@ -6,6 +6,8 @@ use spki::{
     Policy, ProvenKey, Question, Refusal, Request, Scheme, Signature,
 };
 use std::error::Error;
+use std::fmt;
+use std::num::ParseIntError;
 use std::panic::{catch_unwind, AssertUnwindSafe};
 use std::time::{Duration, UNIX_EPOCH};
 
@@ -210,6 +212,46 @@ fn an_error_of_a_verifier_goes_on() {
     );
     assert!(decide(Ok::<_, &str>(true)).is_ok());
     assert_eq!(decide(Ok(false)), Err(Denied::No));
+}
+
+/// An error of a verifier, which has a cause.
+#[derive(Debug)]
+struct NoAnswer(ParseIntError);
+
+impl fmt::Display for NoAnswer {
+    fn fmt(&self, f: &mut fmt::Formatter) -> fmt::Result {
+        f.write_str("no answer")
+    }
+}
+
+impl Error for NoAnswer {
+    fn source(&self) -> Option<&(dyn Error + 'static)> {
+        Some(&self.0)
+    }
+}
+
+/// The texts of an error and of its sources, as many programs print them.
+fn texts(error: &dyn Error) -> Vec<String> {
+    let mut texts = vec![error.to_string()];
+    let mut next = error.source();
+    while let Some(cause) = next {
+        texts.push(cause.to_string());
+        next = cause.source();
+    }
+    texts
+}
+
+/// Whoever prints an error with its sources prints each text once, and the cause of the verifier's error too.
+#[test]
+fn an_error_of_a_verifier_is_told_once() {
+    let failed = || NoAnswer("x".parse::<u8>().expect_err("no number"));
+    let told = [
+        "a signature could not be verified: no answer",
+        "invalid digit found in string",
+    ];
+    assert_eq!(texts(&Denied::Verifier(failed())), told);
+    assert_eq!(texts(&NotProved::Verifier(failed())), told);
+    assert_eq!(texts(&Denied::<NoAnswer>::No), ["no"]);
 }
 
 #[test]
