@@ -5,6 +5,7 @@ package main
 import (
 	"database/sql/driver"
 	"encoding/hex"
+	"io"
 	"math/rand"
 	"os"
 	"strconv"
@@ -71,8 +72,8 @@ func newTimeline(t *testing.T) *timeline {
 	return made
 }
 
-// transact runs statements, in which @ is the schema, in one transaction, and returns the rows of all. `values` are those of the last statement. If
-// it fails, another server is asked the next time.
+// transact runs statements, in which @ is the schema, in one transaction, and returns the rows of all. `values` are those of the last statement. After
+// an error it is not known whether the transaction was committed. Its connection is closed then, and another server is asked the next time.
 func (l *timeline) transact(texts []string, values ...driver.Value) (rows [][]driver.Value, err error) {
 	writer := l.writers[l.at]
 	taken, err := writer.take()
@@ -85,18 +86,10 @@ func (l *timeline) transact(texts []string, values ...driver.Value) (rows [][]dr
 		if place != len(texts) {
 			given = nil
 		}
-		taken.statements[0] = nil
-		err = taken.ask(0, strings.ReplaceAll(text, "@", l.store.options.Schema), func(row []driver.Value) error {
-			// (the octets of a row are valid until the next one)
-			made := append([]driver.Value(nil), row...)
-			for place, value := range made {
-				if octets, isText := value.([]byte); isText {
-					made[place] = append([]byte(nil), octets...)
-				}
-			}
-			rows = append(rows, made)
-			return nil
-		}, given)
+		if err = taken.forget(0); err == nil {
+			use := func(row []driver.Value) error { rows = append(rows, copyOf(row)); return nil }
+			err = taken.ask(0, strings.ReplaceAll(text, "@", l.store.options.Schema), use, given)
+		}
 		if err != nil {
 			taken.Close()
 			taken = nil
@@ -106,6 +99,17 @@ func (l *timeline) transact(texts []string, values ...driver.Value) (rows [][]dr
 	}
 	writer.slots <- taken
 	return rows, err
+}
+
+// copyOf returns a copy of a row, whose octets are valid until the next row alone.
+func copyOf(row []driver.Value) []driver.Value {
+	made := append([]driver.Value(nil), row...)
+	for place, value := range made {
+		if octets, isText := value.([]byte); isText {
+			made[place] = append([]byte(nil), octets...)
+		}
+	}
+	return made
 }
 
 // The statement that adds a beat, by the clock of a server, which is wrong by what the table `error` says.
@@ -240,4 +244,56 @@ func TestQuestionsUnderFailures(t *testing.T) {
 func isThere(path string) bool {
 	_, err := os.Stat(path)
 	return err == nil
+}
+
+// A fakeConn is a connection whose statements have no rows. It counts those that are open.
+type fakeConn struct {
+	driver.Conn
+	open int
+	// The texts of the statements that were run, in order.
+	ran []string
+}
+
+// Prepare opens a statement.
+func (c *fakeConn) Prepare(text string) (driver.Stmt, error) {
+	c.open++
+	return &fakeStatement{conn: c, text: text}, nil
+}
+
+// A fakeStatement is a statement of a fakeConn.
+type fakeStatement struct {
+	driver.Stmt
+	conn *fakeConn
+	text string
+}
+
+func (s *fakeStatement) Close() error { s.conn.open--; return nil }
+
+func (s *fakeStatement) Query([]driver.Value) (driver.Rows, error) {
+	s.conn.ran = append(s.conn.ran, s.text)
+	return noRows{}, nil
+}
+
+// The noRows are the rows of a fakeStatement.
+type noRows struct{}
+
+func (noRows) Columns() []string         { return nil }
+func (noRows) Close() error              { return nil }
+func (noRows) Next([]driver.Value) error { return io.EOF }
+
+// TestTransactClosesStatements runs transactions on one connection. Each text is run, and at most the last statement stays open.
+func TestTransactClosesStatements(t *testing.T) {
+	conn := new(fakeConn)
+	writer := &pool{patience: time.Second, slots: make(chan *link, 1)}
+	writer.slots <- &link{Conn: conn}
+	l := &timeline{rig: &rig{store: &store{options: &storeOf{Schema: "s"}}}, writers: []*pool{writer}}
+	for turn := 0; turn < 3; turn++ {
+		if _, err := l.transact([]string{"SELECT 1 FROM @.entries", "SELECT 2"}); err != nil {
+			t.Fatal(err)
+		}
+	}
+	one := "BEGIN READ WRITE|SELECT 1 FROM s.entries|SELECT 2|COMMIT|"
+	if ran := strings.Join(conn.ran, "|") + "|"; ran != strings.Repeat(one, 3) || conn.open > 1 {
+		t.Errorf("%d open, %s", conn.open, ran)
+	}
 }

@@ -81,6 +81,17 @@ func newRig(t *testing.T, patience time.Duration) *rig {
 	return made
 }
 
+// forget closes the statement with a number, if it is prepared, so that the next ask prepares the text that it is given: ask keeps the statement that
+// it prepared under a number, and would run the text before again.
+func (l *link) forget(what int) error {
+	prepared := l.statements[what]
+	if prepared == nil {
+		return nil
+	}
+	l.statements[what] = nil
+	return prepared.Close()
+}
+
 // runStatement runs a statement, in which %s is the schema, and returns the first value of its row, or 0 after an error.
 func (r *rig) runStatement(text string, values ...driver.Value) (first int64) {
 	link, err := r.writer.take()
@@ -88,8 +99,10 @@ func (r *rig) runStatement(text string, values ...driver.Value) (first int64) {
 		r.t.Error(err)
 		return 0
 	}
-	link.statements = [asks]driver.Stmt{}
-	err = link.ask(0, fmt.Sprintf(text, r.store.options.Schema), func(row []driver.Value) error { first, _ = row[0].(int64); return nil }, values)
+	if err = link.forget(0); err == nil {
+		use := func(row []driver.Value) error { first, _ = row[0].(int64); return nil }
+		err = link.ask(0, fmt.Sprintf(text, r.store.options.Schema), use, values)
+	}
 	r.writer.slots <- link
 	if err != nil {
 		r.t.Error(err)
