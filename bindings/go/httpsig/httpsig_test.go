@@ -13,6 +13,7 @@ import (
 	"errors"
 	"fmt"
 	"io"
+	"math"
 	"net/http"
 	"net/http/httptest"
 	"os"
@@ -293,6 +294,7 @@ func TestBody(t *testing.T) {
 	}{
 		{Proof{digest: digest}, "abc", 3, true}, {Proof{digest: digest}, "abc", 2, false}, {Proof{digest: digest}, "abd", 3, false},
 		{Proof{digest: digest}, "", 3, false}, {Proof{}, "", 3, true}, {Proof{}, "a", 3, false},
+		{Proof{digest: digest}, "abc", math.MaxInt64, true}, {Proof{}, "", math.MaxInt64, true}, {Proof{}, "a", math.MaxInt64, false},
 	} {
 		if _, err := row.proof.Body(strings.NewReader(row.sent), row.most); (err == nil) != row.ok {
 			t.Errorf("%+v: %v", row, err)

@@ -3,6 +3,7 @@ package httpsig
 import (
 	"errors"
 	"io"
+	"math"
 	"net/http"
 	"strings"
 	"time"
@@ -65,7 +66,12 @@ func (p *Proof) Hash() string {
 // Body reads a body of at most `most` octets, and returns it if it is the signed one. Otherwise it returns an error: OtherDigest, or one of
 // reading, or that it is too long. If the request has no digest, nil is returned for an empty body, and OtherDigest for any other.
 func (p *Proof) Body(from io.Reader, most int64) ([]byte, error) {
-	body, err := io.ReadAll(io.LimitReader(from, most+1))
+	limit := most
+	if limit < math.MaxInt64 {
+		// (an octet more shows that the body is too long)
+		limit++
+	}
+	body, err := io.ReadAll(io.LimitReader(from, limit))
 	if err != nil {
 		return nil, err
 	}
