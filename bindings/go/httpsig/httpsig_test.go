@@ -302,6 +302,58 @@ func TestBody(t *testing.T) {
 	}
 }
 
+// An unknown is a body whose length net/http does not know, so that HTTP/2 sends no Content-Length.
+type unknown struct{ io.Reader }
+
+// serverByHTTP2 returns a server that answers by HTTP/2 with the protocol, and with what a verifier says of the request and of its body.
+func serverByHTTP2(verifier *Verifier) *httptest.Server {
+	server := httptest.NewUnstartedServer(http.HandlerFunc(func(answer http.ResponseWriter, request *http.Request) {
+		proof, err := verifier.Request(request)
+		if err == nil {
+			_, err = proof.Body(request.Body, 100)
+		}
+		fmt.Fprint(answer, request.Proto, " ", err)
+	}))
+	server.EnableHTTP2 = true
+	server.StartTLS()
+	verifier.Authorities = []string{server.Listener.Addr().String()}
+	return server
+}
+
+// TestBodyByHTTP2 sends GET by HTTP/2, where a body may come without Content-Length. A Transport signs the digest of what it sends. A body that is put
+// behind a signed request without one is refused.
+func TestBodyByHTTP2(t *testing.T) {
+	verifier := NewVerifier()
+	server := serverByHTTP2(verifier)
+	defer server.Close()
+	signing := &Transport{Signer: signers(t)[Ed25519], Names: verifier.Authorities, Base: server.Client().Transport}
+	for _, row := range []struct {
+		signed, added io.Reader
+		wanted        string
+	}{
+		{nil, nil, "<nil>"}, {unknown{strings.NewReader("")}, nil, "<nil>"}, {unknown{strings.NewReader("abc")}, nil, "<nil>"},
+		{nil, unknown{strings.NewReader("abc")}, BodyWithoutDigest.Error()},
+	} {
+		request, _ := http.NewRequest(http.MethodGet, server.URL, row.signed)
+		request, err := signing.signedCopy(request)
+		if err != nil {
+			t.Fatal(err)
+		}
+		if row.added != nil {
+			request.Body = io.NopCloser(row.added)
+		}
+		response, err := signing.Base.RoundTrip(request)
+		if err != nil {
+			t.Fatal(err)
+		}
+		told, _ := io.ReadAll(response.Body)
+		response.Body.Close()
+		if string(told) != "HTTP/2.0 "+row.wanted {
+			t.Errorf("%+v: %s", row, told)
+		}
+	}
+}
+
 // TestNonces takes nonces at times in seconds. Each is kept for 360 s at least, in two sets of at most 2 nonces.
 func TestNonces(t *testing.T) {
 	store := NewMemory(2)

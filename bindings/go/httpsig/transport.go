@@ -55,8 +55,16 @@ func (t *Transport) signedCopy(request *http.Request) (*http.Request, error) {
 			return nil, err
 		}
 		message.Body = body
-		signed.Body, signed.ContentLength = io.NopCloser(bytes.NewReader(body)), int64(len(body))
-		signed.GetBody = func() (io.ReadCloser, error) { return io.NopCloser(bytes.NewReader(body)), nil }
+		signed.Body, signed.ContentLength = bodyOf(body), int64(len(body))
+		signed.GetBody = func() (io.ReadCloser, error) { return bodyOf(body), nil }
 	}
 	return signed, t.Signer.Sign(request.URL.Scheme, message)
+}
+
+// bodyOf returns a body of these octets. An empty one is http.NoBody: by HTTP/2 net/http would announce any other.
+func bodyOf(octets []byte) io.ReadCloser {
+	if len(octets) == 0 {
+		return http.NoBody
+	}
+	return io.NopCloser(bytes.NewReader(octets))
 }
