@@ -354,6 +354,26 @@ func TestBodyByHTTP2(t *testing.T) {
 	}
 }
 
+// TestUnknownBodyIsNotSigned signs messages that have a body. One that is not known has no digest, also if it is that of a request to a server.
+func TestUnknownBodyIsNotSigned(t *testing.T) {
+	signer := signers(t)[Ed25519]
+	for _, row := range []struct {
+		message Message
+		wanted  error
+	}{
+		{Message{HasBody: true}, BodyWithoutDigest}, {Message{HasBody: true, Body: []byte{}}, nil}, {Message{HasBody: true, Body: []byte("a")}, nil},
+		{Message{}, nil}, {Message{Body: []byte("a")}, nil}, {Message{Header: http.Header{"Content-Length": {"1"}}}, BodyWithoutDigest},
+	} {
+		row.message.Method, row.message.Authority, row.message.Target = "PUT", "example.com", "/"
+		if row.message.Header == nil {
+			row.message.Header = http.Header{}
+		}
+		if err := signer.Sign("https", row.message); err != row.wanted {
+			t.Errorf("%+v: %v", row, err)
+		}
+	}
+}
+
 // TestNonces takes nonces at times in seconds. Each is kept for 360 s at least, in two sets of at most 2 nonces.
 func TestNonces(t *testing.T) {
 	store := NewMemory(2)

@@ -34,12 +34,28 @@ func MessageOf(request *http.Request) Message {
 
 // mayHaveBody says whether the message may have a body, so that its digest must be covered.
 func (m *Message) mayHaveBody() bool {
+	return m.Method != http.MethodGet && m.Method != http.MethodHead || len(m.Body) > 0 || m.announcesBody()
+}
+
+// announcesBody says whether HasBody or a field says that the message has a body.
+func (m *Message) announcesBody() bool {
 	for _, length := range m.Header.Values("Content-Length") {
 		if strings.Trim(length, " \t") != "0" {
 			return true
 		}
 	}
-	return m.Method != http.MethodGet && m.Method != http.MethodHead || m.HasBody || len(m.Body) > 0 || len(m.Header.Values("Transfer-Encoding")) > 0
+	return m.HasBody || len(m.Header.Values("Transfer-Encoding")) > 0
+}
+
+// addDigest puts the digest of the body into the header, if the message may have one. The error is BodyWithoutDigest if it has one that is not known.
+func (m *Message) addDigest() error {
+	if m.Body == nil && m.announcesBody() {
+		return BodyWithoutDigest
+	}
+	if m.mayHaveBody() {
+		m.Header.Set("Content-Digest", ContentDigest(m.Body))
+	}
+	return nil
 }
 
 // AuthorityOf returns a name with its port as it is signed: in small letters, without the port that the scheme has anyway.

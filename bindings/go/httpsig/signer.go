@@ -43,28 +43,18 @@ func NewSigner(private crypto.Signer) (*Signer, error) {
 // Sign puts the fields of a signature into the header of a request: also the key, the certificates, and the digest of the body if it may have one.
 // All other fields must be in the header before. The scheme is `https` or `http`. `covered` names more fields that the signature covers, in small
 // letters. The signature is for this request alone. The error is AbsentField if the request lacks a field of `covered`, which would be unsigned,
-// UnknownComponent for a name that no field has, and BadTarget for a method that is no token too.
+// UnknownComponent for a name that no field has, BodyWithoutDigest for a body that is not known, and BadTarget for a method that is no token too.
 func (s *Signer) Sign(scheme string, message Message, covered ...string) error {
-	names := []string{method, authority, path, query, publicKey}
+	if err := message.addDigest(); err != nil {
+		return err
+	}
 	message.Header.Set(publicKey, transport(s.key))
 	if s.Sequence != "" {
 		message.Header.Set("X-Spki-Sequence", s.Sequence)
 	}
-	if message.mayHaveBody() {
-		message.Header.Set("Content-Digest", ContentDigest(message.Body))
-	}
-	for _, name := range []string{authorization, "x-spki-sequence", contentDigest} {
-		if len(message.Header.Values(name)) > 0 {
-			names = append(names, name)
-		}
-	}
-	for _, name := range covered {
-		if !isComponent(name) {
-			return UnknownComponent
-		}
-		if !contains(names, name) {
-			names = append(names, name)
-		}
+	names, err := componentsOf(message.Header, covered)
+	if err != nil {
+		return err
 	}
 	parameters, err := s.parameters(names)
 	if err != nil {
@@ -84,6 +74,26 @@ func (s *Signer) Sign(scheme string, message Message, covered ...string) error {
 	message.Header.Set("Signature-Input", label+"="+parameters)
 	message.Header.Set("Signature", label+"=:"+base64.StdEncoding.EncodeToString(octets)+":")
 	return nil
+}
+
+// componentsOf returns the names of what a signature covers: the components of the profile, as far as a header has them, and the fields `covered`. The
+// error is UnknownComponent for a name that no field has.
+func componentsOf(header http.Header, covered []string) ([]string, error) {
+	names := []string{method, authority, path, query, publicKey}
+	for _, name := range []string{authorization, "x-spki-sequence", contentDigest} {
+		if len(header.Values(name)) > 0 {
+			names = append(names, name)
+		}
+	}
+	for _, name := range covered {
+		if !isComponent(name) {
+			return nil, UnknownComponent
+		}
+		if !contains(names, name) {
+			names = append(names, name)
+		}
+	}
+	return names, nil
 }
 
 // parameters returns the value of `@signature-params` for components of these names, created now, with a new nonce.
