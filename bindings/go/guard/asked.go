@@ -132,7 +132,7 @@ func (a *Asked) Mark(place int) error {
 }
 
 // Verify calls a function with each signature, in order, up to the first that is not valid, and marks those that are. To explain a denial, call it
-// also where Possible is false.
+// also where Possible is false. The error is that of Each.
 func (a *Asked) Verify(verify Verify) error {
 	return a.VerifyContext(context.Background(), func(_ context.Context, signature Signature) (bool, error) {
 		return verify(signature), nil
@@ -140,7 +140,8 @@ func (a *Asked) Verify(verify Verify) error {
 }
 
 // VerifyContext calls a function that may fail with each signature, in order, up to the first that is not valid, and marks those that are. The
-// context is tested before each signature and after the last. The error is that of the function or of the context, and then nothing is marked.
+// context is tested before each signature and after the last. The error is that of the function or of the context, and then nothing is marked, or
+// that of Each.
 func (a *Asked) VerifyContext(ctx context.Context, verify VerifyContext) error {
 	valid, failed := 0, ctx.Err()
 	err := a.Each(func(place int, signed Signature) bool {

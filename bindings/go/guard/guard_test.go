@@ -517,6 +517,16 @@ func TestLogged(t *testing.T) {
 	_, _ = made.Logged(func(guard.Event) { panic("the disk is full") }).Decide(shown(1), valid)
 }
 
+// TestMisuseIsLogged decides a question with a sequence of its own by a Verified.
+func TestMisuseIsLogged(t *testing.T) {
+	var made guard.Guard
+	var events []guard.Event
+	logged := made.Logged(func(event guard.Event) { events = append(events, event) })
+	if _, err := logged.DecideVerified(shown(1), guard.Verified{}); err != guard.ErrMisused || len(events) != 1 || events[0].Err != err {
+		t.Errorf("%+v, %v", events, err)
+	}
+}
+
 // TestLimitsOfZeroAreTheLibrarys sets one limit. The others are the usual ones, such as 16 certificates.
 func TestLimitsOfZeroAreTheLibrarys(t *testing.T) {
 	made, err := guard.Open([]byte(list), guard.Strict, guard.Limits{Answer: 1000})

@@ -13,7 +13,7 @@ type Verified struct {
 var noCertificates = []byte("(8:sequence)")
 
 // Verified returns the sequence of a question with the marks that were set in order from the first signature on, up to the first signature without
-// one. So a service need not verify a sequence again that it is shown again.
+// one, also after Close. So a service need not verify a sequence again that it is shown again.
 func (a *Asked) Verified() Verified {
 	if a.held == nil {
 		return Verified{}
@@ -64,7 +64,7 @@ func (v Verified) Canonical() (Verified, error) {
 // of Ask: a *Refusal, ErrMisused or ErrClosed.
 func (g *Guard) DecideVerified(question Question, verified Verified) (Decision, error) {
 	if len(question.Sequence) > 0 {
-		return Decision{}, ErrMisused
+		return g.decideAndLog(question, func() (Decision, error) { return Decision{}, ErrMisused })
 	}
 	asked := question
 	asked.Sequence = verified.text()
