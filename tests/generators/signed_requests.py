@@ -464,6 +464,9 @@ def changed_keys() -> None:
     longest = rsa_key_of(3027)
     assert len(in_braces(longest)) == 4094
     row("a key of 4,094 characters", "invalid-signature", Request(keys=(in_braces(longest),), keyid=hash_of(longest), algorithm="rsa-v1_5-sha256"))
+    for name, empty in {"a modulus of no octets": rsa_key_of(0), "a modulus of an octet 00": rsa_key_of(1).replace(b"\x7f", b"\0")}.items():
+        request = Request(keys=(in_braces(empty),), keyid=hash_of(empty), algorithm="rsa-v1_5-sha256")
+        row(name, "invalid-signature", request, [signed(request)[0], ("Signature", "spki=::")])
     row("another key", "invalid-signature", Request(keys=(mallory,), keyid=hash_of(MALLORY.text)))
     row("another key put in", "other-key", Request(keys=(mallory,)), signed(GET))
     row("another key put in with its hash", "invalid-signature", Request(keys=(mallory,)), [

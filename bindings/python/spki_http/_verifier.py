@@ -129,7 +129,8 @@ class Verifier:
             raise Refused("other-key")
         if algorithm != given.alg:
             raise Refused("other-algorithm")
-        if len(octets) != length or not self.verify(Signed(key, text, value_of(algorithm, octets))):
+        # (a key by RSA may have a modulus of no octets)
+        if not octets or len(octets) != length or not self.verify(Signed(key, text, value_of(algorithm, octets))):
             raise Refused("invalid-signature")
         shown = message.values(self.sequence)
         proof = Proof(key, shown[0].encode() if shown else NOTHING_SHOWN, given.nonce, digest)
