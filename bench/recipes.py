@@ -179,6 +179,7 @@ def greatest(fits: Callable[[int], bool], most: int = 1 << 20) -> int:
     low, high = 0, 1
     while high <= most and fits(high):
         low, high = high, 2 * high
+    high = min(high, most + 1)
     while high - low > 1:
         middle = (low + high) // 2
         low, high = (middle, high) if fits(middle) else (low, middle)
@@ -187,7 +188,7 @@ def greatest(fits: Callable[[int], bool], most: int = 1 << 20) -> int:
 
 def fitted(recipe: Recipe, listed: int, asked: int, certificates: int) -> Recipe | None:
     """The recipe with its growing numbers as great as can be: the list has at most `listed` octets, the question at most `asked` octets and
-    `certificates` certificates. None if even the number 1 makes more."""
+    `certificates` certificates. None if even the number 1 makes more, or tags of too many nodes or too deep ones."""
     def asks(number: int) -> bool:
         """Whether the question is read and small enough with this as its growing number."""
         made = recipe.with_links(number)

@@ -17,7 +17,9 @@ MOST_STEPS = 60
 
 
 def arrow(state, *lines, whole=""):
-    """The step of an arrow, with the lines that are not empty beside it. Its state is a class of the page, and `whole` its text in full."""
+    """The step of an arrow. `lines` are the texts beside it; one that is None or empty is left out. `state` is `plain`, `good`, `bad` (with a cross),
+    `faint`, or `gap` where two neighbours do not join: page/chain.js draws by it. `whole` is the S-expression of the entry, certificate or right,
+    which is shown under the pointer; empty if there is none."""
     return {"kind": "arrow", "state": state, "lines": [line for line in lines if line], "whole": whole}
 
 
@@ -62,8 +64,8 @@ class Chain:
             self.certificate(number, item, reason.word if is_last else None, self.story.left(reason) if is_last else None)
 
     def certificate(self, number, item, word, before):
-        """Adds a certificate: an arrow to its subject. If it stops the chain, `word` is the cause, the arrow is red, and `before` is the right before
-        it, or None."""
+        """Adds a certificate: an arrow to its subject. If it stops the chain, `word` is the cause, and `before` is the right before it, or None. Then
+        the arrow is red, or faint behind a red gap for a certificate that does not join."""
         issuer = issuer_of(item)
         # (one that does not join comes behind a gap, from the box of its issuer, and is faint)
         if word in APART:

@@ -6,7 +6,7 @@ package spki
 import (
 	"bytes"
 	"errors"
-	"strings"
+	"strconv"
 )
 
 // A Signature is to be verified: whether Value is a signature of Message by Key. The texts are in canonical form: the issuer's `(public-key ..)`,
@@ -74,7 +74,8 @@ func (k ProvenKey) Text() string {
 	return k.text
 }
 
-// String returns the octets of the key, with `?` for those that are no UTF-8, for a log.
+// String returns the octets of the key in quotes, with all that is not visible ASCII escaped: it is one line of a log, and different keys have different
+// strings.
 func (k ProvenKey) String() string {
-	return strings.ToValidUTF8(k.text, "?")
+	return strconv.QuoteToASCII(k.text)
 }

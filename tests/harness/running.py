@@ -241,7 +241,7 @@ def run_all(tests: list[unittest.TestCase], jobs: int, is_fast: bool, command: s
 
 
 def skipped_lines(outcomes: Iterable[Outcome]) -> Iterator[str]:
-    """A line for each reason by which tests were skipped."""
+    """A line for each class and each reason by which tests of it were skipped."""
     reasons = Counter((outcome.name, reason) for outcome in outcomes for _, reason in outcome.skipped)
     for (name, reason), count in sorted(reasons.items()):
         yield f"skipped: {count} of {name} ({reason})"

@@ -6,6 +6,7 @@ import re
 import socketserver
 import ssl
 import subprocess
+import sys
 import threading
 from urllib.parse import unquote
 
@@ -287,7 +288,9 @@ class FileServer(socketserver.ThreadingUnixStreamServer):
         threading.Thread(target=self.serve_forever, daemon=True).start()
 
     def handle_error(self, request: object, client_address: object) -> None:
-        """Says nothing of a connection that the web server has closed."""
+        """Says nothing of a connection that the web server has closed. Other exceptions are printed."""
+        if not isinstance(sys.exc_info()[1], ConnectionError):
+            super().handle_error(request, client_address)  # type: ignore[arg-type]
 
 
 class Impostor(http.server.ThreadingHTTPServer):

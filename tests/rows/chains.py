@@ -107,7 +107,9 @@ def windows_and_tags():
 
 
 def sizes():
-    """Yields (name, text, what `check` answers): products of nodes from both sides of 1,000,000, and an entry before and behind a larger one."""
+    """Yields (name, text, what `check` answers): products of nodes from both sides of 1,000,000, and an entry before and behind a larger one. A set
+    of N strings has N + 1 nodes, so 999 and 1,000 strings make 1,000 * 1,001. Equal strings are all kept: 99 and 99 leave 9,801, so 9,802 nodes.
+    Times the 102 nodes of 101 strings that is 999,804, and times 103 it is 1,009,606."""
     def set_of(n):
         return "(* set " + " ".join(f"n{i}" for i in range(n)) + ")"
 

@@ -533,12 +533,13 @@ class OfStreams(Room):
 
     def test_what_a_stream_does_not_take_is_escaped(self):
         """What the encoding of standard output lacks is escaped: here ü, where it is ASCII. A control character of a label is escaped in any
-        encoding, and ä is not where the encoding has it. (The first label of a key stays, so carol.pub is removed: x.pub has the same key.)"""
+        encoding, and ä is not where the encoding has it. An octet of the command line that is no UTF-8 is shown as U+FFFD, which is escaped too. (The
+        first label of a key stays, so carol.pub is removed: x.pub has the same key.)"""
         self.done("sign", "--by", "alice", "--to", "bob.pub", "--tag", TAG, "--days", "1", "--comment", "für Bob\udcff", "-o", "c.sexp")
         self.write("x.pub", self.pairs["carol"][1] + " \x1b[2Jcarol ä".encode())
         status, said = Child(self.room, ("show", "--labels", ".", "c.sexp"), self.settings, stdout=output("out", "ascii")).ended()
         self.assertEqual((status, said), (0, ""))
-        self.assertIn(b"f\\xfcr Bob", octets_in(self.at("out")))
+        self.assertIn(b"f\\xfcr Bob\\ufffd", octets_in(self.at("out")))
         self.sign("-o", "d.sexp", to="x.pub")
         os.remove(self.at("carol.pub"))
         self.assertIn("\\x1b[2Jcarol ä", self.done("show", "--labels", ".", "d.sexp"))
