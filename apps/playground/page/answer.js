@@ -109,7 +109,7 @@ export class Answer {
     at("reasons").replaceChildren(...reasons.map((reason, place) => made("li", { class: place ? "" : "first", "data-kind": answer.kind },
       made("p", {}, reason.says), reason.hint && !place ? made("p", { class: "hint" }, reason.hint) : "",
       made("code", { title: reason.line ? EXPLAINED + reason.line : answer.line }, where(reason)))),
-    answer.more ? made("li", {}, `and ${answer.more} more entries`) : "");
+    answer.more ? made("li", {}, answer.more === 1 ? "and 1 more entry" : `and ${answer.more} more entries`) : "");
   }
 
   /** Lists the rights that remain. */
