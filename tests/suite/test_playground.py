@@ -53,6 +53,7 @@ PASTED = [
     ("acl", "alice", "\u2018alice\u2019", "\u2018", "a quotation mark of a word processor"),
     ("acl", "alice", "M\u00fcller", "\u00fc", 'a string with `\u00fc` needs quotes: `"M\u00fcller"`'),
     ("acl", "/builds/", "/b\u00e4ume/", "\u00e4", '`"/b\u00e4ume/"`'),
+    ("acl", "alice", "\ue000alice", "\ue000", 'a string with `\ue000` needs quotes: `"\ue000alice"`'),
     ("acl", "(acl", "\ufeff(acl", "\ufeff", "a byte order mark is before the text, and is invisible"),
     ("acl", "(acl", "(acl\u00a0", "\u00a0", "the invisible character U+00A0, no-break space")]
 

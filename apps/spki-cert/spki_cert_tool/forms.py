@@ -31,6 +31,8 @@ SAID = {b";": "`;` begins no comment: there are no comments, only the field `(co
         b",": "there are no commas: spaces are between members, and what contains each of several words is `(* set read write)`",
         b"'": "`'` is no quotation mark here: leave it out, or write `\"`",
         b"?": "there are no patterns: what begins so is `(* prefix /web/)`, and a string with `?` needs quotes"}
+# The categories of Unicode whose characters are invisible.
+INVISIBLE = ("Cf", "Cc", "Zs", "Zl", "Zp")
 # The kinds of faults of the form of a text. All others are of its value.
 FORM_FAULTS = ("TooLong", "TooDeep", "Short", "Bad", "Trailing")
 # A further place of a fault, with a remark.
@@ -83,16 +85,18 @@ class Wrong(Exception):
 
 
 def said_of(text: bytes, at: int) -> str | None:
-    """A remark on an octet that begins no value, and was probably meant to. None if there is nothing to say of it."""
+    """A remark on the octet at the offset `at`, where a value should begin and none does: what its author probably meant, and what to write instead.
+    None if there is nothing to say of it."""
     octet, character = text[at:at + 1], text[at:at + 4].decode(errors="ignore")[:1]
     if octet >= b"\x80" and character and text.startswith(character.encode(), at):
         if character in "“”„‟«»‘’‚‹›´":
             return f"`{character}` is a quotation mark of a word processor: write `\"`"
-        if not character.isprintable():
+        if unicodedata.category(character) in INVISIBLE:
             name = unicodedata.name(character, "without a name").lower()
             return f"this is the invisible character U+{ord(character):04X}, {name}, which is no space here: delete it, or write a plain one"
         word = next(it[0] for it in LETTERS.finditer(text) if it.end() > at)
         return f"a string with `{character}` needs quotes: `\"{word.decode(errors='replace')}\"`"
+    # (as in `@FILE` of other commands)
     if octet == b"@" and at == 0:
         return "no file is read here, and \"$(cat FILE)\" gives what is in it"
     return SAID.get(octet, f"a string with `{octet.decode()}` needs quotes" if octet in b"!$%&@~<>\\^`" else None)
