@@ -144,15 +144,18 @@ def containment(engine, tag, words):
         answer = engine.lines(Question(acl, PARTS["sequence"], PARTS["key"], words, PARTS["at"]), "check")[0]
         return {"contains": answer != "no"}
     except Refused as why:
-        return fault_of_tag(engine, tag, why.line)
+        return fault_of_tag(tag, why.line)
 
 
-def fault_of_tag(engine, tag, line):
-    """What is shown of a refusal by a guard with one entry: the line and its places in the tag, which `intersect` finds, or `requestLine`."""
-    if line.split()[1] != "acl":
+def fault_of_tag(tag, line):
+    """What is shown of the refusal `line` by a guard whose one entry has the tag `tag`, octets as they were typed: if it is about the list, `line`
+    and `places`, the places in the tag; otherwise `requestLine`."""
+    # (`refused form TooDeep`: the tag alone can be read, and its lists are too deep in an access list)
+    if line.split()[1] not in ("acl", "form"):
         return {"requestLine": line}
     # (the refusal as `intersect` has it of the first of two tags, which is here the one in question)
     line = line.replace("acl 1 Tag", "tag 1").replace("acl 1", "tag 1")
+    # (`places` names faults of a tag only in a text `(intersect A B)`, so the tag is put into one)
     front = b"(intersect "
     found = [(at - len(front), why) for at, why in places(front + tag + b" a)", line)]
     return {"line": line, "places": shown_places(tag, [(at, why) for at, why in found if 0 <= at <= len(tag)])}

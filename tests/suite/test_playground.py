@@ -280,6 +280,10 @@ class Answers(OfPage):
         text = "(packages (* sett read))"
         place = self.page.ask("tags", first=text, second="(*)", request=["a"])["first"]["places"][0]
         self.assertEqual(text[place["begin"]:place["end"]], "sett")
+        # (64 lists can be read alone, and are too deep in an access list)
+        first = self.page.ask("tags", first="(a " * 63 + "(a)" + ")" * 63, second="(*)", request=["a"])["first"]
+        self.assertRegex(first.get("line", ""), "TooDeep$")
+        self.assertNotIn("requestLine", first)
 
     def test_forms(self) -> None:
         text = '(a "b c" #6 4# |ZQ==| [x]3:fgh)'
