@@ -15,12 +15,13 @@ import spki_verify
 
 
 def is_granted(guard: spki.Guard, sequence: bytes, key: spki.ProvenKey, words: list[bytes], now: datetime) -> bool:
-    """Whether a request is granted. Each word is one string of it, whatever octets it has."""
+    """Whether a request is granted. Each word is one string of it, whatever octets it has. Raises `spki.Refused` if the sequence, the key or the
+    request cannot be read, which is a no too."""
     question = spki.Question(sequence, key, words=words, moment=now)
     return bool(guard.decide(question, spki_verify.verify))
 
 
-# Prints `granted` or `denied` for the arguments ACL SEQUENCE KEY WORD ..
+# Prints `granted` or `denied` for the arguments ACL SEQUENCE KEY WORD .. If a file cannot be read or a text is refused, it raises an exception.
 def main() -> None:
     if len(sys.argv) < 5:
         sys.exit("usage: decide.py ACL SEQUENCE KEY WORD ..")
@@ -37,4 +38,7 @@ def main() -> None:
 
 
 if __name__ == "__main__":
-    main()
+    try:
+        main()
+    except (OSError, spki.Refused) as why:
+        sys.exit(str(why))
