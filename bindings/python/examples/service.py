@@ -12,18 +12,18 @@ MOST, ACTIONS = 65_536, {"GET": b"read", "PUT": b"write"}
 
 
 class Handler(http.server.BaseHTTPRequestHandler):
-    def answer(self) -> None:  # (200 and the number of the entry, or 403 and why not; a body over MOST octets is cut, so its digest differs)
-        body = self.rfile.read(min(int(self.headers.get("Content-Length", 0)), MOST))
-        host, status = ", ".join(self.headers.get_all("Host", [])), 403
+    def answer(self) -> None:  # (200 and the number of the entry, or 403 and why not; 400 if the length of the body is none from 0 to MOST)
+        host, status = ", ".join(self.headers.get_all("Host", [])), 400
         try:
+            length = int(self.headers.get("Content-Length", 0))
+            body, status = self.rfile.read(range(MOST + 1).index(length)), 403  # (`index` raises ValueError for what is not in the range)
             proof = verifier.prove(self.command, host, self.path, self.headers.items(), body)
             if posixpath.normpath(self.path) != self.path or "%" in self.path or "?" in self.path:
                 raise ValueError("the path is not normal")
             words = b"packages", ACTIONS[self.command], self.path.encode()
             question = spki.Question(proof.sequence, spki.ProvenKey.assume(proof.key), words=words, moment=datetime.now(timezone.utc))
             grant = guard.decide(question, spki_verify.verify)
-            status = 200 if grant else 403
-            said = f"yes entry {grant.entry}" if grant else f"no\n{guard.explain(question, spki_verify.verify)}"
+            status, said = (200, f"yes entry {grant.entry}") if grant else (403, f"no\n{guard.explain(question, spki_verify.verify)}")
         except (spki_http.Refused, spki.Refused, ValueError) as why:
             said = str(why)
         self.send_response(status)
