@@ -10,14 +10,18 @@ octets.svg           docs/ARCHITECTURE.md: the way of the octets to an answer
 The pictures of cases have the boxes, arrows and words that examples/picture.py writes for Graphviz, which asks the program. Build the
 program first (`rt run` in crates/spki).
 Usage: docs/pictures/draw.py [--check] [PROGRAM]        --check writes nothing, and fails if a picture is not as it is drawn
+
+The exit status is 1 if a picture is not as it is drawn or the program is not there, and 2 if a picture cannot be drawn, read or written.
 """
+import argparse
 import os
+import subprocess
 import sys
 from html import escape
 
 HERE = os.path.dirname(os.path.abspath(__file__))
 sys.path.append(os.path.join(HERE, "..", "..", "examples"))
-from picture import drawn, given_program  # noqa: E402
+from picture import NotDrawn, drawn, given_program  # noqa: E402
 from spki_cert_tool.drawing import PICTURE_WIDTH, box, page, svg_of_drawing, text  # noqa: E402
 
 CASES = {"granted": "The chain of a request that is granted", "no-delegation": "A chain that stops at a certificate"}
@@ -110,12 +114,10 @@ def of_case(name, program):
     return svg_of_drawing(drawn(program, os.path.join(HERE, "..", "..", "examples", "guide", f"{name}.sexp"), PICTURE_WIDTH), CASES[name])
 
 
-def main():
-    words = sys.argv[1:]
-    is_check = words[:1] == ["--check"]
-    # (the program is the argument behind --check)
-    program, wrong = given_program(1 + is_check), 0
-    pictures = {make.__name__: make() for make in (chain, crates, octets)}
+def differing(program, is_check):
+    """Draws the pictures, by the program at a path, and writes them. `is_check`: compares them with the files instead. Returns how many differ.
+    Raises what `drawn` does, and `OSError` if a picture cannot be read or written."""
+    pictures, wrong = {make.__name__: make() for make in (chain, crates, octets)}, 0
     pictures.update({name: of_case(name, program) for name in CASES})
     for name, lines in pictures.items():
         path, svg = os.path.join(HERE, f"{name}.svg"), "\n".join(lines) + "\n"
@@ -127,7 +129,20 @@ def main():
             if file.read() != svg:
                 print(f"{path} is not as it is drawn: run docs/pictures/draw.py")
                 wrong += 1
-    return 1 if wrong else 0
+    return wrong
+
+
+def main():
+    asked = argparse.ArgumentParser(description="Draws the pictures of the documents.")
+    asked.add_argument("--check", action="store_true", help="write nothing, and fail if a picture is not as it is drawn")
+    asked.add_argument("program", nargs="?", metavar="PROGRAM")
+    given = asked.parse_args()
+    program = given_program(sys.argv.index(given.program, 1) if given.program else len(sys.argv))
+    try:
+        return 1 if differing(program, given.check) else 0
+    except (OSError, NotDrawn, subprocess.TimeoutExpired) as why:
+        print(why, file=sys.stderr)
+        return 2
 
 
 if __name__ == "__main__":

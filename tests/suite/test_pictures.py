@@ -36,8 +36,11 @@ class Pictures(built.OfProgram):
         self.assertEqual(status, 0, f"dot does not read the picture of {name}: {said}")
 
     def test_pictures_of_the_documents(self) -> None:
-        status, said = output_of(os.path.join(TOP, "docs", "pictures", "draw.py"), "--check", self.program)
+        draw = os.path.join(TOP, "docs", "pictures", "draw.py")
+        status, said = output_of(draw, "--check", self.program)
         self.assertEqual(status, 0, said)
+        status, said = output_of(draw, "/bin/false", "--check")
+        self.assertEqual((status, said), (2, "/bin/false explain ended with status 1 and no answer\n"))
 
     def test_what_is_not_drawn(self) -> None:
         """A case that is refused, a file that is not there, and a program that fails at a command each end in one line and status 2. The program is a
