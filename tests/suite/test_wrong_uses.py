@@ -68,6 +68,8 @@ class WrongUses(built.OfLibrary):
             met[row.name] += why
         for row in rows:
             with self.subTest(row.name):
+                # (the word may be empty, which every text has)
+                self.assertIn(row.name, met)
                 self.assertRegex(met[row.name], f"(?s){row.said}")
 
     def check_outcomes(self, rows: list[Row], said: str) -> None:
