@@ -171,7 +171,8 @@ func (l *ledger) beat() {
 	}
 }
 
-// reopen opens the path again, at which another file may be since. If it cannot be opened, the old one stays.
+// reopen opens the path again, at which another file may be since. If it cannot be opened, the old one stays. Another error says that the new file is
+// open, and that the last lines of the old one may not be on the disk.
 func (l *ledger) reopen() error {
 	present, err := l.file.Stat()
 	if err != nil {
@@ -185,20 +186,30 @@ func (l *ledger) reopen() error {
 
 // replace opens the path, and closes the old file.
 func (l *ledger) replace() error {
-	old, isSynced := l.file, l.syncs != syncNever
+	old := *l
 	if err := l.open(); err != nil {
 		return err
 	}
-	if isSynced {
-		_ = old.Sync()
+	if err := old.close(); err != nil {
+		return fmt.Errorf("%s is opened again, but: %w", l.path, err)
 	}
-	return old.Close()
+	return nil
 }
 
-// close writes the file to its disk and closes it.
-func (l *ledger) close() {
+// close writes the file to its disk, unless the ledger has syncNever, and closes it. The error says that its last lines may not be on the disk: also
+// if that was already so before, since a system may say of an error only once.
+func (l *ledger) close() error {
+	fault := l.fault
 	if l.syncs != syncNever {
-		_ = l.file.Sync()
+		if err := l.file.Sync(); fault == nil {
+			fault = err
+		}
 	}
-	l.file.Close()
+	if err := l.file.Close(); fault == nil {
+		fault = err
+	}
+	if fault != nil {
+		return fmt.Errorf("the last grants may not be on the disk: %w", fault)
+	}
+	return nil
 }

@@ -61,7 +61,7 @@ func openFailing(t *testing.T, syncs, text string) (*ledger, *failing) {
 	}
 	to := &failing{File: made.file.(*os.File), room: -1}
 	made.file = to
-	t.Cleanup(made.close)
+	t.Cleanup(func() { _ = made.close() })
 	return made, to
 }
 
@@ -221,6 +221,40 @@ func TestReopened(t *testing.T) {
 		t.Error("there is no folder")
 	}
 	write("six\n")
+}
+
+// TestLastSync reopens and closes a ledger whose disk does not take the last lines. That is an error unless the ledger has syncNever, also where only
+// the time before has failed. The new file is open in each case.
+func TestLastSync(t *testing.T) {
+	for _, syncs := range []string{syncNever, syncSeconds, syncEach} {
+		for _, isOver := range []bool{false, true} {
+			made, to := openFailing(t, syncs, "")
+			mustTell := func(what string, err error) {
+				t.Helper()
+				if (err == nil) != (syncs == syncNever || isOver && syncs == syncEach) || err != nil && !strings.Contains(err.Error(), "may not be on the disk") {
+					t.Errorf("%s, %v: %s: %v", syncs, isOver, what, err)
+				}
+			}
+			fail := func(line string) {
+				if err := made.write([]byte(line)); err != nil {
+					t.Error(err)
+				}
+				to.isNotWritten = true
+				made.beat()
+				to.isNotWritten = !isOver
+			}
+			fail("one\n")
+			if err := os.Rename(made.path, made.path+".1"); err != nil {
+				t.Fatal(err)
+			}
+			mustTell("reopened", made.reopen())
+			to = &failing{File: made.file.(*os.File), room: -1}
+			made.file = to
+			fail("two\n")
+			made.mustHave(t, "two\n")
+			mustTell("closed", made.close())
+		}
+	}
 }
 
 // TestNoLedgers opens what is no file, or what another daemon has.

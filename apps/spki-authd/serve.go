@@ -53,13 +53,15 @@ func (d *daemon) open(out, messages io.Writer) error {
 
 // listenAndServe answers until a signal ends the daemon.
 func (d *daemon) listenAndServe() error {
-	defer d.close()
+	defer d.flush()
 	listener, err := d.config.listen()
 	if err != nil {
+		_ = d.closeLedger()
 		return err
 	}
 	control, err := openSocket(d.config.controlPath())
 	if err != nil {
+		_ = d.closeLedger()
 		return closeAfter(listener, err)
 	}
 	defer control.Close()
@@ -67,11 +69,24 @@ func (d *daemon) listenAndServe() error {
 	return d.serve(listener)
 }
 
-// close writes the lines that wait, and closes the log of grants, between two writes of its writer.
-func (d *daemon) close() {
+// flush writes the other answers and the messages that wait.
+func (d *daemon) flush() {
 	d.other.flush()
 	d.messages.flush()
-	d.granted.do(d.ledger.close)
+}
+
+// closeLedger closes the log of grants, between two writes of its writer.
+func (d *daemon) closeLedger() error {
+	return d.withLedger(d.ledger.close)
+}
+
+// withLedger calls a function between two writes of the log of grants, and returns its error, or errHangs if it does not end in time.
+func (d *daemon) withLedger(call func() error) error {
+	done := make(chan error, 1)
+	if !d.granted.do(func() { done <- call() }) {
+		return errHangs
+	}
+	return <-done
 }
 
 // serve is the main loop: it answers in other goroutines until a signal ends it, and does orders and signals meanwhile. Questions under way are
@@ -107,13 +122,18 @@ func (d *daemon) watchClock() {
 	}
 }
 
-// end ends the daemon, once what was asked is answered.
+// end ends the daemon, once what was asked is answered, and closes the log of grants. A message says how it ended.
 func (d *daemon) end(listener net.Listener, door *door) error {
 	_ = notify("STOPPING=1")
 	waiting, cancel := context.WithTimeout(context.Background(), timeToEnd)
 	defer cancel()
 	listener.Close()
 	err := door.end(waiting)
+	if fault := d.closeLedger(); err == nil {
+		err = fault
+	} else if fault != nil {
+		err = fmt.Errorf("%w; %v", err, fault)
+	}
 	d.tell("ended", err)
 	return err
 }
@@ -130,10 +150,7 @@ func (d *daemon) reload(allowFewerEnded bool) error {
 
 // reopen opens the file of grants again, as after it was renamed.
 func (d *daemon) reopen() error {
-	done, err := make(chan error, 1), errHangs
-	if d.granted.do(func() { done <- d.ledger.reopen() }) {
-		err = <-done
-	}
+	err := d.withLedger(d.ledger.reopen)
 	d.tell("reopened", err)
 	return err
 }

@@ -60,6 +60,28 @@ func serveHere(t *testing.T, fields string) *served {
 	return made
 }
 
+// TestEndsWithoutDisk ends a daemon whose disk does not take the last grants: the error and the message say so.
+func TestEndsWithoutDisk(t *testing.T) {
+	made := &daemon{decider: newSite(t, "").decider, begun: time.Now()}
+	room := t.TempDir()
+	made.config.Log = filepath.Join(room, "log")
+	var messages journal
+	if err := made.open(io.Discard, messages.writer()); err != nil {
+		t.Fatal(err)
+	}
+	listener, err := net.Listen("unix", filepath.Join(room, "socket"))
+	if err != nil {
+		t.Fatal(err)
+	}
+	made.granted.do(func() { made.ledger.file = &failing{File: made.ledger.file.(*os.File), room: -1, isNotWritten: true} })
+	err = made.end(listener, newDoor(made.decider))
+	made.flush()
+	said := messages.String()
+	if err == nil || !strings.Contains(said, `"ended not"`) || !strings.Contains(said, "may not be on the disk") {
+		t.Errorf("%v, %s", err, said)
+	}
+}
+
 // waitFor waits until somebody listens at a socket.
 func waitFor(t *testing.T, path string) {
 	t.Helper()
