@@ -27,6 +27,9 @@ var (
 	errShown   = errors.New("nothing is shown")
 )
 
+// What is printed in place of a status for a request without an answer.
+const noAnswer = "no answer"
+
 // A verdict is what an answer of the site means.
 type verdict int
 
@@ -53,7 +56,8 @@ func verdictOf(status int) verdict {
 }
 
 // probeSite sends the site at an address requests that it must deny, and prints those that it grants. isStopped says that the daemon is stopped
-// meanwhile. The error is nil only if nothing was granted, and if the answers show that the daemon was asked, or was stopped.
+// meanwhile. The error is nil only if nothing was granted, and if the answers show that the daemon was stopped, or else that each asker's first
+// request and at least half of all its requests were decided.
 func probeSite(address string, isStopped bool, out io.Writer) error {
 	base, err := baseOf(address)
 	if err != nil {
@@ -89,7 +93,8 @@ func baseOf(address string) (*url.URL, error) {
 }
 
 // sendAll sends all of `tries` by an asker, and prints how often each status was the answer. An asker whose protocol or key the server does not take
-// is left out. It fails with errShown if the first answer is 5xx though the daemon should run, and if one request is answered by 429 again and again.
+// is left out. It fails with errShown if one request is answered by 429 again and again. Without -stopped it also
+// fails with errShown if the first answer is 5xx, or if most requests have 5xx or no answer.
 func (p *probe) sendAll(by asker) error {
 	first, err := by.send(p.base, tries[0])
 	if err != nil && by.mayFail {
@@ -106,7 +111,7 @@ func (p *probe) sendAll(by asker) error {
 	if !p.isStopped && verdictOf(first.status) == isFailed {
 		return fmt.Errorf("%w: %s: %s is %d; does the daemon run?", errShown, by.name, tries[0].method, first.status)
 	}
-	counts := map[string]int{}
+	counts, sent, failed := map[string]int{}, p.sent, p.failed
 	p.note(by, first, counts)
 	for _, each := range tries[1:] {
 		answer, err := by.send(p.base, each)
@@ -116,12 +121,16 @@ func (p *probe) sendAll(by asker) error {
 			return fmt.Errorf("%s: %w", by.name, err)
 		case err != nil:
 			p.sent++
-			counts["no answer"]++
+			counts[noAnswer]++
 		default:
 			p.note(by, answer, counts)
 		}
 	}
 	fmt.Fprintf(p.out, "%s: %s\n", by.name, countsAsText(counts))
+	sent, failed = p.sent-sent, p.failed-failed+counts[noAnswer]
+	if !p.isStopped && 2*failed > sent {
+		return fmt.Errorf("%w: %s: %d of %d requests have 5xx or no answer; does the daemon run?", errShown, by.name, failed, sent)
+	}
 	return nil
 }
 
@@ -138,7 +147,8 @@ func (p *probe) note(by asker, answer answered, counts map[string]int) {
 	}
 }
 
-// end returns errGranted if anything was granted, and errShown if the daemon was to be stopped and was not. Otherwise it prints the total.
+// end returns errGranted if anything was granted, and errShown if the daemon was to be stopped and no answer is 5xx, which would show that. Otherwise
+// it prints the total. Without -stopped, sendAll has tested whether the answers show that the daemon was asked.
 func (p *probe) end() error {
 	switch {
 	case p.granted > 0:

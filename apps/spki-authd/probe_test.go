@@ -151,6 +151,41 @@ func TestProbeAgain(t *testing.T) {
 	}
 }
 
+// TestProbeEnds stops the daemon after some requests: then the answers are 5xx, or there are none. That shows nothing if most requests of an asker
+// are like this. In the row with 0 requests, only one method fails.
+func TestProbeEnds(t *testing.T) {
+	failsBy502 := func(answer http.ResponseWriter) { answer.WriteHeader(http.StatusBadGateway) }
+	for name, each := range map[string]struct {
+		decided int
+		fail    func(http.ResponseWriter)
+		status  int
+		said    string
+	}{
+		"5xx from the second on":   {1, failsBy502, statusRefused, "requests have 5xx or no answer"},
+		"silent from the third on": {2, func(http.ResponseWriter) { panic(http.ErrAbortHandler) }, statusRefused, "requests have 5xx or no answer"},
+		"5xx to one method":        {0, failsBy502, statusDone, "nothing was granted"},
+	} {
+		t.Run(name, func(t *testing.T) {
+			var mutex sync.Mutex
+			count := 0
+			status, said, _ := probeHandler(t, func(answer http.ResponseWriter, request *http.Request) {
+				mutex.Lock()
+				count++
+				isFailed := each.decided > 0 && count > each.decided || each.decided == 0 && request.Method == http.MethodPatch
+				mutex.Unlock()
+				if isFailed {
+					each.fail(answer)
+					return
+				}
+				answer.WriteHeader(http.StatusUnauthorized)
+			})
+			if status != each.status || !strings.Contains(said, each.said) {
+				t.Errorf("status %d: %s", status, said)
+			}
+		})
+	}
+}
+
 // TestProbeWords probes what is no address of a folder, and gives a flag without the one that it goes with.
 func TestProbeWords(t *testing.T) {
 	for _, words := range [][]string{{"-probe", "files"}, {"-probe", "ftp://localhost/"}, {"-probe", "https://u:p@localhost/"},
