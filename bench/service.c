@@ -3,7 +3,7 @@
  * service decide FILE           the µs of listing the signatures and of a decision
  * service widest WISH FILE      with a limit of 64 KiB, of one question whose answer is `decide`, `explain` or `reduce`: the
  *                               status, the ms of the processor, those of listing the signatures, and the MiB that the library takes
- * service threads N FILE        of one thread and of N, each with a guard of its own, the questions that are opened and decided in a
+ * service threads N FILE        of one thread and of N (1 to 64), each with a guard of its own, the questions that are opened and decided in a
  *                               second; how many times as far N threads count as one; and how often the N threads waited for each 1,000
  *                               of them
  *
@@ -187,7 +187,7 @@ struct rate {
     double by_time, waits;
 };
 
-/* Has so many threads do some work for half a second, and returns how often they did it. */
+/* Has so many threads, 1 to MOST_THREADS, do some work for half a second, and returns how often they did it. */
 static struct rate rate_of(void *(*work)(void *), size_t threads)
 {
     pthread_t ids[MOST_THREADS];
@@ -219,7 +219,7 @@ static void ask_by_threads(size_t threads, const char *path)
 {
     void *(*const works[])(void *) = {decide_on, count_on};
     struct rate one[2] = {{0, 0}}, many[2] = {{0, 0}};
-    for (size_t i = 0; i < threads && i < MOST_THREADS; i++)
+    for (size_t i = 0; i < threads; i++)
         of_threads[i] = held_in(path, &highest);
     for (int turn = 0; turn < TURNS * 2; turn++) {
         int work = turn % 2;
@@ -262,12 +262,14 @@ static void answer(const char *path, long calls)
 int main(int count, char **words)
 {
     const char *way = count > 2 ? words[1] : "";
+    /* Is 0 where no number is given. */
+    unsigned long threads = count > 3 ? strtoul(words[2], NULL, 10) : 0;
     if (!strcmp(way, "decide"))
         decide_file(words[2]);
     else if (!strcmp(way, "widest") && count > 3)
         ask_widest(words[2], words[3]);
-    else if (!strcmp(way, "threads") && count > 3)
-        ask_by_threads((size_t)strtoul(words[2], NULL, 10), words[3]);
+    else if (!strcmp(way, "threads") && threads > 0 && threads <= MOST_THREADS)
+        ask_by_threads(threads, words[3]);
     else if (!strcmp(way, "ask") && count > 3)
         ask(words[2], strtol(words[3], NULL, 10));
     else if (!strcmp(way, "reopen") && count > 3)
