@@ -767,7 +767,7 @@ func TestPanicOfVerifier(t *testing.T) {
 	}
 }
 
-// TestForms converts texts among the three forms of RFC 9804.
+// TestForms converts texts among the three forms of RFC 9804, and what is in none of them is refused.
 func TestForms(t *testing.T) {
 	canonical, err := guard.Canonical([]byte("(a b)"))
 	if err != nil || string(canonical) != "(1:a1:b)" {
@@ -782,8 +782,12 @@ func TestForms(t *testing.T) {
 	if _, err := guard.Canonical([]byte("(a ~)")); fmt.Sprint(err) != "refused form Bad 3" {
 		t.Error(err)
 	}
-	// (nothing becomes longer: 7 octets for 3)
+	// (no text grows more in advanced form: an octet printed in base64 takes 7 octets for the 3 of its canonical text, and converted has room for 9)
 	if text, err := guard.Advanced([]byte("(" + strings.Repeat("1:\x00", 1000) + ")")); err != nil || len(text) != 7002 {
+		t.Errorf("%d, %v", len(text), err)
+	}
+	// (and none more in transport form: 32 octets for 12)
+	if text, err := guard.Transport([]byte("(" + strings.Repeat("a(b)", 3000) + ")")); err != nil || len(text) != 32007 {
 		t.Errorf("%d, %v", len(text), err)
 	}
 	if _, err := guard.Canonical(nil); fmt.Sprint(err) != "refused form Short" {

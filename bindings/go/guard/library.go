@@ -228,7 +228,7 @@ func closeAsked(asked askedHandle) {
 
 // converted returns a text in another form. The command is SPKI_CANONICAL, SPKI_ADVANCED or SPKI_TRANSPORT.
 func converted(command C.enum_spki_command, given []byte) ([]byte, error) {
-	// (an octet that is printed in base64 takes 7 for the 3 of its canonical text)
+	// (an octet that is printed in base64 takes 7 for the 3 of its canonical text; `a(b)`, again and again, takes 8 for 3 in transport form)
 	buffer, needed := make([]byte, 3*len(given)+roomForLine), C.size_t(0)
 	lent := text(given)
 	met := C.spki_answer(command, lent.octets, lent.length, unsafe.Pointer(&buffer[0]), C.size_t(len(buffer)), &needed).status
