@@ -26,6 +26,21 @@ func TestProveKey(t *testing.T) {
 	}
 }
 
+// TestKeyAsLine prints keys for a log: each is one line of visible ASCII, also with octets that are not, and keys that differ in such an octet have
+// different strings.
+func TestKeyAsLine(t *testing.T) {
+	for key, wanted := range map[string]string{
+		"(10:public-key(4:test5:a\n\x1b\xffb))": `"(10:public-key(4:test5:a\n\x1b\xffb))"`,
+		"(10:public-key(4:test1:\xfe))":         `"(10:public-key(4:test1:\xfe))"`,
+		"(10:public-key(4:test1:\xff))":         `"(10:public-key(4:test1:\xff))"`,
+		"(10:public-key(4:test2:\u00ff))":       `"(10:public-key(4:test2:\u00ff))"`,
+	} {
+		if met := spki.AssumeKey([]byte(key)).String(); met != wanted {
+			t.Errorf("%s, wanted %s", met, wanted)
+		}
+	}
+}
+
 func TestScheme(t *testing.T) {
 	for key, wanted := range map[string]spki.Scheme{
 		"(10:public-key(3:ecc(5:curve7:Ed25519)(5:flags5:eddsa)(1:q1:x)))": spki.Ed25519, "(10:public-key(3:rsa(1:n1:x)(1:e1:x)))": spki.RSA,
