@@ -494,6 +494,7 @@ class Served(OfServed):
     def test_server_that_hangs(self) -> None:
         """A server that takes requests and answers nothing ends in 503, and not in requests that hang."""
         self.start_beat(self.server.address)
+        self.wait_for_beat()
         alice, it = self.people["alice"], self.start_daemon("hangs", self.server)
         self.add_entry(alice)
         it.wait_for_status(200, alice)
