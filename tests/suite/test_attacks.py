@@ -19,7 +19,8 @@ STOPPED = "stopped, "
 
 
 def is_chosen(row: str, share: int = 10) -> bool:
-    """Whether the row with this name is run: in the long tests each is, in the gate one in `share`, chosen by the digest of the name."""
+    """Whether the row with this name is run: in the long tests each is, in the gate about one in `share`, chosen by the
+    digest of the name."""
     return built.IS_LONG or hashlib.sha256(row.encode()).digest()[0] % share == 0
 
 
@@ -74,16 +75,17 @@ class Table(unittest.TestCase):
         # (the attack on /web/link/plan.txt follows it)
         os.symlink("../secret", cls.site.at("files/web/link"))
 
-    def grants_ann(self) -> None:
+    def check_ann(self) -> None:
         """Ann must get the page that she may read."""
         self.assertEqual(self.site.status("ann", "GET", "/web/index.html"), 200)
 
     def check_rows(self, column: str) -> None:
-        """Each chosen attack of a column must fail. Ann must be granted her page before the daemon is stopped, if it is, and else after the attacks
-        too. Without the daemon a plain request gets an error of the server, from 500 on. With it the log must have no decision that failed."""
+        """Each chosen attack of a column must fail. First Ann must be granted her page. If the daemon is stopped then,
+        a plain request without a certificate must get an error of the server, from 500 on. Otherwise Ann must be
+        granted her page after the attacks too, and the log must have no decision that failed."""
         is_stopped = column.startswith("stopped")
         self.site.restart_with(self.kind.sites.get(column.removeprefix(STOPPED), []))
-        self.grants_ann()
+        self.check_ann()
         if is_stopped:
             self.site.stop_daemon()
             self.addCleanup(self.site.start_daemon)
@@ -93,7 +95,7 @@ class Table(unittest.TestCase):
                 with self.subTest(name):
                     self.check_attack(each, is_stopped)
         if not is_stopped:
-            self.grants_ann()
+            self.check_ann()
             self.assertNotIn('"answer":"failed"', self.site.text("log/authd.log"))
 
     def check_attack(self, each: attacks.Attack, is_stopped: bool) -> None:
@@ -113,11 +115,11 @@ class Table(unittest.TestCase):
             self.site.restart_with(more)
             with self.subTest(name):
                 if not name.endswith(" that fails"):
-                    self.grants_ann()
-                self.get_nothing(attackers.ASKED, attackers.DENIED | attackers.UNDECIDED)
+                    self.check_ann()
+                self.check_denied(attackers.ASKED, attackers.DENIED | attackers.UNDECIDED)
                 self.site.stop_daemon()
                 try:
-                    self.get_nothing([*attackers.ASKED, *attackers.GRANTED], attackers.DENIED | attackers.UNDECIDED)
+                    self.check_denied([*attackers.ASKED, *attackers.GRANTED], attackers.DENIED | attackers.UNDECIDED)
                 finally:
                     self.site.start_daemon()
 
@@ -135,17 +137,18 @@ class Table(unittest.TestCase):
         finally:
             self.site.start_daemon()
 
-    def probe(self, status: int, said: str, *more: str) -> None:
-        """Runs `spki-authd -probe` on the site, with the options `more`. It must end with this status, write the text `said` among others, and leave
-        no request out."""
+    def probe(self, status: int, text: str, *more: str) -> None:
+        """Runs `spki-authd -probe` on the site, with the options `more`. It must end with this status, write `text`
+        among other lines, and leave no request out."""
         words = (self.site.program, "-probe", f"https://localhost:{self.site.port}/web/", *more)
-        met = output_of(*words, env={**self.site.settings, "SSL_CERT_FILE": self.site.at("ca/ca.crt")}, seconds=served.SECONDS)
-        self.assertEqual((met[0], said in met[1]), (status, True), met[1])
-        self.assertNotIn("left out", met[1])
+        ended, output = output_of(*words, env={**self.site.settings, "SSL_CERT_FILE": self.site.at("ca/ca.crt")}, seconds=served.SECONDS)
+        self.assertEqual((ended, text in output), (status, True), output)
+        self.assertNotIn("left out", output)
 
     def check_port(self) -> None:
-        """A server that asks the daemon on a port with TLS believes only the holder of the daemon's certificate. An impostor says yes to all: with
-        this certificate it gets the server's secret, and the request is granted. With another one it gets no secret, and nothing is granted."""
+        """A server that asks the daemon on a port with TLS believes only the holder of the daemon's certificate. An
+        impostor there says yes to all. With this certificate it gets the secret that the server sends to the daemon,
+        and the request is granted. With another one it gets no secret, and nothing is granted."""
         make = ("openssl", "req", "-x509", "-newkey", "ed25519", "-nodes", "-days", "9", "-subj", "/CN=spki-authd", "-addext",
                 "subjectAltName=DNS:spki-authd,IP:127.0.0.1")
         for name in ("authd", "other"):
@@ -160,7 +163,7 @@ class Table(unittest.TestCase):
                 impostor.shutdown()
                 impostor.server_close()
 
-    def get_nothing(self, asked: list[attackers.Asked], statuses: set[int]) -> None:
+    def check_denied(self, asked: list[attackers.Asked], statuses: set[int]) -> None:
         """No request may be granted: each must have one of these statuses, and no file may be sent or changed."""
         for each in asked:
             self.assertEqual(attackers.faults_of(self.site, each, statuses), [])
@@ -169,7 +172,7 @@ class Table(unittest.TestCase):
 def table_of(kind: type[web_servers.Behind]) -> Callable[[type[Table]], type[Table]]:
     """Returns a decorator that gives a subclass of Table the tests of a server: one for each column, and others. They are skipped where something
     that they need is not there."""
-    def made(table: type[Table]) -> type[Table]:
+    def with_tests(table: type[Table]) -> type[Table]:
         table.kind = kind
         for column in columns_of(kind):
             setattr(table, f"test_{re.sub('[^a-z]+', '_', column)}", lambda self, column=column: self.check_rows(column))
@@ -178,7 +181,7 @@ def table_of(kind: type[web_servers.Behind]) -> Callable[[type[Table]], type[Tab
         if kind.on_port:
             setattr(table, "test_port", lambda self: self.check_port())
         return needs.needs(*served.NEEDS, *kind.needs, *needs.LIBRARY)(table)
-    return made
+    return with_tests
 
 
 @table_of(web_servers.Nginx)

@@ -15,12 +15,13 @@ import unittest
 import urllib.parse
 from collections.abc import Callable, Iterator
 
-from harness import built, golang, needs
+from harness import built, golang, needs, served
 from harness.support import output_of, room_for, text_of, waits_for
 from suite import test_go
 from suite.test_go import Daemon, OverSocket, Person
 
-# How many requests are granted by so many threads, how often the daemon is restarted, and the seconds after which what hangs is ended.
+# How many requests are granted, asked by so many threads; how often the daemon is restarted; the seconds after which
+# what hangs is ended.
 GRANTS, THREADS = (100_000, 4) if built.IS_LONG else (2_000, 4)
 RESTARTS = 20 if built.IS_LONG else 4
 UNITS = [os.path.join(golang.DAEMON, name) for name in ("spki-authd.service", "spki-authd.socket")]
@@ -37,20 +38,20 @@ def listens(path: str) -> bool:
 def asked_by_many(asks: Callable[[], list[int]]) -> Iterator[list[object]]:
     """A context in which THREADS threads call `asks` again and again until it ends. Its list gets the statuses that `asks` returns, and each OSError
     that it raises as a text."""
-    ends, met = threading.Event(), list[object]()
+    ends, statuses = threading.Event(), list[object]()
 
-    def asks_on() -> None:
+    def ask_until_end() -> None:
         while not ends.is_set():
             try:
-                met.extend(asks())
+                statuses.extend(asks())
             except OSError as why:
-                met.append(repr(why))
+                statuses.append(repr(why))
 
-    threads = [threading.Thread(target=asks_on) for _ in range(THREADS)]
+    threads = [threading.Thread(target=ask_until_end) for _ in range(THREADS)]
     for each in threads:
         each.start()
     try:
-        yield met
+        yield statuses
     finally:
         ends.set()
         for each in threads:
@@ -77,15 +78,21 @@ class OfDaemon(test_go.OfGo):
         """A context with a daemon, which must start, and end with status 0. `before` are the words of a command that starts its program, and `more`
         are fields of its configuration."""
         with tempfile.TemporaryDirectory() as room:
-            made = Daemon(room, self.daemon_program, self.access_list, *before, **more)
+            daemon = Daemon(room, self.daemon_program, self.access_list, *before, **more)
             try:
-                self.assertEqual(made.event["event"], "started")
-                yield made
-                made.process.terminate()
-                self.assertEqual(made.process.wait(SECONDS), 0)
+                self.assertEqual(daemon.event["event"], "started")
+                yield daemon
+                daemon.process.terminate()
+                self.assertEqual(daemon.process.wait(SECONDS), 0)
             finally:
-                made.process.kill()
-                made.process.communicate()
+                daemon.process.kill()
+                daemon.process.communicate()
+
+    def start_again(self, daemon: Daemon) -> None:
+        """Starts a daemon that a test has ended, since the context `daemon` ends it once more."""
+        daemon.process = subprocess.Popen([self.daemon_program, "-config", daemon.config], stdout=subprocess.DEVNULL,
+                                          stderr=subprocess.PIPE)
+        self.assertEqual(daemon.message()["event"], "started")
 
     def headers(self, target: str = "/web/a") -> dict[str, str]:
         """The fields that a web server sends to the daemon for Alice."""
@@ -94,16 +101,16 @@ class OfDaemon(test_go.OfGo):
     def ask_often(self, path: str, times: int, headers: dict[str, str], target: str = "/") -> list[int]:
         """Sends a GET request `times` times on one connection to the socket with this path. Returns the statuses of the answers."""
         connection = OverSocket(path)
-        found = []
+        statuses = []
         try:
             for _ in range(times):
                 connection.request("GET", target, headers=headers)
                 response = connection.getresponse()
                 response.read()
-                found.append(response.status)
+                statuses.append(response.status)
         finally:
             connection.close()
-        return found
+        return statuses
 
     @staticmethod
     def lines(path: str) -> list[str]:
@@ -118,14 +125,14 @@ class Log(OfDaemon):
 
     def test_each_grant_has_its_line(self) -> None:
         with self.daemon() as daemon:
-            found: list[int] = []
-            threads = [threading.Thread(target=lambda: found.extend(self.ask_often(daemon.socket, GRANTS // THREADS, self.headers())))
+            statuses: list[int] = []
+            threads = [threading.Thread(target=lambda: statuses.extend(self.ask_often(daemon.socket, GRANTS // THREADS, self.headers())))
                        for _ in range(THREADS)]
             for each in threads:
                 each.start()
             for each in threads:
                 each.join()
-            self.assertEqual((len(found), set(found)), (GRANTS, {200}))
+            self.assertEqual((len(statuses), set(statuses)), (GRANTS, {200}))
             lines = [json.loads(line) for line in self.lines(daemon.grants)]
             self.assertEqual((len(lines), {line["answer"] for line in lines}), (GRANTS, {"yes"}))
             self.assertEqual(self.lines(daemon.log), [])
@@ -135,21 +142,22 @@ class Log(OfDaemon):
         """Once the log of grants takes no more octets, at a limit of 5,000, each request gets 503, and each line in the log is whole. Once there is
         room again, requests are granted again."""
         with self.daemon("prlimit", "--fsize=5000") as daemon:
-            found = self.ask_often(daemon.socket, 40, self.headers())
-            granted = found.count(200)
-            self.assertEqual(found, [200] * granted + [503] * (40 - granted))
+            statuses = self.ask_often(daemon.socket, 40, self.headers())
+            granted = statuses.count(200)
+            self.assertEqual(statuses, [200] * granted + [503] * (40 - granted))
             self.assertTrue(0 < granted < 40)
             with open(daemon.grants, encoding="utf-8") as file:
                 text = file.read()
             self.assertEqual((text[-1], len([json.loads(line) for line in text.splitlines()])), ("\n", granted))
-            status, _, said = daemon.does("-health")
-            self.assertEqual((status, "takes no lines" in said), (1, True))
+            status, _, errors = daemon.run("-health")
+            self.assertEqual((status, "takes no lines" in errors), (1, True))
             os.truncate(daemon.grants, 0)
             self.assertEqual(self.ask_often(daemon.socket, 1, self.headers()), [200])
 
     def test_reader_that_hangs(self) -> None:
-        """Nobody reads the pipe to which the daemon writes its denials, and it is full; later the pipe has no reader. Each request is answered, each
-        grant has its line in the log of grants, and the lines that are lost are counted."""
+        """Nobody reads the pipe to which the daemon writes its denials; later the pipe has no reader. 3,000 denials of
+        over 500 octets fill it. Each request is answered, each grant has its line in the log of grants, and the lines
+        that are lost are counted."""
         with self.daemon() as daemon:
             daemon.process.terminate()
             daemon.process.wait()
@@ -162,8 +170,8 @@ class Log(OfDaemon):
                 self.assertEqual(set(self.ask_often(daemon.socket, 3000, self.headers("//" + "a" * 500))), {400})
                 self.assertEqual(self.ask_often(daemon.socket, 5, self.headers()), [200] * 5)
                 self.assertEqual(len(self.lines(daemon.grants)), 305)
-                self.assertEqual(daemon.does("-reload")[0], 0)
-                self.assertRegex(daemon.does("-metrics")[1], r"\nspki_authd_lines_lost_total [1-9]\d+\n")
+                self.assertEqual(daemon.run("-reload")[0], 0)
+                self.assertRegex(daemon.run("-metrics")[1], r"\nspki_authd_lines_lost_total [1-9]\d+\n")
                 os.close(reader)
                 self.assertEqual(self.ask_often(daemon.socket, 5, self.headers("//")), [400] * 5)
                 self.assertEqual(self.ask_often(daemon.socket, 5, self.headers()), [200] * 5)
@@ -172,36 +180,36 @@ class Log(OfDaemon):
             finally:
                 hung.kill()
                 hung.wait()
-            daemon.process = subprocess.Popen([self.daemon_program, "-config", daemon.config], stdout=subprocess.DEVNULL, stderr=subprocess.PIPE)
-            self.assertEqual(daemon.message()["event"], "started")
+            self.start_again(daemon)
 
     def test_readers_that_are_gone(self) -> None:
         """A pipe at standard error whose reader is gone does not end the daemon."""
         with self.daemon() as daemon:
             assert daemon.process.stderr is not None
             daemon.process.stderr.close()
-            self.assertEqual(daemon.does("-reload")[0], 0)
+            self.assertEqual(daemon.run("-reload")[0], 0)
             self.assertEqual(self.ask_often(daemon.socket, 2, self.headers()), [200, 200])
+            # (`communicate` would read a stream that is closed)
             daemon.process.stderr = None
 
     def test_two_daemons_with_one_log(self) -> None:
         with self.daemon() as daemon:
             other = f"{daemon.config}.other"
             Daemon.write(other, text_of(daemon.config).replace(daemon.socket, f"{daemon.socket}2"))
-            status, said = output_of(self.daemon_program, "-config", other, seconds=SECONDS)
-            self.assertEqual((status, "another daemon writes this log" in said), (1, True), said)
+            status, output = output_of(self.daemon_program, "-config", other, seconds=SECONDS)
+            self.assertEqual((status, "another daemon writes this log" in output), (1, True), output)
 
     def test_fifo(self) -> None:
-        """A FIFO as a file is refused, at the start and at a reload, and hangs nothing."""
+        """A FIFO in the place of the file of ended certificates is refused at a reload and by `-test`, and hangs
+        nothing."""
         with self.daemon() as daemon:
             fifo = os.path.join(os.path.dirname(daemon.config), "fifo")
             os.mkfifo(fifo)
             os.replace(fifo, daemon.ended)
-            status, _, said = daemon.does("-reload")
-            self.assertEqual((status, "no ordinary file" in said), (1, True))
-            self.assertEqual(self.ask_often(daemon.socket, 1, self.headers()), [200])
-            status, _, said = daemon.does("-test")
-            self.assertEqual((status, "no ordinary file" in said), (1, True))
+            for word in ("-reload", "-test"):
+                status, _, errors = daemon.run(word)
+                self.assertEqual((status, "no ordinary file" in errors), (1, True))
+                self.assertEqual(self.ask_often(daemon.socket, 1, self.headers()), [200])
 
     def test_query_strings(self) -> None:
         """What a client writes after a `?` may be a password, and is in no log."""
@@ -212,7 +220,8 @@ class Log(OfDaemon):
 
 
 class Manager:
-    """What a service manager does for a daemon: it opens the socket, hands it over, and is told what the daemon does."""
+    """What a service manager does for a daemon: it opens the socket, hands it over, and receives messages of what the
+    daemon does."""
 
     def __init__(self, daemon: Daemon) -> None:
         self.daemon = daemon
@@ -220,9 +229,9 @@ class Manager:
         self.socket.bind(daemon.socket)
         os.chmod(daemon.socket, 0o600)
         self.socket.listen(4096)
-        self.told = socket.socket(socket.AF_UNIX, socket.SOCK_DGRAM)
-        self.told.bind(f"{daemon.socket}.notify")
-        self.told.settimeout(SECONDS)
+        self.messages = socket.socket(socket.AF_UNIX, socket.SOCK_DGRAM)
+        self.messages.bind(f"{daemon.socket}.notify")
+        self.messages.settimeout(SECONDS)
 
     def start(self) -> subprocess.Popen[bytes]:
         """Starts the daemon, and waits until it says that it is ready. It gets the socket as from systemd: as the open file with the number 3, which
@@ -238,12 +247,12 @@ class Manager:
 
     def message(self) -> str:
         """Waits for the daemon's next message to the manager, and returns it."""
-        return self.told.recv(4096).decode()
+        return self.messages.recv(4096).decode()
 
     def close(self) -> None:
         """Closes both sockets. It does not end a daemon."""
         self.socket.close()
-        self.told.close()
+        self.messages.close()
 
 
 @contextlib.contextmanager
@@ -269,10 +278,10 @@ class Started(OfDaemon):
         with managed(self.daemon_program, self.access_list) as manager:
             process = manager.start()
             try:
-                self.assertEqual(manager.daemon.does("-reload")[0], 0)
+                self.assertEqual(manager.daemon.run("-reload")[0], 0)
                 self.assertEqual([manager.message(), manager.message()], ["RELOADING=1", "STATUS=1 entries, 0 ended certificates\nREADY=1"])
                 Daemon.write(manager.daemon.list, "(acl (entry))")
-                self.assertEqual(manager.daemon.does("-reload")[0], 1)
+                self.assertEqual(manager.daemon.run("-reload")[0], 1)
                 self.assertEqual(manager.message(), "RELOADING=1")
                 self.assertIn("the last reload was refused\nREADY=1", manager.message())
             finally:
@@ -285,30 +294,30 @@ class Started(OfDaemon):
         line: those that come between two daemons wait in the manager's socket."""
         with managed(self.daemon_program, self.access_list) as manager:
             process = manager.start()
-            with asked_by_many(lambda: self.ask_often(manager.daemon.socket, 1, self.headers())) as met:
+            with asked_by_many(lambda: self.ask_often(manager.daemon.socket, 1, self.headers())) as statuses:
                 for _ in range(RESTARTS):
                     process.terminate()
                     self.assertEqual(process.wait(SECONDS), 0)
                     process = manager.start()
             process.terminate()
             process.wait()
-            self.assertEqual(set(met), {200})
-            self.assertEqual(len(self.lines(manager.daemon.grants)), len(met))
+            self.assertEqual(set(statuses), {200})
+            self.assertEqual(len(self.lines(manager.daemon.grants)), len(statuses))
 
     def test_another_socket(self) -> None:
         """The daemon refuses to start if the socket that is handed over is not the one that its configuration names, or if everyone may write to
         it."""
-        for change, said in ((lambda path: os.chmod(path, 0o666), "everyone may write"), (None, "hands over")):
+        for is_other, reason in ((False, "everyone may write"), (True, "hands over")):
             with managed(self.daemon_program, self.access_list) as manager:
-                if change:
-                    change(manager.daemon.socket)
-                else:
+                if is_other:
                     text = text_of(manager.daemon.config).replace(manager.daemon.socket, f"{manager.daemon.socket}2")
                     Daemon.write(manager.daemon.config, text)
+                else:
+                    os.chmod(manager.daemon.socket, 0o666)
                 words = ["sh", "-c", 'exec 3<&0; LISTEN_PID=$$ LISTEN_FDS=1 exec "$@"', "sh", self.daemon_program, "-config", manager.daemon.config]
                 done = subprocess.run(words, stdin=manager.socket.fileno(), stdout=subprocess.DEVNULL, stderr=subprocess.PIPE, text=True,
                                       timeout=SECONDS)
-                self.assertEqual((done.returncode, said in done.stderr), (1, True), done.stderr)
+                self.assertEqual((done.returncode, reason in done.stderr), (1, True), done.stderr)
 
     @needs.needs("systemd-socket-activate")
     def test_socket_activation(self) -> None:
@@ -328,7 +337,7 @@ class Started(OfDaemon):
                 # (a unit sets SocketMode)
                 os.chmod(daemon.socket, 0o600)
                 self.assertEqual(self.ask_often(daemon.socket, 2, self.headers()), [200, 200])
-                self.assertEqual(daemon.does("-health")[0], 0)
+                self.assertEqual(daemon.run("-health")[0], 0)
             except OSError:
                 self.fail("\n".join(self.lines(daemon.log)))
             finally:
@@ -357,13 +366,13 @@ class Started(OfDaemon):
     @staticmethod
     def queue(path: str) -> int:
         """How many connections the system lets wait at the socket with this path: the fourth column of `ss -xl`."""
-        said = subprocess.run(["ss", "-xl"], stdout=subprocess.PIPE, text=True, check=True).stdout
-        return next(int(line.split()[3]) for line in said.splitlines() if f" {path} " in line)
+        listed = subprocess.run(["ss", "-xl"], stdout=subprocess.PIPE, text=True, check=True).stdout
+        return next(int(line.split()[3]) for line in listed.splitlines() if f" {path} " in line)
 
     @needs.needs("setpriv")
     def test_group_of_the_socket(self) -> None:
-        """`-test`, which checks the configuration and starts nothing, refuses a group for the socket that the daemon's user is not in. As root may
-        choose any group, the program runs as another user then."""
+        """`-test`, which checks the configuration and starts nothing, refuses a group for the socket that the daemon's
+        user is not in. Root may choose any group, so if the test is run by root, the program runs as another user."""
         with tempfile.TemporaryDirectory() as room:
             daemon = Daemon(room, self.daemon_program, self.access_list)
             daemon.process.terminate()
@@ -372,9 +381,9 @@ class Started(OfDaemon):
                 os.chmod(path, mode)
             program = shutil.copy(self.daemon_program, os.path.join(room, "program"))
             as_other = ["setpriv", "--reuid=65534", "--regid=65534", "--clear-groups"] if os.getuid() == 0 else []
-            for group, wanted in (("root", 1), (None, 0)):
-                text = json.loads(text_of(daemon.config))
-                Daemon.write(daemon.config, json.dumps({**text, "socket_group": group} if group else {**text, "socket_group": ""}))
+            settings = json.loads(text_of(daemon.config))
+            for group, wanted in (("root", 1), ("", 0)):
+                Daemon.write(daemon.config, json.dumps({**settings, "socket_group": group}))
                 words = [*as_other, program, "-test", "-config", daemon.config]
                 done = subprocess.run(words, stdout=subprocess.PIPE, stderr=subprocess.PIPE, text=True)
                 self.assertEqual((done.returncode, "is not in it" in done.stderr), (wanted, bool(wanted)), done.stderr)
@@ -437,36 +446,33 @@ class BehindNginx(OfDaemon):
     def test_another_program_at_the_port(self) -> None:
         """nginx asks the daemon by TLS. Once the daemon has ended, another program at the same port, with another certificate, says 200 to all. nginx
         sends it no secret, and answers 500 to each request."""
-        with tempfile.TemporaryDirectory() as room, socket.socket() as taken:
+        with tempfile.TemporaryDirectory() as room:
             os.chmod(room, 0o755)
             for name in ("crt", "other"):
                 self.certificate(room, name)
-            taken.bind(("127.0.0.1", 0))
-            at = f"127.0.0.1:{taken.getsockname()[1]}"
-            taken.close()
+            at = f"127.0.0.1:{served.free_port()}"
             Daemon.write(os.path.join(room, "secret"), SECRET)
             os.chmod(os.path.join(room, "secret"), 0o600)
             files = {"certificate": os.path.join(room, "crt"), "key": os.path.join(room, "crt.key")}
             with self.daemon(listen=f"tls:{at}", tls=files, secret_file=os.path.join(room, "secret"), control=f"unix:{room}/control") as daemon:
                 with self.nginx(room, at, "https") as web:
                     self.assertEqual(self.ask_often(web, 2, {}, "/web/a"), [200, 200])
-                    self.assertEqual(daemon.does("-health")[0], 0)
+                    self.assertEqual(daemon.run("-health")[0], 0)
                     daemon.process.terminate()
                     daemon.process.wait()
                     self.assertEqual(self.ask_often(web, 1, {}, "/web/a"), [500])
-                    with self.impostor(room, at) as heard:
+                    with self.impostor(room, at) as received:
                         self.assertEqual(self.ask_often(web, 3, {}, "/web/a"), [500] * 3)
-                    self.assertNotIn(SECRET.encode(), b"".join(heard))
-                daemon.process = subprocess.Popen([self.daemon_program, "-config", daemon.config], stdout=subprocess.DEVNULL, stderr=subprocess.PIPE)
-                self.assertEqual(daemon.message()["event"], "started")
+                    self.assertNotIn(SECRET.encode(), b"".join(received))
+                self.start_again(daemon)
 
     @contextlib.contextmanager
     def impostor(self, room: str, at: str) -> Iterator[list[bytes]]:
         """A context with a server at `at`, a host and a port. It shows another certificate than the daemon's, answers 200 to all, and adds what it
-        receives to the list."""
+        receives to the list. `web_servers.Impostor` chooses its port, and notes only the secret of a request."""
         context = ssl.SSLContext(ssl.PROTOCOL_TLS_SERVER)
         context.load_cert_chain(os.path.join(room, "other"), os.path.join(room, "other.key"))
-        heard: list[bytes] = []
+        received: list[bytes] = []
         host, _, port = at.rpartition(":")
         listener = socket.create_server((host, int(port)))
 
@@ -474,14 +480,14 @@ class BehindNginx(OfDaemon):
             with contextlib.suppress(OSError):
                 while True:
                     client = listener.accept()[0]
-                    with contextlib.suppress(OSError), context.wrap_socket(client, server_side=True) as spoken:
-                        heard.append(spoken.recv(65536))
-                        spoken.sendall(b"HTTP/1.1 200 OK\r\nContent-Length: 0\r\n\r\n")
+                    with contextlib.suppress(OSError), context.wrap_socket(client, server_side=True) as connection:
+                        received.append(connection.recv(65536))
+                        connection.sendall(b"HTTP/1.1 200 OK\r\nContent-Length: 0\r\n\r\n")
 
         thread = threading.Thread(target=serves)
         thread.start()
         try:
-            yield heard
+            yield received
         finally:
             listener.shutdown(socket.SHUT_RDWR)
             listener.close()
@@ -494,14 +500,14 @@ class BehindNginx(OfDaemon):
             self.certificate(room, "crt")
             process = manager.start()
             with self.nginx(room, f"unix:{manager.daemon.socket}", "http") as web:
-                with asked_by_many(lambda: self.ask_often(web, 20, {}, "/web/a")) as met:
+                with asked_by_many(lambda: self.ask_often(web, 20, {}, "/web/a")) as statuses:
                     for _ in range(RESTARTS):
                         process.terminate()
                         self.assertEqual(process.wait(SECONDS), 0)
                         process = manager.start()
             process.terminate()
             process.wait()
-            self.assertEqual(set(met), {200})
+            self.assertEqual(set(statuses), {200})
 
 
 class Units(unittest.TestCase):
@@ -526,8 +532,8 @@ class Units(unittest.TestCase):
         self.assertEqual(done.returncode, 0, done.stdout[-300:])
 
     def test_what_must_be_set(self) -> None:
-        """Lines without which there was a fault once: after some failed starts somebody had to start the service by hand, a reload could not fail,
-        and the runtime folder was removed with the socket in it."""
+        """The lines of the units that prevent faults. Without them somebody had to start the service by hand after some
+        failed starts, a reload could not fail, and the runtime folder was removed with the socket in it."""
         service, unit = (text_of(path).splitlines() for path in UNITS)
         for line in ("StartLimitIntervalSec=0", "Type=notify", "ExecReload=/usr/local/bin/spki-authd -reload -config /etc/spki-authd/config.json",
                      "RuntimeDirectoryPreserve=yes", "LogRateLimitIntervalSec=30s", "LogRateLimitBurst=30000", "Requires=spki-authd.socket"):

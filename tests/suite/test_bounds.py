@@ -28,25 +28,25 @@ class Bounds(unittest.TestCase):
         self.assertIn(f"For each GB that is written a command takes {self.slowest.SECONDS_AN_OCTET * 1e9:g} s more.", section)
 
     def test_named_texts(self) -> None:
-        """Each named text is one of a call, and none is larger than the call allows. Of its calls the first is tried. Except for `intersect` the list
-        gets at most 4,096 octets here."""
+        """A call begins with each of the words of a named text. The text made for the first of these calls is no larger
+        than the call allows. Except for `intersect` its list gets at most 4,096 octets, so that the test is fast."""
         for named in self.slowest.NAMED:
-            calls = [call for call in self.slowest.CALLS if call.what.startswith(named.words)]
-            self.assertGreaterEqual(len(calls), len(named.words), named.what)
-            for call in calls[:1]:
-                listed = min(named.listed, call.listed if call.word == "intersect" else 4096)
-                made = self.slowest.sized(call, named.recipe, listed, named.asked)
-                self.assertLessEqual(len(made.list_text()), listed, named.what)
-                self.assertLessEqual(sum(map(len, made.parts()[1:])), min(call.asked, named.asked), named.what)
+            for word in named.words:
+                self.assertTrue([call for call in self.slowest.CALLS if call.what.startswith(word)], (named.what, word))
+            call = next(call for call in self.slowest.CALLS if call.what.startswith(named.words))
+            listed = min(named.listed, call.listed if call.word == "intersect" else 4096)
+            texts = self.slowest.sized(call, named.recipe, listed, named.asked)
+            self.assertLessEqual(len(texts.list_text()), listed, named.what)
+            self.assertLessEqual(sum(map(len, texts.parts()[1:])), min(call.asked, named.asked), named.what)
 
     def test_the_search_is_repeated(self) -> None:
         """50 changes by chance of a recipe, which says how a text is made, give the same recipe for the same seed."""
         recipes = sys.modules["recipes"]
-        met = []
+        last_recipes = []
         for _ in range(2):
             chance, recipe = random.Random("seed"), self.slowest.NAMED[0].recipe
             for _ in range(50):
                 recipe = recipes.changed(chance, recipe)
-            met.append(recipe)
-        self.assertEqual(met[0], met[1])
-        self.assertNotEqual(met[0], self.slowest.NAMED[0].recipe)
+            last_recipes.append(recipe)
+        self.assertEqual(*last_recipes)
+        self.assertNotEqual(recipe, self.slowest.NAMED[0].recipe)

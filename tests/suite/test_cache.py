@@ -32,9 +32,9 @@ class Caches(built.OfLibrary):
     def setUp(self) -> None:
         self.room = room_for(self)
 
-    def serves(self, *words: str) -> None:
+    def check_cache(self, *words: str) -> None:
         """The cache that the command `words` starts must answer Bob as LINES says, and deny all to Carol, for whom Alice's certificate is not. It
-        must deny all to Bob too if Alice's signature is of another text."""
+        must deny all to Bob too if Alice's signature is of another certificate."""
         from spki_cert_tool import keys
         alice, bob, carol = (keys.FileSigner(keys.new_private(kind)) for kind in (keys.P256, keys.ED25519, keys.ED25519))
         issuer = keys.principal_of(alice.key)
@@ -46,8 +46,8 @@ class Caches(built.OfLibrary):
         for name, holder, shown in (("bob", bob, value), ("carol", carol, value), ("forged", bob, other)):
             signature: "Value" = [b"signature", keys.hash_of(certificate), issuer, shown]
             sequence: "Value" = [b"sequence", alice.key, certificate, signature]
-            met = self.answers(words, name, acl, holder.key, sequence)
-            self.assertEqual(met, [wanted if name == "bob" else "denied" for _, wanted in LINES], name)
+            answers = self.answers(words, name, acl, holder.key, sequence)
+            self.assertEqual(answers, [wanted if name == "bob" else "denied" for _, wanted in LINES], name)
 
     def answers(self, words: tuple[str, ...], name: str, *parts: "Value") -> list[str]:
         """Starts a cache by `words` in a new folder `name`, with an access list, a key and a sequence (`parts`). Returns what it answers to LINES."""
@@ -59,13 +59,13 @@ class Caches(built.OfLibrary):
                 file.write(canonical(part))
         with open(os.path.join(folder, "files", "secret"), "w", encoding="ascii") as file:
             file.write("nobody's")
-        given = [*words, paths[0], os.path.join(folder, "files"), *paths[1:]]
-        done = subprocess.run(given, input="".join(f"{line}\n" for line, _ in LINES), capture_output=True, text=True, timeout=SECONDS,
+        command = [*words, paths[0], os.path.join(folder, "files"), *paths[1:]]
+        done = subprocess.run(command, input="".join(f"{line}\n" for line, _ in LINES), capture_output=True, text=True, timeout=SECONDS,
                               env={**os.environ, "PYTHONPATH": PYTHON, "SPKI_LIBRARY": self.shared})
         self.assertEqual((done.returncode, done.stderr), (0, ""))
         return done.stdout.splitlines()
 
-    def made(self, *words: str, folder: str = TOP, **more: str) -> None:
+    def compile(self, *words: str, folder: str = TOP, **more: str) -> None:
         """Compiles a cache: runs the command `words` in a folder, with the settings `more` in its environment. It must succeed."""
         done = subprocess.run(words, cwd=folder, stdout=subprocess.PIPE, stderr=subprocess.STDOUT, text=True, timeout=SECONDS,
                               env={**os.environ, **more})
@@ -73,25 +73,25 @@ class Caches(built.OfLibrary):
 
     @needs.needs("openssl/evp.h")
     def test_c(self) -> None:
-        made, folder = os.path.join(self.room, "cache"), os.path.join(EXAMPLES, "c")
+        program, folder = os.path.join(self.room, "cache"), os.path.join(EXAMPLES, "c")
         sources = [os.path.join(folder, name) for name in ("cache.c", "verify_openssl.c")]
-        self.made("cc", "-std=c11", "-Wall", "-Wextra", "-Wpedantic", "-Werror", "-I", CRATE, "-o", made, *sources, self.library, "-lcrypto")
-        self.serves(made)
+        self.compile("cc", "-std=c11", "-Wall", "-Wextra", "-Wpedantic", "-Werror", "-I", CRATE, "-o", program, *sources, self.library, "-lcrypto")
+        self.check_cache(program)
 
     @needs.needs("cargo", "openssl")
     def test_rust(self) -> None:
         folder = os.path.dirname(self.library)
-        self.made("cargo", "build", "--quiet", "--example", "cache", folder=RUST, SPKI_LIB_DIR=folder, CARGO_NET_OFFLINE="true")
-        self.serves(os.path.join(RUST, "out", "debug", "examples", "cache"))
+        self.compile("cargo", "build", "--quiet", "--example", "cache", folder=RUST, SPKI_LIB_DIR=folder, CARGO_NET_OFFLINE="true")
+        self.check_cache(os.path.join(RUST, "out", "debug", "examples", "cache"))
 
     def test_python(self) -> None:
-        self.serves(sys.executable, os.path.join(PYTHON, "examples", "cache.py"))
+        self.check_cache(sys.executable, os.path.join(PYTHON, "examples", "cache.py"))
 
     @needs.needs("go")
     def test_go(self) -> None:
-        made = os.path.join(self.room, "cache")
-        self.made("go", "build", "-o", made, "./examples/cache", folder=golang.MODULE, **golang.settings(self.library))
-        self.serves(made)
+        program = os.path.join(self.room, "cache")
+        self.compile("go", "build", "-o", program, "./examples/cache", folder=golang.MODULE, **golang.settings(self.library))
+        self.check_cache(program)
 
 
 class Lengths(unittest.TestCase):

@@ -6,7 +6,6 @@ import hashlib
 import http.client
 import json
 import os
-import shutil
 import signal
 import socket
 import subprocess
@@ -34,11 +33,11 @@ KINDS = {"ed25519": ["ed25519"], "rsa": ["RSA", "-pkeyopt", "rsa_keygen_bits:204
 class OfGo(test_bindings.Binding):
     """A test of what is written in Go."""
 
-    def does(self, folder: str, *words: str, given: bytes | None = None, **more: str) -> bytes:
+    def go(self, folder: str, *words: str, given: bytes | None = None, **more: str) -> bytes:
         """Runs a command of Go in a folder, with the input `given` and more settings of the environment. It must succeed. Returns its output."""
         done = golang.go(folder, list(words), self.library, given, **more)
-        said = (done.stdout + done.stderr).decode(errors="replace")
-        self.assertEqual(done.returncode, 0, f"go {' '.join(words)}: {said[-4000:]}")
+        output = (done.stdout + done.stderr).decode(errors="replace")
+        self.assertEqual(done.returncode, 0, f"go {' '.join(words)}: {output[-4000:]}")
         return done.stdout
 
 
@@ -52,7 +51,7 @@ class InGo(OfGo):
 
     def test_vet(self) -> None:
         for folder in (golang.MODULE, golang.DAEMON):
-            self.does(folder, "vet", "./...")
+            self.go(folder, "vet", "./...")
 
     @needs.needs("go-staticcheck")
     def test_lints(self) -> None:
@@ -64,27 +63,27 @@ class InGo(OfGo):
 
     def test_packages(self) -> None:
         """The module has its path and its packages, and needs no other module."""
-        self.assertEqual(self.does(golang.MODULE, "list", "-m", "all"), b"conguraki/spki\n")
-        names = set(self.does(golang.MODULE, "list", "./...").decode().split())
+        self.assertEqual(self.go(golang.MODULE, "list", "-m", "all"), b"conguraki/spki\n")
+        names = set(self.go(golang.MODULE, "list", "./...").decode().split())
         self.assertLessEqual({"conguraki/spki", "conguraki/spki/guard", "conguraki/spki/verify"}, names)
 
     def test_module(self) -> None:
         """The tests of the module pass, with the race detector and the strict checks of pointers that are passed to C. `cgocheck=2` asks the runtime
         of Go up to 1.20 for these checks. From 1.21 on they are a setting of the build, GOEXPERIMENT=cgocheck2."""
-        self.does(golang.MODULE, "test", "-race", "./...", GODEBUG="cgocheck=2")
+        self.go(golang.MODULE, "test", "-race", "./...", GODEBUG="cgocheck=2")
 
     def test_questions(self) -> None:
         """A program in Go answers all questions of the tables as `spki` does. It reads them as `test_bindings.framed` writes them, and writes its
         answers as strings in canonical form."""
         asked = test_bindings.all_questions(self.program)
-        lines = self.does(golang.MODULE, "run", "./examples/asked", given=b"".join(map(test_bindings.framed, asked)))
+        lines = self.go(golang.MODULE, "run", "./examples/asked", given=b"".join(map(test_bindings.framed, asked)))
         fault = test_bindings.faults_of_answers(asked, [line + b"\n" for line in test_bindings.strings_in(lines)])
         self.assertEqual(fault, "", fault)
 
     def test_example(self) -> None:
         with tempfile.TemporaryDirectory() as room:
             to = os.path.join(room, "decide")
-            self.does(golang.MODULE, "build", "-o", to, "./examples/decide")
+            self.go(golang.MODULE, "build", "-o", to, "./examples/decide")
             self.check_decisions(to)
 
     @needs.needs("pkg-config")
@@ -95,15 +94,15 @@ class InGo(OfGo):
         with tempfile.TemporaryDirectory() as room:
             subprocess.run([os.path.join(TOP, "install.sh"), room, self.program, self.library], check=True, stdout=subprocess.DEVNULL,
                            timeout=golang.SECONDS)
-            self.does(golang.MODULE, "test", "-tags", "spki_shared", "./guard", PKG_CONFIG_PATH=os.path.join(room, "lib", "pkgconfig"),
-                      LD_LIBRARY_PATH=os.path.join(room, "lib"), CGO_LDFLAGS="")
+            self.go(golang.MODULE, "test", "-tags", "spki_shared", "./guard", PKG_CONFIG_PATH=os.path.join(room, "lib", "pkgconfig"),
+                    LD_LIBRARY_PATH=os.path.join(room, "lib"), CGO_LDFLAGS="")
 
 
 class Authd(OfGo):
     """The tests of the daemon."""
 
     def test_daemon(self) -> None:
-        self.does(golang.DAEMON, "test", "-race", "./...")
+        self.go(golang.DAEMON, "test", "-race", "./...")
 
 
 class Fuzzed(OfGo):
@@ -114,7 +113,7 @@ class Fuzzed(OfGo):
             with self.subTest(name):
                 # (Go 1.19 may lose its worker while it makes an input smaller that is only new)
                 times = ("-fuzztime", f"{seconds}s", "-fuzzminimizetime", "1x")
-                self.does(folder, "test", "-run", "^$", "-fuzz", f"^{name}$", *times, package)
+                self.go(folder, "test", "-run", "^$", "-fuzz", f"^{name}$", *times, package)
 
 
 if not built.IS_LONG:
@@ -122,7 +121,7 @@ if not built.IS_LONG:
 
 
 class OverSocket(http.client.HTTPConnection):
-    """A connection to a Unix socket."""
+    """A connection to a Unix socket. A program that does not answer for 60 seconds hangs."""
 
     def __init__(self, path: str) -> None:
         super().__init__("daemon", timeout=60)
@@ -130,7 +129,7 @@ class OverSocket(http.client.HTTPConnection):
 
     def connect(self) -> None:
         self.sock = socket.socket(socket.AF_UNIX, socket.SOCK_STREAM)
-        self.sock.settimeout(60)
+        self.sock.settimeout(self.timeout)
         self.sock.connect(self.path)
 
 
@@ -162,7 +161,7 @@ def sealed(lines: str) -> str:
 
 
 def spki_cert(*words: str) -> bytes:
-    """What `spki-cert` writes."""
+    """What `spki-cert` writes to standard output when it is run with these words. It must succeed."""
     return subprocess.run([SPKI_CERT, *words], check=True, stdout=subprocess.PIPE, stdin=subprocess.DEVNULL).stdout
 
 
@@ -200,18 +199,19 @@ class Daemon:
         self.process.send_signal(signal.SIGHUP)
         return self.message()
 
-    def does(self, *words: str) -> tuple[int, str, str]:
+    def run(self, *words: str) -> tuple[int, str, str]:
         """Runs the daemon's program with these words and its configuration. Returns the status, the output and the errors."""
         done = subprocess.run([self.program, *words, "-config", self.config], stdout=subprocess.PIPE, stderr=subprocess.PIPE, text=True, timeout=600)
         return done.returncode, done.stdout, done.stderr
 
-    def ask(self, who: Person, method: str, target: str, sequence: bytes = b"", door: str = "") -> http.client.HTTPResponse:
-        """The daemon's answer to what a web server asks about a person's request. `door` is the path of a socket other than the daemon's own."""
+    def ask(self, who: Person, method: str, target: str, sequence: bytes = b"", path: str = "") -> http.client.HTTPResponse:
+        """The daemon's answer to what a web server asks about a person's request. `path` is that of a socket other than
+        the daemon's own, where a proxy listens."""
         headers = {"X-Original-Method": method, "X-Original-URI": target, "X-Client-Cert": urllib.parse.quote(who.certificate)}
         if sequence:
             shown = subprocess.run([built.program(), "transport"], input=sequence, stdout=subprocess.PIPE, check=True).stdout
             headers["Authorization"] = f"SPKI {shown.decode().strip()}"
-        connection = OverSocket(door or self.socket)
+        connection = OverSocket(path or self.socket)
         try:
             connection.request("GET", "/", headers=headers)
             response = connection.getresponse()
@@ -220,7 +220,7 @@ class Daemon:
         finally:
             connection.close()
 
-    def last(self) -> dict[str, object]:
+    def last_grant(self) -> dict[str, object]:
         """The last line of the log of grants, as an object."""
         with open(self.grants, encoding="utf-8") as log:
             return dict(json.loads(log.readlines()[-1]))
@@ -254,20 +254,22 @@ class Served(OfGo):
                 for number, alice in enumerate(alices, 1):
                     for bob in bobs:
                         shown = alice.gives(bob, "(files read (* prefix /web/))")
-                        met = daemon.ask(bob, "GET", "/web/a", shown)
-                        self.assertEqual((met.status, met.headers["X-Spki-Entry"], met.headers["X-Spki-Key"]), (200, str(number), bob.digest))
+                        answer = daemon.ask(bob, "GET", "/web/a", shown)
+                        self.assertEqual((answer.status, answer.headers["X-Spki-Entry"]), (200, str(number)))
+                        self.assertEqual(answer.headers["X-Spki-Key"], bob.digest)
                         self.assertEqual(daemon.ask(bob, "PUT", "/web/a", shown).status, 403)
                         self.assertEqual(daemon.ask(bob, "GET", "/web/../a", shown).status, 400)
                         self.assertEqual(daemon.ask(alice, "GET", "/web/a", shown).status, 403)
                         self.assertEqual(daemon.ask(bob, "GET", "/web/a").status, 401)
-                        self.assertEqual(daemon.ask(bob, "GET", "/web/a", self.changed(shown)).status, 403)
+                        self.assertEqual(daemon.ask(bob, "GET", "/web/a", self.with_wrong_signature(shown)).status, 403)
 
     @staticmethod
-    def changed(sequence: bytes) -> bytes:
+    def with_wrong_signature(sequence: bytes) -> bytes:
         """A sequence in whose last signature the last octet differs by a bit."""
         items = value_of(sequence)
-        value = items[-1][3][1][-1]
-        value[1] = value[1][:-1] + bytes([value[1][-1] ^ 1])
+        # (a signature is `(signature HASH KEY (sig-val (ALGORITHM .. (NAME NUMBER))))`)
+        part = items[-1][3][1][-1]
+        part[1] = part[1][:-1] + bytes([part[1][-1] ^ 1])
         return canonical(items)
 
     def test_reload(self) -> None:
@@ -278,7 +280,7 @@ class Served(OfGo):
             with self.served(text, room) as daemon:
                 shown = alice.gives(bob, "(files read (* prefix /web/))")
                 self.assertEqual(daemon.ask(bob, "GET", "/web/a", shown).status, 200)
-                digests = daemon.last()["certificates"]
+                digests = daemon.last_grant()["certificates"]
                 assert isinstance(digests, list)
                 daemon.write(daemon.ended, sealed(f"{digests[0]} # Bob has left\n"))
                 daemon.write(daemon.list, "(acl (entry))")
@@ -295,29 +297,27 @@ class Served(OfGo):
                 self.assertEqual(daemon.ask(alice, "GET", "/web/a").status, 401)
 
     def test_killed_and_started_again(self) -> None:
-        """A daemon that was killed leaves its socket, and the next one takes the place."""
+        """A daemon that was killed leaves its socket, and the next one listens at the same path."""
         with tempfile.TemporaryDirectory() as room:
             alice = Person(room, "alice", "ed25519")
             text = f"(acl (entry {alice.key} (tag (files read))))"
             with self.served(text, room) as daemon:
-                first = shutil.copy(os.path.join(room, "spki-authd"), os.path.join(room, "other"))
                 daemon.process.kill()
                 daemon.process.communicate()
                 self.assertTrue(os.path.exists(daemon.socket))
-                again = Daemon(room, first, text)
-                daemon.process, daemon.event = again.process, again.event
+                daemon.process = Daemon(room, daemon.program, text).process
                 self.assertEqual(daemon.ask(alice, "GET", "/web/a").status, 200)
 
-    def test_words(self) -> None:
+    def test_check(self) -> None:
         """`spki-authd -check` says how many entries a list has, or what is wrong in it."""
         with tempfile.TemporaryDirectory() as room:
             program = golang.build_daemon(self.library, os.path.join(room, "spki-authd"))
-            for text, status, said in [("(acl)", 0, "0 entries"), ("(acl (entry))", 1, "refused acl 1 Shape"), ("", 1, "refused form Short")]:
+            for text, status, line in [("(acl)", 0, "0 entries"), ("(acl (entry))", 1, "refused acl 1 Shape"), ("", 1, "refused form Short")]:
                 path = os.path.join(room, "acl")
                 Daemon.write(path, text)
                 done = subprocess.run([program, "-check", path], stdout=subprocess.PIPE, stderr=subprocess.STDOUT, text=True, timeout=60)
                 self.assertEqual(done.returncode, status)
-                self.assertIn(said, done.stdout)
+                self.assertIn(line, done.stdout)
 
 
 def value_of(text: bytes) -> Any:

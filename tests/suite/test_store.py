@@ -71,7 +71,7 @@ class OfStore(built.OfLibrary):
             file.write(octets)
         return path
 
-    def does(self, wanted: int, *words: str) -> str:
+    def spki_store(self, wanted: int, *words: str) -> str:
         """Runs `spki-store`, which must end with the status `wanted`. Returns what it writes on both streams."""
         out, fault = io.StringIO(), io.StringIO()
         with contextlib.redirect_stdout(out), contextlib.redirect_stderr(fault):
@@ -95,42 +95,42 @@ class Command(OfStore):
     """The command `spki-store`."""
 
     def test_one_after_another(self) -> None:
-        """Entries are imported, added, removed, compared, checked, told of and exported."""
+        """Entries are imported, added, removed, compared, checked, listed in the log and exported."""
         path = self.file(b"(acl (entry (public-key (test a)) (tag (*)))" + ZEROS.replace(b"(5:", b" (5:", 1) + b")", "list.sexp")
-        self.assertEqual(self.does(0, "import", path), "entries added: 2\n")
-        self.assertIn("imported before", self.does(2, "import", path))
-        self.assertEqual(self.does(0, "diff", path), "entries that differ: 0\n")
-        added = self.does(0, "add", self.file(b"(entry (public-key (test b)) (tag (packages read)))", "entry"))
+        self.assertEqual(self.spki_store(0, "import", path), "entries added: 2\n")
+        self.assertIn("imported before", self.spki_store(2, "import", path))
+        self.assertEqual(self.spki_store(0, "diff", path), "entries that differ: 0\n")
+        added = self.spki_store(0, "add", self.file(b"(entry (public-key (test b)) (tag (packages read)))", "entry"))
         self.assertEqual(added, "entry 3\n")
         # (a number that is given twice is one)
-        self.assertEqual(self.does(0, "remove", "1", "1"), "entries removed: 1\n")
-        self.assertIn("entry 1 is not there", self.does(1, "remove", "1"))
-        self.assertEqual(self.does(1, "diff", path).splitlines(), ["- 3 (entry (public-key (test b)) (tag (packages read)))",
-                                                                   "+ (entry (public-key (test a)) (tag *))".replace("*", "(*)"),
-                                                                   "entries that differ: 2"])
-        told = [line.split(" ", 6) for line in self.does(0, "log").splitlines()]
-        self.assertEqual([(line[0], line[2], line[3], line[4]) for line in told],
+        self.assertEqual(self.spki_store(0, "remove", "1", "1"), "entries removed: 1\n")
+        self.assertIn("entry 1 is not there", self.spki_store(1, "remove", "1"))
+        self.assertEqual(self.spki_store(1, "diff", path).splitlines(),
+                         ["- 3 (entry (public-key (test b)) (tag (packages read)))", "+ (entry (public-key (test a)) (tag (*)))",
+                          "entries that differ: 2"])
+        log = [line.split(" ", 6) for line in self.spki_store(0, "log").splitlines()]
+        self.assertEqual([(words[0], words[2], words[3], words[4]) for words in log],
                          [("1", "'postgres'", "add", "1"), ("2", "'postgres'", "add", "2"), ("3", "'postgres'", "add", "3"),
                           ("4", "'postgres'", "remove", "1")])
-        self.assertEqual(told[3][6], "(entry (public-key (test a)) (tag (*)))")
-        self.does(0, "check")
+        self.assertEqual(log[3][6], "(entry (public-key (test a)) (tag (*)))")
+        self.spki_store(0, "check")
         to = os.path.join(self.room, "exported")
-        self.does(0, "export", to)
+        self.spki_store(0, "export", to)
         with open(to, "rb") as file:
             self.assertEqual(file.read(), b"(3:acl" + ZEROS + key_entry(b"b", b"(8:packages4:read)") + b")")
-        self.assertIn("not written over", self.does(2, "export", to))
+        self.assertIn("not written over", self.spki_store(2, "export", to))
 
     def test_faults(self) -> None:
         """What is no entry, no digest, no schema and no server ends with a line and a status, and changes nothing."""
         for text in (b"(entry (public-key (test a)))", b"(entry (public-key (test a)) (tag (*))) x", b"", b"(acl)", b"(entry (tag (*)))"):
-            self.does(2, "add", self.file(text))
-        self.does(2, "import", self.file(b"(3:acl" + A + b"(5:entry))"))
-        self.does(2, "end", "00")
-        self.does(3, "add", os.path.join(self.room, "none"))
+            self.spki_store(2, "add", self.file(text))
+        self.spki_store(2, "import", self.file(b"(3:acl" + A + b"(5:entry))"))
+        self.spki_store(2, "end", "00")
+        self.spki_store(3, "add", os.path.join(self.room, "none"))
         self.assertEqual(commands.main(["--database", self.server.address, "--schema", 'a"; DROP TABLE x', "log"]), 2)
         self.assertEqual(commands.main(["--database", self.server.address, "--schema", "none", "log"]), 2)
         self.assertEqual(commands.main(["--database", "host=/none", "log"]), 3)
-        self.assertEqual(self.does(0, "log"), "")
+        self.assertEqual(self.spki_store(0, "log"), "")
 
     @needs.needs("openssl", "import cryptography")
     def test_entry_of_spki_cert(self) -> None:
@@ -159,10 +159,10 @@ class Command(OfStore):
             transfer.import_list(stopping, path, False)
         (count,), = self.store.rows("SELECT count(*) FROM {entries}")
         self.assertEqual(count, 2 * transfer.MOST_AT_ONCE)
-        self.assertEqual(self.does(0, "import", path), f"entries added: {len(wanted) - count}, and {count} before\n")
+        self.assertEqual(self.spki_store(0, "import", path), f"entries added: {len(wanted) - count}, and {count} before\n")
         self.assertEqual([row.text for row in self.store.all()], wanted)
-        self.assertEqual(self.does(0, "diff", path), "entries that differ: 0\n")
-        self.assertIn("wrong 0", self.does(0, "check"))
+        self.assertEqual(self.spki_store(0, "diff", path), "entries that differ: 0\n")
+        self.assertIn("wrong 0", self.spki_store(0, "check"))
 
     def rows_of_older_store(self) -> tuple[list[bytes], list[tuple[int, bytes, bytes]]]:
         """Entries, one of them twice, and the rows that the table of `examples/database` in version 0.1.0 had for them: a number, a principal and a
@@ -170,24 +170,24 @@ class Command(OfStore):
         wanted = [key_entry(b"a\0\n'", b"(8:packages4:read)"), ZEROS, A, key_entry(bytes(range(256))), A]
         return wanted, [(2 * place + 1, texts.principal_of(text), text) for place, text in enumerate(wanted)]
 
-    def is_taken_over(self, wanted: list[bytes]) -> None:
+    def check_entries(self, wanted: list[bytes]) -> None:
         """The store must have exactly these entries, in their order and numbered from 1 on, and each must be right."""
         self.assertEqual([(row.number, row.text) for row in self.store.all()], list(enumerate(wanted, 1)))
-        self.assertEqual(self.does(0, "check"), f"entries checked: {len(wanted)}, wrong 0\n")
+        self.assertEqual(self.spki_store(0, "check"), f"entries checked: {len(wanted)}, wrong 0\n")
         self.assertEqual(self.store.rows("SELECT count(*) FROM {changes}"), [(len(wanted),)])
 
     def test_older_store_in_sqlite(self) -> None:
         """The entries of the example of version 0.1.0 are taken over from SQLite, by the command of the page."""
         wanted, rows = self.rows_of_older_store()
-        old, to = (os.path.join(self.room, name) for name in ("old", "list"))
+        old, exported = (os.path.join(self.room, name) for name in ("old", "list"))
         with contextlib.closing(sqlite3.connect(old)) as connection, connection:
             connection.execute("PRAGMA journal_mode = WAL")
             connection.execute("CREATE TABLE entries (number INTEGER PRIMARY KEY AUTOINCREMENT, principal BLOB NOT NULL, text BLOB NOT NULL)")
             connection.executemany("INSERT INTO entries VALUES (?, ?, ?)", reversed(rows))
         command, = re.findall(r"^    (python3 -c .*) OLD > LIST$", text_of("apps/spki-store/README.md"), re.MULTILINE)
-        subprocess.run(["sh", "-c", f'{command} "$0" > "$1"', old, to], check=True)
-        self.assertEqual(self.does(0, "import", to), f"entries added: {len(wanted)}\n")
-        self.is_taken_over(wanted)
+        subprocess.run(["sh", "-c", f'{command} "$0" > "$1"', old, exported], check=True)
+        self.assertEqual(self.spki_store(0, "import", exported), f"entries added: {len(wanted)}\n")
+        self.check_entries(wanted)
 
     def test_older_store_in_postgresql(self) -> None:
         """The entries of the example of version 0.1.0 are taken over from PostgreSQL, by the statement of the page."""
@@ -200,7 +200,7 @@ class Command(OfStore):
                 self.store.connection.execute(text.encode())
             self.store.connection.cursor().executemany("INSERT INTO entries VALUES (%s, %s, %s)", list(reversed(rows)))
             self.store.connection.execute(statement.replace("spki.", f"{self.schema}.").encode())
-        self.is_taken_over(wanted)
+        self.check_entries(wanted)
 
 
 class Stopping(Store):
@@ -218,8 +218,9 @@ class Stopping(Store):
 class Schema(OfStore):
     """What the database itself refuses, and what it notes."""
 
-    def refused(self, fault: type[Exception], text: str, *values: Any, role: str = "") -> None:
-        """The database must refuse a statement with these values by this exception. `role` is who asks, by default the owner of the store."""
+    def check_refused(self, fault: type[Exception], text: str, *values: Any, role: str = "") -> None:
+        """The database must refuse a statement with these values by this exception. `role` is the role that asks:
+        `reader`, `writer`, or by default the owner of the store."""
         with self.subTest(text), self.assertRaises(fault), self.store.connection.transaction():
             if role:
                 self.store.connection.execute(f"SET LOCAL ROLE {self.schema}_{role}")
@@ -238,7 +239,7 @@ class Schema(OfStore):
         for bad in (A + A, A[:-1], A + b")", b"", b"x", b"(3:tag(1:*))", A.replace(b"1:a", b"9:a"), A.replace(b"1:a", b"a"), b" " + A,
                     A.replace(b"10:public-key", b"4:mask"), A.replace(b"1:a", b"99999999999:a"), ZEROS.replace(b"32:", b"31:", 1),
                     b"(5:entry(4:hash6:sha2564:abcd)(3:tag(1:*)))", b"(5:entry(4:hash6:sha256)(3:tag(1:*)))"):
-            self.refused(psycopg.Error, "INSERT INTO {entries} (text) VALUES (%s)", bad)
+            self.check_refused(psycopg.Error, "INSERT INTO {entries} (text) VALUES (%s)", bad)
 
     def test_statements_in_values(self) -> None:
         """Text that looks like a statement is a value everywhere."""
@@ -248,13 +249,13 @@ class Schema(OfStore):
         self.store.end(bytes(32), hostile.decode())
         self.assertEqual([(row.number, row.text) for row in self.store.all()], [(number, entry)])
         self.assertEqual(self.store.rows("SELECT remark FROM {ended}"), [(hostile.decode(),)])
-        self.assertEqual(self.does(0, "diff", self.file(b"(3:acl" + entry + b")")), "entries that differ: 0\n")
+        self.assertEqual(self.spki_store(0, "diff", self.file(b"(3:acl" + entry + b")")), "entries that differ: 0\n")
         self.assertEqual(self.store.found([hostile]), [])
 
     def test_row_that_is_no_entry(self) -> None:
         """`check` finds what the constraints cannot say."""
         self.store.rows("INSERT INTO {entries} (text) VALUES (%s), (%s)", A, A.replace(b"(3:tag(1:*))", b""))
-        self.assertEqual(self.does(1, "check").splitlines()[-1], "entries checked: 2, wrong 1")
+        self.assertEqual(self.spki_store(1, "check").splitlines()[-1], "entries checked: 2, wrong 1")
 
     def test_roles(self) -> None:
         """Who reads cannot write, and who writes cannot rewrite what was."""
@@ -265,13 +266,13 @@ class Schema(OfStore):
                          "TRUNCATE {changes}", "INSERT INTO {changes} SELECT * FROM {changes}", "UPDATE {state} SET changes = 0",
                          "DELETE FROM {ended}", "UPDATE {ended} SET remark = ''", "DELETE FROM {heartbeat}", "DROP TABLE {entries}",
                          "INSERT INTO {entries} (number, text) OVERRIDING SYSTEM VALUE SELECT 9, text FROM {entries}"):
-                self.refused(no, text, role=role)
+                self.check_refused(no, text, role=role)
         for text in ("INSERT INTO {entries} (text) SELECT text FROM {entries}", "DELETE FROM {entries}", "UPDATE {heartbeat} SET number = 9",
                      "INSERT INTO {ended} (certificate) VALUES ('x')", "SELECT who FROM {changes}", "SELECT text FROM {changes}",
                      "SELECT * FROM {imports}"):
-            self.refused(no, text, role="reader")
+            self.check_refused(no, text, role="reader")
         for text in ("UPDATE {entries} SET text = text", "DELETE FROM {changes}", "TRUNCATE {entries}", "TRUNCATE {changes}", "DELETE FROM {ended}"):
-            self.refused(no, text)
+            self.check_refused(no, text)
         with self.store.connection.transaction():
             self.store.connection.execute(f"SET LOCAL ROLE {self.schema}_writer")
             number = self.store.add(A)
@@ -285,9 +286,9 @@ class Schema(OfStore):
         """Makes an account with a role. Returns the store as this account uses it."""
         account = f"{self.schema}_{name}"
         self.store.connection.execute(f"CREATE ROLE {account} LOGIN IN ROLE {self.schema}_{role}".encode())
-        made = Store(f"host={self.server.folder} user={account} dbname=postgres", self.schema)
-        self.addCleanup(made.close)
-        return made
+        store = Store(f"host={self.server.folder} user={account} dbname=postgres", self.schema)
+        self.addCleanup(store.close)
+        return store
 
     def test_rows_of_others(self) -> None:
         """Who adds can remove what the same account has added, and who writes can remove any entry. The log says who did."""
@@ -303,18 +304,20 @@ class Schema(OfStore):
                          [("ann", "add"), ("ben", "add"), ("ben", "remove"), ("carl", "remove"), ("carl", "add"), ("carl", "add")])
 
     def test_chains(self) -> None:
-        """Who keeps certificates of clients does so by one function alone, within limits, and what has ended is gone."""
+        """An account of the role `keeper`, which keeps certificates of clients, can do so by one function alone, within
+        limits. What has ended is removed. Here at most 2 keys have texts, and each at most 2."""
         kim, reader = self.account("kim", "keeper"), self.account("rob", "reader")
         keep = f"SELECT {self.schema}.keep(%s, %s, now() + '1 h', 2, 2)"
 
-        def became(key: int, text: bytes) -> str:
-            """What the function says of a text that a key, 32 such octets, leaves: `kept`, `known` or `full`."""
+        def keep_text(key: int, text: bytes) -> str:
+            """What the function answers to a text of a client with a key, 32 octets `key`: `kept`, `known` or
+            `full`."""
             (word,), = kim.rows(keep, bytes([key]) * 32, text)
             return str(word)
-        self.assertEqual([became(1, b"a"), became(1, b"a"), became(1, b"b"), became(1, b"c"), became(2, b"a"), became(3, b"a")],
+        self.assertEqual([keep_text(1, b"a"), keep_text(1, b"a"), keep_text(1, b"b"), keep_text(1, b"c"), keep_text(2, b"a"), keep_text(3, b"a")],
                          ["kept", "known", "kept", "full", "kept", "full"])
         self.store.rows("UPDATE {chains} SET until = now() WHERE key = %s", bytes([2]) * 32)
-        self.assertEqual(became(3, b"a"), "kept")
+        self.assertEqual(keep_text(3, b"a"), "kept")
         self.assertEqual(kim.rows("SELECT key, text FROM {chains} ORDER BY key, text"),
                          [(bytes([1]) * 32, b"a"), (bytes([1]) * 32, b"b"), (bytes([3]) * 32, b"a")])
         for store, text in ((kim, "INSERT INTO {chains} (key, until, text) VALUES (sha256(''), now(), '')"), (kim, "DELETE FROM {chains}"),
@@ -323,7 +326,7 @@ class Schema(OfStore):
                 store.rows(text)
         with self.assertRaises(psycopg.errors.InsufficientPrivilege):
             reader.rows(keep, bytes(32), b"")
-        self.assertRaises(psycopg.Error, became, 3, bytes(9000))
+        self.assertRaises(psycopg.Error, keep_text, 3, bytes(9000))
 
     def test_changes_in_order(self) -> None:
         """A change waits for the transaction that changed something before: no lower number appears after a higher one."""
@@ -348,13 +351,13 @@ class OfDaemon(OfStore):
     def go(self, *words: str, **more: str) -> str:
         """Runs a command of Go for the daemon, which must succeed. Returns what it writes."""
         done = golang.go(golang.DAEMON, list(words), self.library, None, **more)
-        said = (done.stdout + done.stderr).decode(errors="replace")
-        self.assertEqual(done.returncode, 0, said[-4000:])
-        return said
+        output = (done.stdout + done.stderr).decode(errors="replace")
+        self.assertEqual(done.returncode, 0, output[-4000:])
+        return output
 
 
-class Driven(OfDaemon):
-    """What is written in Go, with the driver."""
+class WithDriver(OfDaemon):
+    """The daemon's code in Go that is built with the driver."""
 
     def test_vet(self) -> None:
         self.go("vet", *WITH_DRIVER, ".")
@@ -380,15 +383,16 @@ STALE = 3
 SITE = "files.example.org"
 
 
-class Around:
-    """A daemon with a list in PostgreSQL. `before` are words before its command, `chains` its setting of this name, with which clients can leave
-    certificates, and `more` other settings of its list."""
+class StoreDaemon:
+    """A daemon with a list in PostgreSQL, and its files in the folder `room`. `before` are words before its command.
+    `chains` is its setting of this name, with which clients can leave certificates. `more` are other settings of its
+    list."""
 
     def __init__(self, room: str, program: str, server: databases.Server, schema: str, *before: str, chains: object = None, **more: str) -> None:
         os.makedirs(room, exist_ok=True)
-        of = {"host": server.folder, "database": "postgres", "user": "postgres", "schema": schema, "stale_seconds": STALE, **more}
-        signed = {"signatures": {"names": [SITE]}, "chains": chains} if chains else {}
-        self.daemon = test_go.Daemon(room, program, "(acl)", *before, list={"postgres": of}, **signed)
+        store = {"host": server.folder, "database": "postgres", "user": "postgres", "schema": schema, "stale_seconds": STALE, **more}
+        with_chains = {"signatures": {"names": [SITE]}, "chains": chains} if chains else {}
+        self.daemon = test_go.Daemon(room, program, "(acl)", *before, list={"postgres": store}, **with_chains)
         self.room, self.process = room, self.daemon.process
 
     def status(self, who: Person, shown: bytes = b"") -> int:
@@ -420,12 +424,12 @@ class OfServed(OfDaemon):
         cls.program = golang.build_daemon(cls.library, os.path.join(room, "spki-authd"), *WITH_DRIVER)
         cls.people = {name: Person(room, name, "ed25519") for name in ("alice", "bob", "mallory")}
 
-    def start_daemon(self, name: str, server: databases.Server, *before: str, chains: object = None, **more: str) -> Around:
+    def start_daemon(self, name: str, server: databases.Server, *before: str, chains: object = None, **more: str) -> StoreDaemon:
         """Starts a daemon with the store of a server, in a folder of this name. It is killed after the test. `before` are words before its command,
         `chains` its setting of this name, and `more` other settings of its list."""
-        made = Around(os.path.join(self.room, name), self.program, server, self.schema, *before, chains=chains, **more)
-        self.addCleanup(made.kill)
-        return made
+        daemon = StoreDaemon(os.path.join(self.room, name), self.program, server, self.schema, *before, chains=chains, **more)
+        self.addCleanup(daemon.kill)
+        return daemon
 
     def add_entry(self, who: Person, store: Store | None = None) -> int:
         """Adds an entry for a person to a store, by default that of the test. Returns its number."""
@@ -437,31 +441,33 @@ class Served(OfServed):
     """The daemon with the store of a server that is killed, stopped and hangs."""
 
     def test_one_server(self) -> None:
-        """What is added grants, what is removed or has ended does not, and without a fresh store all is 503."""
+        """An entry that is added grants. One that is removed and a certificate that has ended do not. Where the store
+        is stale, each answer is 503."""
         alice, bob, mallory = (self.people[name] for name in ("alice", "bob", "mallory"))
         beats, shown = self.start_beat(self.server.address), alice.gives(bob, "(files read (* prefix /web/))")
         it = self.start_daemon("one", self.server)
         it.wait_for_status(401, alice)
         number = self.add_entry(alice)
         it.wait_for_status(200, alice)
-        met = it.daemon.ask(bob, "GET", "/web/a", shown)
-        self.assertEqual((met.status, met.headers["X-Spki-Entry"], it.daemon.last()["list"]), (200, str(number), "change 1"))
+        answer = it.daemon.ask(bob, "GET", "/web/a", shown)
+        self.assertEqual((answer.status, answer.headers["X-Spki-Entry"]), (200, str(number)))
+        self.assertEqual(it.daemon.last_grant()["list"], "change 1")
         self.assertEqual((it.status(mallory), it.status(mallory, shown)), (401, 403))
-        self.assertEqual([it.daemon.does(word)[0] for word in ("-health", "-state")], [0, 0])
-        digests = it.daemon.last()["certificates"]
+        self.assertEqual([it.daemon.run(word)[0] for word in ("-health", "-state")], [0, 0])
+        digests = it.daemon.last_grant()["certificates"]
         assert isinstance(digests, list)
-        self.does(0, "end", *digests)
+        self.spki_store(0, "end", *digests)
         it.wait_for_status(403, bob, shown)
         self.assertEqual(it.status(alice), 200)
-        self.does(0, "remove", str(number))
+        self.spki_store(0, "remove", str(number))
         it.wait_for_status(401, alice)
         self.add_entry(alice)
         it.wait_for_status(200, alice)
         beats.kill()
         it.wait_for_status(503, alice)
         self.assertEqual((it.status(bob, shown), it.status(mallory)), (503, 503))
-        status, said, fault = it.daemon.does("-health")
-        self.assertEqual((status, "is stale" in fault), (1, True), said + fault)
+        status, output, errors = it.daemon.run("-health")
+        self.assertEqual((status, "is stale" in errors), (1, True), output + errors)
         self.start_beat(self.server.address)
         it.wait_for_status(200, alice)
         self.server.kill()
@@ -472,11 +478,11 @@ class Served(OfServed):
     def test_kept_in_the_store(self) -> None:
         """Certificates that a client leaves with one daemon are used by another one."""
         self.start_beat(self.server.address)
-        of = {"host": self.server.folder, "database": "postgres", "user": "postgres", "schema": self.schema}
+        store = {"host": self.server.folder, "database": "postgres", "user": "postgres", "schema": self.schema}
         alice, bob = self.people["alice"], self.people["bob"]
         shown = alice.gives(bob, "(files read (* prefix /web/))")
         self.add_entry(alice)
-        one, other = (self.start_daemon(name, self.server, chains={"postgres": of}) for name in ("one", "other"))
+        one, other = (self.start_daemon(name, self.server, chains={"postgres": store}) for name in ("one", "other"))
         one.wait_for_status(200, alice)
         other.wait_for_status(401, bob)
         body, target = os.path.join(self.room, "shown"), "/.well-known/spki-chain"
@@ -485,11 +491,11 @@ class Served(OfServed):
         fields = test_go.spki_cert("request", "--by", bob.path, "--body", body, f"https://{SITE}{target}").decode().splitlines()
         connection = test_go.OverSocket(one.daemon.socket)
         connection.request("PUT", target, shown, {"Host": SITE, **dict(field.split(": ", 1) for field in fields)})
-        met = connection.getresponse()
-        self.assertEqual((met.status, met.headers["X-Spki-Answer"]), (201, "kept"))
+        answer = connection.getresponse()
+        self.assertEqual((answer.status, answer.headers["X-Spki-Answer"]), (201, "kept"))
         connection.close()
         other.wait_for_status(200, bob)
-        self.assertEqual(other.daemon.last()["kept"], "used")
+        self.assertEqual(other.daemon.last_grant()["kept"], "used")
 
     def test_server_that_hangs(self) -> None:
         """A server that takes requests and answers nothing ends in 503, and not in requests that hang."""
@@ -512,15 +518,17 @@ class Served(OfServed):
 
 
 def children_of(process: int) -> list[int]:
-    """The processes that a process has started."""
-    found = subprocess.run(["ps", "-o", "pid=", "--ppid", str(process)], stdout=subprocess.PIPE, text=True, check=False).stdout
-    return [int(each) for each in found.split()]
+    """The numbers of the processes that a process has started and that still run. (ps has status 1 if there are
+    none.)"""
+    listed = subprocess.run(["ps", "-o", "pid=", "--ppid", str(process)], stdout=subprocess.PIPE, text=True, check=False).stdout
+    return [int(each) for each in listed.split()]
 
 
 class Asker(threading.Thread):
-    """Asks daemons again and again, and notes when requests began and ended that were granted."""
+    """Asks daemons for a person again and again. `granted` has for each granted request when it began and ended, in
+    seconds of `time.monotonic`."""
 
-    def __init__(self, daemons: list[Around], who: Person) -> None:
+    def __init__(self, daemons: list[StoreDaemon], who: Person) -> None:
         super().__init__()
         self.daemons, self.who, self.ends = daemons, who, threading.Event()
         self.granted: list[tuple[float, float]] = []
@@ -550,7 +558,8 @@ class Heartbeat(OfStore):
             return int(number)
 
     def test_primary_that_is_heard_by_no_replica(self) -> None:
-        """Such a primary acknowledges no beat, and ends no connection. The heartbeat leaves it, finds the new primary, and beats there."""
+        """Such a primary acknowledges no beat, and ends no connection. The heartbeat leaves it, finds the new primary
+        within 5 seconds, and beats there."""
         with self.server.replica() as replica:
             change_setting(self.server, "synchronous_standby_names", "ANY 1 (*)")
             self.addCleanup(change_setting, self.server, "synchronous_standby_names", "")
@@ -568,7 +577,8 @@ class Heartbeat(OfStore):
             self.assertLess(time.monotonic() - promoted, 5)
 
     def test_primary_that_is_gone(self) -> None:
-        """A host that answers nothing does not keep the heartbeat from the one that takes it."""
+        """A host that accepts connections and answers nothing delays the beat to the other one by less than 2
+        seconds."""
         silent = socket.socket(socket.AF_UNIX)
         self.addCleanup(silent.close)
         silent.bind(os.path.join(self.room, ".s.PGSQL.5432"))
@@ -619,23 +629,25 @@ class Replicated(OfServed):
             self.assertEqual(daemons[1].status(alice), 503)
             follow(replicas[1], replicas[0])
             daemons[1].wait_for_status(200, alice)
-            again = Store(anywhere, self.schema)
-            stack.callback(again.close)
-            back = time.monotonic()
-            number = self.add_entry(bob, again)
+            new_primary = Store(anywhere, self.schema)
+            stack.callback(new_primary.close)
+            added_again = time.monotonic()
+            number = self.add_entry(bob, new_primary)
             for it in daemons:
                 it.wait_for_status(200, bob)
-            again.remove(number)
-            gone = time.monotonic()
+            new_primary.remove(number)
+            removed_again = time.monotonic()
             for it in daemons:
                 it.wait_for_status(401, bob)
             bobs, mallorys = [each.end() for each in askers]
             self.assertEqual(mallorys, [])
-            self.assertEqual([each for each in bobs if each[0] > removed + STALE and each[1] < back or each[0] > gone + STALE], [])
+            self.assertEqual([(begun, ended) for begun, ended in bobs if begun > removed + STALE and ended < added_again
+                              or begun > removed_again + STALE], [])
             self.assertTrue(bobs)
 
-    def check_lag(self, replica: databases.Server, daemons: list[Around]) -> None:
-        """Stops the replica of the first daemon for a while: this daemon must answer 503 meanwhile, and the other must not."""
+    def check_lag(self, replica: databases.Server, daemons: list[StoreDaemon]) -> None:
+        """Has `replica`, which the first of two daemons asks, apply no changes for a while. This daemon must answer 503
+        then, and the other must still grant."""
         alice = self.people["alice"]
         with psycopg.connect(replica.address, autocommit=True) as connection:
             connection.execute("SELECT pg_wal_replay_pause()")
@@ -657,27 +669,29 @@ class Replicated(OfServed):
             process = subprocess.Popen(["haproxy", "-f", config], stdout=subprocess.DEVNULL, stderr=subprocess.DEVNULL)
             stack.enter_context(databases.killed_at_end(process))
 
-            def is_always(wanted: int) -> bool:
+            def are_all(wanted: int) -> bool:
                 """Whether HAProxy answers ten requests with this status."""
                 with contextlib.suppress(OSError):
-                    return all(daemons[0].daemon.ask(alice, "GET", "/web/a", door=front).status == wanted for _ in range(10))
+                    return all(daemons[0].daemon.ask(alice, "GET", "/web/a", path=front).status == wanted for _ in range(10))
                 return False
 
             self.add_entry(alice)
-            waits_for("HAProxy asks nobody: the key of the check has no entry", lambda: is_always(503))
+            waits_for("HAProxy asks nobody: the key of the check has no entry", lambda: are_all(503))
             self.add_entry(check)
-            waits_for("HAProxy asks both", lambda: is_always(200))
+            waits_for("HAProxy asks both", lambda: are_all(200))
             with psycopg.connect(replica.address, autocommit=True) as connection:
                 connection.execute("SELECT pg_wal_replay_pause()")
                 daemons[0].wait_for_status(503, alice)
-                waits_for("HAProxy asks the other daemon alone", lambda: is_always(200))
+                waits_for("HAProxy asks the other daemon alone", lambda: are_all(200))
                 connection.execute("SELECT pg_wal_replay_resume()")
             daemons[0].wait_for_status(200, alice)
-            waits_for("HAProxy asks both again", lambda: is_always(200))
+            waits_for("HAProxy asks both again", lambda: are_all(200))
             daemons[1].kill()
-            waits_for("HAProxy asks the daemon that is left", lambda: is_always(200))
+            waits_for("HAProxy asks the daemon that is left", lambda: are_all(200))
 
 
+# A configuration of HAProxy, which asks the daemon about /web/check for the key of `certificate`, and passes requests
+# on to the daemons that grant it.
 PROXY = """
 defaults
     mode http
