@@ -69,9 +69,10 @@ def questions(program) -> list[Asked]:
     rows = [row for row in rows if row[1] in COMMANDS.values() and not row[4].startswith(NO_CASE)]
     with ThreadPoolExecutor(os.cpu_count()) as pool:
         texts = pool.map(lambda row: run(program, "canonical", row[2])[1], rows)
+        # (reversed, so that of several rows with one case the first one names it)
         cases = {text: row[0] for text, row in reversed(list(zip(texts, rows)))}
-        found = pool.map(lambda case: list(questions_of(program, *case)), cases.items())
-        return [asked for of_case in found for asked in of_case]
+        by_case = pool.map(lambda case: list(questions_of(program, *case)), cases.items())
+        return [asked for of_case in by_case for asked in of_case]
 
 
 def accepted_by(rows, sequence):
@@ -128,25 +129,25 @@ def faults_of_answers(asked, answers):
     """A text with each wrong answer to the questions, empty if all are right."""
     if len(answers) != len(asked):
         return f"{len(answers)} answers to {len(asked)} questions"
-    faults = [(each, met) for each, met in zip(asked, answers) if met != each.wanted]
+    faults = [(each, answer) for each, answer in zip(asked, answers) if answer != each.wanted]
     return "\n".join(f"{each.command}, {each.name}\ntext   {each.access_list[:300]!r} {each.sequence[:500]!r} {each.key[:200]!r} {each.request!r} "
-                     f"{each.moment!r}\nwanted {each.wanted[:300]!r}\ncame   {met[:300]!r}" for each, met in faults)
+                     f"{each.moment!r}\nwanted {each.wanted[:300]!r}\ncame   {answer[:300]!r}" for each, answer in faults)
 
 
 # ---- Python
 
 
 def text_of_reasons(reasons):
-    """The lines of `explain`, without the last line feed, for the reasons that the module gives. Each is the number of an entry or None, that of an
-    item or None, and a word."""
+    """The lines of `explain`, without the last line feed, for the reasons that the module gives. Each reason has the
+    number of an entry or None, that of an item or None, and a word."""
     lines = [f"{f'entry {entry} ' if entry else ''}{f'item {item} ' if item else ''}{word}" for entry, item, word in reasons]
     return "\n".join(lines or ["no entries"])
 
 
 def answered_by_python(spki, asked):
     """What the module `spki` answers to a question, as the program's lines. A refusal is a line too."""
-    def verify(it):
-        return (it.key, it.message, it.value) in asked.accepted
+    def verify(signature):
+        return (signature.key, signature.message, signature.value) in asked.accepted
 
     request = {"text" if isinstance(asked.request, bytes) else "words": asked.request}
     moment = asked.moment if isinstance(asked.moment, bytes) else datetime.fromtimestamp(asked.moment, timezone.utc)
@@ -190,7 +191,8 @@ def strings_in(octets):
 
 
 def cargo(folder, words, given=None):
-    """Runs cargo in the crate, offline, with the libraries of a folder and the input `given`. Returns how it ended."""
+    """Runs cargo in the crate, offline, with the libraries of a folder and the input `given`. Returns the
+    `CompletedProcess`."""
     settings = {**os.environ, "SPKI_LIB_DIR": folder, "RUSTDOCFLAGS": "-D warnings", "CARGO_NET_OFFLINE": "true"}
     return subprocess.run(["cargo", *words], cwd=RUST, input=given, capture_output=True, env=settings, timeout=SECONDS)
 
@@ -205,16 +207,15 @@ class Version(unittest.TestCase):
         """The crate, the module and the header have the version of the file VERSION. What the bindings demand of a library is its first two
         numbers."""
         line = r'^version = "(.*)"$'
-        met = {"bindings/rust/Cargo.toml": line, "bindings/rust/spki-sys/Cargo.toml": line, "bindings/python/pyproject.toml": line,
+        own = {"bindings/rust/Cargo.toml": line, "bindings/rust/spki-sys/Cargo.toml": line, "bindings/python/pyproject.toml": line,
                "bindings/rust/spki-serde/Cargo.toml": line, "bindings/python/spki/__init__.py": r'^__version__ = "(.*)"$',
-               "bindings/go/guard/guard.go": r'^const Version = "(.*)"$',
-               "crates/spki_c/spki.h": r'^#define SPKI_VERSION "(.*)"$'}
-        found = {path: re.search(line, text_of(path), re.MULTILINE)[1] for path, line in met.items()}
-        self.assertEqual(found, dict.fromkeys(met, text_of("VERSION").strip()))
-        called = {"bindings/rust/spki-sys/src/lib.rs": r'VERSION: &str = "(.*)";$', "bindings/python/spki/_library.py": r'^VERSION = "(.*)"$',
-                  "bindings/rust/spki-sys/build.rs": r'^const FIRST: &str = "(.*)";$'}
-        found = {path: re.search(line, text_of(path), re.MULTILINE)[1] for path, line in called.items()}
-        self.assertEqual(found, dict.fromkeys(called, text_of("VERSION").rpartition(".")[0]))
+               "bindings/go/guard/guard.go": r'^const Version = "(.*)"$', "crates/spki_c/spki.h": r'^#define SPKI_VERSION "(.*)"$'}
+        demanded = {"bindings/rust/spki-sys/src/lib.rs": r'VERSION: &str = "(.*)";$', "bindings/python/spki/_library.py": r'^VERSION = "(.*)"$',
+                    "bindings/rust/spki-sys/build.rs": r'^const FIRST: &str = "(.*)";$'}
+        version = text_of("VERSION").strip()
+        for patterns, wanted in ((own, version), (demanded, version.rpartition(".")[0])):
+            versions = {path: re.search(pattern, text_of(path), re.MULTILINE)[1] for path, pattern in patterns.items()}
+            self.assertEqual(versions, dict.fromkeys(patterns, wanted))
 
 
 class Words(unittest.TestCase):
@@ -248,10 +249,10 @@ class Words(unittest.TestCase):
         header = dict(re.findall(r"^#define SPKI_((?:MOST_|USUAL_ANSWER)\w*) (\d+)$", text_of("crates/spki_c/spki.h"), re.MULTILINE))
         for path, line in (("bindings/rust/spki-sys/src/lib.rs", r"^pub const (MOST_\w+|USUAL_\w+): usize = ([\d_]+);$"),
                            ("bindings/python/spki/_library.py", r"^(MOST_\w+|USUAL_\w+) = ([\d_]+)$")):
-            met = re.findall(line, text_of(path), re.MULTILINE)
-            self.assertEqual({name: number.replace("_", "") for name, number in met}, header, path)
-        for path in glob.glob(os.path.join(TOP, "bindings", "**", "*.[prg][yso]*"), recursive=True):
-            if not any(part in path for part in ("/out/", "test", "/examples/", "http")):
+            numbers = re.findall(line, text_of(path), re.MULTILINE)
+            self.assertEqual({name: number.replace("_", "") for name, number in numbers}, header, path)
+        for path in glob.glob("bindings/**/*", root_dir=TOP, recursive=True):
+            if path.endswith((".py", ".rs", ".go")) and not any(part in path for part in ("/out/", "test", "/examples/", "http")):
                 self.assertNotRegex(text_of(path), r"\b(65_?536|2_?000_?000)\b", path)
 
 
@@ -336,15 +337,15 @@ class InPython(Binding):
             source, target = os.path.join(room, "source"), os.path.join(room, "target")
             shutil.copytree(PYTHON, source, ignore=shutil.ignore_patterns("build", "*.egg-info", "__pycache__"))
             words = ["-m", "pip", "install", "-q", "--no-build-isolation", "--no-index", "--target", target, source]
-            status, said = output_of(sys.executable, *words, seconds=SECONDS, env={**os.environ, "SPKI_LIBRARY": self.shared})
-            self.assertEqual(status, 0, said)
+            status, output = output_of(sys.executable, *words, seconds=SECONDS, env={**os.environ, "SPKI_LIBRARY": self.shared})
+            self.assertEqual(status, 0, output)
             settings = {name: value for name, value in os.environ.items() if name != "SPKI_LIBRARY"}
             answer = output_of(sys.executable, "-c", "import spki; print(spki.__file__, spki.Guard(b'(acl)').entries, spki._library.library_path())",
                                cwd=room, env={**settings, "PYTHONPATH": target})
             folder = os.path.join(target, "spki")
             self.assertEqual(answer, (0, f"{folder}/__init__.py 0 {folder}/libspki_c.so\n"))
-            status, said = output_of(sys.executable, *words[:-1], source, seconds=SECONDS, env={**settings, "SPKI_LIBRARY": "/nowhere.so"})
-            self.assertEqual((status != 0, "/nowhere.so is not there" in said), (True, True), said)
+            status, output = output_of(sys.executable, *words[:-1], source, seconds=SECONDS, env={**settings, "SPKI_LIBRARY": "/nowhere.so"})
+            self.assertEqual((status != 0, "/nowhere.so is not there" in output), (True, True), output)
 
     @needs.needs("import pip", "import setuptools", "import wheel")
     def test_wheel_of_an_sdist(self):
@@ -354,14 +355,14 @@ class InPython(Binding):
             source = os.path.join(room, "source")
             shutil.copytree(PYTHON, source, ignore=shutil.ignore_patterns("build", "*.egg-info", "__pycache__"))
             hidden = "import runpy, sys; sys.modules['wheel'] = sys.modules['wheel.bdist_wheel'] = None; sys.argv = ['setup.py', '-q', 'sdist']"
-            status, said = output_of(sys.executable, "-W", "ignore", "-c", f"{hidden}; runpy.run_path('setup.py')", cwd=source, seconds=SECONDS)
-            self.assertEqual(status, 0, said)
+            status, output = output_of(sys.executable, "-W", "ignore", "-c", f"{hidden}; runpy.run_path('setup.py')", cwd=source, seconds=SECONDS)
+            self.assertEqual(status, 0, output)
             sdist, = glob.glob(os.path.join(source, "dist", "*.tar.gz"))
             words = ["-m", "pip", "wheel", "-q", "--no-build-isolation", "--no-index", "--no-deps", "--wheel-dir", room, sdist]
             for library, is_made, line in ((self.shared, True, ""), (os.path.relpath(self.shared), False, "SPKI_LIBRARY must be a whole path"),
                                            ("/nowhere.so", False, "/nowhere.so is not there")):
-                status, said = output_of(sys.executable, *words, seconds=SECONDS, env={**os.environ, "SPKI_LIBRARY": library})
-                self.assertEqual((status == 0, line in said), (is_made, True), said)
+                status, output = output_of(sys.executable, *words, seconds=SECONDS, env={**os.environ, "SPKI_LIBRARY": library})
+                self.assertEqual((status == 0, line in output), (is_made, True), output)
             wheel, = glob.glob(os.path.join(room, "*.whl"))
             with zipfile.ZipFile(wheel) as file, open(self.shared, "rb") as library:
                 self.assertEqual(file.read("spki/libspki_c.so"), library.read())
@@ -376,10 +377,10 @@ class InC(Binding):
     def check_verifier(self, verifier, library):
         """`decide.c` must decide by the verifier in the file `verifier`.c, linked with a library: `library` is the option for the linker."""
         with tempfile.TemporaryDirectory() as room:
-            to, sources = os.path.join(room, "decide"), [os.path.join(EXAMPLES, "c", name) for name in ("decide.c", f"{verifier}.c")]
+            program, sources = os.path.join(room, "decide"), [os.path.join(EXAMPLES, "c", name) for name in ("decide.c", f"{verifier}.c")]
             flags = ["-std=c11", "-Wall", "-Wextra", "-Wpedantic", "-Werror", "-I", CRATE]
-            subprocess.run(["cc", *flags, "-o", to, *sources, self.library, library], timeout=SECONDS, check=True)
-            self.check_decisions(to)
+            subprocess.run(["cc", *flags, "-o", program, *sources, self.library, library], timeout=SECONDS, check=True)
+            self.check_decisions(program)
 
     @needs.needs("/usr/include/gcrypt.h")
     def test_example_by_gcrypt(self):
@@ -397,10 +398,10 @@ class InCpp(Binding):
     def check_owners(self, flags, *by):
         """`owned.cpp` must compile with these flags and find nothing wrong. `by` is a command that runs it, as words."""
         with tempfile.TemporaryDirectory() as room:
-            to, source = os.path.join(room, "owned"), os.path.join(TESTS, "programs", "owned.cpp")
+            program, source = os.path.join(room, "owned"), os.path.join(TESTS, "programs", "owned.cpp")
             words = ["-std=c++17", "-Wall", "-Wextra", "-Wpedantic", "-Werror", "-g", "-pthread", *flags, "-I", CRATE]
-            self.assertEqual(output_of("g++", *words, "-o", to, source, self.library, seconds=SECONDS), (0, ""))
-            self.assertEqual(output_of(*by, to, seconds=SECONDS), (0, ""))
+            self.assertEqual(output_of("g++", *words, "-o", program, source, self.library, seconds=SECONDS), (0, ""))
+            self.assertEqual(output_of(*by, program, seconds=SECONDS), (0, ""))
 
     def test_owners(self):
         self.check_owners(["-fsanitize=address,undefined"])
@@ -422,40 +423,40 @@ class InCpp(Binding):
 class InRust(Binding):
     """The crate in Rust."""
 
-    def does(self, *words, given=None):
-        """Runs cargo in the crate, with the input `given`. It must succeed. Returns its output."""
+    def cargo(self, *words, given=None):
+        """Runs cargo in the crate, with the input `given`. It must succeed. Returns its standard output."""
         done = cargo(self.folder, words, given)
         self.assertEqual(done.returncode, 0, f"cargo {' '.join(words)}: {(done.stdout + done.stderr).decode(errors='replace')[-4000:]}")
         return done.stdout
 
     def test_crate(self):
         """The tests of the crate pass."""
-        self.does("test", "--quiet", "--workspace")
+        self.cargo("test", "--quiet", "--workspace")
 
     def test_package(self):
         """Both crates are packed and built from their packages, without a network."""
         with tempfile.TemporaryDirectory() as room:
             for name, *words in (["spki-sys"], ["spki", "--config", 'patch.crates-io.spki-sys.path="spki-sys"']):
-                self.does("package", "--quiet", "--allow-dirty", "--target-dir", room, "-p", name, *words)
+                self.cargo("package", "--quiet", "--allow-dirty", "--target-dir", room, "-p", name, *words)
             packed = {os.path.basename(path) for path in glob.glob(os.path.join(room, "package", "*.crate"))}
             self.assertEqual(packed, {f"{name}-{text_of('VERSION').strip()}.crate" for name in ("spki", "spki-sys")})
 
     def test_documents(self):
         """The documents are made without warnings."""
-        self.does("doc", "--quiet", "--workspace", "--no-deps")
+        self.cargo("doc", "--quiet", "--workspace", "--no-deps")
 
     @needs.needs("cargo-clippy")
     def test_lints(self):
-        self.does("clippy", "--quiet", "--workspace", "--all-targets", "--", "-D", "warnings")
+        self.cargo("clippy", "--quiet", "--workspace", "--all-targets", "--", "-D", "warnings")
 
     @needs.needs("cargo-fmt")
     def test_layout(self):
-        self.does("fmt", "--all", "--check")
-        self.does("fmt", "--check", "--manifest-path", os.path.join("spki-serde", "Cargo.toml"))
+        self.cargo("fmt", "--all", "--check")
+        self.cargo("fmt", "--check", "--manifest-path", os.path.join("spki-serde", "Cargo.toml"))
 
     def test_questions(self):
         asked = all_questions(self.program)
-        lines = strings_in(self.does("run", "--quiet", "--example", "asked", given=b"".join(map(framed, asked))))
+        lines = strings_in(self.cargo("run", "--quiet", "--example", "asked", given=b"".join(map(framed, asked))))
         fault = faults_of_answers(asked, [line + b"\n" for line in lines])
         self.assertEqual(fault, "", fault)
 
@@ -467,28 +468,27 @@ class InRust(Binding):
             with open(os.path.join(room, "config.toml"), "w", encoding="ascii") as file:
                 file.write('net.offline = true\n[source]\ncrates-io.replace-with = "debian"\ndebian.directory = "/usr/share/cargo/registry"\n')
             settings = {**os.environ, "CARGO_HOME": room, "CARGO_INCREMENTAL": "0", "CARGO_PROFILE_DEV_DEBUG": "0", "SPKI_LIB_DIR": self.folder}
-            status, said = output_of("cargo", "test", "--quiet", cwd=os.path.join(crates, "spki-serde"), env=settings, seconds=SECONDS)
-            self.assertEqual(status, 0, said)
+            status, output = output_of("cargo", "test", "--quiet", cwd=os.path.join(crates, "spki-serde"), env=settings, seconds=SECONDS)
+            self.assertEqual(status, 0, output)
 
     @needs.needs("valgrind")
     def test_threads_under_helgrind(self):
         """Threads decide by one guard and one question, and free them. helgrind finds no access to memory that is not ordered."""
-        self.does("build", "--quiet", "--example", "threads")
+        self.cargo("build", "--quiet", "--example", "threads")
         words = [*HELGRIND, f"--suppressions={TESTS}/programs/rust.supp", os.path.join(RUST, "out", "debug", "examples", "threads")]
-        met = output_of(*words, seconds=SECONDS)
-        self.assertEqual(met, (0, "400 granted\n"))
+        self.assertEqual(output_of(*words, seconds=SECONDS), (0, "400 granted\n"))
 
     @needs.needs("openssl", "import cryptography")
     def test_example(self):
-        self.does("build", "--quiet", "--example", "decide")
+        self.cargo("build", "--quiet", "--example", "decide")
         self.check_decisions(os.path.join(RUST, "out", "debug", "examples", "decide"))
 
     def build_sys(self, room, **settings):
         """Builds the crate spki-sys, which links the library, in the folder `room`. Of the variables for finding the library, it has only those of
         `settings`. Returns the status, and what cargo writes."""
-        whole = {name: value for name, value in os.environ.items() if not name.startswith(("SPKI_", "PKG_CONFIG"))}
+        others = {name: value for name, value in os.environ.items() if not name.startswith(("SPKI_", "PKG_CONFIG"))}
         return output_of("cargo", "build", "--quiet", "-p", "spki-sys", cwd=RUST, seconds=SECONDS,
-                         env={**whole, "CARGO_TARGET_DIR": room, "CARGO_NET_OFFLINE": "true", **settings})
+                         env={**others, "CARGO_TARGET_DIR": room, "CARGO_NET_OFFLINE": "true", **settings})
 
     def test_folders_without_a_library(self):
         """A folder without a library, and a library that pkg-config does not know, end the build."""
@@ -497,8 +497,8 @@ class InRust(Binding):
                                     ({"SPKI_LIB_DIR": empty, "SPKI_SHARED": "1"}, f"there is no libspki_c.so in {empty}"),
                                     ({"SPKI_LIB_DIR": "."}, "SPKI_LIB_DIR must be a whole path"),
                                     ({"PKG_CONFIG_LIBDIR": empty}, "libspki_c is not found"), ({"PKG_CONFIG": "/nowhere"}, "/nowhere")):
-                status, said = self.build_sys(room, **settings)
-                self.assertEqual((status != 0, words in said), (True, True), f"{settings}: {said}")
+                status, output = self.build_sys(room, **settings)
+                self.assertEqual((status != 0, words in output), (True, True), f"{settings}: {output}")
             self.assertEqual(self.build_sys(room, SPKI_LIB_DIR=self.folder), (0, ""))
             for name in ("libspki_c.a", "libspki_c.so"):
                 os.symlink(os.path.join(self.folder, name), os.path.join(empty, name))
@@ -513,13 +513,14 @@ class InRust(Binding):
                 os.mkdir(folder)
                 with open(os.path.join(folder, "spki.pc"), "w", encoding="ascii") as file:
                     file.write(f"Name: spki\nDescription: spki\nVersion: {version}\nLibs: -L{self.folder} -lspki_c\n")
-                status, said = self.build_sys(room, PKG_CONFIG_PATH=folder)
-                self.assertEqual(status == 0, is_built, f"{version}: {said}")
+                status, output = self.build_sys(room, PKG_CONFIG_PATH=folder)
+                self.assertEqual(status == 0, is_built, f"{version}: {output}")
 
     @needs.needs("pkg-config")
     def test_another_target(self):
-        """For another target, as here ARM, a library of its system is linked. Variables of pkg-config name it, with or without the target at the ends
-        of their names. Without these the build fails, and does not take the host's library. The build script is run as cargo would run it."""
+        """For another target, as here ARM, a library of its system is linked. Variables of pkg-config name it, with or
+        without the target at the ends of their names. Without these the build fails, and does not take the host's
+        library. Here the build script of cargo is run by itself."""
         with tempfile.TemporaryDirectory() as room:
             self.assertEqual(self.build_sys(room, SPKI_LIB_DIR=self.folder), (0, ""))
             script, = glob.glob(os.path.join(room, "debug", "build", "spki-sys-*", "build-script-build"))
@@ -531,8 +532,8 @@ class InRust(Binding):
                 file.write(f"Name: spki\nDescription: spki\nVersion: {text_of('VERSION').strip()}\nLibs: -L/usr/lib -lspki_c\n")
             for end in ("", "_armv7-unknown-linux-gnu", "_armv7_unknown_linux_gnu"):
                 settings = {f"PKG_CONFIG_SYSROOT_DIR{end}": system, f"PKG_CONFIG_LIBDIR{end}": folder}
-                for target, more, is_linked in (("armv7-unknown-linux-gnu", settings, True), ("armv7-unknown-linux-gnu", {}, False)):
-                    whole = {"PATH": os.environ["PATH"], "HOST": "x86_64-unknown-linux-gnu", "TARGET": target, **more}
-                    status, said = output_of(script, env=whole)
-                    met = (status == 0, f"rustc-link-search=native={folder}\n" in said)
-                    self.assertEqual(met, (is_linked, is_linked), said)
+                for more, is_linked in ((settings, True), ({}, False)):
+                    environment = {"PATH": os.environ["PATH"], "HOST": "x86_64-unknown-linux-gnu", "TARGET": "armv7-unknown-linux-gnu", **more}
+                    status, output = output_of(script, env=environment)
+                    is_found = f"rustc-link-search=native={folder}\n" in output
+                    self.assertEqual((status == 0, is_found), (is_linked, is_linked), output)

@@ -49,9 +49,9 @@ def calls_in(source):
             owner, is_trait = owner_of(line), line.startswith("pub trait")
         elif line == "}":
             owner, is_trait = None, False
-        found = re.match(r" *pub fn (\w+)" if not is_trait else r" *fn (\w+)", line)
-        if found:
-            yield owner, found[1]
+        call = re.match(r" *fn (\w+)" if is_trait else r" *pub fn (\w+)", line)
+        if call:
+            yield owner, call[1]
 
 
 @functools.cache
@@ -104,8 +104,8 @@ def checks(crate):
     blocks = BLOCK.findall(page)
     yield "the blocks", None if 2 * len(blocks) == len(re.findall(r"^```", page, re.MULTILINE)) else "one of them has no file"
     for path, block in blocks:
-        stands = path.startswith("crates/test_callers/") and f"\n{block}" in text_of(path)
-        yield f"the block of {path}", None if stands else "does not stand in the file"
+        is_there = path.startswith("crates/test_callers/") and f"\n{block}" in text_of(path)
+        yield f"the block of {path}", None if is_there else "does not stand in the file"
     rows = {path_in(crate, path): set(re.findall(r"`([^`]+)`", named)) for path, named in ROW.findall(page)}
     passed_on = {(path, shown) for path, _, shown in calls(crate)}
     for path, shown in sorted(passed_on):

@@ -11,13 +11,11 @@ from rows import call_rows, guard_rows, question_rows, shown
 from rows.call_rows import CallRow
 
 # The functions that make rows, by the names of the classes of their tests.
-MADE: dict[str, Callable[[], Iterator[CallRow]]] = {
+MAKERS: dict[str, Callable[[], Iterator[CallRow]]] = {
     "CutShort": call_rows.cut_short, "FailingEnds": call_rows.failing_ends, "Verifiers": guard_rows.of_verifiers,
     "SeparateRows": guard_rows.of_separate_rows, "RevokedKeys": guard_rows.of_revoked_keys, "Questions": guard_rows.of_questions,
     "RefusedParts": question_rows.of_refused_parts, "Strings": question_rows.of_strings, "Seconds": question_rows.of_seconds,
     "Limits": question_rows.of_limits, "SeveralEntries": question_rows.of_several_entries}
-
-
 # How an answer begins that is a refusal, as in `Form(Short): `.
 FAULT = re.compile(rb"\w+\(.*\): ")
 # The most octets of all texts of a row that is an example.
@@ -28,18 +26,18 @@ BY_CERTIFICATE = "calls/questions:second-entry 1 (public-key (test b)):"
 
 def all_rows() -> dict[str, list[CallRow]]:
     """The rows of each class."""
-    return {name.capitalize(): rows for name, rows in call_rows.tables().items()} | {name: list(make()) for name, make in MADE.items()}
+    return {name.capitalize(): rows for name, rows in call_rows.tables().items()} | {name: list(make()) for name, make in MAKERS.items()}
 
 
 def examples() -> list[CallRow]:
     """Of each call a row whose texts are read, and one whose texts are refused: that with the longest answer, or a grant by a certificate. They are
     for test_hostile.py, which refuses the requests of these calls for memory."""
-    found: dict[tuple[str, bool], CallRow] = {}
+    best: dict[tuple[str, bool], CallRow] = {}
     for row in (row for rows in all_rows().values() for row in rows if is_example(row)):
         kind = row.call, FAULT.match(row.answer) is not None
-        if kind not in found or rank(row) > rank(found[kind]):
-            found[kind] = row
-    return [*found.values()]
+        if kind not in best or rank(row) > rank(best[kind]):
+            best[kind] = row
+    return [*best.values()]
 
 
 def rank(row: CallRow) -> tuple[bool, int]:
@@ -64,20 +62,19 @@ class OfCalls(unittest.TestCase):
 
     @classmethod
     def setUpClass(cls) -> None:
-        said = call_rows.answers(built.existing(cls.path), cls.rows.values())
-        cls.answers = dict(zip(cls.rows, said))
+        cls.answers = dict(zip(cls.rows, call_rows.answers(built.existing(cls.path), cls.rows.values())))
 
-    def is_answered(self, name: str) -> None:
+    def check_row(self, name: str) -> None:
         """The answer to a row is the one that is wanted."""
-        row, came = self.rows[name], self.answers.get(name, b"no answer")
-        if came != row.answer:
+        row, answer = self.rows[name], self.answers.get(name, b"no answer")
+        if answer != row.answer:
             texts = "\n".join(f"text   {shown(text)}" for text in row.texts)
-            self.fail(f"{row.place}: {row.call}\n{texts}\nwanted {shown(row.answer)}\ncame   {shown(came)}")
+            self.fail(f"{row.place}: {row.call}\n{texts}\nwanted {shown(row.answer)}\ncame   {shown(answer)}")
 
 
 def made_test(name: str) -> Callable[[OfCalls], None]:
     """The test of the row with this name."""
-    return lambda self: self.is_answered(name)
+    return lambda self: self.check_row(name)
 
 
 def made_class(name: str, rows: Iterable[CallRow], path: str) -> type:
@@ -93,9 +90,8 @@ def add_classes() -> None:
     for ending, path in (("", built.ONE_CALL), ("BySecondCompiler", built.ONE_CALL_BY_RATTLE)):
         if ending and not os.path.exists(path):
             continue
-        for name, found in rows.items():
-            globals()[name + ending] = made_class(name + ending, found, path)
-            globals()[name + ending].__module__ = __name__
+        for name, of_class in rows.items():
+            globals()[name + ending] = made_class(name + ending, of_class, path)
 
 
 add_classes()
