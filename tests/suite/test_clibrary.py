@@ -67,7 +67,9 @@ def as_library(command, answer):
     status, octets = answer
     if status > NO:
         return answer
-    return (DONE if COMMANDS[command] != "check" else GRANTED if status == YES else NO, octets)
+    if COMMANDS[command] != "check":
+        return DONE, octets
+    return GRANTED if status == YES else NO, octets
 
 
 def questions_of_files(program):
@@ -149,8 +151,8 @@ def worked_rows():
 def answers_of(words, questions):
     """Runs `clibrary.c` by these words on questions, which are pairs with the wanted answers. Returns its status, what it writes to standard error,
     and its answers, each a status and octets."""
-    given = b"".join(b"%d %d %d\n%s%s" % (command, len(text), len(rows), text, rows) for (_, command, text, rows), _ in questions)
-    done = subprocess.run(words, input=given, capture_output=True, timeout=SECONDS)
+    octets = b"".join(b"%d %d %d\n%s%s" % (command, len(text), len(rows), text, rows) for (_, command, text, rows), _ in questions)
+    done = subprocess.run(words, input=octets, capture_output=True, timeout=SECONDS)
     answers, at = [], 0
     while at < len(done.stdout):
         line = done.stdout.index(b"\n", at)
@@ -163,12 +165,12 @@ def answers_of(words, questions):
 def faults_of_answers(words, questions):
     """A text with what is wrong with the answers of `clibrary.c`, empty if nothing is. `words` start it. `questions` are pairs of a question and the
     wanted answer."""
-    status, said, answers = answers_of(words, questions)
+    status, errors, answers = answers_of(words, questions)
     if status or len(answers) != len(questions):
-        return f"status {status} after {len(answers)} of {len(questions)} answers: {said[-2000:]}"
-    faults = [(asked, met, wanted) for (asked, wanted), met in zip(questions, answers) if met != wanted]
-    return "\n".join(f"{place}\ntext   {text[:1000]!r} {rows[:500]!r}\nwanted {wanted[0]} {wanted[1][:300]!r}\ncame   {met[0]} {met[1][:300]!r}"
-                     for (place, _, text, rows), met, wanted in faults)
+        return f"status {status} after {len(answers)} of {len(questions)} answers: {errors[-2000:]}"
+    faults = [(asked, answer, wanted) for (asked, wanted), answer in zip(questions, answers) if answer != wanted]
+    return "\n".join(f"{place}\ntext   {text[:1000]!r} {rows[:500]!r}\nwanted {wanted[0]} {wanted[1][:300]!r}\n"
+                     f"came   {answer[0]} {answer[1][:300]!r}" for (place, _, text, rows), answer, wanted in faults)
 
 
 def symbols(library, *words, nm="nm"):
@@ -179,8 +181,8 @@ def symbols(library, *words, nm="nm"):
 
 def soname_of(shared):
     """The name by which programs ask the loader for a shared object."""
-    said = subprocess.run(["readelf", "--dynamic", shared], stdout=subprocess.PIPE, text=True, check=True).stdout
-    return re.search(r"\(SONAME\).*\[(.*)\]", said)[1]
+    entries = subprocess.run(["readelf", "--dynamic", shared], stdout=subprocess.PIPE, text=True, check=True).stdout
+    return re.search(r"\(SONAME\).*\[(.*)\]", entries)[1]
 
 
 def calls_of_header():
@@ -237,38 +239,36 @@ class OfC(built.OfLibrary):
     def setUpClass(cls):
         super().setUpClass()
         cls.library, cls.shared = cls.libraries()
-        room = room_for(cls)
-        cls.room, link = room, os.path.join(room, os.path.basename(cls.shared))
-        shutil.copy(cls.shared, link)
-        os.symlink(link, os.path.join(cls.room, soname_of(cls.shared)))
-        cls.shared = link
+        cls.room = room_for(cls)
+        cls.shared = shutil.copy(cls.shared, cls.room)
+        os.symlink(cls.shared, os.path.join(cls.room, soname_of(cls.shared)))
         cls.linking = {"static": [cls.library], "shared": [cls.shared, rpath_to(cls.shared)]}
 
-    def compiled(self, source, library, *more):
-        """Compiles a program of tests/programs/ with a library, `static` or `shared`, and the options `more`. Returns its path. It is compiled once
-        for each library and number of options."""
-        to = os.path.join(self.room, f"{source}-{library}-{len(more)}")
-        if not os.path.exists(to):
-            words = [f"{self.prefix}gcc" if self.prefix else "cc", *STRICT, *more, "-o", to, os.path.join(TESTS, "programs", source)]
+    def compile(self, source, library, *more):
+        """Compiles a program of tests/programs/ with a library, `static` or `shared`, and the options `more`: none or
+        SANITIZED. Returns its path. It is compiled once for each of these."""
+        program = os.path.join(self.room, f"{source}-{library}-{len(more)}")
+        if not os.path.exists(program):
+            words = [f"{self.prefix}gcc" if self.prefix else "cc", *STRICT, *more, "-o", program, os.path.join(TESTS, "programs", source)]
             words += [*self.linking[library], *REFUSING]
             self.assertTrue(is_compiled(*words), f"{source} is not compiled")
-        return to
+        return program
 
     def check_answers(self, questions, library, *more, by=(), threads=2, refusals=0):
         """`clibrary.c` must give the wanted answers to questions, in its own thread and then in so many others. For each question it refuses the
         first `refusals` requests for memory in turn. `library` is `static` or `shared`, `more` are options of the compiler, and `by` is a command
         that runs the program."""
         print(f"{len(questions)} questions")
-        fault = faults_of_answers([*self.by, *by, self.compiled("clibrary.c", library, *more), str(threads), str(refusals)], questions)
+        fault = faults_of_answers([*self.by, *by, self.compile("clibrary.c", library, *more), str(threads), str(refusals)], questions)
         self.assertEqual(fault, "", fault)
 
-    def has_its_symbols(self, library, *words):
+    def check_symbols(self, library, *words):
         """A library must define the calls of the header and no other public symbol, and need only symbols of NEEDED. `words` are options of `nm`: a
         shared object needs `--dynamic`."""
         nm = f"{self.prefix}nm"
         # (the version of the calls is a symbol too)
-        given = {name for name in symbols(library, *words, "--defined-only", "--extern-only", nm=nm) if not name.startswith("SPKI_")}
-        self.assertEqual(given, calls_of_header())
+        defined = {name for name in symbols(library, *words, "--defined-only", "--extern-only", nm=nm) if not name.startswith("SPKI_")}
+        self.assertEqual(defined, calls_of_header())
         # (the weak ones are those that the C compiler puts into each shared object)
         needed = {name for name in symbols(library, *words, "--undefined-only", nm=nm) if not name.startswith(WEAK)}
         self.assertLessEqual(needed, NEEDED)
@@ -276,7 +276,7 @@ class OfC(built.OfLibrary):
     def check_program(self, source, library, *more, by=(), words=()):
         """A program in C that checks the library itself must end with status 0. `by` is a command that runs it, and `words` are its arguments.
         `library` is `static` or `shared`, and `more` are options of the compiler."""
-        words = [*self.by, *by, self.compiled(source, library, *more), *words]
+        words = [*self.by, *by, self.compile(source, library, *more), *words]
         done = subprocess.run(words, capture_output=True, text=True, timeout=SECONDS)
         self.assertEqual(done.returncode, 0, f"{' '.join(words)[:300]}: {done.stderr[-2000:]}")
 
@@ -292,22 +292,23 @@ class Links(OfC):
 
     def test_symbols_of_the_archive(self):
         """The archive is the static library."""
-        self.has_its_symbols(self.library)
+        self.check_symbols(self.library)
 
     def test_symbols_of_the_shared_object(self):
-        self.has_its_symbols(self.shared, "--dynamic")
+        self.check_symbols(self.shared, "--dynamic")
 
     def check_linking(self, *words):
         """`linked.c` must be compiled and linked in each way, and end with status 0. `words` are a compiler and its options. In the last way there
         are two copies of the static library, one with other names for the calls: they must not clash."""
-        other, to = os.path.join(self.room, "libother.a"), os.path.join(self.room, "linked")
+        other, program = os.path.join(self.room, "libother.a"), os.path.join(self.room, "linked")
+        source = os.path.join(TESTS, "programs", "linked.c")
         renamed = [f"--redefine-sym={name}=other_{name}" for name in calls_of_header()]
         subprocess.run(["objcopy", *renamed, self.library, other], check=True)
         by_name = ["-L", os.path.dirname(self.shared), "-lspki_c", rpath_to(self.shared)]
         for way, flags, more in (("static", [], [self.library]), ("shared", [], by_name), ("two archives", ["-DOTHER"], [self.library, other])):
             with self.subTest(way):
-                made = is_compiled(*words, *WARNINGS, *flags, "-o", to, os.path.join(TESTS, "programs", "linked.c"), "-x", "none", *more)
-                self.assertTrue(made and subprocess.run([to], timeout=SECONDS).returncode == 0)
+                self.assertTrue(is_compiled(*words, *WARNINGS, *flags, "-o", program, source, "-x", "none", *more))
+                self.assertEqual(subprocess.run([program], timeout=SECONDS).returncode, 0)
 
     def test_c11(self):
         self.check_linking("cc", "-std=c11")
@@ -413,30 +414,30 @@ int main(void)
             ("a", "(propagate) ", "b26a73c3cdcb26bbb71fa21531b5b6a1745fc316ddfcf53862a174f5dccebfb6"),
             ("b", "", "d71ecfb335b8e4b04cb035426566a94e817a12cfcfa4dbf5b704b6cd670c7ad2")))
         text = self.PROGRAM.replace("SHOWN", f'"(sequence {39 * own}{last})"').replace("SAMPLE", sample)
-        to = os.path.join(self.room, "sample")
-        words = ["cc", *STRICT, *SANITIZED, "-Wno-overlength-strings", "-I", CRATE, "-x", "c", "-", "-x", "none", "-o", to, self.library]
+        program = os.path.join(self.room, "sample")
+        words = ["cc", *STRICT, *SANITIZED, "-Wno-overlength-strings", "-I", CRATE, "-x", "c", "-", "-x", "none", "-o", program, self.library]
         done = subprocess.run(words, input=text, stderr=subprocess.PIPE, text=True, timeout=SECONDS)
         self.assertEqual((done.returncode, done.stderr), (0, ""), text)
-        done = subprocess.run([to], stdout=subprocess.PIPE, stderr=subprocess.STDOUT, text=True, timeout=SECONDS)
+        done = subprocess.run([program], stdout=subprocess.PIPE, stderr=subprocess.STDOUT, text=True, timeout=SECONDS)
         self.assertEqual((done.returncode, done.stdout), (0, "granted\n"))
 
 
 class Until(OfC):
     """`until.c`: a decision says the last second at which the same question is a yes."""
 
-    # The seconds at which a question can be asked, but for the last: each has a next one.
+    # The seconds at which a question can be asked, but for the last, 9999-12-31_23:59:59: each has a next one.
     ASKED = range(253_402_300_799)
 
     def test_rows(self):
-        """until.c prints the status of a yes, 9, and its last second. If seconds can be asked, 1 and 0 follow: this one is a yes, the next is
-        none."""
-        to = os.path.join(self.room, "until")
-        self.assertTrue(is_compiled("cc", *STRICT, "-o", to, os.path.join(TESTS, "programs", "until.c"), self.library), "until.c is not compiled")
+        """until.c prints GRANTED, and the last second of the yes. If a question can be asked at this second and at the
+        next one, 1 and 0 follow: the first of these answers is a yes, the second is none."""
+        program = os.path.join(self.room, "until")
+        self.assertTrue(is_compiled("cc", *STRICT, "-o", program, os.path.join(TESTS, "programs", "until.c"), self.library))
         for name, *limits, moment, until in ROWS:
             with self.subTest(name):
-                done = subprocess.run([to, *parts_of(*limits), moment], capture_output=True, text=True, timeout=SECONDS)
+                done = subprocess.run([program, *parts_of(*limits), moment], capture_output=True, text=True, timeout=SECONDS)
                 at_the_end = ["1", "0"] if until in self.ASKED else []
-                self.assertEqual((done.returncode, done.stdout.split()), (0, ["9", str(until), *at_the_end]))
+                self.assertEqual((done.returncode, done.stdout.split()), (0, [str(GRANTED), str(until), *at_the_end]))
 
 
 class Swapped(OfC):
@@ -444,9 +445,9 @@ class Swapped(OfC):
 
     def check_swapping(self, *by):
         """`swapped.c` must end with status 0 and write nothing. `by` is a command that runs it, as words."""
-        to = os.path.join(self.room, "swapped")
-        self.assertTrue(is_compiled("cc", *STRICT, "-o", to, os.path.join(TESTS, "programs", "swapped.c"), self.library), "swapped.c is not compiled")
-        done = subprocess.run([*by, to], stdout=subprocess.PIPE, stderr=subprocess.STDOUT, text=True, timeout=SECONDS)
+        program = os.path.join(self.room, "swapped")
+        self.assertTrue(is_compiled("cc", *STRICT, "-o", program, os.path.join(TESTS, "programs", "swapped.c"), self.library))
+        done = subprocess.run([*by, program], stdout=subprocess.PIPE, stderr=subprocess.STDOUT, text=True, timeout=SECONDS)
         self.assertEqual((done.returncode, done.stdout), (0, ""))
 
     def test_threads(self):
@@ -462,7 +463,7 @@ class Structures(unittest.TestCase):
     """`later.c`: spki.c is given structures of a newer and of an older spki.h than its own. It is compiled with the header as it is, or with a later
     one, whose structures have one more field."""
 
-    # What that header adds at the ends of two structures.
+    # The changes that make the later header: a number more in two initializers, and a field more in two structures.
     LATER = (("0, 0, 0, 0, 0, 0}", "0, 0, 0, 0, 0, 0, 0}"), (", SPKI_MOST_ANSWER}", ", SPKI_MOST_ANSWER, 0}"),
              ("the most octets of the answer */\n", "the most octets of the answer */\n    size_t later;\n"),
              ("past the year 9999 */\n};", "past the year 9999 */\n    const void *later;\n};"))
@@ -495,15 +496,16 @@ class Fuzzed(OfC):
     """`fuzz/calls.c`: the answers to fuzzed parts, through an spki.c that is checked as well."""
 
     def check_fuzzing(self, *flags):
-        """Fuzzing by libFuzzer, with the options `flags`, must find no fault. A text that leads to one is kept in tests/out/. spki.c is compiled
-        here under AddressSanitizer too, and linked with the archive of the proved code alone."""
-        to, folder, kept = (os.path.join(*words) for words in ((self.room, "fuzz"), (TESTS, "fuzz"), (TESTS, "out")))
+        """Fuzzing by libFuzzer, with the options `flags`, must find no fault. A text that leads to one is written to
+        tests/out/. spki.c is compiled here under AddressSanitizer too, and linked with the archive of the proved code
+        alone."""
+        program, folder, to = (os.path.join(*words) for words in ((self.room, "fuzz"), (TESTS, "fuzz"), (TESTS, "out")))
         sources = [os.path.join(folder, "calls.c"), *(os.path.join(CRATE, name) for name in ("spki.c", "heap.c"))]
         proved = os.path.join(os.path.dirname(built.library()), "proved", "libspki_c.a")
-        self.assertTrue(is_compiled(*FUZZED, *REFUSING, "-o", to, *sources, proved, "-lcrypto"), "calls.c is not compiled")
+        self.assertTrue(is_compiled(*FUZZED, *REFUSING, "-o", program, *sources, proved, "-lcrypto"), "calls.c is not compiled")
         corpus = shutil.copytree(os.path.join(folder, "corpus"), os.path.join(self.room, "corpus"), dirs_exist_ok=True)
-        os.makedirs(kept, exist_ok=True)
-        words = [to, "-max_len=1500", "-len_control=0", "-timeout=120", f"-artifact_prefix={kept}/fuzzed-", *flags, corpus]
+        os.makedirs(to, exist_ok=True)
+        words = [program, "-max_len=1500", "-len_control=0", "-timeout=120", f"-artifact_prefix={to}/fuzzed-", *flags, corpus]
         done = subprocess.run(words, stdout=subprocess.PIPE, stderr=subprocess.STDOUT, text=True, errors="replace", timeout=2 * SECONDS)
         self.assertEqual(done.returncode, 0, done.stdout[-4000:])
 
@@ -530,8 +532,8 @@ class OnArm(OfC):
         return built.arm(), built.arm().removesuffix(".a") + ".so"
 
     def test_symbols(self):
-        self.has_its_symbols(self.library)
-        self.has_its_symbols(self.shared, "--dynamic")
+        self.check_symbols(self.library)
+        self.check_symbols(self.shared, "--dynamic")
 
     def test_static(self):
         self.check_answers(short_of(self.program), "static", refusals=REFUSALS)

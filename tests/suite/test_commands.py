@@ -41,8 +41,8 @@ BEFORE = {
     "spki-cert end --ended ended\n"}
 
 
-def copied(folder: str, files: Iterable[str]) -> None:
-    """Copies files of the repository into a folder."""
+def copy_files(folder: str, files: Iterable[str]) -> None:
+    """Copies files of the repository, by their paths from its top, to the same paths in a folder."""
     for path in files:
         os.makedirs(os.path.dirname(os.path.join(folder, path)), exist_ok=True)
         shutil.copy(os.path.join(TOP, path), os.path.join(folder, path))
@@ -50,25 +50,26 @@ def copied(folder: str, files: Iterable[str]) -> None:
 
 def put_built(folder: str) -> None:
     """Puts the program and the library where `rt run` and `archive.py` leave them."""
-    for path, made in ((built.program(), PROGRAM), (built.library(), LIBRARY), (built.shared(), LIBRARY.removesuffix(".a") + ".so")):
-        place = os.path.join(folder, os.path.relpath(made, TOP))
+    for path, usual in ((built.program(), PROGRAM), (built.library(), LIBRARY), (built.shared(), LIBRARY.removesuffix(".a") + ".so")):
+        place = os.path.join(folder, os.path.relpath(usual, TOP))
         os.makedirs(os.path.dirname(place), exist_ok=True)
         shutil.copy(path, place)
 
 
-def statuses_of(lines: Iterable[str]) -> str:
-    """A script of commands, with a line after each that has its status."""
+def script_of(lines: Iterable[str]) -> str:
+    """A script of commands, which writes END and its status after each."""
     return "".join(f"{line}\nstatus=$?; echo; echo '{END}' $status\n" for line in lines)
 
 
-def faults_in(lines: list[str], said: str) -> list[str]:
-    """A text for each command whose status is not 0, nor that of STATUSES, or that wrote something else than the remark at its end. `lines` are the
-    commands, and `said` is what the script `statuses_of(lines)` wrote. A command that was not reached has the status -1."""
-    parts = STATUS.split(said)
-    found = dict(zip(range(len(lines)), zip(parts[::2], map(int, parts[1::2]))))
+def faults_in(lines: list[str], output: str) -> list[str]:
+    """A text for each command whose status is not that of STATUSES, by default 0, or that wrote something else than the
+    remark at its end. `lines` are the commands, and `output` is what `script_of(lines)` wrote. A command that was not
+    reached has the status -1."""
+    parts = STATUS.split(output)
+    answers = list(zip(parts[::2], map(int, parts[1::2])))
     faults = []
     for number, line in enumerate(lines):
-        answer, status = found.get(number, (parts[-1], -1))
+        answer, status = answers[number] if number < len(answers) else (parts[-1], -1)
         remark = REMARK.search(line)
         if status != STATUSES.get(line, 0) or remark and remark[1] != answer.strip():
             faults.append(f"$ {line}\nended with {status}, and wrote\n{answer}")
@@ -89,8 +90,9 @@ class InACopy(built.OfLibrary):
         super().setUpClass()
         cls.room = tempfile.mkdtemp(prefix="commands-")
         cls.addClassCleanup(shutil.rmtree, cls.room)
-        copied(os.path.join(cls.room, "clone"), (it for it in tracked() if it.startswith(("apps", "bindings/python", "examples", "crates/spki_c"))))
-        put_built(os.path.join(cls.room, "clone"))
+        clone, folders = os.path.join(cls.room, "clone"), ("apps", "bindings/python", "examples", "crates/spki_c")
+        copy_files(clone, (path for path in tracked() if path.startswith(folders)))
+        put_built(clone)
 
     def output(self, folder: str, script: str) -> str:
         """Runs a script in a folder, with an empty home. Returns what it writes."""
@@ -101,14 +103,14 @@ class InACopy(built.OfLibrary):
     def check_lines(self, folder: str, page: str, lines: list[str]) -> None:
         """Commands of a page must end with status 0, or that of STATUSES, and write what their remarks say. They run in a folder, after those that
         BEFORE has for the page."""
-        said = self.output(folder, BEFORE.get(page, "") + f"echo '{END}' 0\n" + statuses_of(lines))
-        self.assertEqual(faults_in(lines, STATUS.split(said, maxsplit=1)[-1]), [])
+        output = self.output(folder, BEFORE.get(page, "") + f"echo '{END}' 0\n" + script_of(lines))
+        self.assertEqual(faults_in(lines, STATUS.split(output, maxsplit=1)[-1]), [])
 
     def test_examples(self) -> None:
         """The commands of examples/README.md that NOT_RUN does not leave out, each block in a shell of its own."""
         for block in page_commands.indented_blocks(text_of("examples/README.md")):
-            each = [Command("examples/README.md", "indented", line) for line in block.splitlines()]
-            lines = [it.line for it in each if not any(page_commands.covers(row, it) for row in NOT_RUN)]
+            commands = [Command("examples/README.md", "indented", line) for line in block.splitlines()]
+            lines = [it.line for it in commands if not any(page_commands.covers(row, it) for row in NOT_RUN)]
             with self.subTest(block):
                 self.check_lines(os.path.join(self.room, "clone"), "examples/README.md", lines)
 
@@ -119,13 +121,13 @@ class InACopy(built.OfLibrary):
 
     def test_help(self) -> None:
         """The examples of the help of `spki-cert`, each in a folder of its own. What it reads is there, by BEFORE; the file that it writes is not."""
-        made = os.path.join(self.room, "made")
-        os.mkdir(made)
-        self.check_lines(made, "help", [])
+        inputs = os.path.join(self.room, "inputs")
+        os.mkdir(inputs)
+        self.check_lines(inputs, "help", [])
         for number, it in enumerate(page_commands.commands_of_help()):
             with self.subTest(it.line):
                 folder, written = os.path.join(self.room, f"help-{number}"), re.search(r" (?:-o|entry .* --acl) (\S+)", it.line)
-                shutil.copytree(made, folder)
+                shutil.copytree(inputs, folder)
                 before = "mkdir ~/.ssh; ssh-keygen -q -t ed25519 -N '' -f ~/.ssh/id_ed25519" + (f"; rm -f {written[1]}" if written else "")
                 self.check_lines(folder, "", [before, it.line])
 
@@ -177,7 +179,7 @@ class OnMachines(built.OfLibrary):
         packages = sorted({*machines.packages_of(text_of(machine.page)), *machine.packages})
         with tempfile.TemporaryDirectory() as room:
             clone = os.path.join(room, "clone")
-            copied(clone, tracked())
+            copy_files(clone, tracked())
             put_built(clone)
             before = put_key(room) if "~/.ssh" in script else ""
             return machines.output_on_machine(packages, clone, machine.by_root + by_root,
@@ -186,26 +188,26 @@ class OnMachines(built.OfLibrary):
     def check_page(self, machine: Machine) -> None:
         """The commands of a page must write what the page says, or, where it says nothing, end with status 0. Those in blocks `console` show what
         they write; the others are in indented blocks and in backticks."""
-        found = list(page_commands.commands_of(machine.page))
-        if any(it.kind == "console" for it in found):
+        commands = list(page_commands.commands_of(machine.page))
+        if any(it.kind == "console" for it in commands):
             steps = list((test_guide.steps_of_manual if machine.page.endswith(".1") else test_guide.steps_of_markdown)(text_of(machine.page)))
-            said = STATUS.split(self.output(machine, "", "".join(test_guide.script(steps))), maxsplit=1)[-1]
-            met = [each.strip("\n") for each in said.split(f"{test_guide.END}\n")]
-            self.assertEqual(met, [*(answer.strip("\n") for kind, _, answer in steps if kind == "command"), ""])
-        by_root = [f"({it.line})" for it in found if it.kind == "inline" and OF_ROOT.fullmatch(it.line)]
+            output = STATUS.split(self.output(machine, "", "".join(test_guide.script(steps))), maxsplit=1)[-1]
+            answers = [each.strip("\n") for each in output.split(f"{test_guide.END}\n")]
+            self.assertEqual(answers, [*(answer.strip("\n") for kind, _, answer in steps if kind == "command"), ""])
+        by_root = [f"({it.line})" for it in commands if it.kind == "inline" and OF_ROOT.fullmatch(it.line)]
         blocks = page_commands.indented_blocks(text_of(machine.page)) if machine.blocks else ()
         by_user = [[f"timeout 2 {line}" if SERVES.fullmatch(line) else line for line in block.splitlines() if not NOT_ON_MACHINES.fullmatch(line)]
                    for block in blocks]
-        by_user += [[it.line] for it in found if it.kind == "inline" and IN_CLONE.fullmatch(it.line)]
+        by_user += [[it.line] for it in commands if it.kind == "inline" and IN_CLONE.fullmatch(it.line)]
         if by_root or by_user:
             self.check_statuses(machine, by_root, by_user)
 
     def check_statuses(self, machine: Machine, by_root: list[str], by_user: list[list[str]]) -> None:
         """Commands of root, and then blocks of commands of the user, must end with status 0, or that of STATUSES."""
         begin = "cd ~/clone\n" * (machine.blocks != "on")
-        script = "cd ~/clone\n" + "".join(begin + statuses_of(lines) for lines in by_user)
-        said = self.output(machine, f"echo '{END}' 0\n" + statuses_of(by_root), script)
-        of_root, of_user = STATUS.split(said, maxsplit=1)[-1].split(machine.page + "\n", maxsplit=1)
+        script = "cd ~/clone\n" + "".join(begin + script_of(lines) for lines in by_user)
+        output = self.output(machine, f"echo '{END}' 0\n" + script_of(by_root), script)
+        of_root, of_user = STATUS.split(output, maxsplit=1)[-1].split(machine.page + "\n", maxsplit=1)
         self.assertEqual(faults_in(by_root, of_root), [])
         self.assertEqual(faults_in([line for lines in by_user for line in lines], STATUS.split(of_user, maxsplit=1)[-1]), [])
 
@@ -222,8 +224,8 @@ class OfToolchain(unittest.TestCase):
         """The first command of README compiles the program, which takes more than a minute, and prints the answer that the page says. It becomes
         `test_first_command` in the long tests alone."""
         line = next(it.line for it in page_commands.commands_of("README.md") if it.kind == "indented")
-        status, said = output_of("sh", "-c", line, cwd=TOP, seconds=3 * SECONDS)
-        self.assertEqual((status, "yes entry 1" in said.splitlines()), (0, True), said)
+        status, output = output_of("sh", "-c", line, cwd=TOP, seconds=3 * SECONDS)
+        self.assertEqual((status, "yes entry 1" in output.splitlines()), (0, True), output)
         self.assertIn("prints `yes entry 1`", text_of("README.md"))
 
 

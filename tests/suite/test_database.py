@@ -128,8 +128,8 @@ def decider_by_whole_list(store, policy):
 
 def agrees_with_whole_list(store, seed, policy):
     """Whether a service answers random questions as the whole list does, before and after some entries are removed, and more than 10 of them with a
-    yes, with a no, and with a refusal. Prints the numbers."""
-    maker, met = Maker(seed), {"yes": 0, "no": 0, "refused": 0}
+    yes, with a no, and with a refusal. Prints how many there are of each."""
+    maker, counts = Maker(seed), {"yes": 0, "no": 0, "refused": 0}
     numbers = []
     for _ in range(ENTRIES):
         principal, fields, names = maker.entry()
@@ -139,24 +139,24 @@ def agrees_with_whole_list(store, seed, policy):
         decide = decider_by_whole_list(store, policy)
         for _ in range(QUESTIONS // 2):
             asked = maker.question()
-            wanted, found = outcome(decide, asked), outcome(lambda it: service.decide(it, is_right), asked)
-            if wanted != found:
-                print(f"seed {seed}: {asked}: {found}, and of the whole list {wanted}")
+            wanted, answer = outcome(decide, asked), outcome(lambda it: service.decide(it, is_right), asked)
+            if wanted != answer:
+                print(f"seed {seed}: {asked}: {answer}, and of the whole list {wanted}")
                 return False
-            met["no" if found is None else "yes" if isinstance(found, int) else "refused"] += 1
+            counts["no" if answer is None else "yes" if isinstance(answer, int) else "refused"] += 1
         for number in maker.random.sample(numbers, ENTRIES // 3):
             store.remove(number)
-    print(f"seed {seed}: {met}")
-    return min(met.values()) > 10
+    print(f"seed {seed}: {counts}")
+    return min(counts.values()) > 10
 
 
 # ---- several clients at the same time
 
 
-def client(opened, place):
-    """Adds and removes entries of a key of its own, and asks in between. `opened` connects to the store, and `place` is the number of the client.
-    Returns what was wrong, or None."""
-    store, own = opened(), key_of(b"client%d" % place)
+def fault_of_client(connect, place):
+    """Adds and removes entries of a key of its own, and asks in between. `connect` connects to the store, and `place`
+    is the number of the client. Returns what was wrong, or None."""
+    store, own = connect(), key_of(b"client%d" % place)
     service, asked = entries.Service(store), question(b"(sequence)", own)
     for turn in range(ROUNDS):
         principal = canonical(own if turn % 2 else hash_of(own))
@@ -173,12 +173,10 @@ def client(opened, place):
     return None
 
 
-def clients_agree(opened):
-    """Whether several clients at once find nothing wrong. Prints what they find. `opened` connects to the store."""
+def faults_of_clients(connect):
+    """What several clients at once find wrong, a text each. `connect` connects to the store."""
     with ThreadPoolExecutor(CLIENTS) as pool:
-        wrong = list(filter(None, pool.map(lambda place: client(opened, place), range(CLIENTS))))
-    print("".join(f"{each}\n" for each in wrong), end="")
-    return not wrong
+        return list(filter(None, pool.map(lambda place: fault_of_client(connect, place), range(CLIENTS))))
 
 
 def is_refused(call, *given, **more):
@@ -204,10 +202,9 @@ class Entries(built.OfLibrary):
     """What makes no entry is refused before it is in a table."""
 
     def test_entries_refused(self):
-        """`is_right_so` is whether `entries.entry` refused these arguments, as it must."""
-        for name, is_right_so in entries_refused().items():
+        for name, was_refused in entries_refused().items():
             with self.subTest(name):
-                self.assertTrue(is_right_so)
+                self.assertTrue(was_refused)
 
 
 class Stores(built.OfLibrary):
@@ -221,20 +218,20 @@ class Stores(built.OfLibrary):
 
     def setUp(self):
         self.schema = f"spki_{secrets.token_hex(6)}"
-        self.opened().make()
+        self.connect().make()
 
-    def opened(self):
-        """The store, by a connection of its own."""
+    def connect(self):
+        """The store, by a connection of its own, which is closed after the test."""
         store = Store(self.server.address, self.schema)
         self.addCleanup(store.close)
         return store
 
     def test_strict(self):
-        self.assertTrue(agrees_with_whole_list(self.opened(), 0, spki.Policy.STRICT))
+        self.assertTrue(agrees_with_whole_list(self.connect(), 0, spki.Policy.STRICT))
 
     def test_open(self):
         """Under `ALLOW_SHA1` hashes by SHA-1 name keys too."""
-        self.assertTrue(agrees_with_whole_list(self.opened(), 1, spki.Policy.ALLOW_SHA1))
+        self.assertTrue(agrees_with_whole_list(self.connect(), 1, spki.Policy.ALLOW_SHA1))
 
     def test_several_clients(self):
-        self.assertTrue(clients_agree(self.opened))
+        self.assertEqual(faults_of_clients(self.connect), [])

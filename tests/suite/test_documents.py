@@ -27,17 +27,17 @@ PATH = re.compile(r"^(?:\.ci|[\w*+-][\w.*+-]*)(?:/[\w.*+-]+)*/?$")
 KINDS = (".md", ".py", ".sexp", ".csexp", ".tsexp", ".rt", ".antt", ".h", ".c", ".sh", ".svg")
 LOGIC = re.compile(r"rattle-kit-\w+ (logic [0-9a-f]+)")
 ANY = re.compile(r"\b[A-Z]{2,}(?![A-Za-z.])")
-# What pages name that is made by a command, by the reader, or by another program, and the page of each.
+# What pages name that is made by a command, by the reader, or by another program.
 MADE = {"ask.py", "builders.sexp", "to-bob.sexp", "to-carol.sexp", "case.sexp", "chain.svg", "chain.sexp", "wrong.sexp", "x.edit", "locate"}
 
 
 def names_here():
     """The bare names of all files of the repository, without what is built."""
-    found = set()
+    bare_names = set()
     for _, folders, names in os.walk(TOP):
         folders[:] = set(folders) - {".git", "out", "__pycache__"}
-        found.update(names)
-    return found
+        bare_names.update(names)
+    return bare_names
 
 
 def anchor(heading):
@@ -71,8 +71,7 @@ def words_of(page):
 
 def bases(page):
     """The folders that the paths of a page may begin in."""
-    folder = os.path.dirname(page)
-    return [it for it in (TOP, os.path.join(TOP, folder)) if os.path.isdir(it)]
+    return TOP, os.path.join(TOP, os.path.dirname(page))
 
 
 def dead_paths(page, names):
@@ -130,7 +129,8 @@ class Documents(unittest.TestCase):
         self.assertEqual({path for path in named if "/out/" not in path and not glob.glob(os.path.join(TOP, path))}, set())
 
     def test_lengths(self) -> None:
-        """A page that grows is read by nobody."""
+        """README.md, and the pages of docs/ together with the pages CALLING.md, are no longer than meant. Nobody reads
+        long pages."""
         lengths = {path: os.path.getsize(path) for pattern in PAGES for path in glob.glob(os.path.join(TOP, pattern), recursive=True)}
         self.assertLessEqual(lengths[os.path.join(TOP, "README.md")], MOST_OF_README)
         self.assertLess(sum(size for path, size in lengths.items() if "/docs/" in path or path.endswith("CALLING.md")), MOST_OF_PAGES)
@@ -154,7 +154,7 @@ class Documents(unittest.TestCase):
         """Each function `spki_c_..` has a row in docs/PROOFS.md, and the page explains each call of spki.h."""
         self.assertEqual(list(claims.unclaimed("docs/PROOFS.md", "crates/spki_c/spki.h", "crates/spki_c/spki.c")), [])
 
-    def is_whole(self, page: str) -> None:
+    def check_page(self, page: str) -> None:
         """All that a page names must be there."""
         missing = sorted({*dead_links(page), *dead_paths(page, NAMES)})
         self.assertEqual(missing, [], f"{page}: these are not there")
@@ -162,7 +162,7 @@ class Documents(unittest.TestCase):
 
 def made_test(page: str) -> Callable[[Documents], None]:
     """The test of a page."""
-    return lambda self: self.is_whole(page)
+    return lambda self: self.check_page(page)
 
 
 NAMES = names_here()

@@ -26,7 +26,8 @@ from spki_cert_tool import commands, ending, files
 COMMAND = os.path.join(TOP, "apps", "spki-cert", "spki-cert")
 A, B, C = (letter * 64 for letter in "abc")
 ENDED = "etc ended"
-# The comment that made a line of its own in the file, and the one that named somebody else's certificate.
+# Comments of certificates that an older way to end them wrote into the file: one as a line of its own, the other as the
+# digest of somebody else's certificate.
 COMMENTS = ("see sha256 of the release", f"sha256 {A} #")
 WRITERS = 6
 
@@ -46,9 +47,9 @@ def digests_by_model(text: bytes) -> list[str]:
     return [hashlib.sha256(values.canonical(item)).hexdigest() for item in items if values.head_of(item) == b"cert"]
 
 
-def place(kind: str, path: str) -> None:
-    """Puts something at the path of the file of ended certificates that is no ordinary file, or is one that cannot be used. `kind` names it, as the
-    rows of `test_places` do."""
+def make_unusable(kind: str, path: str) -> None:
+    """Makes at a path what `spki-cert end` must not use as its file: no ordinary file, or one that cannot be used.
+    `kind` names it, as the rows of `test_places` do."""
     if kind == "fifo":
         os.mkfifo(path)
     elif kind == "folder":
@@ -65,9 +66,9 @@ def place(kind: str, path: str) -> None:
 
 
 def state_of(path: str) -> list[int]:
-    """All that the system knows about a file but the time when it was read."""
-    about = os.lstat(path)
-    return [about.st_ino, about.st_mode, about.st_size, about.st_nlink, about.st_mtime_ns, about.st_ctime_ns]
+    """What differs if a file or a link is replaced, or a file written: number, mode, size, count of names, times."""
+    state = os.lstat(path)
+    return [state.st_ino, state.st_mode, state.st_size, state.st_nlink, state.st_mtime_ns, state.st_ctime_ns]
 
 
 @needs.needs("import cryptography")
@@ -114,19 +115,19 @@ class Case(unittest.TestCase):
     @classmethod
     def run_here(cls, *words: str) -> tuple[int, str]:
         """Runs `spki-cert` in the folder, within this process. Returns its status, and what it writes on both streams."""
-        said, before = io.TextIOWrapper(io.BytesIO(), "ascii", write_through=True), os.getcwd()
+        output, before = io.TextIOWrapper(io.BytesIO(), "ascii", write_through=True), os.getcwd()
         os.chdir(cls.room)
         try:
-            with mock.patch.object(sys, "argv", ["spki-cert", *words]), contextlib.redirect_stdout(said), contextlib.redirect_stderr(said):
-                return commands.main(), said.buffer.getvalue().decode()  # type: ignore[attr-defined]
+            with mock.patch.object(sys, "argv", ["spki-cert", *words]), contextlib.redirect_stdout(output), contextlib.redirect_stderr(output):
+                return commands.main(), output.buffer.getvalue().decode()  # type: ignore[attr-defined]
         finally:
             os.chdir(before)
 
-    def ended(self, *words: str, wanted: int = 0) -> str:
+    def end(self, *words: str, wanted: int = 0) -> str:
         """Runs `spki-cert end`, which must end with the status `wanted`. Returns what it writes."""
-        status, said = self.run_here("end", "--ended", ENDED, *words)
-        self.assertEqual(status, wanted, said)
-        return said
+        status, output = self.run_here("end", "--ended", ENDED, *words)
+        self.assertEqual(status, wanted, output)
+        return output
 
     def rows(self) -> list[str]:
         """The digests in the file of ended certificates, whose last line must be right."""
@@ -134,10 +135,11 @@ class Case(unittest.TestCase):
         self.assertEqual(self.octets(ENDED), sealed(*lines[:-1]))
         return [line[:64] for line in lines if re.match("[0-9a-f]{64}", line)]
 
-    def is_unchanged(self, before: bytes, said: str) -> None:
-        """The file of ended certificates must be as before, and no temporary file may be left. `said`, which a command wrote, is shown if not."""
-        self.assertEqual(self.octets(ENDED), before, said)
-        self.assertEqual([name for name in os.listdir(self.room) if name.startswith(".")], [], said)
+    def check_unchanged(self, before: bytes, output: str) -> None:
+        """The file of ended certificates must be as before, and no temporary file may be left. `output`, which a
+        command wrote, is shown if not."""
+        self.assertEqual(self.octets(ENDED), before, output)
+        self.assertEqual([name for name in os.listdir(self.room) if name.startswith(".")], [], output)
 
 
 class Ends(Case):
@@ -147,16 +149,17 @@ class Ends(Case):
         self.write(ENDED, sealed())
 
     def test_which_certificate(self) -> None:
-        """The last certificate of a file, that at a place, the one that is alone, or a digest. Comments of certificates do nothing."""
+        """What is ended: the last certificate of a file, with `--place` the one at a place, a certificate that is no
+        sequence, or a digest. Comments in certificates change nothing."""
         first, second = self.digests
         for words, wanted in ((["second"], [second]), (["first"], [first]), (["cert"], [first]), (["second", "--place", "1"], [first]),
                               (["second", "--place", "2"], [second]), (["first", "second"], [first, second]), (["--digest", B], [B]),
                               (["--digest", B.upper()], [B]), (["first", "--digest", B, "--digest", C], [first, B, C]), (["first", "cert"], [first])):
             with self.subTest(words=words):
                 self.write(ENDED, sealed())
-                said = self.ended(*words)
-                self.assertEqual((self.rows(), f"digests added: {len(wanted)};" in said), (wanted, True), said)
-                self.assertEqual("--digest is compared with no certificate" in said, "--digest" in words)
+                output = self.end(*words)
+                self.assertEqual((self.rows(), f"digests added: {len(wanted)};" in output), (wanted, True), output)
+                self.assertEqual("--digest is compared with no certificate" in output, "--digest" in words)
 
     def test_forms(self) -> None:
         """A file in another form of the same value has the same digest."""
@@ -164,7 +167,7 @@ class Ends(Case):
             with self.subTest(name=name):
                 self.write(ENDED, sealed())
                 self.write("form", octets)
-                self.ended("form")
+                self.end("form")
                 self.assertEqual(self.rows(), [self.digests[1]])
 
     def test_reasons(self) -> None:
@@ -174,51 +177,52 @@ class Ends(Case):
                                ("Schl\xfcssel", " Schl\\xfcssel"), ("\udcff", " \\udcff"), ("# \\ '", " # \\ '"), ("x" * 999, " " + "x" * 200)):
             with self.subTest(reason=reason):
                 self.write(ENDED, sealed())
-                self.ended("second", "--reason", reason)
+                self.end("second", "--reason", reason)
                 line = self.octets(ENDED).decode().splitlines()[0]
                 self.assertRegex(line, rf"^{self.digests[1]} # \d{{4}}-\d\d-\d\d{re.escape(wanted)}$")
                 self.assertEqual(self.rows(), [self.digests[1]])
 
     def test_twice(self) -> None:
-        """What has ended is said, and not written again."""
-        self.ended("first")
+        """A certificate that has ended already is reported, and not written again."""
+        self.end("first")
         before = self.octets(ENDED)
-        said = self.ended("first", "--reason", "again")
-        self.assertIn("it had ended before\ndigests added: 0", said)
-        self.is_unchanged(before, said)
-        self.assertIn("digests added: 1;", self.ended("first", "second"))
+        output = self.end("first", "--reason", "again")
+        self.assertIn("it had ended before\ndigests added: 0", output)
+        self.check_unchanged(before, output)
+        self.assertIn("digests added: 1;", self.end("first", "second"))
         self.assertEqual(self.rows(), self.digests)
 
     def test_undo(self) -> None:
-        """All that are named are taken out, or none is."""
-        kept = ["# M\xfcller", "", f"{A} # 2026-01-01", f"{B}"]
-        self.write(ENDED, sealed(*kept, self.digests[1]))
+        """`--undo` takes out all digests that are named, or none if one of them has not ended."""
+        others = ["# M\xfcller", "", f"{A} # 2026-01-01", f"{B}"]
+        self.write(ENDED, sealed(*others, self.digests[1]))
         before = self.octets(ENDED)
         for words in (["first"], ["second", "first"], ["--digest", C]):
-            said = self.ended("--undo", *words, wanted=1)
-            self.assertIn("it has not ended; nothing was written", said)
-            self.is_unchanged(before, said)
-        self.assertIn("-reload -fewer", self.ended("--undo", "second"))
-        self.assertEqual(self.octets(ENDED), sealed(*kept))
+            output = self.end("--undo", *words, wanted=1)
+            self.assertIn("it has not ended; nothing was written", output)
+            self.check_unchanged(before, output)
+        self.assertIn("-reload -fewer", self.end("--undo", "second"))
+        self.assertEqual(self.octets(ENDED), sealed(*others))
 
     def test_list(self) -> None:
-        """Digest, date and reason, and the last line as the file has it. Nothing that a terminal would obey."""
+        """`--list` writes each digest with its date and reason, and the last line as the file has it, and no control
+        characters."""
         text = sealed("# a comment", "", f"{A} # 2026-01-02 stolen", f"{B} # 2026-01-03", f"{C} # M\xfcller \x1b[2J 2026-01-04", "d" * 64)
         self.write(ENDED, text)
-        self.assertEqual(self.ended("--list"), f"{A} 2026-01-02 stolen\n{B} 2026-01-03\n{C} - M\\xfcller [2J 2026-01-04\n{'d' * 64} -\n"
+        self.assertEqual(self.end("--list"), f"{A} 2026-01-02 stolen\n{B} 2026-01-03\n{C} - M\\xfcller [2J 2026-01-04\n{'d' * 64} -\n"
                          + text.decode().splitlines()[-1] + "\n")
-        self.is_unchanged(text, "--list")
+        self.check_unchanged(text, "--list")
 
-    def test_made(self) -> None:
+    def test_new_file(self) -> None:
         """Without a certificate the command makes the file, with mode 644. If the file is there, the command says whether it is whole, and how many
         digests it has."""
         os.unlink(self.at(ENDED))
-        self.assertIn("made; digests: 0", self.ended())
+        self.assertIn("made; digests: 0", self.end())
         self.assertEqual((self.rows(), stat.S_IMODE(os.stat(self.at(ENDED)).st_mode)), ([], 0o644))
-        self.ended("first")
+        self.end("first")
         before = self.octets(ENDED)
-        self.assertIn("whole; digests: 1", self.ended())
-        self.is_unchanged(before, "the file is there")
+        self.assertIn("whole; digests: 1", self.end())
+        self.check_unchanged(before, "the file is there")
 
     def test_mode_owner_and_comments_stay(self) -> None:
         self.write(ENDED, sealed("# M\xfcller \udcff", f"{A} # \x01 \xe9"))
@@ -226,7 +230,7 @@ class Ends(Case):
         if os.geteuid() == 0:
             os.chown(self.at(ENDED), 1, 2)
         before = os.stat(self.at(ENDED))
-        self.ended("first")
+        self.end("first")
         after = os.stat(self.at(ENDED))
         self.assertEqual((after.st_mode, after.st_uid, after.st_gid), (before.st_mode, before.st_uid, before.st_gid))
         self.assertTrue(self.octets(ENDED).startswith("# M\xfcller \udcff\n".encode("utf-8", "surrogateescape") + f"{A} # \x01 \xe9\n".encode()))
@@ -237,7 +241,7 @@ class Ends(Case):
         self.write("real", sealed())
         os.unlink(self.at(ENDED))
         os.symlink("real", self.at(ENDED))
-        self.ended("first")
+        self.end("first")
         self.assertTrue(os.path.islink(self.at(ENDED)))
         self.assertEqual(self.rows(), [self.digests[0]])
 
@@ -249,31 +253,32 @@ class Ends(Case):
         self.assertEqual(sorted(self.rows()), [f"{number:064x}" for number in range(WRITERS)])
 
     def test_changed_before_the_lock(self) -> None:
-        """What another writer puts there between opening and locking is kept."""
-        def changes_and_locks(handle: int, how: int) -> None:
+        """What another writer puts there between opening and locking is not lost."""
+        def change_and_lock(handle: int, how: int) -> None:
             if self.rows() == []:
                 self.write(ENDED, sealed(A))
             flock(handle, how)
 
         flock = fcntl.flock
-        with mock.patch("fcntl.flock", changes_and_locks):
-            self.ended("first")
+        with mock.patch("fcntl.flock", change_and_lock):
+            self.end("first")
         self.assertEqual(self.rows(), [A, self.digests[0]])
 
     def test_locked(self) -> None:
-        """A writer that holds the file for long does not hang the next one."""
+        """A writer that keeps the file locked ends the next one with a fault after SECONDS_TO_LOCK, here none, and does
+        not hang it."""
         with files.locked(self.at(ENDED)), mock.patch.object(files, "SECONDS_TO_LOCK", 0):
-            said = self.ended("first", wanted=2)
-        self.assertIn("another program has locked it", said)
-        self.is_unchanged(sealed(), said)
+            output = self.end("first", wanted=2)
+        self.assertIn("another program has locked it", output)
+        self.check_unchanged(sealed(), output)
 
     def test_full_disk(self) -> None:
         """If the new file cannot be written, the old one stays, and no other file is left."""
         for name in ("os.fsync", "os.replace", "os.fchown", "shutil.copystat"):
             with self.subTest(name=name), mock.patch(name, side_effect=OSError(28, "No space left on device")):
-                said = self.ended("first", wanted=3)
-                self.assertIn("No space left on device; the file is as before", said)
-                self.is_unchanged(sealed(), said)
+                output = self.end("first", wanted=3)
+                self.assertIn("No space left on device; the file is as before", output)
+                self.check_unchanged(sealed(), output)
 
     def test_full_output(self) -> None:
         """If only the output cannot be written, the status says so, and nothing denies that the file is written."""
@@ -281,20 +286,20 @@ class Ends(Case):
             def flush(self) -> None:
                 raise OSError(28, "No space left on device")
 
-        said, before = io.StringIO(), os.getcwd()
+        errors, before = io.StringIO(), os.getcwd()
         os.chdir(self.room)
         self.addCleanup(os.chdir, before)
         with mock.patch.object(sys, "argv", ["spki-cert", "end", "first", "--ended", ENDED]), contextlib.redirect_stdout(Full()), \
-                contextlib.redirect_stderr(said):
+                contextlib.redirect_stderr(errors):
             self.assertEqual(commands.main(), 3)
-        self.assertNotIn("nothing was written", said.getvalue())
+        self.assertNotIn("nothing was written", errors.getvalue())
         self.assertEqual(self.rows(), self.digests[:1])
 
 
 class Refuses(Case):
     """What ends with a status that is not 0, and changes nothing."""
 
-    def test_what_is_meant(self) -> None:
+    def test_arguments(self) -> None:
         """Words that do not name a certificate, or that do not go together, are refused."""
         self.write(ENDED, sealed(A))
         self.write("none", b"(sequence)")
@@ -312,9 +317,9 @@ class Refuses(Case):
                             (["--reason", "x"], "--reason goes with"), (["--undo", "first", "--reason", "x"], "--reason goes with"),
                             (["first", "--yes"], "--yes goes with --adopt"), ([ENDED], "refused form")):
             with self.subTest(words=words):
-                said = self.ended(*words, wanted=2)
-                self.assertIn(text, said)
-                self.is_unchanged(sealed(A), said)
+                output = self.end(*words, wanted=2)
+                self.assertIn(text, output)
+                self.check_unchanged(sealed(A), output)
 
     def test_files(self) -> None:
         """A file that is not as it was written is refused by each command, with what differs and what to do."""
@@ -339,38 +344,39 @@ class Refuses(Case):
         for (name, octets, text), words in itertools.product(rows, words_of):
             with self.subTest(name=name, words=words):
                 self.write(ENDED, octets)
-                said = self.ended(*words, wanted=2)
-                self.assertIn(text, said)
-                self.assertIn("--adopt", said)
-                self.is_unchanged(octets, said)
+                output = self.end(*words, wanted=2)
+                self.assertIn(text, output)
+                self.assertIn("--adopt", output)
+                self.check_unchanged(octets, output)
 
     def test_places(self) -> None:
-        """What is no ordinary file that can be written is left alone. None of these waits for anybody."""
+        """What is no ordinary file that can be written is refused and stays as it is. A FIFO is not waited for."""
         rows = [("fifo", "no ordinary file"), ("device", "no ordinary file"), ("folder", "no ordinary file"), ("read-only", "its mode 444"),
                 ("two names", "2 names"), ("long", "more than 16777216 octets"), ("nowhere", "not there; `spki-cert end --ended")]
         for (kind, text), words in itertools.product(rows, (["first"], ["--undo", "--digest", A], ["--adopt"])):
             with self.subTest(kind=kind, words=words), tempfile.TemporaryDirectory(dir=self.room) as room:
                 path = os.path.join(room, "ended")
-                place(kind, path)
+                make_unusable(kind, path)
                 before = state_of(path)
-                status, said = self.run_here("end", "--ended", path, *words)
-                self.assertEqual((status, text in said), (2, True), said)
+                status, output = self.run_here("end", "--ended", path, *words)
+                self.assertEqual((status, text in output), (2, True), output)
                 self.assertEqual((state_of(path), [name for name in os.listdir(room) if name.startswith(".")]), (before, []))
 
-    def test_gone(self) -> None:
+    def test_missing_file(self) -> None:
         """A wrong name of the file makes no new one, which no daemon would read."""
         for words in (["first"], ["--list"], ["--adopt"], ["--undo", "first"]):
-            status, said = self.run_here("end", "--ended", "other", *words)
-            self.assertEqual((status, os.path.exists(self.at("other"))), (2, False), said)
+            status, output = self.run_here("end", "--ended", "other", *words)
+            self.assertEqual((status, os.path.exists(self.at("other"))), (2, False), output)
         self.assertEqual(self.run_here("end", "--ended", "no/folder")[0], 2)
 
 
 class Adopts(Case):
     """How a file that people have written or changed becomes whole."""
 
-    def test_taken(self) -> None:
-        """`--adopt` takes digests in capitals or with spaces around them, other ends of lines, and a last line that is wrong or missing. It writes
-        the file as the command itself does. `lines` are those before the new last line."""
+    def test_accepted(self) -> None:
+        """`--adopt` accepts digests in capitals or with spaces around them, other ends of lines, and a last line that
+        is wrong or missing. It writes the file as the command itself does. `lines` are those before the new last
+        line."""
         for name, octets, lines in (
                 ("old", f"#old\n\n{A.upper()}\n {B} #  x\n{C}#\xfc\n".encode(), ["#old", "", A, f"{B} # x", f"{C} # \xfc"]),
                 ("nothing in a comment", f"{A} #\n#\n{B}\t# \n".encode(), [A, "#", B]),
@@ -379,31 +385,31 @@ class Adopts(Case):
                 ("no last line", sealed(A, B)[:130], [A, B])):
             with self.subTest(name=name):
                 self.write(ENDED, octets)
-                said = self.ended("--adopt")
-                self.assertEqual((self.octets(ENDED), f"digests: {len(self.rows())}\n" in said), (sealed(*lines), True), said)
+                output = self.end("--adopt")
+                self.assertEqual((self.octets(ENDED), f"digests: {len(self.rows())}\n" in output), (sealed(*lines), True), output)
 
     def test_doubtful(self) -> None:
-        """What was probably cut is taken with `--yes` alone."""
+        """What was probably cut is accepted only with `--yes`."""
         rows: list[tuple[str, bytes, list[str]]] = [
             ("empty", b"", []), ("comments", b"# x\n", ["# x"]), ("a line less", sealed(A, B)[65:], [B]),
             ("a line more", A.encode() + b"\n" + sealed(B), [A, B]), ("a cut last line", sealed(A, B)[:-9], [A, B])]
         for name, octets, lines in rows:
             with self.subTest(name=name):
                 self.write(ENDED, octets)
-                said = self.ended("--adopt", wanted=4)
-                self.assertIn("was it cut?", said)
-                self.is_unchanged(octets, said)
-                self.ended("--adopt", "--yes")
+                output = self.end("--adopt", wanted=4)
+                self.assertIn("was it cut?", output)
+                self.check_unchanged(octets, output)
+                self.end("--adopt", "--yes")
                 self.assertEqual(self.octets(ENDED), sealed(*lines))
 
     def test_refused(self) -> None:
-        """A line that is none is never guessed at."""
+        """A line that is neither a digest nor a comment is refused, also with `--yes`."""
         for octets in (A.encode() + b"\n" + B[:30].encode(), b"see sha256 of the release\n", sealed(A) + sealed(B), b"\x00", A.encode() + b" x\n"):
             with self.subTest(octets=octets):
                 self.write(ENDED, octets)
-                said = self.ended("--adopt", "--yes", wanted=2)
-                self.assertIn("remove or mend it", said)
-                self.is_unchanged(octets, said)
+                output = self.end("--adopt", "--yes", wanted=2)
+                self.assertIn("remove or mend it", output)
+                self.check_unchanged(octets, output)
 
 
 @needs.needs(*needs.LIBRARY, "import cryptography")
@@ -417,11 +423,11 @@ class OfLibrary(Case):
                 "print(*(hashlib.sha256(it.message).hexdigest() for it in asked.signatures()), sep='\\n')")
         self.write("key", self.run_here("key", "ann.pub")[1].encode())
         settings = {**os.environ, "SPKI_LIBRARY": built.shared(), "PYTHONPATH": os.path.join(TOP, "bindings", "python")}
-        status, said = output_of(sys.executable, "-c", asks, "second", "key", cwd=self.room, env=settings)
-        self.assertEqual((status, said.split()), (0, self.digests))
+        status, output = output_of(sys.executable, "-c", asks, "second", "key", cwd=self.room, env=settings)
+        self.assertEqual((status, output.split()), (0, self.digests))
         self.write(ENDED, sealed())
-        self.ended("first", "second")
-        self.assertEqual(self.rows(), said.split())
+        self.end("first", "second")
+        self.assertEqual(self.rows(), output.split())
 
 
 class Page(unittest.TestCase):
