@@ -540,7 +540,3 @@ class Units(unittest.TestCase):
             self.assertIn(line, service)
         for line in ("Backlog=4096", "SocketMode=0660", "IPAddressAllow=localhost"):
             self.assertIn(line, unit)
-
-
-if __name__ == "__main__":
-    unittest.main()

@@ -103,7 +103,3 @@ class Lengths(unittest.TestCase):
             with open(path, encoding="utf-8") as file:
                 count = sum(bool(line.strip()) for line in file)
             self.assertLessEqual(count, most, path)
-
-
-if __name__ == "__main__":
-    unittest.main()

@@ -5,6 +5,7 @@ What is not there is skipped, with the Debian package that has it."""
 import base64
 import collections
 import contextlib
+import hashlib
 import io
 import json
 import os
@@ -12,10 +13,10 @@ import pty
 import random
 import re
 import shutil
+import signal
 import stat
 import subprocess
 import sys
-import tempfile
 import unittest
 from unittest import mock
 
@@ -43,8 +44,8 @@ TAG = "(packages (* set read write) (* prefix /web/))"
 # A reason as the library gives it: the numbers of an entry and an item, each or None, and the word of `explain`.
 Reason = collections.namedtuple("Reason", "entry item word")
 FEW_FILES, FILES = 100, 1000
-# How many times as much processor time FILES files may take as FEW_FILES: 10, and more for what else the machine does. And how many modules a start
-# may load.
+# How many times as much processor time FILES files may take as FEW_FILES: 10 times as many take 10 times as much, and
+# the rest is for what else the machine does. And how many modules a start may load.
 MOST_TIMES, MOST_MODULES = 20, 100
 # After how many seconds a program that hangs is ended.
 SECONDS = 1800
@@ -59,12 +60,21 @@ def quiet(*words, **settings):
     return subprocess.run(words, check=True, stdout=subprocess.PIPE, stderr=subprocess.PIPE, **settings).stdout
 
 
-def ended_by(call):
-    """Calls a function, and returns what it returns. If it ends the program, this is caught, and its exit status is returned."""
+def status_of(main):
+    """The exit status of a program by its function `main`: what it returns, or by which it ends the program, which is
+    caught here."""
     try:
-        return call()
+        return main()
     except SystemExit as end:
         return end.code
+
+
+def start_agent(test: unittest.TestCase) -> str:
+    """Starts ssh-agent, which is ended after the test. Returns the path of its socket."""
+    script = quiet("ssh-agent", "-s").decode()
+    settings = dict(part.split("=", 1) for part in script.replace(";", "\n").splitlines() if "=" in part)
+    test.addCleanup(os.kill, int(settings["SSH_AGENT_PID"]), signal.SIGTERM)
+    return settings["SSH_AUTH_SOCK"]
 
 
 def octets_in(path):
@@ -78,14 +88,10 @@ class Case(unittest.TestCase):
     """A test in an empty folder."""
 
     def setUp(self):
-        self.room = self.enterContext(tempfile.TemporaryDirectory()) if sys.version_info >= (3, 11) else self.entered()
+        self.room = room_for(self)
         self.settings = dict(os.environ)
         for name in ("SSH_AUTH_SOCK", "SPKI_LABELS"):
             self.settings.pop(name, None)
-
-    def entered(self):
-        """A new folder, which is removed after the test: before Python 3.11 there is no `enterContext`."""
-        return room_for(self)
 
     def at(self, name):
         """The path of a file in the folder."""
@@ -96,18 +102,18 @@ class Case(unittest.TestCase):
         with open(self.at(name), "wb") as file:
             file.write(text.encode() if isinstance(text, str) else text)
 
-    def done(self, *words, wanted=0, **more):
+    def cert(self, *words, wanted=0, **more):
         """Runs `spki-cert` in the folder, within this process, which takes less time. It must end with the status `wanted`. Returns what it writes on
         both streams. `more` are settings of the environment."""
-        said, before = io.TextIOWrapper(io.BytesIO(), write_through=True), os.getcwd()
+        output, before = io.TextIOWrapper(io.BytesIO(), write_through=True), os.getcwd()
         os.chdir(self.room)
         try:
             with mock.patch.dict(os.environ, {**self.settings, **more}, clear=True), mock.patch.object(sys, "argv", ["spki-cert", *words]), \
-                    contextlib.redirect_stdout(said), contextlib.redirect_stderr(said):
-                status = ended_by(commands.main)
+                    contextlib.redirect_stdout(output), contextlib.redirect_stderr(output):
+                status = status_of(commands.main)
         finally:
             os.chdir(before)
-        text = said.buffer.getvalue().decode()
+        text = output.buffer.getvalue().decode()
         self.assertEqual(status, wanted, text)
         return text
 
@@ -119,13 +125,13 @@ class Case(unittest.TestCase):
         """Makes a key in PEM in the folder. `encryption` are options of openssl."""
         quiet("openssl", "genpkey", "-algorithm", *PEM_TYPES[kind], *encryption, "-out", self.at(name))
 
-    def verified(self, name):
-        """The certificates of a sequence. Each must be signed by its issuer, as `cryptography` verifies."""
+    def verify(self, name):
+        """The certificates of the sequence in a file. Each must be signed by its issuer, as `cryptography` verifies."""
         sequence = value_in(octets_in(self.at(name))).value
-        found = certificates_in(sequence)
-        for each in found:
+        certificates = certificates_in(sequence)
+        for each in certificates:
             self.assertIsNone(fault_of_signature(each, Keys(keys_in(sequence))), name)
-        return found
+        return certificates
 
 
 class OfKeys(Case):
@@ -134,10 +140,10 @@ class OfKeys(Case):
     def test_keys_of_openssh_are_read_and_written(self):
         for kind in TYPES:
             self.ssh_key(kind, kind)
-            public = self.done("key", f"{kind}.pub")
-            self.assertEqual(public, self.done("key", kind))
+            public = self.cert("key", f"{kind}.pub")
+            self.assertEqual(public, self.cert("key", kind))
             self.write("key.sexp", public)
-            self.assertEqual(public, self.done("key", "key.sexp"))
+            self.assertEqual(public, self.cert("key", "key.sexp"))
             self.write("back.pub", keys.openssh_line(keys.public_of(value_in(public.encode()).value)))
             shown = [quiet("ssh-keygen", "-l", "-f", self.at(name)).split()[:2] for name in (f"{kind}.pub", "back.pub")]
             self.assertEqual(*shown)
@@ -149,8 +155,8 @@ class OfKeys(Case):
             self.pem_key("key.pem", kind)
             public_pem = quiet("openssl", "pkey", "-in", self.at("key.pem"), "-pubout")
             self.write("public.pem", public_pem)
-            public = self.done("key", "public.pem")
-            self.assertEqual(public, self.done("key", "key.pem"))
+            public = self.cert("key", "public.pem")
+            self.assertEqual(public, self.cert("key", "key.pem"))
             back = keys.public_of(value_in(public.encode()).value).public_bytes(Encoding.PEM, PublicFormat.SubjectPublicKeyInfo)
             self.assertEqual(back, public_pem)
 
@@ -160,7 +166,7 @@ class OfKeys(Case):
         self.pem_key("key.pem", "rsa")
         quiet("openssl", "rsa", "-traditional", "-in", self.at("key.pem"), "-out", self.at("old.pem"))
         self.assertIn(b"BEGIN RSA PRIVATE KEY", octets_in(self.at("old.pem")))
-        self.assertEqual(self.done("key", "old.pem"), self.done("key", "key.pem"))
+        self.assertEqual(self.cert("key", "old.pem"), self.cert("key", "key.pem"))
 
     def test_private_keys_of_libgcrypt_are_read(self):
         from spki_verify import number
@@ -168,30 +174,30 @@ class OfKeys(Case):
         public = keys.key_of(secret.public_key())
         private = [b"private-key", [*public[1], [b"d", number(secret.private_numbers().private_value)]]]
         self.write("key", sexp.laid_out(private))
-        self.assertEqual(value_in(self.done("key", "key").encode()).value, public)
+        self.assertEqual(value_in(self.cert("key", "key").encode()).value, public)
 
     @needs_ssh
     def test_numbers_have_the_form_of_libgcrypt(self):
         """The 2,048 bits of n are 256 octets. A zero octet precedes them, since the first bit would be a sign."""
         self.ssh_key("key", "rsa")
-        key = value_in(self.done("key", "key.pub").encode()).value
+        key = value_in(self.cert("key", "key.pub").encode()).value
         self.assertEqual([it[0] for it in key[1][1:]], [b"n", b"e"])
         self.assertEqual((len(key[1][1][1]), key[1][1][1][0], key[1][2][1]), (257, 0, b"\1\0\1"))
 
     def test_keys_that_are_not_used_are_named(self):
         """A key of a kind or length that `spki-cert` does not use is refused, and the refusal says what it may be."""
         for pem, words in {"rsa": "1024 bits", "p521": "P-256 or P-384"}.items():
-            self.write("key.pem", self.weak(pem))
-            self.assertIn(words, self.done("key", "key.pem", wanted=2))
+            self.write("key.pem", self.unused_key(pem))
+            self.assertIn(words, self.cert("key", "key.pem", wanted=2))
         self.write("key.pem", "nothing")
-        self.assertIn("must be `(public-key ..)`", self.done("key", "key.pem", wanted=2))
+        self.assertIn("must be `(public-key ..)`", self.cert("key", "key.pem", wanted=2))
 
-    def weak(self, kind):
+    def unused_key(self, kind):
         """A public key in PEM that `spki-cert` does not use: of RSA with 1024 bits for `rsa`, or else on the curve P-521."""
         from cryptography.hazmat.primitives.asymmetric import ec, rsa
         from cryptography.hazmat.primitives.serialization import Encoding, PublicFormat
-        made = rsa.generate_private_key(65537, 1024) if kind == "rsa" else ec.generate_private_key(ec.SECP521R1())
-        return made.public_key().public_bytes(Encoding.PEM, PublicFormat.SubjectPublicKeyInfo)
+        private = rsa.generate_private_key(65537, 1024) if kind == "rsa" else ec.generate_private_key(ec.SECP521R1())
+        return private.public_key().public_bytes(Encoding.PEM, PublicFormat.SubjectPublicKeyInfo)
 
     def test_another_form_of_a_key_does_not_verify(self):
         """`shorter` is the same key, without the zero octet before n. Signature values of other forms do not verify either."""
@@ -206,22 +212,22 @@ class OfKeys(Case):
     @needs_ssh
     def test_a_new_key_is_read_by_ssh_keygen(self):
         for kind in keys.KINDS:
-            self.done("key", "new", "--no-passphrase", "--type", kind, kind)
+            self.cert("key", "new", "--no-passphrase", "--type", kind, kind)
             self.assertEqual(stat.S_IMODE(os.stat(self.at(kind)).st_mode), 0o600)
             public = quiet("ssh-keygen", "-y", "-f", self.at(kind)).split()[:2]
             self.assertEqual(public, octets_in(self.at(f"{kind}.pub")).split()[:2])
-        self.done("key", "new", "--no-passphrase", "--pem", "pem")
-        self.assertEqual(self.done("key", "pem"), self.done("key", "pem.pub"))
+        self.cert("key", "new", "--no-passphrase", "--pem", "pem")
+        self.assertEqual(self.cert("key", "pem"), self.cert("key", "pem.pub"))
         self.assertIn(b"BEGIN PRIVATE KEY", octets_in(self.at("pem")))
         before = octets_in(self.at("rsa"))
-        self.assertIn("there already", self.done("key", "new", "--no-passphrase", "rsa", wanted=2))
+        self.assertIn("there already", self.cert("key", "new", "--no-passphrase", "rsa", wanted=2))
         self.assertEqual(octets_in(self.at("rsa")), before)
 
     @needs_ssh
     def test_json(self):
         self.ssh_key("a")
-        row, = json.loads(self.done("key", "--json", "a.pub"))
-        self.assertEqual((row["algorithm"], row["hash"]), ("Ed25519", self.done("key", "--hash", "a").strip()))
+        row, = json.loads(self.cert("key", "--json", "a.pub"))
+        self.assertEqual((row["algorithm"], row["hash"]), ("Ed25519", self.cert("key", "--hash", "a").strip()))
 
 
 class OfPassphrases(Case):
@@ -233,15 +239,16 @@ class OfPassphrases(Case):
         if child == 0:
             os.chdir(self.room)
             os.execve(sys.executable, [sys.executable, COMMAND, *words], self.settings)
-        said, asked = b"", 0
+        output, answered = b"", 0
+        # (at the child's end Linux makes `read` fail with EIO)
         with contextlib.suppress(OSError):
             while octets := os.read(terminal, 4096):
-                said += octets
-                if said.count(b"Passphrase") > asked and said.rstrip().endswith(b":"):
-                    asked += 1
+                output += octets
+                if output.count(b"Passphrase") > answered and output.rstrip().endswith(b":"):
+                    answered += 1
                     os.write(terminal, typed + b"\n")
         os.close(terminal)
-        return os.waitstatus_to_exitcode(os.waitpid(child, 0)[1]), said.decode()
+        return os.waitstatus_to_exitcode(os.waitpid(child, 0)[1]), output.decode()
 
     @needs.needs("openssl")
     def test_an_encrypted_key_is_asked_for(self):
@@ -249,12 +256,12 @@ class OfPassphrases(Case):
         self.pem_key("key.pem", "ed25519", "-aes-256-cbc", "-pass", "pass:sesame")
         self.write("b.sexp", sexp.laid_out(keys.FileSigner(keys.new_private("ed25519")).key))
         words = ("sign", "--by", "key.pem", "--to", "b.sexp", "--tag", TAG, "--days", "30", "-o", "c.sexp")
-        status, said = self.on_a_terminal(words, b"open")
-        self.assertEqual((status, os.path.exists(self.at("c.sexp"))), (2, False), said)
-        self.assertIn("this is not the passphrase of the key", said)
-        status, said = self.on_a_terminal(words, b"sesame")
-        self.assertEqual((status, "sesame" in said), (0, False), said)
-        self.verified("c.sexp")
+        status, output = self.on_a_terminal(words, b"open")
+        self.assertEqual((status, os.path.exists(self.at("c.sexp"))), (2, False), output)
+        self.assertIn("this is not the passphrase of the key", output)
+        status, output = self.on_a_terminal(words, b"sesame")
+        self.assertEqual((status, "sesame" in output), (0, False), output)
+        self.verify("c.sexp")
 
     @needs.needs("openssl")
     def test_without_a_terminal_it_is_refused(self):
@@ -270,12 +277,12 @@ class OfPassphrases(Case):
     @needs_ssh
     @needs.needs("import bcrypt")
     def test_encrypted_keys_of_openssh(self):
-        status, said = self.on_a_terminal(("key", "new", "made"), b"sesame")
-        self.assertEqual(status, 0, said)
+        status, output = self.on_a_terminal(("key", "new", "made"), b"sesame")
+        self.assertEqual(status, 0, output)
         self.assertTrue(quiet("ssh-keygen", "-y", "-P", "sesame", "-f", self.at("made")).startswith(b"ssh-ed25519"))
         self.ssh_key("theirs", passphrase="sesame")
-        status, said = self.on_a_terminal(("key", "theirs"), b"sesame")
-        self.assertIn("(public-key", said)
+        status, output = self.on_a_terminal(("key", "theirs"), b"sesame")
+        self.assertIn("(public-key", output)
 
 
 @needs_ssh
@@ -289,65 +296,62 @@ class OfCertificates(Case):
     def sign(self, *words, by="alice", to="bob.pub", tag=TAG, wanted=0, **more):
         """Runs `spki-cert sign`, with more options in `words`. It must end with the status `wanted`. Returns what it writes. `more` are settings of
         the environment."""
-        return self.done("sign", "--by", by, "--to", to, "--tag", tag, *words, wanted=wanted, **more)
+        return self.cert("sign", "--by", by, "--to", to, "--tag", tag, *words, wanted=wanted, **more)
 
     def test_each_kind_of_key_signs(self):
         for kind in TYPES:
             self.ssh_key(kind, kind)
             self.sign("--days", "30", "--force", "-o", "c.sexp", by=kind)
-            each, = self.verified("c.sexp")
+            each, = self.verify("c.sexp")
             self.assertEqual(each.terms.tag, value_in(TAG.encode()).value)
 
     def test_the_agent_signs(self):
-        """By a public key, whose private key only ssh-agent holds: its file is removed."""
-        agent = quiet("ssh-agent", "-s").decode()
-        agent_settings = dict(part.split("=", 1) for part in agent.replace(";", "\n").splitlines() if "=" in part)
-        self.addCleanup(os.kill, int(agent_settings["SSH_AGENT_PID"]), 15)
-        socket = {"SSH_AUTH_SOCK": agent_settings["SSH_AUTH_SOCK"]}
+        """By a public key, whose private key only ssh-agent has: its file is removed."""
+        socket = {"SSH_AUTH_SOCK": start_agent(self)}
         self.assertIn("does not hold it", self.sign("--days", "30", by="alice.pub", wanted=2, **socket))
         for kind in TYPES:
             self.ssh_key(kind, kind)
             quiet("ssh-add", "-q", self.at(kind), env={**os.environ, **socket})
             os.remove(self.at(kind))
             self.sign("--days", "30", "--force", "-o", "c.sexp", by=f"{kind}.pub", **socket)
-            self.assertEqual(len(self.verified("c.sexp")), 1)
+            self.assertEqual(len(self.verify("c.sexp")), 1)
         self.assertIn("SSH_AUTH_SOCK is not set", self.sign("--days", "30", by="alice.pub", wanted=2))
 
     def test_subjects(self):
         """The subject may be the hash of a key, a name of another issuer, or without --to a name of the issuer's own."""
-        digest = self.done("key", "--hash", "bob.pub").strip()
+        digest = self.cert("key", "--hash", "bob.pub").strip()
         self.sign("--days", "1", "-o", "hash.sexp", to=digest)
         self.sign("--days", "1", "--named", "team", "-o", "name.sexp")
-        self.done("sign", "--by", "alice", "--named", "builders", "--tag", TAG, "--days", "1", "-o", "own.sexp")
-        subjects = [sexp.on_one_line(self.verified(name)[0].terms.subject) for name in ("hash.sexp", "name.sexp", "own.sexp")]
-        bob, alice = (self.done("key", name).strip() for name in ("bob.pub", "alice.pub"))
+        self.cert("sign", "--by", "alice", "--named", "builders", "--tag", TAG, "--days", "1", "-o", "own.sexp")
+        subjects = [sexp.on_one_line(self.verify(name)[0].terms.subject) for name in ("hash.sexp", "name.sexp", "own.sexp")]
+        bob, alice = (self.cert("key", name).strip() for name in ("bob.pub", "alice.pub"))
         self.assertEqual(subjects, [digest, f"(name {bob} team)", f"(name {alice} builders)"])
-        self.assertIn("needs --to", self.done("sign", "--by", "alice", "--tag", TAG, "--days", "1", wanted=2))
+        self.assertIn("needs --to", self.cert("sign", "--by", "alice", "--tag", TAG, "--days", "1", wanted=2))
 
     def test_names_are_defined(self):
-        self.done("name", "--by", "alice", "--name", "builders", "--to", "bob.pub", "--days", "30", "-o", "c.sexp")
-        each, = self.verified("c.sexp")
+        self.cert("name", "--by", "alice", "--name", "builders", "--to", "bob.pub", "--days", "30", "-o", "c.sexp")
+        each, = self.verify("c.sexp")
         self.assertEqual((each.terms.name, each.terms.tag), (b"builders", None))
 
     def test_what_is_probably_a_mistake_needs_yes(self):
         """Without --yes the status is 4, and nothing is written."""
-        for words, tag, said in [
+        for words, tag, message in [
                 ((), TAG, "it has no end"), (("--days", "1"), "(*)", "every request"),
                 (("--days", "1"), "(packages (read write))", "(* set read write)"),
                 (("--days", "1"), "(packages read /web/*)", "(* prefix /web/)"), (("--until", "2020-01-01"), TAG, "it ended on 2020"),
                 (("--from", "2099-01-02", "--until", "2099-01-01"), TAG, "never valid"),
                 (("--days", "1", "--try", "packages", "delete", "/web/x"), TAG, "member 2 of the request is `delete`")]:
-            with self.subTest(said):
-                self.assertIn(said, self.sign(*words, "-o", "c.sexp", tag=tag, wanted=4))
+            with self.subTest(message):
+                self.assertIn(message, self.sign(*words, "-o", "c.sexp", tag=tag, wanted=4))
                 self.assertFalse(os.path.exists(self.at("c.sexp")))
                 self.sign(*words, "--yes", "-o", "c.sexp", tag=tag)
-                self.verified("c.sexp")
+                self.verify("c.sexp")
                 os.remove(self.at("c.sexp"))
 
     def test_what_a_service_refuses_is_refused(self):
         """Malformed tags and dates, dates that no calendar has, and a key that is not there end with status 2."""
-        for tag, said in [("(* prefx a)", "line 1, column 4"), ("(packages ()", "a `)` is missing"), ("(packages ())", "EmptyList"), ("~", "Bad")]:
-            self.assertIn(said, self.sign("--days", "1", tag=tag, wanted=2))
+        for tag, message in [("(* prefx a)", "line 1, column 4"), ("(packages ()", "a `)` is missing"), ("(packages ())", "EmptyList"), ("~", "Bad")]:
+            self.assertIn(message, self.sign("--days", "1", tag=tag, wanted=2))
         for words in (("--until", "2026"), ("--until", "2026-02-31"), ("--until", "2026-1-1_0:0:0"), ("--days", "9999999")):
             self.assertIn("spki-cert: ", self.sign(*words, wanted=2))
         self.assertIn("No such file", self.sign("--days", "1", to="nobody.pub", wanted=2))
@@ -355,55 +359,55 @@ class OfCertificates(Case):
     def test_entries_are_written(self):
         """`entry` writes an entry alone, into a new list, or at the end of a list. There the text and mode of the list stay, and a link to it stays a
         link. A list in braces gets an entry too."""
-        self.assertTrue(self.done("entry", "--to", "bob.pub", "--tag", TAG).startswith("(entry"))
-        said = self.done("entry", "--to", "alice.pub", "--tag", TAG, "--propagate", "--acl", "acl.sexp")
-        self.assertEqual(said, "made acl.sexp\nentries added: 1\n")
+        self.assertTrue(self.cert("entry", "--to", "bob.pub", "--tag", TAG).startswith("(entry"))
+        output = self.cert("entry", "--to", "alice.pub", "--tag", TAG, "--propagate", "--acl", "acl.sexp")
+        self.assertEqual(output, "made acl.sexp\nentries added: 1\n")
         before = octets_in(self.at("acl.sexp")).replace(b"(tag", b"\n\n  (tag")
         self.write("acl.sexp", before)
-        self.done("entry", "--to", "bob.pub", "--named", "team", "--tag", TAG, "--days", "9", "--comment", "the team", "--acl", "acl.sexp")
+        self.cert("entry", "--to", "bob.pub", "--named", "team", "--tag", TAG, "--days", "9", "--comment", "the team", "--acl", "acl.sexp")
         self.assertTrue(octets_in(self.at("acl.sexp")).startswith(before.rstrip()[:-1]))
-        self.done("check", "acl.sexp")
+        self.cert("check", "acl.sexp")
         os.chmod(self.at("acl.sexp"), 0o640)
         os.symlink("acl.sexp", self.at("link.sexp"))
-        self.done("entry", "--to", "bob.pub", "--tag", TAG, "--acl", "link.sexp")
+        self.cert("entry", "--to", "bob.pub", "--tag", TAG, "--acl", "link.sexp")
         self.assertEqual((os.path.islink(self.at("link.sexp")), stat.S_IMODE(os.stat(self.at("acl.sexp")).st_mode)), (True, 0o640))
-        said = self.done("show", "--labels", ".", "acl.sexp")
+        output = self.cert("show", "--labels", ".", "acl.sexp")
         for words in ("entry 1  the list -> alice, may delegate", "entry 2  the list -> team of bob, may not delegate", "comment: 'the team'"):
-            self.assertIn(words, said)
+            self.assertIn(words, output)
         self.write("acl.tsexp", "{" + base64.b64encode(sexp.canonical(value_in(before).value)).decode() + "}")
-        self.done("entry", "--to", self.done("key", "--hash", "bob.pub"), "--tag", TAG, "--acl", "acl.tsexp")
+        self.cert("entry", "--to", self.cert("key", "--hash", "bob.pub"), "--tag", TAG, "--acl", "acl.tsexp")
         self.assertEqual(len(value_in(octets_in(self.at("acl.tsexp"))).value), 3)
 
     def test_entries_are_removed(self):
         """`entry --remove` removes all entries for a subject, named by its key or its hash, and no others. If there are none, the status is 1."""
         for words in (("alice.pub",), ("bob.pub",), ("bob.pub", "--named", "team"), ("bob.pub",), ("alice.pub",)):
-            self.done("entry", "--to", *words, "--tag", TAG, "--yes", "--acl", "acl.sexp")
-        said = self.done("entry", "--remove", "--to", self.done("key", "--hash", "bob.pub"), "--acl", "acl.sexp")
-        self.assertEqual(said, f"entry 2, {TAG}: removed\nentry 4, {TAG}: removed\nentries removed: 2\n")
-        said = self.done("show", "--labels", ".", "acl.sexp")
-        self.assertEqual(re.findall(r"-> ([\w ]+)", said), ["alice", "team of bob", "alice"])
-        self.assertIn("entries removed: 0", self.done("entry", "--remove", "--to", "bob.pub", "--acl", "acl.sexp", wanted=1))
-        self.done("entry", "--remove", "--to", "bob.pub", "--named", "team", "--acl", "acl.sexp")
-        self.assertIn("goes with no --tag", self.done("entry", "--remove", "--to", "bob.pub", "--tag", TAG, "--acl", "acl.sexp", wanted=2))
-        self.assertIn("needs --tag", self.done("entry", "--to", "bob.pub", wanted=2))
+            self.cert("entry", "--to", *words, "--tag", TAG, "--yes", "--acl", "acl.sexp")
+        output = self.cert("entry", "--remove", "--to", self.cert("key", "--hash", "bob.pub"), "--acl", "acl.sexp")
+        self.assertEqual(output, f"entry 2, {TAG}: removed\nentry 4, {TAG}: removed\nentries removed: 2\n")
+        output = self.cert("show", "--labels", ".", "acl.sexp")
+        self.assertEqual(re.findall(r"-> ([\w ]+)", output), ["alice", "team of bob", "alice"])
+        self.assertIn("entries removed: 0", self.cert("entry", "--remove", "--to", "bob.pub", "--acl", "acl.sexp", wanted=1))
+        self.cert("entry", "--remove", "--to", "bob.pub", "--named", "team", "--acl", "acl.sexp")
+        self.assertIn("goes with no --tag", self.cert("entry", "--remove", "--to", "bob.pub", "--tag", TAG, "--acl", "acl.sexp", wanted=2))
+        self.assertIn("needs --tag", self.cert("entry", "--to", "bob.pub", wanted=2))
 
     def test_entries_need_yes_and_are_refused(self):
         """What is probably a mistake ends with status 4, and what a service would refuse with 2. The list stays as it is."""
         self.write("acl.sexp", "(acl)")
         to, into = ("entry", "--to", "bob.pub"), ("--acl", "acl.sexp")
         sha1 = f"(hash sha1 #{'00' * 20}#)"
-        for words, status, said in [
+        for words, status, message in [
                 ((*to, "--tag", "(*)"), 4, "every request"), ((*to, "--tag", "(packages /web/*)"), 4, "(* prefix /web/)"),
                 ((*to, "--tag", TAG, "--until", "2020-01-01"), 4, "it ended on 2020"),
                 ((*to, "--tag", TAG, "--try", "packages", "delete", "x"), 4, "does not contain"),
                 (("entry", "--to", sha1, "--tag", TAG), 4, "names no key"),
                 (("entry", "--to", "(name team)", "--tag", TAG), 2, "--to KEY --named NAME"), ((*to, "--tag", "(a"), 2, "a `)` is missing")]:
-            with self.subTest(said):
-                self.assertIn(said, self.done(*words, *into, wanted=status))
+            with self.subTest(message):
+                self.assertIn(message, self.cert(*words, *into, wanted=status))
                 self.assertEqual(octets_in(self.at("acl.sexp")), b"(acl)")
-        self.done(*to, "--tag", "(*)", "--yes", *into)
+        self.cert(*to, "--tag", "(*)", "--yes", *into)
         self.write("acl.sexp", "(acl")
-        self.assertIn("acl.sexp: refused", self.done(*to, "--tag", TAG, *into, wanted=2))
+        self.assertIn("acl.sexp: refused", self.cert(*to, "--tag", TAG, *into, wanted=2))
 
     def test_no_file_is_half_written(self):
         """A file that is there stays as it is if `spki-cert` fails. No temporary file is left."""
@@ -417,18 +421,18 @@ class OfCertificates(Case):
 
     def test_show_says_who_and_until_when(self):
         self.sign("--yes", "--until", "2026-06-30", "--propagate", "--comment", "the web", "-o", "c.sexp")
-        said = self.done("show", "--labels", ".", "--at", "2026-03-01", "c.sexp")
+        output = self.cert("show", "--labels", ".", "--at", "2026-03-01", "c.sexp")
         for words in ("alice -> bob", "may delegate", "until 2026-06-30_23:59:59: valid now", f"may {TAG}", "the web", "the signature is valid"):
-            self.assertIn(words, said)
-        self.assertIn("ENDED", self.done("show", "--at", "2027-01-01", "c.sexp"))
-        row, = json.loads(self.done("show", "--json", "--labels", "bob.pub", "c.sexp"))[0]["shows"]
+            self.assertIn(words, output)
+        self.assertIn("ENDED", self.cert("show", "--at", "2027-01-01", "c.sexp"))
+        row, = json.loads(self.cert("show", "--json", "--labels", "bob.pub", "c.sexp"))[0]["shows"]
         self.assertEqual((row["subject"], row["delegates"], row["fault"]), ("bob", True, None))
         changed = octets_in(self.at("c.sexp")).replace(b"(propagate)", b"")
         self.write("changed.sexp", changed)
-        self.assertIn("DigestDiffers", self.done("show", "changed.sexp"))
-        self.write("c.tsexp", self.done("show", "--braces", "c.sexp"))
+        self.assertIn("DigestDiffers", self.cert("show", "changed.sexp"))
+        self.write("c.tsexp", self.cert("show", "--braces", "c.sexp"))
         self.assertEqual(*(value_in(octets_in(self.at(name))).value for name in ("c.sexp", "c.tsexp")))
-        self.done("show", "--svg", "c.svg", "c.sexp")
+        self.cert("show", "--svg", "c.svg", "c.sexp")
         self.assertIn(b"(* prefix /web/))", octets_in(self.at("c.svg")))
 
 
@@ -439,13 +443,13 @@ class OfMistakes(Case):
         for what, name, text, place, is_refused, words in MISTAKES:
             with self.subTest(what):
                 self.write(name, text)
-                said = remarks_on(self.at(name), NOW)[1]
-                self.assertEqual([(it.line, it.column, it.is_refused) for it in said[:1]], [(*place, is_refused)], said)
-                self.assertIn(words, said[0].text)
+                remarks = remarks_on(self.at(name), NOW)[1]
+                self.assertEqual([(it.line, it.column, it.is_refused) for it in remarks[:1]], [(*place, is_refused)], remarks)
+                self.assertIn(words, remarks[0].text)
 
     def test_what_only_looks_like_a_part(self):
-        """What has the head of an entry, a certificate or a hash, where any list may be, gets no remark: in the value of a signature, and in fields
-        that are not read."""
+        """A list that begins as an entry, a certificate or a hash gets no remark where any list may be: in the value of
+        a signature, and in fields that are not read."""
         signed = ('(sequence (cert (issuer (public-key (test a))) (subject (public-key (test b))) (tag (packages)) '
                   '(not-after "2099-01-01_00:00:00"))\n'
                   f" (signature (hash sha256 #{'00' * 32}#) (public-key (test a)) VALUE))")
@@ -453,11 +457,11 @@ class OfMistakes(Case):
                                for name in ("comment", "display", "issuer-info", "subject-info"))):
             for value in ("(entry)", "(cert (subject x))", "(hash sha1 x)"):
                 with self.subTest(text=text, value=value):
-                    said = []
+                    remarks = []
                     for each in ("x", value):
                         self.write("c.sexp", text.replace("VALUE", each))
-                        said.append([it.text for it in remarks_on(self.at("c.sexp"), NOW)[1]])
-                    self.assertEqual(said[0], said[1])
+                        remarks.append([it.text for it in remarks_on(self.at("c.sexp"), NOW)[1]])
+                    self.assertEqual(*remarks)
 
     def test_what_is_refused_is_what_the_model_refuses(self):
         """An access list that `check` calls refused is refused by the model too when a guard is opened with it, and no other one."""
@@ -473,14 +477,14 @@ class OfMistakes(Case):
         self.write("folder/notes.txt", "(acl")
         self.write("folder/private.pem", self.private())
         os.chmod(self.at("folder/private.pem"), 0o644)
-        said = self.done("check", "folder", wanted=1)
-        self.assertIn("folder/private.pem:1:1: a private key that others may read: its mode is 644", said)
-        self.assertIn("2 files, 0 refused, 1 remarks; 1 other files left out", said)
+        output = self.cert("check", "folder", wanted=1)
+        self.assertIn("folder/private.pem:1:1: a private key that others may read: its mode is 644", output)
+        self.assertIn("2 files, 0 refused, 1 remarks; 1 other files left out", output)
         os.chmod(self.at("folder/private.pem"), 0o600)
-        self.done("check", "folder")
+        self.cert("check", "folder")
         self.write("folder/acl.sexp", "(acl")
-        self.assertIn("folder/acl.sexp:1:5: refused: form Short", self.done("check", "folder", wanted=2))
-        self.assertTrue(json.loads(self.done("check", "--json", "folder/acl.sexp", wanted=2))["remarks"][0]["refused"])
+        self.assertIn("folder/acl.sexp:1:5: refused: form Short", self.cert("check", "folder", wanted=2))
+        self.assertTrue(json.loads(self.cert("check", "--json", "folder/acl.sexp", wanted=2))["remarks"][0]["refused"])
 
     def private(self):
         """A private key in PEM without a passphrase."""
@@ -488,12 +492,12 @@ class OfMistakes(Case):
         return keys.new_private("ed25519").private_bytes(Encoding.PEM, PrivateFormat.PKCS8, NoEncryption())
 
     def test_files_are_checked_in_linear_time(self):
-        """Ten times the files take at most MOST_TIMES the processor time."""
+        """FILES files take at most MOST_TIMES as much processor time as FEW_FILES."""
         signer = keys.FileSigner(keys.new_private("ed25519"))
         self.write("key.sexp", sexp.laid_out(signer.key))
         self.write("signer", keys.file_of(signer.private, b""))
         os.chmod(self.at("signer"), 0o600)
-        self.done("sign", "--by", "signer", "--to", "key.sexp", "--tag", TAG, "--days", "30", "--yes", "-o", "c.sexp")
+        self.cert("sign", "--by", "signer", "--to", "key.sexp", "--tag", TAG, "--days", "30", "--yes", "-o", "c.sexp")
         used = {}
         for files in (FEW_FILES, FILES):
             os.mkdir(self.at(f"folder{files}"))
@@ -514,7 +518,7 @@ def used_since(before):
 class OfTags(Case):
     """`tag_words.lacks`, which says why a tag does not contain a request. It returns None if the tag contains it."""
     def test_the_difference_is_that_of_the_model(self):
-        rng, met = random.Random("spki-cert"), {True: 0, False: 0}
+        rng, counts = random.Random("spki-cert"), {True: 0, False: 0}
         for _ in range(3000):
             request = made_tags.request(rng)
             tag = made_tags.tag_for(request, rng)
@@ -522,76 +526,77 @@ class OfTags(Case):
                 wanted = model_tags.contains(model_tags.read(tag), request)
             except model_tags.TagFault:
                 continue
-            met[wanted] += 1
+            counts[wanted] += 1
             lacks = tag_words.lacks(sexp.read(model_values.canonical(tag)), sexp.read(model_values.canonical(request)))
             self.assertEqual(lacks is None, wanted, f"{tag} {request} {lacks}")
-        self.assertGreater(min(met.values()), 200, met)
+        self.assertGreater(min(counts.values()), 200, counts)
 
     def test_the_first_member_that_differs_is_named(self):
         for tag, request, words in [("(a b c)", "(a b)", "has 2 members, and the tag at least 3"), ("(a (* set b c))", "(a d)", "no member of"),
                                     ("(a (b c))", "(a (b d))", "member 2 of member 2 of the request is `d`"), ("(a)", "a", "is the string `a`"),
                                     ("(* range date ge \"2026-01-01_00:00:00\")", "x", "the tag has `(* range")]:
-            said = tag_words.lacks(value_in(tag.encode()).value, value_in(request.encode()).value)
-            self.assertIn(words, said)
+            difference = tag_words.lacks(value_in(tag.encode()).value, value_in(request.encode()).value)
+            self.assertIn(words, difference)
 
 
 class OfWords(Case):
     """What `spki-cert ask` says of a reason."""
     def test_each_reason_of_the_model_has_words(self):
-        """Of generated cases, `met` gets the words of the reasons that are chosen. It must have these five at least."""
-        met = set()
+        """Each reason that `ask` chooses for a generated case has words. Among the reasons are at least these five."""
+        chosen = set()
         for asked in (question("spki-cert", number) for number in range(1500)):
             if asked.command not in ("check", "explain", "reduce"):
                 continue
-            found, node = read_text(asked.text, "refused case")
-            if found[0] is None and node.head == b"case" and len(asked.text) < 20000:
-                met.update(self.word_of(asked.text, node.value))
-        self.assertLessEqual({"grants", "TagLacks", "NotTheKey", "NotIssuer", "NotAccepted"}, met)
+            fault, node = read_text(asked.text, "refused case")
+            if fault[0] is None and node.head == b"case" and len(asked.text) < 20000:
+                chosen.update(self.word_of(asked.text, node.value))
+        self.assertLessEqual({"grants", "TagLacks", "NotTheKey", "NotIssuer", "NotAccepted"}, chosen)
 
     def word_of(self, text, case):
-        """A list with the word of the one reason of a case that `ask` says in words; empty if the model's lines of `explain` are no reasons, as a
-        refusal. What is said must have two lines or more. `case` is the value of the text."""
+        """A list with the word of the one reason of a case that `ask` explains. It is empty if the model's lines of
+        `explain` are no reasons but a refusal. The explanation must have two lines or more. `case` is the value of the
+        text."""
         lines = answers.answer("explain", text)[1].decode().splitlines()
-        found = [re.fullmatch(r"(?:entry (\d+) )?(?:item (\d+) )?(\w+)", line) for line in lines]
-        if None in found:
+        parts = [re.fullmatch(r"(?:entry (\d+) )?(?:item (\d+) )?(\w+)", line) for line in lines]
+        if None in parts:
             return []
-        reasons = [Reason(*(int(it) if it else None for it in each.groups()[:2]), each[3]) for each in found]
+        reasons = [Reason(*(int(it) if it else None for it in each.groups()[:2]), each[3]) for each in parts]
         answer = asking.Answer(case[3], None, reasons, answers.answer("reduce", text)[1].decode().splitlines())
-        said = list(asking.Words(asking.asked_of_case(case, Labels()), answer).lines())
-        self.assertGreaterEqual(len(said), 2, text)
+        self.assertGreaterEqual(len(list(asking.Words(asking.asked_of_case(case, Labels()), answer).lines())), 2, text)
         return [answer.chosen.word]
 
     def test_a_search_that_was_cut(self):
-        """That no chain leads to the key is said only if all chains were searched."""
+        """`ask` says that no chain leads to the key only if it has searched all chains."""
         alice, bob = ([b"public-key", [b"test", name]] for name in (b"alice", b"bob"))
         asked = asking.Asked([b"acl", [b"entry", alice, [b"tag", [b"*"]]]], bob, b"x", NOW, Labels())
-        for is_cut, said in ((False, ["no chain leads"]), (True, ["no chain was found that leads", "the search for chains ended after"])):
+        for is_cut, wanted in ((False, ["no chain leads"]), (True, ["no chain was found that leads", "the search for chains ended after"])):
             answer = asking.Answer([b"sequence"], None, [Reason(1, None, "NotTheKey")], [], 2, is_cut)
-            lines = list(asking.Words(asked, answer).lines())[-len(said):]
-            self.assertTrue(all(words in line for words, line in zip(said, lines)), lines)
+            lines = list(asking.Words(asked, answer).lines())[-len(wanted):]
+            self.assertTrue(all(words in line for words, line in zip(wanted, lines)), lines)
 
     def test_a_name_at_the_end(self):
-        """What is said where the right ends at `builders of alice`, by the certificates at hand: for each its issuer, the name that it defines, and
-        the subject. One of the issuers is the hash of Alice's key."""
+        """What `ask` says where the right ends at the name `builders of alice`. `defined` are the certificates at hand:
+        for each its issuer, the name that it defines, and the subject. One of the issuers is the hash of Alice's
+        key."""
         alice, bob, carol = ([b"public-key", [b"test", name]] for name in (b"alice", b"bob", b"carol"))
         for_bob = "and that is a name, which a certificate at hand defines for bob (NotTheKey)"
         none, another = "and that is a name, and no certificate says who it is", "which is another name (NotTheKey)"
         labels = Labels()
         for key, label in ((alice, "alice"), (bob, "bob"), (carol, "carol")):
             labels.add(key, label)
-        for defined, said in [
+        for defined, message in [
                 ([(alice, b"builders", bob)], for_bob), ([(keys.hash_of(alice), b"builders", bob)], for_bob),
                 ([(alice, b"builders", bob), (bob, b"builders", carol)], for_bob), ([(bob, b"builders", carol), (alice, b"builders", bob)], for_bob),
                 ([(bob, b"builders", bob), (carol, b"builders", bob)], f"{none}; there is builders of bob, {another}"),
                 ([(alice, b"bilders", bob), (bob, b"builders", bob)], f"{none}; there is builders of bob, {another}"),
                 ([(alice, b"writers", bob), (alice, b"bilders", bob)], f"{none}; there is bilders of alice, {another}"),
                 ([(alice, b"writers", bob)], f"{none} (NotTheKey)")]:
-            with self.subTest(said, defined=defined):
+            with self.subTest(message, defined=defined):
                 sequences = [[b"sequence", [b"cert", [b"issuer", [b"name", issuer, name]], [b"subject", subject]], [b"signature"]]
                              for issuer, name, subject in defined]
                 asked = asking.Asked([b"acl", [b"entry", [b"name", alice, b"builders"], [b"tag", [b"*"]]]], carol, b"x", NOW, labels, sequences)
                 answer = asking.Answer([b"sequence"], None, [Reason(1, None, "NotTheKey")], [])
-                self.assertEqual(list(asking.Words(asked, answer).lines())[-1], f"  the right ends at builders of alice, {said}")
+                self.assertEqual(list(asking.Words(asked, answer).lines())[-1], f"  the right ends at builders of alice, {message}")
 
 
 @needs.needs("ssh-keygen", *needs.LIBRARY)
@@ -601,8 +606,9 @@ class OfAnswers(Case):
         super().setUp()
         self.settings["SPKI_LIBRARY"] = built.shared()
 
-    def in_the_path(self):
-        """Makes `spki-cert` a program in a new folder. Returns settings of the environment that have this folder in the path."""
+    def settings_with_command(self):
+        """Makes `spki-cert` a program in a new folder. Returns settings of the environment whose PATH has this
+        folder."""
         os.mkdir(self.at("bin"))
         self.write("bin/spki-cert", f"#!/bin/sh\nexec '{sys.executable}' '{COMMAND}' \"$@\"\n")
         os.chmod(self.at("bin/spki-cert"), 0o755)
@@ -618,16 +624,16 @@ class OfAnswers(Case):
                 os.makedirs(self.at(f"{page}/apps"))
                 os.symlink(os.path.join(TOP, "apps", "spki-cert"), self.at(f"{page}/apps/spki-cert"))
                 settings = {**self.settings, "HOME": self.room}
-                status, said = output_of("sh", "-e", text="\n".join(lines), cwd=self.at(page), env=settings, seconds=SECONDS)
-                self.assertEqual((status, "so entry 1 grants it" in said), (0, bool(lines)), said)
+                status, output = output_of("sh", "-e", text="\n".join(lines), cwd=self.at(page), env=settings, seconds=SECONDS)
+                self.assertEqual((status, "so entry 1 grants it" in output), (0, bool(lines)), output)
 
     def test_the_examples_of_the_manual(self):
         """Each command of docs/spki-cert.1 writes what this manual says."""
         steps = list(test_guide.steps_of_manual(MANUAL.replace("\\(ga", "`")))
-        settings = {**self.in_the_path(), "PS1": ""}
-        said = output_of("sh", text="".join(test_guide.script(steps)), cwd=self.room, env=settings, seconds=SECONDS)[1]
-        met = [each.strip("\n") for each in said.split(f"{test_guide.END}\n")]
-        self.assertEqual(met, [*(answer.strip("\n") for _, _, answer in steps), ""])
+        settings = {**self.settings_with_command(), "PS1": ""}
+        output = output_of("sh", text="".join(test_guide.script(steps)), cwd=self.room, env=settings, seconds=SECONDS)[1]
+        written = [each.strip("\n") for each in output.split(f"{test_guide.END}\n")]
+        self.assertEqual(written, [*(answer.strip("\n") for _, _, answer in steps), ""])
 
     def test_the_story_of_three_teams(self):
         """examples/builds/story.sh has at most 40 lines, its questions get the answers that are wanted, and its certificates verify."""
@@ -635,23 +641,23 @@ class OfAnswers(Case):
         os.mkdir(folder)
         path = os.path.join(TOP, "examples", "builds", "story.sh")
         self.assertLessEqual(len(octets_in(path).splitlines()), 40)
-        status, said = output_of(path, folder, env=self.in_the_path(), seconds=SECONDS)
-        self.assertEqual(status, 0, said)
-        answers = [line.split(":")[0] for line in said.splitlines() if line.startswith(("yes:", "no:"))]
-        self.assertEqual(answers, ["yes", "yes", "no", "yes", "no", "no"], said)
+        status, output = output_of(path, folder, env=self.settings_with_command(), seconds=SECONDS)
+        self.assertEqual(status, 0, output)
+        answers = [line.split(":")[0] for line in output.splitlines() if line.startswith(("yes:", "no:"))]
+        self.assertEqual(answers, ["yes", "yes", "no", "yes", "no", "no"], output)
         for words in ("item 3: ada calls ann developers", "member 2 of the request is `read`, and the tag has `write` (TagLacks)",
                       "of the 12 certificates at hand, no chain leads from an entry to ian"):
-            self.assertIn(words, said)
-        made = os.listdir(os.path.join(folder, "certs"))
-        self.assertEqual(len(made), 12)
-        for name in made:
-            self.verified(os.path.join("story", "certs", name))
+            self.assertIn(words, output)
+        names = os.listdir(os.path.join(folder, "certs"))
+        self.assertEqual(len(names), 12)
+        for name in names:
+            self.verify(os.path.join("story", "certs", name))
 
     def test_each_reason_in_words(self):
         """`ask` says in words why a right is granted or denied. A case that it saves gets the same answer, and it picks certificates."""
         for name in ("alice", "bob", "carol"):
             self.ssh_key(name)
-        self.write("acl.sexp", f"(acl (entry {self.done('key', 'alice.pub')} (propagate) (tag {TAG})))")
+        self.write("acl.sexp", f"(acl (entry {self.cert('key', 'alice.pub')} (propagate) (tag {TAG})))")
         asks = ("ask", "--acl", "acl.sexp", "--key", "carol.pub", "--labels", ".", "--cert", "chain.sexp")
         request = ("--", "packages", "read", "/web/x")
         for delegates, tag, words, more in [
@@ -660,59 +666,59 @@ class OfAnswers(Case):
                 (True, "(packages write)", "the tag of item 3 does not contain the request: member 2", ()),
                 (True, "(mail read)", "have no request in common", ()),
                 (True, "(packages read)", "ended on", ("--at", "2099-01-01"))]:
-            self.done("sign", "--by", "alice", "--to", "bob.pub", "--tag", TAG, "--days", "30", *into("first.sexp"), *["--propagate"] * delegates)
-            self.done("sign", "--by", "bob", "--to", "carol.pub", "--tag", tag, "--days", "20", "--chain", "first.sexp", "--yes", "--anyway",
+            self.cert("sign", "--by", "alice", "--to", "bob.pub", "--tag", TAG, "--days", "30", *into("first.sexp"), *["--propagate"] * delegates)
+            self.cert("sign", "--by", "bob", "--to", "carol.pub", "--tag", tag, "--days", "20", "--chain", "first.sexp", "--yes", "--anyway",
                       *into("chain.sexp"))
-            self.assertIn(words, self.done(*asks, *more, *request, wanted=0 if "grants" in words else 1))
-        self.done(*asks, "--save", "case.sexp", "--svg", "x.svg", *request)
-        self.assertIn("so entry 1 grants it", self.done("ask", "--case", "case.sexp"))
+            self.assertIn(words, self.cert(*asks, *more, *request, wanted=0 if "grants" in words else 1))
+        self.cert(*asks, "--save", "case.sexp", "--svg", "x.svg", *request)
+        self.assertIn("so entry 1 grants it", self.cert("ask", "--case", "case.sexp"))
         self.assertIn(b"yes entry 1", octets_in(self.at("x.svg")))
-        self.assertEqual(json.loads(self.done(*asks, "--json", *request))["entry"], 1)
-        self.certificates_are_picked(asks[:-1], request)
+        self.assertEqual(json.loads(self.cert(*asks, "--json", *request))["entry"], 1)
+        self.check_picking(asks[:-1], request)
         changed = octets_in(self.at("chain.sexp")).replace(b"(packages read)", b"(packages write)")
         self.write("chain.sexp", changed)
-        self.assertIn("DigestDiffers", self.done(*asks, *request, wanted=1))
-        self.assertIn("NotTheKey", self.done("ask", "--acl", "acl.sexp", "--key", "bob.pub", *request[1:], wanted=1))
+        self.assertIn("DigestDiffers", self.cert(*asks, *request, wanted=1))
+        self.assertIn("NotTheKey", self.cert("ask", "--acl", "acl.sexp", "--key", "bob.pub", *request[1:], wanted=1))
 
-    def certificates_are_picked(self, asks, request):
+    def check_picking(self, asks, request):
         """The certificates of a chain that are given in another order, and with others, are picked. The sequence that is written grants too. `asks`
         are the words of `ask` up to the files of certificates, and `request` those of the request."""
-        self.done("sign", "--by", "bob", "--to", "carol.pub", "--tag", "(packages read)", "--days", "20", *into("second.sexp"))
-        self.done("sign", "--by", "carol", "--to", "alice.pub", "--tag", "(mail)", "--days", "20", *into("other.sexp"))
-        self.done("sign", "--by", "alice", "--to", "bob.pub", "--tag", TAG, "--days", "30", *into("first.sexp"), "--propagate")
-        said = self.done(*asks, "second.sexp", "other.sexp", "first.sexp", *request)
-        self.assertIn("--sequence FILE writes them", said)
-        self.done(*asks, "second.sexp", "other.sexp", "first.sexp", "--sequence", "picked.sexp", *request)
-        self.assertEqual(len(self.verified("picked.sexp")), 2)
-        self.assertNotIn("--sequence", self.done(*asks, "picked.sexp", *request))
+        self.cert("sign", "--by", "bob", "--to", "carol.pub", "--tag", "(packages read)", "--days", "20", *into("second.sexp"))
+        self.cert("sign", "--by", "carol", "--to", "alice.pub", "--tag", "(mail)", "--days", "20", *into("other.sexp"))
+        self.cert("sign", "--by", "alice", "--to", "bob.pub", "--tag", TAG, "--days", "30", *into("first.sexp"), "--propagate")
+        output = self.cert(*asks, "second.sexp", "other.sexp", "first.sexp", *request)
+        self.assertIn("--sequence FILE writes them", output)
+        self.cert(*asks, "second.sexp", "other.sexp", "first.sexp", "--sequence", "picked.sexp", *request)
+        self.assertEqual(len(self.verify("picked.sexp")), 2)
+        self.assertNotIn("--sequence", self.cert(*asks, "picked.sexp", *request))
 
     def test_why_certificates_do_not_join(self):
         """What `ask` says if a certificate defines another name than the entry's subject, has another issuer, or is valid at another time."""
         for name in ("alice", "bob", "carol"):
             self.ssh_key(name)
-        alice = self.done("key", "alice.pub")
+        alice = self.cert("key", "alice.pub")
         self.write("acl.sexp", f"(acl (entry (name {alice} builders) (propagate) (tag {TAG}) (not-after \"2027-01-01_00:00:00\")))")
         asks = ("ask", "--acl", "acl.sexp", "--key", "carol.pub", "--labels", ".", "--cert", "c.sexp", "--", "packages", "read", "/web/x")
-        self.done("name", "--by", "alice", "--name", "readers", "--to", "carol.pub", "--days", "30", *into("c.sexp"))
-        self.assertIn("it defines readers of alice, and the right is with builders of alice there (NotTheName)", self.done(*asks, wanted=1))
-        self.names_are_compared(asks)
-        self.done("sign", "--by", "bob", "--to", "carol.pub", "--tag", TAG, "--days", "30", *into("c.sexp"))
-        self.assertIn("bob issues it, and the right is with builders of alice there (NotIssuer)", self.done(*asks, wanted=1))
+        self.cert("name", "--by", "alice", "--name", "readers", "--to", "carol.pub", "--days", "30", *into("c.sexp"))
+        self.assertIn("it defines readers of alice, and the right is with builders of alice there (NotTheName)", self.cert(*asks, wanted=1))
+        self.check_names(asks)
+        self.cert("sign", "--by", "bob", "--to", "carol.pub", "--tag", TAG, "--days", "30", *into("c.sexp"))
+        self.assertIn("bob issues it, and the right is with builders of alice there (NotIssuer)", self.cert(*asks, wanted=1))
         window = ("--from", "2098-01-01", "--until", "2099-01-01")
-        self.done("name", "--by", "alice", "--name", "builders", "--to", "carol.pub", *window, *into("c.sexp"))
-        self.assertIn("no moment of that is in the windows before it (NoValidity)", self.done(*asks, wanted=1))
+        self.cert("name", "--by", "alice", "--name", "builders", "--to", "carol.pub", *window, *into("c.sexp"))
+        self.assertIn("no moment of that is in the windows before it (NoValidity)", self.cert(*asks, wanted=1))
 
-    def names_are_compared(self, asks):
+    def check_names(self, asks):
         """What is said of a name that is misspelt, and of one that another issuer defines. `asks` are the words of an `ask`, which end with the file
         c.sexp, `--` and the request."""
         defines, more = ("name", "--to", "carol.pub", "--days", "30"), (*asks[:-5], "c.sexp", "d.sexp", *asks[-4:])
-        self.done(*defines, "--by", "alice", "--name", "bilders", *into("c.sexp"))
-        self.assertIn("the right is with builders of alice there; is `builders` meant? (NotTheName)", self.done(*asks, wanted=1))
-        self.done(*defines, "--by", "alice", "--name", "writers", *into("d.sexp"))
-        self.assertIn("no certificate says who it is; there is bilders of alice, which is another name", self.done(*more, wanted=1))
-        self.done(*defines, "--by", "bob", "--name", "builders", *into("d.sexp"))
-        said = self.done(*more[:-6], *more[-5:], wanted=1)
-        self.assertIn("it defines builders of bob, and the right is with builders of alice there", said)
+        self.cert(*defines, "--by", "alice", "--name", "bilders", *into("c.sexp"))
+        self.assertIn("the right is with builders of alice there; is `builders` meant? (NotTheName)", self.cert(*asks, wanted=1))
+        self.cert(*defines, "--by", "alice", "--name", "writers", *into("d.sexp"))
+        self.assertIn("no certificate says who it is; there is bilders of alice, which is another name", self.cert(*more, wanted=1))
+        self.cert(*defines, "--by", "bob", "--name", "builders", *into("d.sexp"))
+        output = self.cert(*more[:-6], *more[-5:], wanted=1)
+        self.assertIn("it defines builders of bob, and the right is with builders of alice there", output)
 
 
 class OfOtherPrograms(Case):
@@ -721,23 +727,24 @@ class OfOtherPrograms(Case):
 #include <gcrypt.h>
 #include <stdio.h>
 
-/* Whether libgcrypt verifies: files with a key, data and a signature value, each an S-expression. */
+/* The S-expression in a file, or NULL if there is none. */
 static gcry_sexp_t value(const char *path)
 {
     static char octets[65536];
-    gcry_sexp_t made = NULL;
+    gcry_sexp_t read = NULL;
     FILE *file = fopen(path, "rb");
     size_t length = file ? fread(octets, 1, sizeof octets, file) : 0;
     if (file)
         fclose(file);
-    return gcry_sexp_new(&made, octets, length, 1) ? NULL : made;
+    return gcry_sexp_new(&read, octets, length, 1) ? NULL : read;
 }
 
+/* Ends with 0 if libgcrypt verifies the files of a key, the data and a signature value, and with 1 if not. */
 int main(int count, char **words)
 {
     gcry_check_version(NULL);
     gcry_sexp_t key = value(words[1]), data = value(words[2]), signature = value(words[3]);
-    return count == 4 && key && data && signature && gcry_pk_testkey != NULL && gcry_pk_verify(signature, data, key) == 0 ? 0 : 1;
+    return key && data && signature && gcry_pk_verify(signature, data, key) == 0 ? 0 : 1;
 }
 """
 
@@ -770,9 +777,9 @@ int main(int count, char **words)
 
     def test_help_and_completion(self):
         for command in ("", "key", "sign", "name", "entry", "show", "ask", "check", "request"):
-            self.assertIn("example" if command else "exit status", self.done(*filter(None, [command]), "--help"))
-        self.assertIn("--propagate", self.done("completion"))
-        self.done("nothing", wanted=2)
+            self.assertIn("example" if command else "exit status", self.cert(*filter(None, [command]), "--help"))
+        self.assertIn("--propagate", self.cert("completion"))
+        self.cert("nothing", wanted=2)
 
     def test_the_manual_has_each_option(self):
         """docs/spki-cert.1 has each command and each of its options."""
@@ -793,21 +800,22 @@ int main(int count, char **words)
         before = set(os.listdir(self.room))
         script = os.path.join(TOP, "install.sh")
         quiet(script, self.at("prefix"), self.at("prog"), self.at("lib.a"))
-        status, said = output_of(sys.executable, self.at("prefix/bin/spki-cert"), "--version")
-        self.assertEqual((status, said), (0, f"spki-cert {version()}\n"))
+        status, output = output_of(sys.executable, self.at("prefix/bin/spki-cert"), "--version")
+        self.assertEqual((status, output), (0, f"spki-cert {version()}\n"))
         quiet(script, "--uninstall", self.at("prefix"))
         left = [name for _, _, names in os.walk(self.at("prefix")) for name in names]
         self.assertEqual((left, before), ([], set(os.listdir(self.room)) - {"prefix"}))
 
     @needs.needs("import pip", "import setuptools", "import wheel")
     def test_pip_installs_it_offline(self):
-        """With the package of bindings/python, which it needs, and without a library in that."""
+        """pip installs it with the package of bindings/python, which it needs. By SPKI_LIBRARY=none this package has no
+        library inside."""
         for folder in ("apps/spki-cert", "bindings/python"):
             shutil.copytree(os.path.join(TOP, folder), self.at(folder), ignore=shutil.ignore_patterns("build", "*.egg-info"))
         words = ("-m", "pip", "install", "-q", "--no-build-isolation", "--no-deps", "--no-index", "--target", self.at("target"))
         quiet(sys.executable, *words, self.at("bindings/python"), self.at("apps/spki-cert"), env={**self.settings, "SPKI_LIBRARY": "none"})
-        status, said = output_of(sys.executable, "-m", "spki_cert_tool", "--version", env={**self.settings, "PYTHONPATH": self.at("target")})
-        self.assertEqual((status, said), (0, f"spki-cert {version()}\n"))
+        status, output = output_of(sys.executable, "-m", "spki_cert_tool", "--version", env={**self.settings, "PYTHONPATH": self.at("target")})
+        self.assertEqual((status, output), (0, f"spki-cert {version()}\n"))
         for name in ("spki/py.typed", "spki_verify/py.typed"):
             self.assertTrue(os.path.exists(self.at(f"target/{name}")), name)
 
@@ -828,8 +836,7 @@ def version():
 def data_for_libgcrypt(kind, message):
     """The S-expression by which libgcrypt is given a message, to verify a signature of it by a key of this kind: the message for Ed25519, and
     otherwise its digest."""
-    import hashlib
-    digest, longer = [b"hash", b"sha256", hashlib.sha256(message).digest()], [b"hash", b"sha384", hashlib.sha384(message).digest()]
+    sha256, sha384 = ([b"hash", name.encode(), hashlib.new(name, message).digest()] for name in ("sha256", "sha384"))
     return {"ed25519": [b"data", [b"flags", b"eddsa"], [b"hash-algo", b"sha512"], [b"value", message]],
-            "rsa": [b"data", [b"flags", b"pkcs1"], digest], "p256": [b"data", [b"flags", b"raw"], digest],
-            "p384": [b"data", [b"flags", b"raw"], longer]}[kind]
+            "rsa": [b"data", [b"flags", b"pkcs1"], sha256], "p256": [b"data", [b"flags", b"raw"], sha256],
+            "p384": [b"data", [b"flags", b"raw"], sha384]}[kind]

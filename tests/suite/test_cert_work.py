@@ -25,34 +25,31 @@ SEEN: list[int] = [0]
 
 
 class Text(bytes):
-    """A text that adds to SEEN how many of its octets are looked through: by searches, up to what is found, and in parts that are copied."""
-
-    def seen(self, octets: int) -> None:
-        """Counts octets as looked through."""
-        SEEN[0] += octets
+    """A text that adds to SEEN how many of its octets are looked through: by searches, up to what is chains, and in
+    parts that are copied."""
 
     def rfind(self, part: bytes, begin: int = 0, end: int | None = None) -> int:  # type: ignore[override]
-        found = super().rfind(part, begin, end)
-        self.seen((len(self) if end is None else end) - max(found, begin))
-        return found
+        place = super().rfind(part, begin, end)
+        SEEN[0] += (len(self) if end is None else end) - max(place, begin)
+        return place
 
     def find(self, part: bytes, begin: int = 0, end: int | None = None) -> int:  # type: ignore[override]
-        found = super().find(part, begin, end)
-        self.seen((len(self) if found < 0 else found) - begin)
-        return found
+        place = super().find(part, begin, end)
+        SEEN[0] += (len(self) if place < 0 else place) - begin
+        return place
 
     def count(self, part: bytes, begin: int = 0, end: int | None = None) -> int:  # type: ignore[override]
-        self.seen((len(self) if end is None else end) - begin)
+        SEEN[0] += (len(self) if end is None else end) - begin
         return super().count(part, begin, end)
 
     def __getitem__(self, place):
-        found = super().__getitem__(place)
-        self.seen(len(found) if isinstance(found, bytes) else 1)
-        return found
+        octets = super().__getitem__(place)
+        SEEN[0] += len(octets) if isinstance(octets, bytes) else 1
+        return octets
 
 
 @contextmanager
-def counted() -> Iterator[None]:
+def counting() -> Iterator[None]:
     """A context that sets SEEN to 0 and counts steps there: each call, line and return in `spki_cert_tool`, and the octets that its modules asking,
     certificates, checking and making make canonical. Other modules make few canonical, and these are not counted. A `Text` adds its own."""
     from spki_cert_tool import asking, certificates, checking, making, sexp
@@ -65,8 +62,8 @@ def counted() -> Iterator[None]:
             return trace
         return None
 
-    def made(value):
-        """`canonical`, counted."""
+    def counting_canonical(value):
+        """`canonical`, whose octets are counted."""
         octets = sexp.canonical(value)
         SEEN[0] += len(octets)
         return octets
@@ -74,7 +71,7 @@ def counted() -> Iterator[None]:
     SEEN[0] = 0
     with ExitStack() as stack:
         for module in (asking, certificates, checking, making):
-            stack.enter_context(mock.patch.object(module, "canonical", made))
+            stack.enter_context(mock.patch.object(module, "canonical", counting_canonical))
         before = sys.gettrace()
         sys.settrace(trace)
         try:
@@ -88,17 +85,17 @@ def key(name: str, octets: int = 1) -> Any:
     return [b"public-key", [b"test", name.encode() * octets]]
 
 
-def hash_of(one: Any) -> Any:
-    return [b"hash", b"sha256", hashlib.sha256(canonical(one)).digest()]
+def hash_of(value: Any) -> Any:
+    return [b"hash", b"sha256", hashlib.sha256(canonical(value)).digest()]
 
 
 def certificate(issuer: Any, subject: Any, *more: Any) -> Any:
     return [b"cert", [b"issuer", issuer], [b"subject", subject], [b"tag", [b"ftp"]], *more]
 
 
-def signed(one: Any) -> Any:
+def signed(cert: Any) -> Any:
     """A certificate and a signature of it by its issuer, as two items of a sequence."""
-    return [one, [b"signature", hash_of(one), one[1][1], b"sig"]]
+    return [cert, [b"signature", hash_of(cert), cert[1][1], b"sig"]]
 
 
 # ---- the texts, by how many parts they have
@@ -111,8 +108,8 @@ def members_behind_a_long_line(parts: int) -> bytes:
 
 
 def entries_that_ended(parts: int) -> bytes:
-    """A list with one entry on each line, of which all have ended: `check` makes a remark on each. Its line and column must be found without looking
-    through the text from the beginning."""
+    """A list with one entry on each line, of which all have ended: `check` makes a remark on each. Its line and column
+    must be chains without looking through the text from the beginning."""
     return b"(acl" + b"".join(b'\n (entry (public-key (test k%d)) (tag (ftp)) (not-after "2020-01-01_00:00:00"))' % at for at in range(parts)) + b")"
 
 
@@ -148,31 +145,32 @@ CHECKED = [members_behind_a_long_line, entries_that_ended, long_display, hashes_
 class OfCheck(unittest.TestCase):
     """`spki-cert check`, which reads a text, says what is probably a mistake, and verifies; and what `entry` does with a list."""
 
-    def grows_linearly(self, work: Callable[[int], None]) -> None:
+    def check_growth(self, work: Callable[[int], None]) -> None:
         """`work(parts)` must take at most MOST_TIMES as many steps for TIMES as many parts."""
-        met = []
+        steps = []
         for parts in (FEW, FEW * TIMES):
-            with counted():
+            with counting():
                 work(parts)
-            met.append(SEEN[0])
-        self.assertLess(met[1] / met[0], MOST_TIMES, met)
+            steps.append(SEEN[0])
+        self.assertLess(steps[1] / steps[0], MOST_TIMES, steps)
 
     def test_texts(self) -> None:
         """The work of `check` on each text of CHECKED."""
         from spki_cert_tool import checking
+        # (so that what a first call alone does is not counted)
         checking.remarks_on("/dev/null", NOW)
         for make in CHECKED:
             texts = {parts: Text(make(parts)) for parts in (FEW, FEW * TIMES)}
             read = checking.remarks_on_key_file if make is keys_in_lines else lambda path, octets: checking.remarks_on_text(path, octets, NOW)
             with self.subTest(make.__name__):
-                self.grows_linearly(lambda parts: read("text", texts[parts]) and None)
+                self.check_growth(lambda parts: read("text", texts[parts]) and None)
 
     def test_removed_entries(self) -> None:
         """`list_without` removes all entries for a key, here each second one, in one pass through the list."""
         from spki_cert_tool import making
         entry, other = (b"\n (entry %s (tag (ftp)))" % canonical(key(name)) for name in "ab")
         lists = {parts: Text(b"(acl" + (entry + other) * parts + b")") for parts in (FEW, FEW * TIMES)}
-        self.grows_linearly(lambda parts: making.list_without(key("a"), lists[parts]) and None)
+        self.check_growth(lambda parts: making.list_without(key("a"), lists[parts]) and None)
         text, gone = making.list_without(key("a"), lists[FEW])
         self.assertEqual((text, len(gone)), (b"(acl" + other * FEW + b")", FEW))
 
@@ -182,13 +180,13 @@ class OfCheck(unittest.TestCase):
         from spki_cert_tool import certificates, making, tag_words
         wide: Any = [b"*", b"set", *[b"%03d" % at for at in range(60)]]
         listed = canonical([b"acl", *[[b"entry", key("a"), [b"tag", wide]]] * 30])
-        made: Any = [b"entry", key("a"), [b"tag", [*wide[:-1], b"x"]]]
+        entry: Any = [b"entry", key("a"), [b"tag", [*wide[:-1], b"x"]]]
         for most, least_calls in ((10**9, 30 * 60), (0, 0)):
             with mock.patch.object(making, "MOST_PRODUCTS", most), mock.patch.object(tag_words, "covers", wraps=tag_words.covers) as covers:
-                self.assertEqual(list(making.warnings_of_list(made, listed)), [])
+                self.assertEqual(list(making.warnings_of_list(entry, listed)), [])
                 self.assertGreaterEqual(covers.call_count, least_calls)
                 self.assertTrue(most or covers.call_count == 0)
-        self.assertEqual(certificates.Keys().are_one(key("a"), key("b")), False)
+        self.assertFalse(certificates.Keys().are_one(key("a"), key("b")))
 
 
 class OfMessages(unittest.TestCase):
@@ -201,9 +199,9 @@ class OfMessages(unittest.TestCase):
         long = b"m" * 100_000
         wide: Any = [b"*", b"set", *[b"%03d" % at for at in range(900)]]
         with mock.patch.object(tag_words, "in_short", wraps=tag_words.in_short) as in_short:
-            said = tag_words.lacks([b"ftp", wide], [b"ftp", long]) or ""
+            message = tag_words.lacks([b"ftp", wide], [b"ftp", long]) or ""
         self.assertLessEqual(in_short.call_count, 2)
-        self.assertLess(len(said), 900 * 8 + 1000)
+        self.assertLess(len(message), 900 * 8 + 1000)
         self.assertEqual(tag_words.lacks(b"a", long), f"the request is `{'m' * 400}..`, and the tag has `a`")
         self.assertIsNone(tag_words.lacks([b"*", b"range", b"alpha", b"ge", b"a"], long))
 
@@ -217,33 +215,34 @@ class OfMessages(unittest.TestCase):
 class OfAsk(unittest.TestCase):
     """The search of `spki-cert ask` for chains of certificates, which counts its steps itself."""
 
-    def found(self, pairs, entries, holder, most=20_000):
-        """The chains that are found from entries to the key `holder`, and the object that counts steps. `pairs` are the issuers and subjects of the
-        certificates, `entries` the subjects of the entries, and `most` is the bound of steps."""
+    def search(self, pairs, entries, holder, most=20_000):
+        """The chains that are chains from entries to the key `holder`, and the object that counts steps. `pairs` are
+        the issuers and subjects of the certificates, `entries` the subjects of the entries, and `most` is the bound of
+        steps."""
         from spki_cert_tool import certificates
-        given = [certificates.Signed(certificates.terms_of(certificate(*pair)), b"", 1) for pair in pairs]
+        signed = [certificates.Signed(certificates.terms_of(certificate(*pair)), b"", 1) for pair in pairs]
         steps = certificates.Steps(most)
         listed = [certificates.terms_of([b"entry", it, [b"tag", [b"*"]]]) for it in entries]
-        return list(certificates.chains(listed, given, certificates.Keys(), holder, steps)), steps
+        return list(certificates.chains(listed, signed, certificates.Keys(), holder, steps)), steps
 
     def test_steps(self) -> None:
         """A chain of 16 certificates takes 16 steps, however many equal entries it begins at. A certificate for a name of 30 strings takes 31.
-        `chains` and `taken` are the wanted numbers of chains and steps."""
+        `count` and `taken` are the wanted numbers of chains and steps."""
         line = [key(f"k{at}") for at in range(17)]
         named = [b"name", key("k1"), *[b""] * 30]
-        for pairs, entries, holder, chains, taken in [
+        for pairs, entries, holder, count, taken in [
                 (list(zip(line, line[1:])), [line[0]] * 500, line[16], 1, 16), (list(zip(line, line[1:])), [line[0]], key("x"), 0, 16),
                 ([(line[0], named)], [line[0]], line[1], 0, 31)]:
-            found, steps = self.found(pairs, entries, holder)
-            self.assertEqual((len(found), steps.most - steps.left, steps.is_cut), (chains, taken, False))
+            chains, steps = self.search(pairs, entries, holder)
+            self.assertEqual((len(chains), steps.most - steps.left, steps.is_cut), (count, taken, False))
 
     def test_bound(self) -> None:
         """40 keys that all give a right to each other, or a name of 25,000 strings, take more steps than the bound, which ends the search."""
         net = [key(f"k{at}") for at in range(40)]
         long = [b"name", key("k1"), *[b""] * 25_000]
         for pairs in ([(one, other) for one in net for other in net], [(net[0], long)]):
-            found, steps = self.found(pairs, [net[0]], key("x"))
-            self.assertEqual((found, steps.is_cut, steps.left < 0), ([], True, True))
+            chains, steps = self.search(pairs, [net[0]], key("x"))
+            self.assertEqual((chains, steps.is_cut, steps.left < 0), ([], True, True))
 
     def test_long_keys(self) -> None:
         """A search compares the digests of keys, 32 octets, and not the keys, however long they are. The canonical text of a key that is added is
@@ -263,6 +262,6 @@ class OfAsk(unittest.TestCase):
             path = os.path.join(room, "keys.pub")
             with open(path, "wb") as file:
                 file.write(keys_in_lines(5))
-            kind, said = checking.remarks_on(path, NOW)
-        self.assertEqual((kind, len(said), said[-1].text), ("5 public keys", 4, "only the first 3 of these keys are looked at: split the file"))
-        self.assertEqual([(it.line, it.column) for it in said], [(1, 1), (2, 1), (3, 1), (3, 23)])
+            kind, remarks = checking.remarks_on(path, NOW)
+        self.assertEqual((kind, len(remarks), remarks[-1].text), ("5 public keys", 4, "only the first 3 of these keys are looked at: split the file"))
+        self.assertEqual([(it.line, it.column) for it in remarks], [(1, 1), (2, 1), (3, 1), (3, 23)])

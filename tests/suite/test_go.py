@@ -10,7 +10,6 @@ import signal
 import socket
 import subprocess
 import tempfile
-import unittest
 import urllib.parse
 from collections.abc import Iterator
 from typing import Any
@@ -323,7 +322,3 @@ class Served(OfGo):
 def value_of(text: bytes) -> Any:
     """The value of a text in any form."""
     return read(subprocess.run([built.program(), "canonical"], input=text, stdout=subprocess.PIPE, check=True).stdout)
-
-
-if __name__ == "__main__":
-    unittest.main()

@@ -46,18 +46,18 @@ class Room(Case):
             self.write(name, private)
             os.chmod(self.at(name), 0o600)
             self.write(f"{name}.pub", public + f" {name}\n".encode())
-        self.done("entry", "--to", "alice.pub", "--tag", "(packages)", "--propagate", "--acl", "acl.sexp")
+        self.cert("entry", "--to", "alice.pub", "--tag", "(packages)", "--propagate", "--acl", "acl.sexp")
         self.sign("--propagate", "-o", "to-bob")
 
     def sign(self, *words, by="alice", to="bob.pub", tag="(packages read)", wanted=0, days=("--days", "30")):
         """Runs `spki-cert sign`, which must end with the status `wanted`. Returns what it writes."""
-        return self.done("sign", "--by", by, "--to", to, "--tag", tag, *days, *words, wanted=wanted)
+        return self.cert("sign", "--by", by, "--to", to, "--tag", tag, *days, *words, wanted=wanted)
 
-    def changes_nothing(self, *words, said="", wanted=2):
-        """A command must end with the status `wanted`, write the text `said`, and change no file."""
+    def changes_nothing(self, *words, message="", wanted=2):
+        """A command must end with the status `wanted`, write the text `message`, and change no file."""
         before = self.contents()
         with self.subTest(words):
-            self.assertIn(said, self.done(*words, wanted=wanted))
+            self.assertIn(message, self.cert(*words, wanted=wanted))
             self.assertEqual(before, self.contents())
 
     def contents(self):
@@ -73,7 +73,7 @@ class OfWriting(Room):
         os.link(self.at("acl.sexp"), self.at("hard"))
         os.symlink("acl.sexp", self.at("soft"))
         os.symlink("alice", self.at("to-key"))
-        for words, said in [
+        for words, message in [
                 ((*signs, "-o", "alice"), "is not written over"), ((*signs, "--force", "-o", "alice"), "is not written over"),
                 ((*signs, "--force", "-o", "to-key"), "is not written over"), ((*signs, "--force", "-o", "carol"), "is not written over"),
                 ((*signs, "--force", "-o", "carol.pub"), "is not written over"), ((*signs, "--force", "-o", "bob.pub"), "reads this file"),
@@ -82,7 +82,7 @@ class OfWriting(Room):
                 (("key", "new", "--no-passphrase", "to-key"), "is there already"),
                 (("show", "--svg", "to-bob", "--force", "to-bob"), "reads this file"),
                 (("show", "--svg", "alice.pub", "--force", "--labels", ".", "to-bob"), "reads this file")]:
-            self.changes_nothing(*words, said=said)
+            self.changes_nothing(*words, message=message)
 
     def test_no_secret_is_written_over_or_shown(self):
         """Private keys in forms that are not read, and one that is not whole. Nor is the file of ended certificates written over."""
@@ -105,15 +105,15 @@ class OfWriting(Room):
             for words in (("key", name), ("show", name), ("check", name), ("sign", "--by", name, "--to", "bob.pub", "--tag", TAG, "--days", "1"),
                           ("entry", "--to", "bob.pub", "--tag", TAG, "--acl", name)):
                 with self.subTest(words):
-                    said = self.done(*words, wanted=0 if words == ("check", "wg") else 2)
+                    output = self.cert(*words, wanted=0 if words == ("check", "wg") else 2)
                     for shown in (seed.decode()[:20], octets.hex()[:20], "\\x", base64.b64encode(text).decode()[-20:]):
-                        self.assertNotIn(shown, said)
-            self.changes_nothing("key", "bob.pub", "--force", "-o", name, said="is not written over")
+                        self.assertNotIn(shown, output)
+            self.changes_nothing("key", "bob.pub", "--force", "-o", name, message="is not written over")
             self.no_word_is_shown(secret.decode(errors="surrogateescape").strip("\0\n"), seed.decode()[:20], octets.hex()[:20])
         for name, (whole, _) in self.pairs.items():
             self.no_word_is_shown(whole.decode(), *whole.decode().split("\n")[1:-2])
-        self.done("end", "--ended", "ended")
-        self.changes_nothing("key", "bob.pub", "--force", "-o", "ended", said="the file of ended certificates is there already")
+        self.cert("end", "--ended", "ended")
+        self.changes_nothing("key", "bob.pub", "--force", "-o", "ended", message="the file of ended certificates is there already")
 
     def no_word_is_shown(self, secret, *parts):
         """A command that gets a secret as a word must not write any of these parts of it. A seed alone is known as a secret only where a command
@@ -124,8 +124,8 @@ class OfWriting(Room):
                    ("show", f"--at={secret}", "to-bob"), ("check", secret), ("entry", "--to", "bob.pub", "--tag", TAG, "--acl", secret)]
         for words in [*as_file, *(as_word if " " in secret or "{" in secret else [])] if "\0" not in secret else []:
             with self.subTest(words):
-                said = self.done(*words, wanted=2)
-                self.assertEqual([it for it in parts if it in said], [])
+                output = self.cert(*words, wanted=2)
+                self.assertEqual([it for it in parts if it in output], [])
 
     def test_only_a_regular_file_is_written(self):
         os.mkfifo(self.at("fifo"))
@@ -144,15 +144,15 @@ class OfWriting(Room):
         os.symlink("c.sexp", self.at("link"))
         self.sign("-o", "link", "--force")
         self.assertEqual((os.path.islink(self.at("link")), stat.S_IMODE(os.stat(self.at("c.sexp")).st_mode)), (True, 0o640))
-        self.verified("c.sexp")
+        self.verify("c.sexp")
         for mode in (0o444, 0o400, 0o000):
             os.chmod(self.at("c.sexp"), mode)
-            self.is_not_written("sign", "--by", "alice", "--to", "bob.pub", "--tag", TAG, "--days", "1", "--force", "-o", "c.sexp")
+            self.check_not_written("sign", "--by", "alice", "--to", "bob.pub", "--tag", TAG, "--days", "1", "--force", "-o", "c.sexp")
 
-    def is_not_written(self, *words):
+    def check_not_written(self, *words):
         """A command must refuse to write c.sexp, and leave it as it is."""
         before = os.stat(self.at("c.sexp"))
-        self.assertIn("is not to be written", self.done(*words, wanted=2))
+        self.assertIn("is not to be written", self.cert(*words, wanted=2))
         self.assertEqual(before, os.stat(self.at("c.sexp")))
 
     def test_a_list_is_edited_in_its_place(self):
@@ -163,13 +163,13 @@ class OfWriting(Room):
         with contextlib.suppress(PermissionError):
             os.chown(self.at("acl.sexp"), 12345, 12345)
         before = os.stat(self.at("acl.sexp"))
-        self.assertEqual(self.done(*adds), "entries added: 1\n")
+        self.assertEqual(self.cert(*adds), "entries added: 1\n")
         after = os.stat(self.at("acl.sexp"))
-        self.assertEqual([(it.st_mode, it.st_uid, it.st_gid) for it in (before, after)][0], (after.st_mode, after.st_uid, after.st_gid))
-        self.changes_nothing(*adds, said="entry 2 of the list gives all of this already", wanted=4)
+        self.assertEqual((before.st_mode, before.st_uid, before.st_gid), (after.st_mode, after.st_uid, after.st_gid))
+        self.changes_nothing(*adds, message="entry 2 of the list gives all of this already", wanted=4)
         os.chmod(self.at("acl.sexp"), 0o444)
         for words in ((*adds, "--yes"), ("entry", "--remove", "--to", "bob.pub", "--acl", "acl.sexp")):
-            self.changes_nothing(*words, said="its mode 444")
+            self.changes_nothing(*words, message="its mode 444")
 
     def test_edits_at_the_same_time_are_all_kept(self):
         """Each waits for the lock of the list."""
@@ -185,15 +185,15 @@ class OfWriting(Room):
                             (("sign", "--by", "-", "--to", "bob.pub", "--tag", TAG, "--days", "1"), "alice"),
                             (("entry", "--to", "bob.pub", "--tag", TAG, "--acl", "-"), "acl.sexp"), (("show", "--svg", "-", "-"), "to-bob")]:
             with self.subTest(words), open(self.at(name), encoding="ascii") as stream, mock.patch.object(sys, "stdin", stream):
-                self.assertTrue(self.done(*words))
+                self.assertTrue(self.cert(*words))
         with open(self.at("alice"), encoding="ascii") as stream, mock.patch.object(sys, "stdin", stream):
-            self.assertIn("was read already", self.done("key", "-", "-", wanted=2))
+            self.assertIn("was read already", self.cert("key", "-", "-", wanted=2))
 
     def test_a_file_system_without_links_gets_a_file(self):
         with mock.patch.object(os, "link", side_effect=PermissionError(1, "Operation not permitted")):
             self.sign("-o", "c.sexp")
             self.assertIn("is there already", self.sign("-o", "c.sexp", wanted=2))
-        self.verified("c.sexp")
+        self.verify("c.sexp")
         self.assertEqual([it for it in os.listdir(self.room) if it.startswith(".")], [])
 
     def test_a_disk_that_is_full_leaves_the_file(self):
@@ -203,37 +203,38 @@ class OfWriting(Room):
                 self.assertIn("the file is as before", self.sign("--force", "-o", "c.sexp", wanted=3))
             self.assertEqual((octets_in(self.at("c.sexp")), [it for it in os.listdir(self.room) if it.startswith(".")]), (b"before", []))
 
-    def test_a_folder_that_is_not_on_the_disk_is_said(self):
-        """The file is there then. A folder that may not be read, and a file system that does not sync folders, are no fault."""
+    def test_a_folder_that_cannot_be_synced_is_reported(self):
+        """The file is written then, and the status is 3. A folder that may not be read, and a file system that does not
+        sync folders, are no fault."""
         for number, (opens, syncs, status) in enumerate([
                 (None, OSError(5, "Input/output error"), 3), (None, OSError(22, "Invalid argument"), 0),
                 (OSError(5, "Input/output error"), None, 3), (OSError(22, "Invalid argument"), None, 3),
                 (OSError(24, "Too many open files"), None, 3), (PermissionError(13, "Permission denied"), None, 0)]):
             with self.subTest(opens=opens, syncs=syncs), mock.patch.object(os, "fsync", side_effect=(None, syncs)), \
-                    mock.patch.object(os, "open", self.opened_unless(opens)):
-                said = self.sign("-o", f"{number}.sexp", wanted=status)
-                self.assertEqual(("is written, but the system does not say" in said, "as before" in said), (status == 3, False), said)
-            self.verified(f"{number}.sexp")
+                    mock.patch.object(os, "open", self.open_unless(opens)):
+                output = self.sign("-o", f"{number}.sexp", wanted=status)
+                self.assertEqual(("is written, but the system does not say" in output, "as before" in output), (status == 3, False), output)
+            self.verify(f"{number}.sexp")
 
     def test_a_temporary_file_that_stays_is_named(self):
-        """Whether the file is written is said too, and signals are no longer held back then."""
+        """The message says too whether the file is written. Signals are no longer held back then."""
         for syncs, state in ((None, "written"), (OSError(28, "No space left on device"), "as before")):
-            name, made = f"{state}.sexp", f"its temporary file {re.escape(os.path.realpath(self.room))}/\\.spki-cert-\\w+"
+            name, left = f"{state}.sexp", f"its temporary file {re.escape(os.path.realpath(self.room))}/\\.spki-cert-\\w+"
             with self.subTest(state), mock.patch.object(os, "unlink", side_effect=OSError(5, "Input/output error")), \
                     mock.patch.object(os, "fsync", side_effect=syncs):
-                self.assertRegex(self.sign("-o", name, wanted=3), f"{name}: the file is {state}, and {made} cannot be deleted: Input/output error")
+                self.assertRegex(self.sign("-o", name, wanted=3), f"{name}: the file is {state}, and {left} cannot be deleted: Input/output error")
             self.assertEqual((os.path.exists(self.at(name)), signal.pthread_sigmask(signal.SIG_BLOCK, [])), (syncs is None, set()))
 
-    def opened_unless(self, error):
+    def open_unless(self, error):
         """A function in place of `os.open`, which raises an error for the folder of the test. It opens all if the error is None."""
         folder, opens = os.path.realpath(self.room), os.open
 
-        def opened(path, *words, **named):
+        def open_or_fail(path, *words, **named):
             if error is not None and path == folder:
                 raise error
             return opens(path, *words, **named)
 
-        return opened
+        return open_or_fail
 
 
 @needs.needs(*needs.LIBRARY)
@@ -250,10 +251,10 @@ class OfTheLibrary(Room):
         asks = ("ask", "--acl", "acl.sexp", "--key", "bob.pub", "--cert", "to-bob")
         for option in ("--save", "--sequence", "--svg"):
             for name in ("acl.sexp", "hard", "soft", "bob.pub", "to-bob"):
-                self.changes_nothing(*asks, "--force", option, name, "--", "packages", "read", said="reads this file")
-        self.changes_nothing(*asks, "--save", "new", "--svg", "./new", "--", "packages", "read", said="to one file")
+                self.changes_nothing(*asks, "--force", option, name, "--", "packages", "read", message="reads this file")
+        self.changes_nothing(*asks, "--save", "new", "--svg", "./new", "--", "packages", "read", message="to one file")
         signs = ("sign", "--by", "bob", "--to", "carol.pub", "--tag", "(packages read)", "--days", "1")
-        self.changes_nothing(*signs, "--chain", "to-bob", "--force", "-o", "to-bob", said="reads this file")
+        self.changes_nothing(*signs, "--chain", "to-bob", "--force", "-o", "to-bob", message="reads this file")
 
 
 class OfArguments(Room):
@@ -264,7 +265,7 @@ class OfArguments(Room):
             for option in (it for it in options if it.startswith("--")):
                 for end in range(3, len(option)):
                     if option[:end] not in options:
-                        self.assertIn("no such option", self.done(name, option[:end], "x", wanted=2))
+                        self.assertIn("no such option", self.cert(name, option[:end], "x", wanted=2))
         self.assertIn("is `--named` meant?", self.sign("--name", "x", "-o", "c", wanted=2))
 
     def test_a_set_of_whole_tags_is_right(self):
@@ -276,8 +277,8 @@ class OfArguments(Room):
             self.write("authorized_keys", b"".join(public + b"\n" for _, public in self.pairs.values()))
             self.write("braces", b"{%s}" % base64.b64encode(sexp.canonical(value_in(octets_in(self.at("to-bob"))).value)))
             with self.subTest(row.what):
-                said = self.done(*row.words, wanted=row.status)
-                self.assertIn(row.said, said)
+                output = self.cert(*row.words, wanted=row.status)
+                self.assertIn(row.said, output)
                 self.assertNotIn("c.sexp", os.listdir(self.room))
 
 
@@ -288,28 +289,28 @@ class OfKeyFiles(Room):
         lines = [b"# alice's keys", b'from="10.0.0.0/8",command="echo #" ' + self.pairs["alice"][1] + b" alice", b"", self.pairs["bob"][1]]
         self.write("authorized_keys", b"\n".join(lines))
         for number, name in ((1, "alice"), (2, "bob")):
-            self.assertEqual(self.done("key", "--key", str(number), "authorized_keys"), self.done("key", f"{name}.pub"))
+            self.assertEqual(self.cert("key", "--key", str(number), "authorized_keys"), self.cert("key", f"{name}.pub"))
             self.sign("--key", str(number), "--force", "-o", "c.sexp", by="carol", to="authorized_keys")
-            self.assertEqual(sexp.laid_out(self.verified("c.sexp")[0].terms.subject) + "\n", self.done("key", f"{name}.pub"))
-        self.assertIn("2 keys are in this file", self.done("ask", "--acl", "acl.sexp", "--key", "authorized_keys", "--", "packages", wanted=2))
-        self.assertIn("authorized_keys: 2 public keys", self.done("check", "authorized_keys"))
+            self.assertEqual(sexp.laid_out(self.verify("c.sexp")[0].terms.subject) + "\n", self.cert("key", f"{name}.pub"))
+        self.assertIn("2 keys are in this file", self.cert("ask", "--acl", "acl.sexp", "--key", "authorized_keys", "--", "packages", wanted=2))
+        self.assertIn("authorized_keys: 2 public keys", self.cert("check", "authorized_keys"))
 
     @needs.needs("ssh-keygen")
     def test_the_public_part_needs_no_passphrase(self):
         subprocess.run(["ssh-keygen", "-q", "-t", "ed25519", "-N", "sesame", "-f", self.at("locked")], check=True, stdin=subprocess.DEVNULL)
-        self.assertEqual(self.done("key", "locked"), self.done("key", "locked.pub"))
-        self.assertIn("locked: a private key, Ed25519", self.done("check", "locked"))
+        self.assertEqual(self.cert("key", "locked"), self.cert("key", "locked.pub"))
+        self.assertIn("locked: a private key, Ed25519", self.cert("check", "locked"))
         with mock.patch("importlib.util.find_spec", return_value=None):
             self.assertIn("encrypted OpenSSH keys need python3-bcrypt", self.sign("-o", "c.sexp", by="locked", wanted=2))
 
-    def test_a_key_that_others_may_read_is_said(self):
+    def test_a_key_that_others_may_read_is_reported(self):
         os.chmod(self.at("alice"), 0o644)
         self.assertIn("its mode is 644; chmod 600 alice", self.sign("-o", "c.sexp", wanted=4))
         self.assertFalse(os.path.exists(self.at("c.sexp")))
         parts = [[b"curve", b"Ed25519"], [b"flags", b"eddsa"], [b"q", b""], [b"d", bytes(32)]]
         self.write("private.sexp", sexp.laid_out([b"private-key", [b"ecc", *parts]]))
         os.chmod(self.at("private.sexp"), 0o640)
-        self.assertIn("its mode is 640", self.done("check", "private.sexp", wanted=1))
+        self.assertIn("its mode is 640", self.cert("check", "private.sexp", wanted=1))
 
     def test_another_curve_has_a_sentence(self):
         from cryptography.hazmat.primitives.asymmetric import ec
@@ -317,7 +318,7 @@ class OfKeyFiles(Room):
         self.write("p521", keys.file_of(private, b""))
         self.write("p521.pub", keys.openssh_line(private.public_key()))
         for name in ("p521", "p521.pub"):
-            self.assertIn("ECDSA with the curve P-256 or P-384 are used", self.done("key", name, wanted=2))
+            self.assertIn("ECDSA with the curve P-256 or P-384 are used", self.cert("key", name, wanted=2))
             self.assertIn("ECDSA with the curve P-256 or P-384 are used", self.sign(by=name, wanted=2))
 
     def test_a_whole_key_of_dsa_has_a_sentence_alone(self):
@@ -332,25 +333,25 @@ class OfKeyFiles(Room):
 
     def test_the_file_that_is_named_is_read(self):
         self.write("acl.conf", "(acl")
-        self.assertIn("acl.conf:1:5: refused: form Short", self.done("check", "acl.conf", wanted=2))
+        self.assertIn("acl.conf:1:5: refused: form Short", self.cert("check", "acl.conf", wanted=2))
         self.write("acl.conf", "(acl)")
-        self.assertIn("acl.conf: an access list, entries: 0", self.done("check", "acl.conf"))
-        self.assertIn("no file that can be read", self.done("check", "none", wanted=2))
+        self.assertIn("acl.conf: an access list, entries: 0", self.cert("check", "acl.conf"))
+        self.assertIn("no file that can be read", self.cert("check", "none", wanted=2))
         os.mkfifo(self.at("folder/fifo"))
-        self.done("check", "folder")
+        self.cert("check", "folder")
         for name, kind in (("alice", "a private key, Ed25519"), ("bob.pub", "a public key, Ed25519"), ("to-bob", "a sequence, certificates: 1")):
-            self.assertIn(f"{name}: {kind}", self.done("check", name))
+            self.assertIn(f"{name}: {kind}", self.cert("check", name))
 
 
 class OfChains(Room):
     """The search for chains, and what is left of one."""
 
-    def signed(self, count):
+    def sequences(self, count):
         """Sequences of one certificate: so many of bob for himself, one of bob for carol, and the one of alice for bob."""
-        made = [self.signed_here("bob", "bob", number) for number in range(count)]
-        return [*made, self.signed_here("bob", "carol", 0), value_in(octets_in(self.at("to-bob"))).value]
+        own = [self.sequence("bob", "bob", number) for number in range(count)]
+        return [*own, self.sequence("bob", "carol", 0), value_in(octets_in(self.at("to-bob"))).value]
 
-    def signed_here(self, issuer, subject, number):
+    def sequence(self, issuer, subject, number):
         """The sequence of a certificate from one person to another, with a number as its comment."""
         private, to = (keys.read_private(self.pairs[issuer][0], lambda: b""), keys.read_public(self.pairs[subject][1], lambda: b""))
         signer = keys.FileSigner(private)
@@ -360,19 +361,19 @@ class OfChains(Room):
 
     def test_the_search_is_bounded(self):
         """Certificates that a key issues for itself lead nowhere, and a net of keys that all name each other ends at the bound."""
-        holder, found = keys.read_public(self.pairs["carol"][1], lambda: b""), self.signed(12)
+        holder = keys.read_public(self.pairs["carol"][1], lambda: b"")
         entries = certificates.entries_of(value_in(octets_in(self.at("acl.sexp"))).value)
-        given = [it for one in found for it in certificates.certificates_in(one)]
+        signed = [it for sequence in self.sequences(12) for it in certificates.certificates_in(sequence)]
         steps = certificates.Steps()
-        chains = list(certificates.chains(entries, given, certificates.Keys(), holder, steps))
+        chains = list(certificates.chains(entries, signed, certificates.Keys(), holder, steps))
         self.assertEqual([[it.terms.comment for it in chain] for chain in chains], [["", "0"]])
         self.assertLess(steps.most - steps.left, 100)
         net = [[b"public-key", [b"test", b"%d" % number]] for number in range(40)]
-        knots = [certificates.Signed(certificates.terms_of([b"cert", [b"issuer", one], [b"subject", other], [b"tag", [b"*"]]]), b"", 1)
-                 for one in net for other in net]
+        signed = [certificates.Signed(certificates.terms_of([b"cert", [b"issuer", one], [b"subject", other], [b"tag", [b"*"]]]), b"", 1)
+                  for one in net for other in net]
         entry = certificates.terms_of([b"entry", net[0], [b"tag", [b"*"]]])
         steps = certificates.Steps()
-        self.assertEqual(list(certificates.chains([entry], knots, certificates.Keys(), holder, steps)), [])
+        self.assertEqual(list(certificates.chains([entry], signed, certificates.Keys(), holder, steps)), [])
         self.assertLess(steps.left, 0)
 
 
@@ -387,92 +388,97 @@ class OfTheRightOfAChain(OfChains):
         super().setUp()
         self.settings["SPKI_LIBRARY"] = built.shared()
 
-    def chained(self, *words, by="bob", to="carol.pub", tag="(packages read)", chain="to-bob", wanted=0):
-        """Runs `spki-cert sign --chain`, which must end with the status `wanted`. Returns what it writes."""
+    def sign_behind(self, *words, by="bob", to="carol.pub", tag="(packages read)", chain="to-bob", wanted=0):
+        """Runs `spki-cert sign --chain`, by which bob signs c.sexp behind the chain in a file. It must end with the
+        status `wanted`. Returns what it writes."""
         return self.sign("--chain", chain, "--force", "-o", "c.sexp", *words, by=by, to=to, tag=tag, wanted=wanted, days=("--days", "5"))
 
     def test_what_the_issuer_has_is_signed(self):
-        """Bob gives on a tag that his chain gives him, or a part of it, also where Alice gave it to a name that is his."""
+        """Bob delegates a tag that his chain gives him, or a part of it, also where Alice gave it to a name that is
+        his."""
         for tag in ("(packages read)", "(packages read (* set b a))", "(packages read (* prefix /web/))"):
-            self.chained(tag=tag)
-            self.assertEqual(len(self.verified("c.sexp")), 2)
-        self.done("name", "--by", "alice", "--name", "team", "--to", "bob.pub", "--days", "9", "-o", "named")
-        self.done("sign", "--by", "alice", "--named", "team", "--tag", "(packages (* set write read))", "--propagate", "--days", "9", "-o", "to-team")
+            self.sign_behind(tag=tag)
+            self.assertEqual(len(self.verify("c.sexp")), 2)
+        self.cert("name", "--by", "alice", "--name", "team", "--to", "bob.pub", "--days", "9", "-o", "named")
+        self.cert("sign", "--by", "alice", "--named", "team", "--tag", "(packages (* set write read))", "--propagate", "--days", "9", "-o", "to-team")
         team, name = (value_in(octets_in(self.at(it))).value for it in ("to-team", "named"))
         self.write("both", sexp.laid_out([*team, *name[1:]]))
-        self.chained(chain="both", tag="(packages (* set read write))")
+        self.sign_behind(chain="both", tag="(packages (* set read write))")
 
     def test_what_the_issuer_cannot_give_is_not_signed(self):
-        """Neither as it is nor by `--yes`. With `--anyway` it is signed, and the reason is still said."""
+        """Neither as it is nor by `--yes`. With `--anyway` it is signed, and the message comes too."""
         text = octets_in(self.at("to-bob"))
         self.write("changed", text.replace(b"(packages read)", b"(packages)"))
         self.write("tampered", re.sub(rb"\(s\s+#..", lambda it: it[0][:-2] + b"%02x" % (int(it[0][-2:], 16) ^ 1), text))
         self.write("none", "(sequence)")
-        self.done("sign", "--by", "alice", "--to", "bob.pub", "--tag", "(packages read)", "--days", "30", "-o", "no-more")
-        for words, said in [
+        self.cert("sign", "--by", "alice", "--to", "bob.pub", "--tag", "(packages read)", "--days", "30", "-o", "no-more")
+        for words, message in [
                 ({"chain": "changed"}, "DigestDiffers"), ({"chain": "tampered"}, "NotAccepted"), ({"chain": "none"}, "has no certificate"),
                 ({"by": "carol", "to": "alice.pub"}, "NotIssuer"), ({"chain": "no-more"}, "bob may not delegate"),
                 ({"tag": "(package read)"}, "NoTag"),
                 ({"tag": "(packages)"}, "the chain gives only `(packages read)`"), ({"tag": "(packages (* set read write))"}, "gives only")]:
-            with self.subTest(said):
+            with self.subTest(message):
                 for more in ((), ("--yes",)):
-                    self.assertIn(said, self.chained(*more, wanted=4, **words))
+                    self.assertIn(message, self.sign_behind(*more, wanted=4, **words))
                 self.assertFalse(os.path.exists(self.at("c.sexp")))
-                self.assertIn(said, self.chained("--anyway", **words))
+                self.assertIn(message, self.sign_behind("--anyway", **words))
                 os.remove(self.at("c.sexp"))
 
     def test_without_the_library_nothing_is_given(self):
         self.settings["SPKI_LIBRARY"] = self.at("none")
         with mock.patch.dict(sys.modules, {"spki": None}):
-            self.assertIn("the library decides, and is not here", self.chained("--yes", wanted=4))
+            self.assertIn("the library decides, and is not here", self.sign_behind("--yes", wanted=4))
             self.assertFalse(os.path.exists(self.at("c.sexp")))
-            self.chained("--anyway")
+            self.sign_behind("--anyway")
 
     def test_a_right_that_ends_earlier_warns(self):
         words = ("sign", "--by", "bob", "--to", "carol.pub", "--tag", "(packages read)", "--chain", "to-bob", "--days", "40", "-o", "c.sexp")
-        self.assertIn("item 1 of the chain ends earlier", self.done(*words, wanted=4))
-        self.done(*words, "--yes")
-        self.assertIn("item 1 of the chain: its tag does not contain the request `(packages write)`", self.done(
+        self.assertIn("item 1 of the chain ends earlier", self.cert(*words, wanted=4))
+        self.cert(*words, "--yes")
+        self.assertIn("item 1 of the chain: its tag does not contain the request `(packages write)`", self.cert(
             *words, "--try", "packages", "write", wanted=4))
 
     def test_a_right_for_the_same_days_does_not_warn(self):
         """Days are whole days: a chain that ends some hours before gives them. A moment that is given is meant."""
         moment = datetime.datetime.now(datetime.timezone.utc) + datetime.timedelta(30)
         near, far, later = ((moment + datetime.timedelta(hours=it)).strftime("%Y-%m-%d_%H:%M:%S") for it in (-23, -25, 1))
-        for ends, given, is_told in ((near, ("--days", "30"), False), (far, ("--days", "30"), True), (near, ("--until", later), True)):
+        for ends, given, warns in ((near, ("--days", "30"), False), (far, ("--days", "30"), True), (near, ("--until", later), True)):
             with self.subTest(ends=ends, given=given):
                 signs = "sign", "--tag", "(packages)", "--force", "-o"
-                self.done(*signs, "b.sexp", "--by", "alice", "--to", "bob.pub", "--propagate", "--until", ends)
-                said = self.done(*signs, "c.sexp", "--by", "bob", "--to", "carol.pub", "--chain", "b.sexp", *given, wanted=4 if is_told else 0)
-                self.assertEqual("item 1 of the chain ends earlier" in said, is_told, said)
+                self.cert(*signs, "b.sexp", "--by", "alice", "--to", "bob.pub", "--propagate", "--until", ends)
+                output = self.cert(*signs, "c.sexp", "--by", "bob", "--to", "carol.pub", "--chain", "b.sexp", *given, wanted=4 if warns else 0)
+                self.assertEqual("item 1 of the chain ends earlier" in output, warns, output)
 
     def test_certificates_of_a_key_for_itself_are_no_burden(self):
-        """Many such certificates do not keep the search from the right chain. Where it stops at a bound of steps or chains, that is said."""
+        """Many such certificates do not keep the search from the right chain. Where it stops at a bound of steps or
+        chains, a line says so."""
         os.mkdir(self.at("many"))
-        for number, one in enumerate(self.signed(12)):
+        for number, one in enumerate(self.sequences(12)):
             self.write(f"many/{number}", sexp.laid_out(one))
         asks = ("ask", "--acl", "acl.sexp", "--key", "carol.pub", "--cert", "many", "--")
-        self.assertIn("so entry 1 grants it", self.done(*asks, "packages", "read"))
-        self.assertIn("TagLacks", self.done(*asks, "mail", wanted=1))
-        # (`most` is also the default of `left`, the first field of the dataclass)
+        self.assertIn("so entry 1 grants it", self.cert(*asks, "packages", "read"))
+        self.assertIn("TagLacks", self.cert(*asks, "mail", wanted=1))
+        # (`left`, the first field of the dataclass, has `most` as its default, by which `__init__` was made: both are
+        # replaced)
         with mock.patch.object(certificates.Steps, "most", 1), mock.patch.object(certificates.Steps.__init__, "__defaults__", (1, False)):
-            self.assertIn("the search for chains ended after 1 steps", self.done(*asks, "packages", "read", wanted=1))
-        self.write("many/other", sexp.laid_out(self.signed_here("bob", "carol", 99)))
+            self.assertIn("the search for chains ended after 1 steps", self.cert(*asks, "packages", "read", wanted=1))
+        self.write("many/other", sexp.laid_out(self.sequence("bob", "carol", 99)))
         for most, is_cut in ((1, True), (2, False)):
             with mock.patch.object(asking, "MOST_CHAINS", most):
-                said = self.done(*asks, "mail", wanted=1)
-            self.assertEqual(f"ended after 20,000 steps or {most} chains: give only the certificates of the chain" in said, is_cut, said)
+                output = self.cert(*asks, "mail", wanted=1)
+            self.assertEqual(f"ended after 20,000 steps or {most} chains: give only the certificates of the chain" in output, is_cut, output)
 
 
 # ---- streams, signals, random words
 
 
 class Child:
-    """A command in a forked child of this process. `stdin` is a path, and `stdout` a function that opens a file: None is a stream that is closed.
-    `before` is called in the child before the command."""
+    """`spki-cert` with these words, in a forked child of this process. `stdin` is a path, and `stdout` a function that
+    opens a file: None is a stream that is closed. `before` is called in the child before the command. If the command
+    itself ends by an exception, the status is 99."""
 
     def __init__(self, room, words, settings, stdin="/dev/null", stdout=None, before=lambda: None):
-        self.said = tempfile.TemporaryFile()
+        self.errors = tempfile.TemporaryFile()
         self.process = os.fork()
         if self.process == 0:
             try:
@@ -482,7 +488,7 @@ class Child:
                 os.environ.clear()
                 os.environ.update(settings)
                 sys.argv = ["spki-cert", *words]
-                os.dup2(self.said.fileno(), 2)
+                os.dup2(self.errors.fileno(), 2)
                 sys.stderr = open(2, "w", encoding="utf-8", closefd=False)
                 sys.stdin = open(stdin, encoding="utf-8") if stdin else None
                 sys.stdout = stdout() if stdout else None
@@ -494,15 +500,15 @@ class Child:
             finally:
                 os._exit(99)
 
-    def ended(self):
+    def wait(self):
         """Waits until the command has ended. Returns its status, and what it has written to standard error."""
         status = os.waitstatus_to_exitcode(os.waitpid(self.process, 0)[1])
-        self.said.seek(0)
-        with self.said:
-            return status, self.said.read().decode(errors="replace")
+        self.errors.seek(0)
+        with self.errors:
+            return status, self.errors.read().decode(errors="replace")
 
 
-def output(path, encoding="utf-8"):
+def writing_to(path, encoding="utf-8"):
     """A function that opens a file for writing, in which a `Child` has its standard output."""
     return lambda: open(path, "w", encoding=encoding)
 
@@ -517,14 +523,14 @@ class OfStreams(Room):
 
     def test_a_stream_that_is_closed_or_full_is_said(self):
         for name, words in self.EACH.items():
-            for what, stdout in (("is closed", None), ("No space left", output("/dev/full"))):
+            for what, stdout in (("is closed", None), ("No space left", writing_to("/dev/full"))):
                 with self.subTest(name=name, what=what):
                     with contextlib.suppress(FileNotFoundError):
                         os.remove(self.at("new"))
                         os.remove(self.at("new.pub"))
-                    status, said = Child(self.room, words, self.settings, stdout=stdout).ended()
-                    self.assertEqual((status, said.count("\n")), (3, 1), said)
-                    self.assertRegex(said, f"^spki-cert: standard output: .*{what}")
+                    status, errors = Child(self.room, words, self.settings, stdout=stdout).wait()
+                    self.assertEqual((status, errors.count("\n")), (3, 1), errors)
+                    self.assertRegex(errors, f"^spki-cert: standard output: .*{what}")
 
     def test_the_program_itself_says_it(self):
         for end, what in ((">&-", "is closed"), ("> /dev/full", "No space left")):
@@ -532,22 +538,23 @@ class OfStreams(Room):
             self.assertEqual((done.returncode, what in done.stderr, "Traceback" in done.stderr), (3, True, False), done.stderr)
 
     def test_what_a_stream_does_not_take_is_escaped(self):
-        """What the encoding of standard output lacks is escaped: here ü, where it is ASCII. A control character of a label is escaped in any
-        encoding, and ä is not where the encoding has it. An octet of the command line that is no UTF-8 is shown as U+FFFD, which is escaped too. (The
-        first label of a key stays, so carol.pub is removed: x.pub has the same key.)"""
-        self.done("sign", "--by", "alice", "--to", "bob.pub", "--tag", TAG, "--days", "1", "--comment", "für Bob\udcff", "-o", "c.sexp")
+        """What the encoding of standard output lacks is escaped: here ü, where it is ASCII. A control character of a
+        label is escaped in any encoding, and ä is not where the encoding has it. An octet of the command line that is
+        no UTF-8 is shown as U+FFFD, which is escaped too. (A key has the first label that is found, so carol.pub is
+        removed: x.pub has the same key.)"""
+        self.cert("sign", "--by", "alice", "--to", "bob.pub", "--tag", TAG, "--days", "1", "--comment", "für Bob\udcff", "-o", "c.sexp")
         self.write("x.pub", self.pairs["carol"][1] + " \x1b[2Jcarol ä".encode())
-        status, said = Child(self.room, ("show", "--labels", ".", "c.sexp"), self.settings, stdout=output("out", "ascii")).ended()
-        self.assertEqual((status, said), (0, ""))
+        status, errors = Child(self.room, ("show", "--labels", ".", "c.sexp"), self.settings, stdout=writing_to("out", "ascii")).wait()
+        self.assertEqual((status, errors), (0, ""))
         self.assertIn(b"f\\xfcr Bob\\ufffd", octets_in(self.at("out")))
         self.sign("-o", "d.sexp", to="x.pub")
         os.remove(self.at("carol.pub"))
-        self.assertIn("\\x1b[2Jcarol ä", self.done("show", "--labels", ".", "d.sexp"))
+        self.assertIn("\\x1b[2Jcarol ä", self.cert("show", "--labels", ".", "d.sexp"))
 
     def test_the_end_of_the_input_at_a_passphrase(self):
         with mock.patch("getpass.getpass", side_effect=EOFError), mock.patch.object(files, "open", mock.mock_open(), create=True), \
                 mock.patch("termios.tcgetattr"):
-            self.assertIn("the input ended where", self.done("key", "new", "new", wanted=2))
+            self.assertIn("the input ended where", self.cert("key", "new", "new", wanted=2))
 
 
 class OfSignals(Room):
@@ -560,12 +567,12 @@ class OfSignals(Room):
                "completion": ("completion",)}
 
     def test_each_ends_a_command_that_signs(self):
-        self.each_ends("sign", "name", "entry", "key new")
+        self.check_signals("sign", "name", "entry", "key new")
 
     def test_each_ends_a_command_that_says(self):
-        self.each_ends("key", "show", "check", "ask", "completion")
+        self.check_signals("key", "show", "check", "ask", "completion")
 
-    def each_ends(self, *names):
+    def check_signals(self, *names):
         """Sends each signal to these commands while they wait for their input, or if they have none, for their output to be read. One of
         `commands.ENDING` must end them with status 3 and a line that says so. Any other may end them or not, but without a traceback. The
         files that were there do not change."""
@@ -573,26 +580,27 @@ class OfSignals(Room):
         wanted = sorted(signal.valid_signals() - {signal.SIGKILL, signal.SIGSTOP} - set(range(signal.SIGRTMIN + 1, signal.SIGRTMAX)))
         for name in names:
             for number in wanted:
-                status, said = self.ended_by(self.WAITING[name], number)
-                is_told = number in commands.ENDING
+                status, errors = self.send_signal(self.WAITING[name], number)
+                is_ending = number in commands.ENDING
                 with self.subTest(name=name, number=number):
-                    self.assertNotIn("Traceback", said)
-                    self.assertIn(status, (3,) if is_told else (0, 2, 3, -number), said)
-                    self.assertEqual("ended by" in said, is_told, said)
+                    self.assertNotIn("Traceback", errors)
+                    self.assertIn(status, (3,) if is_ending else (0, 2, 3, -number), errors)
+                    self.assertEqual("ended by" in errors, is_ending, errors)
                 self.assertLessEqual({it for it in os.listdir(self.room) if it not in before}, {"folder", "new", "new.pub"})
-                for made in ("new", "new.pub"):
+                for new in ("new", "new.pub"):
                     with contextlib.suppress(FileNotFoundError):
-                        os.remove(self.at(made))
+                        os.remove(self.at(new))
         self.assertEqual(before, self.contents())
 
-    def ended_by(self, words, number):
+    def send_signal(self, words, number):
         """Sends a signal to a command that waits, and then gives it what it waits for. Returns its status, and what it has written."""
-        # (the child writes to `is_ready` when it waits, and then reads from `hang`, which ends when this process closes `let`)
-        (ready, is_ready), (hang, let) = os.pipe(), os.pipe()
+        # (the child writes to `is_ready` when it waits, and then reads from `hang`, which ends when this process closes
+        # `release`)
+        (ready, is_ready), (hang, release) = os.pipe(), os.pipe()
 
         def before():
-            os.close(let)
-            # (a test that runs in the background has some of them ignored, and hands that on)
+            os.close(release)
+            # (a shell starts what runs in the background with SIGINT and SIGQUIT ignored, and the child inherits that)
             signal.signal(number, signal.SIG_DFL)
 
             def wait(*_):
@@ -601,16 +609,16 @@ class OfSignals(Room):
             sys.stdin = mock.Mock(buffer=mock.Mock(read=wait), fileno=lambda: hang)
             sys.stdout = mock.Mock(encoding="ascii", buffer=mock.Mock(write=wait))
         child = Child(self.room, words, self.settings, before=before)
-        # (else nobody would ever say that a child has ended which was never ready)
+        # (so that `read` returns if the child has ended and was never ready)
         os.close(is_ready)
         os.read(ready, 1)
         os.kill(child.process, number)
         os.kill(child.process, signal.SIGCONT)
-        os.close(let)
-        ended = child.ended()
+        os.close(release)
+        outcome = child.wait()
         for handle in (ready, hang):
             os.close(handle)
-        return ended
+        return outcome
 
     def test_a_file_is_whole_when_a_signal_comes(self):
         """The signal comes while the file is written, and waits until it is in its place."""
@@ -619,9 +627,9 @@ class OfSignals(Room):
                 signal.signal(signal.SIGTERM, signal.SIG_DFL)
                 setattr(os, call, lambda *words: (os.kill(os.getpid(), signal.SIGTERM), real(*words))[1])
             words = ("sign", "--by", "alice", "--to", "bob.pub", "--tag", TAG, "--days", "1", "-o", f"{call}.sexp")
-            status, said = Child(self.room, words, self.settings, before=before).ended()
-            self.assertEqual((status, said), (3, "spki-cert: ended by SIGTERM\n"))
-            self.verified(f"{call}.sexp")
+            status, errors = Child(self.room, words, self.settings, before=before).wait()
+            self.assertEqual((status, errors), (3, "spki-cert: ended by SIGTERM\n"))
+            self.verify(f"{call}.sexp")
         self.assertEqual([it for it in os.listdir(self.room) if it.startswith(".")], [])
 
 
@@ -649,7 +657,7 @@ class OfRandomWords(Room):
         super().setUp()
         self.write("keys", b"\n".join(public for _, public in self.pairs.values()))
         self.write("c.sexp", "(acl)")
-        self.write("c.key", self.done("key", "bob.pub"))
+        self.write("c.key", self.cert("key", "bob.pub"))
         os.symlink("acl.sexp", self.at("link"))
         self.sources = [octets_in(self.at(name)) for name in ("alice", "alice.pub", "acl.sexp", "to-bob", "keys")]
         if not built.IS_ALONE and os.path.exists(os.environ.get("SPKI_TEST_LIBRARY", built.LIBRARY)):
@@ -688,10 +696,10 @@ class OfRandomWords(Room):
             for name, octets in wild.items():
                 self.write(name, octets)
             stdin, stdout = rng.choice(("/dev/null", self.at("alice"), self.at("acl.sexp"), self.at("wild"), None)), rng.choice((
-                output(os.devnull), output(os.devnull), output(os.devnull, "ascii"), output("/dev/full"), None))
+                writing_to(os.devnull), writing_to(os.devnull), writing_to(os.devnull, "ascii"), writing_to("/dev/full"), None))
             with self.subTest(number=number, words=words):
-                status, said = Child(self.room, words, self.settings, stdin, stdout).ended()
-                self.check_run(words, status, said, {**before, **wild})
+                status, errors = Child(self.room, words, self.settings, stdin, stdout).wait()
+                self.check_run(words, status, errors, {**before, **wild})
 
     def test_nothing_is_lost_by_the_program(self):
         """The same with the program itself, and so in fewer runs."""
@@ -704,26 +712,26 @@ class OfRandomWords(Room):
             with self.subTest(number=number, words=words):
                 self.check_run(words, done.returncode, done.stderr.decode(errors="replace"), {**before, **wild})
 
-    def check_run(self, words, status, said, before):
+    def check_run(self, words, status, errors, before):
         """A command must end without a traceback, a changed input, a lost key or a half-written file. Restores the folder to `before`."""
         after, may_change = self.contents(), {words[place + 1] for place, word in enumerate(words[:-1]) if word in self.OUTPUTS}
         if "link" in may_change:
             may_change.add("acl.sexp")
         changed = {name for name in before if after.get(name) != before[name]}
-        made = {name: after[name] for name in after if before.get(name) != after[name]}
+        written = {name: after[name] for name in after if before.get(name) != after[name]}
         for name in set(after) - set(before):
             os.remove(self.at(name))
         for name in changed:
             self.write(name, before[name])
-        self.assertIn(status, range(5), said)
-        self.assertNotIn("Traceback", said)
-        self.assertNotIn("a fault of spki-cert", said)
+        self.assertIn(status, range(5), errors)
+        self.assertNotIn("Traceback", errors)
+        self.assertNotIn("a fault of spki-cert", errors)
         is_allowed = "--force" in words or words[0] == "entry"
-        self.assertTrue(not changed or changed <= may_change and is_allowed, f"{changed} {said}")
+        self.assertTrue(not changed or changed <= may_change and is_allowed, f"{changed} {errors}")
         inputs = {it for front, it in zip(words, words[1:]) if front in self.INPUTS.get(words[0], ("--by", "--to", "--chain"))}
-        self.assertFalse(changed and inputs & {".", *changed, *({"link"} if "acl.sexp" in changed else ())}, f"{changed} {said}")
-        self.assertFalse({"alice", "bob", "carol", "alice.pub", "bob.pub", "carol.pub", "keys"} & changed, said)
-        for name, octets in made.items():
+        self.assertFalse(changed and inputs & {".", *changed, *({"link"} if "acl.sexp" in changed else ())}, f"{changed} {errors}")
+        self.assertFalse({"alice", "bob", "carol", "alice.pub", "bob.pub", "carol.pub", "keys"} & changed, errors)
+        for name, octets in written.items():
             self.assertFalse(name.startswith(".spki"), name)
             if octets.startswith(ending.HEAD):
                 self.assertRegex(octets, rb"\nend \d+ [0-9a-f]{64}\n\Z")

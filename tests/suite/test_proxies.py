@@ -129,9 +129,9 @@ class Proxies(unittest.TestCase):
             sent = [f"{name}: {it}" for name, it in self.signer.fields("GET", f"http://{NAME}/a").items()]
             self.assertEqual(self.asked("GET", "/a", lambda _: sent), "valid")
             self.assertEqual(self.asked("GET", "/a", lambda _: [line.replace(": ", ": \t ", 1) + "\t " for line in sent]), "nonce-seen")
-            if turn >= 20 and all(service.met for service in self.services):
+            if turn >= 20 and all(service.requests for service in self.services):
                 break
-        self.assertTrue(all(service.met for service in self.services))
+        self.assertTrue(all(service.requests for service in self.services))
 
     @needs.needs("nginx")
     def test_nginx_with_a_host_of_its_own(self) -> None:

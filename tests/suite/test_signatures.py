@@ -16,45 +16,48 @@ from typing import Any, Optional
 
 from harness import built, needs
 from harness.support import TESTS, TOP, is_compiled, room_for, string
+from suite import test_cert
 
 COMMAND = os.path.join(TOP, "apps", "spki-cert", "spki-cert")
 SECONDS = 600
 WARNINGS = ["cc", "-std=c11", "-Wall", "-Wextra", "-Wpedantic", "-Werror", "-O1", "-g", "-fsanitize=address,undefined", "-fno-sanitize-recover=all"]
 # How many rows are mutated.
 MUTATED = 200_000 if built.IS_LONG else 2_000
-# The name, the request, the time, how long before the same came, the answer.
+# The name of a row, the request, the time in seconds since 1970, how many seconds before it the same request came or
+# None, and the answer.
 Row = tuple[str, Any, int, Optional[int], str]
 KINDS = ("ed25519", "rsa", "p256", "p384")
 
 
 def spki_cert(*words: str, room: str, **settings: str) -> subprocess.CompletedProcess[bytes]:
-    """Runs `spki-cert` in a folder. Returns how it ended."""
-    kept = {name: value for name, value in os.environ.items() if name not in ("SSH_AUTH_SOCK", "SPKI_LABELS")}
+    """Runs `spki-cert` in the folder `room`, with more `settings` of the environment, and without those of the caller
+    for ssh-agent and labels."""
+    others = {name: value for name, value in os.environ.items() if name not in ("SSH_AUTH_SOCK", "SPKI_LABELS")}
     return subprocess.run([sys.executable, COMMAND, *words], cwd=room, stdin=subprocess.DEVNULL, stdout=subprocess.PIPE, stderr=subprocess.PIPE,
-                          timeout=SECONDS, env={**kept, **settings, "no_proxy": "*"})
+                          timeout=SECONDS, env={**others, **settings, "no_proxy": "*"})
 
 
 class Handler(http.server.BaseHTTPRequestHandler):
-    """Writes down each request, and answers by what its server's verifier says of it."""
+    """Adds each request to its server's `requests`, and answers by what the server's verifier says of it."""
 
     server: Service
 
-    def answer_it(self) -> None:
+    def answer_request(self) -> None:
         """Answers with the proved key and 200, or with the refusal and 401."""
         import spki_http
         body = self.rfile.read(int(self.headers.get("Content-Length", 0)))
-        self.server.met.append((self.command, self.path, body))
+        self.server.requests.append((self.command, self.path, body))
         try:
-            said = self.server.verifier.prove(self.command, self.headers["Host"], self.path, self.headers.items(), body).key
+            status, text = 200, self.server.verifier.prove(self.command, self.headers["Host"], self.path, self.headers.items(), body).key
         except spki_http.Refused as why:
-            said = why.name.encode()
-        self.send_response(200 if said.startswith(b"(") else 401)
-        self.send_header("Content-Length", str(len(said)))
+            status, text = 401, why.name.encode()
+        self.send_response(status)
+        self.send_header("Content-Length", str(len(text)))
         self.end_headers()
         if self.command != "HEAD":
-            self.wfile.write(said)
+            self.wfile.write(text)
 
-    do_GET = do_HEAD = do_PUT = do_DELETE = answer_it
+    do_GET = do_HEAD = do_PUT = do_DELETE = answer_request
 
     def log_message(self, *words: object) -> None:
         """Writes no log."""
@@ -62,12 +65,12 @@ class Handler(http.server.BaseHTTPRequestHandler):
 
 
 class Service(http.server.ThreadingHTTPServer):
-    """A service on a port of its own."""
+    """A service on a port of its own. `requests` has the method, path and body of each request that it got."""
 
     def __init__(self) -> None:
         import spki_http
         super().__init__(("127.0.0.1", 0), Handler)
-        self.name, self.met = f"127.0.0.1:{self.server_port}", list[tuple[str, str, bytes]]()
+        self.name, self.requests = f"127.0.0.1:{self.server_port}", list[tuple[str, str, bytes]]()
         self.verifier = spki_http.Verifier(self.name, scheme="http")
 
 
@@ -93,13 +96,13 @@ class Requests(unittest.TestCase):
         self.addCleanup(self.service.shutdown)
         self.url = f"http://{self.service.name}/a%20b/c?d=e"
 
-    def done(self, *words: str, wanted: int = 0, **settings: str) -> str:
+    def cert(self, *words: str, wanted: int = 0, **settings: str) -> str:
         """Runs `spki-cert`, which must end with the status `wanted`. Returns its output, or if it must fail its errors."""
-        made = spki_cert(*words, room=self.room, **settings)
-        self.assertEqual(made.returncode, wanted, made.stderr)
-        return (made.stdout if wanted == 0 else made.stderr).decode(errors="replace")
+        done = spki_cert(*words, room=self.room, **settings)
+        self.assertEqual(done.returncode, wanted, done.stderr)
+        return (done.stdout if wanted == 0 else done.stderr).decode(errors="replace")
 
-    def asked(self, fields: str, method: str = "GET", body: bytes | None = None) -> tuple[int, bytes]:
+    def ask(self, fields: str, method: str = "GET", body: bytes | None = None) -> tuple[int, bytes]:
         """The status and the body by which the service answers a request with these fields."""
         headers = dict(line.split(": ", 1) for line in fields.splitlines())
         opener = urllib.request.build_opener(urllib.request.ProxyHandler({}), Quiet())
@@ -111,62 +114,57 @@ class Requests(unittest.TestCase):
         with open(os.path.join(self.room, "body"), "wb") as file:
             file.write(b"some octets")
         for kind in KINDS:
-            fields = self.done("request", "--by", kind, self.url)
-            status, said = self.asked(fields)
-            self.assertEqual((status, said[:14]), (200, b"(10:public-key"))
-            self.assertEqual(self.asked(fields), (401, b"nonce-seen"))
-            self.assertEqual(self.asked(self.done("request", "--by", kind, self.url), "HEAD"), (401, b""))
-        put = self.done("request", "--by", "p256", "--body", "body", self.url)
-        self.assertEqual(self.asked(put, "PUT", b"some octetz"), (401, b"other-digest"))
-        self.assertEqual(self.asked(put, "PUT", b"some octets")[0], 200)
+            fields = self.cert("request", "--by", kind, self.url)
+            status, key = self.ask(fields)
+            self.assertEqual((status, key[:14]), (200, b"(10:public-key"))
+            self.assertEqual(self.ask(fields), (401, b"nonce-seen"))
+            self.assertEqual(self.ask(self.cert("request", "--by", kind, self.url), "HEAD"), (401, b""))
+        put = self.cert("request", "--by", "p256", "--body", "body", self.url)
+        self.assertEqual(self.ask(put, "PUT", b"some octetz"), (401, b"other-digest"))
+        self.assertEqual(self.ask(put, "PUT", b"some octets")[0], 200)
 
     def test_chain(self) -> None:
         """The chain is sent as `spki-cert show --braces` has it, and is signed."""
-        self.done("sign", "--by", "ed25519", "--to", "p256.pub", "--tag", "(files read)", "--days", "9", "-o", "chain.sexp")
-        fields = self.done("request", "--by", "p256", "--cert", "chain.sexp", self.url)
-        shown = self.done("show", "--braces", "chain.sexp").strip()
+        self.cert("sign", "--by", "ed25519", "--to", "p256.pub", "--tag", "(files read)", "--days", "9", "-o", "chain.sexp")
+        fields = self.cert("request", "--by", "p256", "--cert", "chain.sexp", self.url)
+        shown = self.cert("show", "--braces", "chain.sexp").strip()
         self.assertIn(f"X-Spki-Sequence: {shown}\n", fields)
-        self.assertEqual(self.asked(fields.replace(shown, "{KDg6c2VxdWVuY2Up}")), (401, b"invalid-signature"))
-        self.assertEqual(self.asked(fields)[0], 200)
+        self.assertEqual(self.ask(fields.replace(shown, "{KDg6c2VxdWVuY2Up}")), (401, b"invalid-signature"))
+        self.assertEqual(self.ask(fields)[0], 200)
 
     @needs.needs("curl")
     def test_curl(self) -> None:
         """curl sends what was signed, and spki-cert ends with its status."""
         with open(os.path.join(self.room, "body"), "wb") as file:
             file.write(bytes(range(256)) * 8192)
-        self.assertTrue(self.done("request", "--by", "ed25519", "--curl", self.url, "--", "--silent").startswith("(10:public-key"))
-        self.assertIn("200 OK", self.done("request", "--by", "rsa", "--method", "HEAD", "--curl", self.url, "--", "-s"))
-        self.assertTrue(self.done("request", "--by", "p256", "--body", "body", "--curl", self.url, "--", "-s").startswith("(10:public-key"))
-        self.assertTrue(self.done("request", "--by", "p256", "--method", "DELETE", "--curl", self.url, "--", "-s").startswith("(10:public-key"))
+        self.assertTrue(self.cert("request", "--by", "ed25519", "--curl", self.url, "--", "--silent").startswith("(10:public-key"))
+        self.assertIn("200 OK", self.cert("request", "--by", "rsa", "--method", "HEAD", "--curl", self.url, "--", "-s"))
+        self.assertTrue(self.cert("request", "--by", "p256", "--body", "body", "--curl", self.url, "--", "-s").startswith("(10:public-key"))
+        self.assertTrue(self.cert("request", "--by", "p256", "--method", "DELETE", "--curl", self.url, "--", "-s").startswith("(10:public-key"))
         odd = f"http://{self.service.name}/a/../%7e[b]{{c}}?"
-        self.assertTrue(self.done("request", "--by", "p256", "--curl", odd, "--", "-s").startswith("(10:public-key"))
-        self.assertEqual([(method, path, len(body)) for method, path, body in self.service.met], [
+        self.assertTrue(self.cert("request", "--by", "p256", "--curl", odd, "--", "-s").startswith("(10:public-key"))
+        self.assertEqual([(method, path, len(body)) for method, path, body in self.service.requests], [
             ("GET", "/a%20b/c?d=e", 0), ("HEAD", "/a%20b/c?d=e", 0), ("PUT", "/a%20b/c?d=e", 2_097_152), ("DELETE", "/a%20b/c?d=e", 0),
             ("GET", "/a/../%7e[b]{c}?", 0)])
-        self.done("request", "--by", "p256", "--curl", self.url.replace("127.0.0.1", "localhost"), "--", "-s", "--fail", wanted=22)
+        self.cert("request", "--by", "p256", "--curl", self.url.replace("127.0.0.1", "localhost"), "--", "-s", "--fail", wanted=22)
 
     def test_refusals(self) -> None:
-        for words, said in (
+        for words, message in (
             (["--by", "nokey", self.url], "nokey: No such file"), (["--by", "p256", "http://a/ b"], "no address of https or http"),
             (["--by", "p256", "ftp://a/"], "no address"), (["--by", "p256", "https://me:word@a/"], "no address"),
             (["--by", "p256", "https://a/#b"], "no address"), (["--by", "p256", "--method", "get", self.url], "capital letters"),
             (["--by", "p256", self.url, "--", "-s"], "--curl"), (["--by", "p256", "--body", "nobody", self.url], "nobody: No such file"),
             (["--by", "p256", "--cert", "p256.pub", self.url], "p256.pub"), (["--by", "p256.pub", self.url], "SSH_AUTH_SOCK is not set"),
         ):
-            self.assertIn(said, self.done("request", *words, wanted=2), words)
+            self.assertIn(message, self.cert("request", *words, wanted=2), words)
 
     @needs.needs("ssh-keygen")
     def test_agent(self) -> None:
         """Keys that ssh-agent holds sign too."""
-        started = subprocess.run(["ssh-agent", "-s"], stdout=subprocess.PIPE, text=True, check=True).stdout
-        settings = dict(part.split("=") for part in started.replace("\n", "").split(";") if "=" in part)
-        try:
-            socket = settings["SSH_AUTH_SOCK"]
-            for kind in KINDS:
-                subprocess.run(["ssh-add", "-q", kind], cwd=self.room, env={**os.environ, "SSH_AUTH_SOCK": socket}, check=True)
-                self.assertEqual(self.asked(self.done("request", "--by", f"{kind}.pub", self.url, SSH_AUTH_SOCK=socket))[0], 200)
-        finally:
-            subprocess.run(["kill", settings["SSH_AGENT_PID"]], check=True)
+        socket = test_cert.start_agent(self)
+        for kind in KINDS:
+            subprocess.run(["ssh-add", "-q", kind], cwd=self.room, env={**os.environ, "SSH_AUTH_SOCK": socket}, check=True)
+            self.assertEqual(self.ask(self.cert("request", "--by", f"{kind}.pub", self.url, SSH_AUTH_SOCK=socket))[0], 200)
 
 
 @needs.needs("cc", "import cryptography")
@@ -178,15 +176,17 @@ class InC(unittest.TestCase):
         self.room = room_for(self)
 
     def answers(self, program: str, rows: list[Row]) -> list[str]:
-        """The answers of a program to the requests of rows, and to their bodies by the digests that it returns."""
+        """The answers of a program to the requests of rows, and to their bodies by the digests that it returns: one for
+        each row."""
         strings: list[bytes] = []
         for _, message, now, again, _ in rows:
             words = [message.method, message.authority, message.target, str(now), "" if again is None else str(again),
                      "1" if message.has_body else "", str(len([*message.fields]))]
             strings += [word.encode("latin-1") for word in [*words, *(it for pair in message.fields for it in pair)]]
         done = subprocess.run([program], input=b"".join(map(string, strings)), stdout=subprocess.PIPE, timeout=SECONDS)
-        self.assertEqual(done.returncode, 0)
-        return [self.answer_of(line, row[1].body) for line, row in zip(done.stdout.decode().split("\n"), rows)]
+        lines = done.stdout.decode().splitlines()
+        self.assertEqual((done.returncode, len(lines)), (0, len(rows)))
+        return [self.answer_of(line, row[1].body) for line, row in zip(lines, rows)]
 
     def answer_of(self, line: str, body: bytes | None) -> str:
         """The answer on a line, or `other-digest` where it is `valid` with the digest of another body: the caller of the verifier must compare them.
@@ -194,10 +194,10 @@ class InC(unittest.TestCase):
         answer, _, digest = line.partition(" ")
         if answer != "valid" or body is None:
             return answer
-        made = {0: b"".hex() if body == b"" else "-", 64: hashlib.sha256(body).hexdigest(), 128: hashlib.sha512(body).hexdigest()}
-        return "valid" if made[len(digest)] == digest else "other-digest"
+        digests = {0: "" if body == b"" else "-", 64: hashlib.sha256(body).hexdigest(), 128: hashlib.sha512(body).hexdigest()}
+        return "valid" if digests[len(digest)] == digest else "other-digest"
 
-    def compiled(self, verifier: str, library: str) -> str:
+    def compile(self, verifier: str, library: str) -> str:
         """Compiles the verifier in C of requests, with one of signatures: the name of its source without `.c`, and the option that links its library.
         Returns the path of the program."""
         folder, program = os.path.join(TOP, "examples", "c"), os.path.join(self.room, verifier)
@@ -205,16 +205,16 @@ class InC(unittest.TestCase):
         self.assertTrue(is_compiled(*WARNINGS, "-I", folder, "-o", program, os.path.join(TESTS, "programs", "proving.c"), *files, library))
         return program
 
-    def agrees(self, verifier: str, library: str) -> None:
+    def check_answers(self, verifier: str, library: str) -> None:
         """The verifier in C, with this one of signatures, must answer all rows rightly, and mutated rows as the verifier in Python does."""
         import test_spki_http
-        program, rows = self.compiled(verifier, library), [*test_spki_http.rows()]
+        program, rows = self.compile(verifier, library), [*test_spki_http.rows()]
         self.assertEqual([*zip([row[0] for row in rows], self.answers(program, rows))], [(row[0], row[4]) for row in rows])
         seed = random.randrange(2**32)
         chance = random.Random(seed)
-        made = [mutated(chance.choice(rows), chance) for _ in range(MUTATED)]
-        wanted = [test_spki_http.answer(test_spki_http.verifier_at([now]), message) for _, message, now, _, _ in made]
-        for row, answer, right in zip(made, self.answers(program, made), wanted):
+        changed = [mutated(chance.choice(rows), chance) for _ in range(MUTATED)]
+        wanted = [test_spki_http.answer(test_spki_http.verifier_at([now]), message) for _, message, now, _, _ in changed]
+        for row, answer, right in zip(changed, self.answers(program, changed), wanted):
             self.assertEqual(answer, right, f"seed {seed}: {row}")
 
     @needs.needs("openssl/evp.h")
@@ -222,21 +222,21 @@ class InC(unittest.TestCase):
         """A request with a body that no field says, as HTTP/2 may send it, is answered as the verifier in Python answers it: a GET needs a digest."""
         import test_spki_http
         rows: list[Row] = [(name, dataclasses.replace(message, has_body=True), now, None, "") for name, message, now, _, _ in test_spki_http.rows()]
-        wanted = [checked(test_spki_http.verifier_at([row[2]]), row[1]) for row in rows]
+        wanted = [answer_to(test_spki_http.verifier_at([row[2]]), row[1]) for row in rows]
         self.assertLessEqual({"valid", "body-without-digest"}, set(wanted))
-        answers = self.answers(self.compiled("verify_openssl", "-lcrypto"), rows)
+        answers = self.answers(self.compile("verify_openssl", "-lcrypto"), rows)
         self.assertEqual([*zip([row[0] for row in rows], answers)], [*zip([row[0] for row in rows], wanted)])
 
     @needs.needs("openssl/evp.h")
     def test_by_openssl(self) -> None:
-        self.agrees("verify_openssl", "-lcrypto")
+        self.check_answers("verify_openssl", "-lcrypto")
 
     @needs.needs("/usr/include/gcrypt.h")
     def test_by_gcrypt(self) -> None:
-        self.agrees("verify_gcrypt", "-lgcrypt")
+        self.check_answers("verify_gcrypt", "-lgcrypt")
 
 
-def checked(verifier: Any, message: Any) -> str:
+def answer_to(verifier: Any, message: Any) -> str:
     """What a verifier in Python says of a request: `valid`, or the name of the refusal."""
     import spki_http
     try:

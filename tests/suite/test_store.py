@@ -14,7 +14,6 @@ import sqlite3
 import subprocess
 import threading
 import time
-import unittest
 import urllib.parse
 from typing import Any
 
@@ -725,6 +724,3 @@ def change_setting(server: databases.Server, name: str, value: str) -> None:
 
 if not built.IS_LONG:
     del Replicated
-
-if __name__ == "__main__":
-    unittest.main()

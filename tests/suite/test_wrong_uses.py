@@ -141,7 +141,3 @@ class WrongUses(built.OfLibrary):
         shared, _, others = self.split("python")
         path, _ = self.written("run.py", shared, others)
         self.check_outcomes(others, self.said(sys.executable, "-W", "ignore", path, status=0))
-
-
-if __name__ == "__main__":
-    unittest.main()
