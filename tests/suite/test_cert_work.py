@@ -25,7 +25,7 @@ SEEN: list[int] = [0]
 
 
 class Text(bytes):
-    """A text that adds to SEEN how many of its octets are looked through: by searches, up to what is chains, and in
+    """A text that adds to SEEN how many of its octets are looked through: by searches, up to what is found, and in
     parts that are copied."""
 
     def rfind(self, part: bytes, begin: int = 0, end: int | None = None) -> int:  # type: ignore[override]
@@ -108,8 +108,8 @@ def members_behind_a_long_line(parts: int) -> bytes:
 
 
 def entries_that_ended(parts: int) -> bytes:
-    """A list with one entry on each line, of which all have ended: `check` makes a remark on each. Its line and column
-    must be chains without looking through the text from the beginning."""
+    """A list with one entry on each line, all with an end that is past: `check` makes a remark on each. Its line and
+    column must be found without looking through the text from the beginning."""
     return b"(acl" + b"".join(b'\n (entry (public-key (test k%d)) (tag (ftp)) (not-after "2020-01-01_00:00:00"))' % at for at in range(parts)) + b")"
 
 
@@ -216,7 +216,7 @@ class OfAsk(unittest.TestCase):
     """The search of `spki-cert ask` for chains of certificates, which counts its steps itself."""
 
     def search(self, pairs, entries, holder, most=20_000):
-        """The chains that are chains from entries to the key `holder`, and the object that counts steps. `pairs` are
+        """The chains that are found from entries to the key `holder`, and the object that counts steps. `pairs` are
         the issuers and subjects of the certificates, `entries` the subjects of the entries, and `most` is the bound of
         steps."""
         from spki_cert_tool import certificates

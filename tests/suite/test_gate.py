@@ -1,6 +1,6 @@
-"""The parts of the gate: what bash makes of its file, which functions a wrong body changes, what a check must say to refuse it, how logs are
-counted, that what is shown of a command is all that it says, and that one which takes too long is ended. The texts of the toolchain are those that
-it printed in runs."""
+"""The parts of the gate: what bash runs of its file, which functions a wrong body changes, which output of a check
+refuses it, how logs are counted, that all that a command writes is printed, and that one which takes too long is ended.
+The texts of the toolchain are those that it printed in runs."""
 import contextlib
 import io
 import os
@@ -34,7 +34,7 @@ impl<'a> Display for Name<'a> {
 """
 
 
-def changed(old: str, new: str, file: str = "src/names.rt") -> set[str | None]:
+def functions_changed(old: str, new: str, file: str = "src/names.rt") -> set[str | None]:
     """The functions of SOURCE that an edit of it changes, with None for what is in no function."""
     assert SOURCE.count(old) == 1
     return bodies.functions_changed(file, SOURCE, SOURCE.replace(old, new))
@@ -51,14 +51,14 @@ class Bodies(unittest.TestCase):
     """The functions that wrong bodies change."""
 
     def test_function(self) -> None:
-        self.assertEqual(changed("n < MOST", "n <= MOST"), {"names::is_it"})
-        self.assertEqual(changed("n < MOST", "n <= MOST", "src/lib.rt"), {"is_it"})
+        self.assertEqual(functions_changed("n < MOST", "n <= MOST"), {"names::is_it"})
+        self.assertEqual(functions_changed("n < MOST", "n <= MOST", "src/lib.rt"), {"is_it"})
 
     def test_method(self) -> None:
-        self.assertEqual(changed("self.octets.len()", "0"), {"NameDisplay::length"})
+        self.assertEqual(functions_changed("self.octets.len()", "0"), {"NameDisplay::length"})
 
     def test_no_function(self) -> None:
-        self.assertEqual(changed("usize = 3", "usize = 4"), {None})
+        self.assertEqual(functions_changed("usize = 3", "usize = 4"), {None})
 
     def test_table(self) -> None:
         """Each wrong body that the gate tries changes functions alone."""
@@ -69,10 +69,11 @@ class Bodies(unittest.TestCase):
 
 
 class Verdicts(unittest.TestCase):
-    """What a check must say to refuse a wrong body."""
+    """Which output of a check refuses a wrong body."""
 
     def is_refused(self, *lines: str) -> bool:
-        """Whether a check that says these lines refuses a wrong body of the function names::tried in the crate `low`."""
+        """Whether a check that writes these lines refuses a wrong body of the function names::tried in the crate
+        `low`."""
         return bodies.refuses("low", "names::tried", "\n".join(lines))
 
     def test_refused(self) -> None:
@@ -109,52 +110,52 @@ class Script(unittest.TestCase):
 class Logs(unittest.TestCase):
     """How logs are counted."""
 
-    def counts(self, said: str, status: int, has_counts: bool = True) -> tuple[int, int, list[str]]:
+    def counts(self, output: str, status: int, has_counts: bool = True) -> tuple[int, int, list[str]]:
         """The tests that passed, those that failed, and what was left out, by the output and the status of a command. Without `has_counts` it is one
         that never writes a line of counts."""
         counts = Counts()
-        counts.add_log(said, status, has_counts)
+        counts.add_log(output, status, has_counts)
         return counts.passed, counts.failed, counts.left_out
 
     def test_counts(self) -> None:
         """The counts are those of the last line. Without such a line, or with a status other than 0 and no failure, one has failed. A command that
         never writes counts is one test."""
-        for said, status, wanted in [
+        for output, status, wanted in [
                 ("a\n3 passed, 0 failed\n", 0, (3, 0)), ("3 passed, 2 failed", 1, (3, 2)), ("3 passed, 0 failed (ok)\n", 0, (3, 0)),
                 ("3 passed, 0 failed\n", 1, (3, 1)), ("3 passed, 0 failed\nand more\n", 0, (0, 1)), ("", 0, (0, 1)), ("", -9, (0, 1))]:
-            self.assertEqual(self.counts(said, status)[:2], wanted, said)
+            self.assertEqual(self.counts(output, status)[:2], wanted, output)
         self.assertEqual([self.counts("none", status, False)[:2] for status in (0, 1)], [(1, 0), (0, 1)])
 
     def test_left_out(self) -> None:
-        said = "skipped: the page (Debian: chromium)\nthe pages in Chromium are left out\n1 passed, 0 failed\n"
-        self.assertEqual(self.counts(said, 0)[2], ["the page (Debian: chromium)", "the pages in Chromium"])
+        output = "skipped: the page (Debian: chromium)\nthe pages in Chromium are left out\n1 passed, 0 failed\n"
+        self.assertEqual(self.counts(output, 0)[2], ["the page (Debian: chromium)", "the pages in Chromium"])
 
 
 class Commands(unittest.TestCase):
     """Commands that run."""
 
-    def shown(self, *words: str, minutes: float = 1.0) -> tuple[str, int, str]:
-        """What a command says, its status, and what is printed of it. After so many minutes it is ended."""
+    def run_part(self, *words: str, minutes: float = 1.0) -> tuple[str, int, str]:
+        """What a command writes, its status, and what is printed about it. After so many minutes it is ended."""
         with contextlib.redirect_stdout(io.StringIO()) as printed, run.Parts(1) as parts:
-            said, status = parts.wait_and_print(parts.begin(*words), minutes)
-        return said, status, printed.getvalue()
+            output, status = parts.wait_and_print(parts.begin(*words), minutes)
+        return output, status, printed.getvalue()
 
-    def test_shown(self) -> None:
-        self.assertEqual(self.shown("sh", "-c", "echo one; sleep 0.1; echo two >&2; exit 3"), ("one\ntwo\n", 3, "one\ntwo\n"))
+    def test_printed(self) -> None:
+        self.assertEqual(self.run_part("sh", "-c", "echo one; sleep 0.1; echo two >&2; exit 3"), ("one\ntwo\n", 3, "one\ntwo\n"))
 
     def test_late(self) -> None:
         """A command that takes too long has failed, and is ended with all that it began, also by `setsid`."""
-        said, status, printed = self.shown("sh", "-c", "sleep 99 & echo $!; setsid sleep 98 & echo $!; wait", minutes=0.01)
+        output, status, printed = self.run_part("sh", "-c", "sleep 99 & echo $!; setsid sleep 98 & echo $!; wait", minutes=0.01)
         self.assertRegex(printed, r"ended: sh -c, for 0 minutes\. Its last lines:\n\d+\n\d+\n\nsh -c, for 0 minutes: failed")
-        waits_for("what it began has ended", lambda: all(map(is_gone, said.split("\n")[:2])))
+        waits_for("what it began has ended", lambda: all(map(is_gone, output.split("\n")[:2])))
         counts = Counts()
-        counts.add_log(said, status)
+        counts.add_log(output, status)
         self.assertEqual((counts.passed, counts.failed), (0, 1))
 
     def test_still_running(self) -> None:
-        """Every SECONDS_BETWEEN_LINES seconds it is printed which commands still run."""
+        """Every SECONDS_BETWEEN_LINES seconds a line names the commands that still run."""
         with mock.patch.object(run, "SECONDS_BETWEEN_LINES", 0.1):
-            self.assertIn("still running:\n    sleep 1, for 0 minutes\n", self.shown("sleep", "1")[2])
+            self.assertIn("still running:\n    sleep 1, for 0 minutes\n", self.run_part("sleep", "1")[2])
 
     def test_ended(self) -> None:
         """The end of the context of `Parts` ends a command that still runs."""

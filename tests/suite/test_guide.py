@@ -75,19 +75,19 @@ def steps_of_manual(page):
         yield from commands(textwrap.dedent(block).replace("\\-", "-").replace("\\(aq", "'").replace("\\(ga", "`"))
 
 
-def script(found):
-    """The parts of a script that writes the files and runs the commands of the steps `found`, and writes END after each command. A quotation needs
-    nothing."""
-    for kind, first, second in found:
+def script(steps):
+    """Yields the parts of a script that writes the files and runs the commands of steps, and writes END after each
+    command. It does nothing for a quotation."""
+    for kind, first, second in steps:
         if kind == "file":
             yield f"printf %s {shlex.quote(second)} > {shlex.quote(first)}\n"
         elif kind == "command":
             yield f"{first}\necho\necho '{END}'\n"
 
 
-def outputs_of(shell, found, program):
-    """Runs the steps `found` in a shell, in an empty folder, with the program at this path as `spki`. Returns a list with what each command writes,
-    and at its end what is written behind the last command."""
+def outputs_of(shell, steps, program):
+    """Runs steps in a shell, in an empty folder, with the program at this path as `spki`. Returns a list with what each
+    command writes, and at its end what is written behind the last command."""
     with tempfile.TemporaryDirectory() as room:
         for folder in ("bin", "work"):
             os.mkdir(os.path.join(room, folder))
@@ -95,8 +95,8 @@ def outputs_of(shell, found, program):
         for folder, name in (("apps", "locate"), ("apps/spki-cert", "spki-cert")):
             os.symlink(os.path.abspath(os.path.join(TOP, folder, name)), os.path.join(room, "bin", name))
         path = os.path.join(room, "bin") + os.pathsep + os.environ["PATH"]
-        done = subprocess.run([shell], input="".join(script(found)), cwd=os.path.join(room, "work"),
-                              env={**os.environ, **of_library(found), "PATH": path},
+        done = subprocess.run([shell], input="".join(script(steps)), cwd=os.path.join(room, "work"),
+                              env={**os.environ, **settings_for_library(steps), "PATH": path},
                               text=True, stdout=subprocess.PIPE, stderr=subprocess.STDOUT, timeout=SECONDS)
     return done.stdout.split(f"{END}\n")
 
@@ -106,9 +106,9 @@ def needs_library(commands_of_page: Iterable[str]) -> bool:
     return any("spki-cert" in command for command in commands_of_page)
 
 
-def of_library(found: Iterable[tuple[str, str, str]]) -> dict[str, str]:
+def settings_for_library(steps: Iterable[tuple[str, str, str]]) -> dict[str, str]:
     """The settings of the environment by which the commands of steps find the library and its module, none if they do not need it."""
-    if not needs_library(first for kind, first, _ in found if kind == "command"):
+    if not needs_library(first for kind, first, _ in steps if kind == "command"):
         return {}
     return {"SPKI_LIBRARY": built.shared(), "PYTHONPATH": os.path.join(TOP, "bindings", "python")}
 
@@ -137,7 +137,7 @@ def indented(page):
 
 def snippets_of(page):
     """The snippets of the text of a page, as pairs of the language and the snippet."""
-    return [(found[1], block) for above, block in indented(page) if (found := SNIPPET_BELOW.match(above))]
+    return [(language[1], block) for above, block in indented(page) if (language := SNIPPET_BELOW.match(above))]
 
 
 def commands_of(page):
@@ -150,7 +150,7 @@ def lines_of_first_certificate(page: str) -> list[str]:
     return [line for _, block in indented(page) if "spki-cert" in block for line in block.splitlines()]
 
 
-def sum_of_tried() -> str:
+def checksum_of_command() -> str:
     """The checksum of all that `rt try` reads for the command of README.md, and of the command."""
     of_crates = building.checksum([*building.sources("spki", ("src", "specs")), os.path.join("examples", "delegation.sexp")])
     return f"{of_crates} {sorted(OF_TOOLCHAIN.items())}"
@@ -168,12 +168,12 @@ class Pages(built.OfProgram):
 
     def check_commands(self, page: str, shell: str) -> None:
         """Each command of a page must write what the page says."""
-        found = self.steps(page)
-        wanted = [(command, answer) for kind, command, answer in found if kind == "command"]
-        answers = outputs_of(shell, found, self.program)
-        answers += ["nothing"] * (len(wanted) + 1 - len(answers))
-        faults = [f"$ {command}\nwanted\n{answer}\ncame\n{met}" for (command, answer), met in zip(wanted, answers)
-                  if met.strip("\n") != answer.strip("\n")]
+        steps = self.steps(page)
+        wanted = [(command, answer) for kind, command, answer in steps if kind == "command"]
+        outputs = outputs_of(shell, steps, self.program)
+        outputs += ["nothing"] * (len(wanted) + 1 - len(outputs))
+        faults = [f"$ {command}\nwanted\n{answer}\ncame\n{output}" for (command, answer), output in zip(wanted, outputs)
+                  if output.strip("\n") != answer.strip("\n")]
         self.assertEqual(faults, [], f"{page}, {shell}:\n" + "\n".join(faults))
 
     def check_files(self, page: str) -> None:
@@ -191,8 +191,8 @@ def commands_test(page: str, shell: str) -> Callable[[Pages], None]:
     """The test of a page's commands in a shell."""
     test: Callable[[Pages], None] = lambda self: self.check_commands(page, shell)
     text = text_of(page)
-    of_guide = ["import cryptography", "ssh-keygen", *needs.LIBRARY] if needs_library(re.findall(r"^[$] .*$", text, re.MULTILINE)) else []
-    return needs.needs(*(["openssl"] if "openssl" in text else []), *of_guide)(test)
+    of_library = ["import cryptography", "ssh-keygen", *needs.LIBRARY] if needs_library(re.findall(r"^[$] .*$", text, re.MULTILINE)) else []
+    return needs.needs(*(["openssl"] if "openssl" in text else []), *of_library)(test)
 
 
 def add_pages() -> None:
@@ -211,21 +211,21 @@ class Indented(unittest.TestCase):
 
     def test_toolchain(self) -> None:
         """`rt try` prints what the page says. It is not run again on the same sources."""
-        if building.kept().get("README.md's rt try") == sum_of_tried() and not built.IS_ANEW:
+        if building.kept().get("README.md's rt try") == checksum_of_command() and not built.IS_ANEW:
             return
         for line in OF_TOOLCHAIN:
             self.assertIn(line, commands_of(text_of("README.md")))
             done = subprocess.run(["sh", "-c", line], cwd=TOP, text=True, stdout=subprocess.PIPE, stderr=subprocess.PIPE,
                                   timeout=SECONDS_OF_TOOLCHAIN)
             self.assertEqual(done.stdout, OF_TOOLCHAIN[line], f"$ {line}\n{done.stderr[-1000:]}")
-        building.keep("README.md's rt try", sum_of_tried())
+        building.keep("README.md's rt try", checksum_of_command())
 
 
 @needs.needs(*needs.LIBRARY)
 class Snippets(built.OfLibrary):
     """The snippets of README.md and of the guide, by their languages."""
 
-    def is_right(self, language: str) -> None:
+    def check_snippets(self, language: str) -> None:
         """Each snippet in a language must grant the request of delegation.sexp to its key, and deny it to another key."""
         texts = [text for page in PAGES[:2] for kind, text in snippets_of(text_of(page)) if kind == language]
         self.assertTrue(texts, f"the pages have no snippet in {language}")
@@ -234,15 +234,15 @@ class Snippets(built.OfLibrary):
                 self.assertIsNone(snippets.fault_of_snippet(language, text, room, self.program, self.library))
 
     def test_c(self) -> None:
-        self.is_right("C")
+        self.check_snippets("C")
 
     @needs.needs("cargo")
     def test_rust(self) -> None:
-        self.is_right("Rust")
+        self.check_snippets("Rust")
 
     def test_python(self) -> None:
-        self.is_right("Python")
+        self.check_snippets("Python")
 
     @needs.needs("go")
     def test_go(self) -> None:
-        self.is_right("Go")
+        self.check_snippets("Go")

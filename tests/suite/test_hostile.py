@@ -1,13 +1,13 @@
-"""Runs the program under hostile conditions: each allocation, each read and each write fails in turn, texts are cut short, ends
-fail, limits are tried from both sides, the stack is small, and texts need the most work. `test_one_call` does each call of the libraries by
-itself in the same way, on two rows of `calls/`.
+"""Runs the program under hostile conditions: each allocation, each read and each write fails in turn, texts are cut
+short, standard input and output fail, limits are tried from both sides, the stack is small, and texts need the most
+work. `test_one_call` does each call of the libraries by itself in the same way, on two rows of `calls/`.
 
-`refuse.c` is compiled by `cc` and preloaded, and lets the chosen calls fail. Each part is a test. It prints the examples,
-runs, failures that were met and faults. The longest parts are tests only of `tests/run --long`, which `.ci/deep` runs."""
+`refuse.c` is compiled by `cc` and preloaded, and lets the chosen calls fail. Each part is a test. It prints the numbers
+of tasks, runs, refused calls and faults. The longest parts are tests only of `tests/run --long`, which `.ci/deep`
+runs."""
 import os
 import resource
 import sys
-import tempfile
 import time
 from concurrent.futures import ProcessPoolExecutor
 from dataclasses import dataclass
@@ -17,7 +17,7 @@ from itertools import count
 import rows
 from harness import built, needs
 from harness.refusing import PIPE, Program, compiled
-from harness.support import BENCH, COMMANDS, EXAMPLES, braced, group, loaded, string, tables_here
+from harness.support import BENCH, COMMANDS, EXAMPLES, braced, group, loaded, room_for, string, tables_here
 from rows import chains, limits
 from rows.limits import MOST_OCTETS
 from suite import test_calls
@@ -35,7 +35,8 @@ LIMITS = (12, 16, 24, 32, 64, 128)
 MOST_FAULTS = 20
 # Of so many examples one runs under valgrind.
 VALGRIND_STEP = 9
-# How often the program calls `read` before it gives up. It calls `write` so many times, and once for each octet of its answer.
+# How often the program calls `read` before it gives up. It calls `write` as often, and once more for each octet of its
+# answer.
 MOST_ASKS = 2097152
 # What one text may take: seconds, and MiB.
 MOST_SECONDS, MOST_MEMORY = 10, 256
@@ -74,7 +75,7 @@ CHAINS = {
     "windows: certificate from 2024-06-01_00:00:01": {"explain": "1 entry 1 item 1 NoValidity", "reduce": "1 entry 1 item 1 NoValidity"},
     "too large": {"explain": "2 refused TooLarge", "reduce": "2 refused TooLarge"},
 }
-# Ends that the shell makes, and how a run on them ends. FILE has the text of a case.
+# Redirections of the shell, and how a run with them ends. FILE has the text of a case.
 ENDS = [
     ("< FILE > /dev/full", WRITE_FAULT), ("< FILE >&-", WRITE_FAULT), ("< FILE 1< /dev/null", WRITE_FAULT),
     ("< FILE > /dev/full 2>&-", UNSAID_FAULT), ("< FILE > /dev/full 2> /dev/full", UNSAID_FAULT), ("< / 2>&-", UNSAID_FAULT),
@@ -195,10 +196,11 @@ def most_work():
 # ---- what is done with an example: each returns the number of runs, the number of refusals, and the faults
 
 def refused_in_turn(program, example, behind):
-    """Runs of an example in which the Nth request for memory is refused, for each N up to one more than it makes, or for some of them if these are
-    very many. `behind` is "", or ".." if all later requests are refused too. The requests for the words of the command line, which are the same on
-    each text, are refused on one example of each command alone; clap may do without what it is refused there. Returns the number of runs, of
-    refusals, and the faults."""
+    """Runs of an example in which the Nth request for memory is refused, for each N up to one more than it makes, or
+    for some of them if these are very many. `behind` is "", or ".." if all later requests are refused too. The requests
+    before the first read are for the words of the command line, and the same on each text, so only the example
+    WORDS_REFUSED has them refused. clap, which makes them, may do without the memory, and the answer is then as ever.
+    Returns the number of runs, of refusals, and the faults."""
     whole = program.run(example.command, example.text)
     answer = example.answer or whole.answer
     asked, refusals, faults = whole.asked["memory"], 0, []
@@ -233,22 +235,23 @@ def cut_short(program, command, text, places):
     return len(places), 0, faults
 
 
-def failing_in_turn(program, example, end, told, wanted):
-    """Runs of an example in which each call that reads or writes (`end` is `read` or `write`) does so for one octet, and the Nth is refused, for each
-    N until none is: it returns the error `told`, or if this is 0 no octet. `wanted(example, N)` is how such a run must end. Returns the number of
-    runs, of refusals, and the faults."""
+def failing_in_turn(program, example, call, error, wanted):
+    """Runs of an example in which each call of `read` or `write` (`call`) is for one octet, and the Nth is refused, for
+    each N until none is: it fails with the error `error`, or if this is 0 returns no octet. `wanted(example, N)` is how
+    such a run must end. Returns the number of runs, of refusals, and the faults."""
     refusals, faults = 0, []
     for number in count(1):
-        ended = program.run(example.command, example.text, step=1, **{end: number, "with": told})
+        ended = program.run(example.command, example.text, step=1, **{call: number, "with": error})
         if ended.answer != (wanted(example, number) if ended.refused else example.answer):
-            faults.append(f"{example}: {end} {number} told {told}: {ended}")
+            faults.append(f"{example}: {call} {number} with error {error}: {ended}")
         if not ended.refused:
-            return number, refusals, faults
+            break
         refusals += ended.refused
-    return None
+    return number, refusals, faults
 
 
-# `wanted` of failing_in_turn: how a run of an example must end whose call of this number is told an error, or 0.
+# `wanted` of failing_in_turn: how a run of an example must end whose call of this number fails with an error, or
+# returns 0.
 
 def read_fault(example, number):
     """How a run must end whose read of this number fails."""
@@ -271,12 +274,12 @@ def ended_early(example, number):
     return SHORT if number <= len(example.text) else example.answer
 
 
-def interrupted_for_ever(program, example, end, asks, wanted):
-    """A run in which each read or each write (`end`) returns that it was interrupted. It must call `asks` times, and then end as `wanted`. Returns
-    the number of runs, of refusals, and the faults."""
-    ended = program.run(example.command, example.text, step=1, **{end: "1..", "with": EINTR})
-    right = ended.answer == wanted and ended.asked[end] == asks
-    return 1, ended.refused, [] if right else [f"{example}: {end} interrupted for ever: {ended}, {ended.asked[end]} asks"]
+def interrupted_for_ever(program, example, call, asks, wanted):
+    """A run in which each read or each write (`call`) fails with EINTR. It must call `asks` times, and then end as
+    `wanted`. Returns the number of runs, of refusals, and the faults."""
+    ended = program.run(example.command, example.text, step=1, **{call: "1..", "with": EINTR})
+    right = ended.answer == wanted and ended.asked[call] == asks
+    return 1, ended.refused, [] if right else [f"{example}: {call} interrupted for ever: {ended}, {ended.asked[call]} asks"]
 
 
 def one_run(program, what, wanted, call, *words):
@@ -293,8 +296,8 @@ def with_small_stack(program, example):
 
 
 def in_less_memory(program, example):
-    """Runs with each of LIMITS, in MiB, as the memory in all: each must give the right answer, or say that memory was lacking. Returns the number of
-    runs, of those that lacked memory, and the faults."""
+    """Runs with each of LIMITS, in MiB, as the address space of the program: each must give the right answer or MEMORY.
+    Returns the number of runs, of those with MEMORY, and the faults."""
     refusals, faults = 0, []
     wanted = example.answer or program.run(example.command, example.text).answer
     for mebibytes in LIMITS:
@@ -327,11 +330,11 @@ def with_valgrind(program, example, plan):
     return 1, ended.refused, [] if right else [f"{example} under valgrind with {plan}: {ended}"]
 
 
-def attempted(do, program, *words):
-    """Does a task: calls its function `do` with the program and the task's words. Returns the number of runs, of refusals, and the faults, as `do`
-    does. An OSError is a fault."""
+def run_task(function, program, *words):
+    """Calls the function of a task with the program and the task's words. Returns the number of runs, of refusals, and
+    the faults, as the function does. An OSError is a fault."""
     try:
-        return do(program, *words)
+        return function(program, *words)
     except OSError as fault:
         return 1, 0, [f"{words[0]}: {fault}"]
 
@@ -368,12 +371,12 @@ def ends_failing():
     whole = Example("first-run.csexp", "check", first_run()[0], end_of("0 yes entry 1"))
     short = Example("a short text", "canonical", b"(abc def)", (0, b"(3:abc3:def)", b""))
     for example in (whole, short):
-        for told, wanted in ((EIO, read_fault), (EINTR, asked_again), (0, ended_early)):
-            yield failing_in_turn, example, "read", told, wanted
-        for told, wanted in ((EIO, write_fault), (EINTR, asked_again), (0, write_fault)):
-            yield failing_in_turn, example, "write", told, wanted
+        for error, wanted in ((EIO, read_fault), (EINTR, asked_again), (0, ended_early)):
+            yield failing_in_turn, example, "read", error, wanted
+        for error, wanted in ((EIO, write_fault), (EINTR, asked_again), (0, write_fault)):
+            yield failing_in_turn, example, "write", error, wanted
     yield interrupted_for_ever, whole, "read", MOST_ASKS, READ_FAULT
-    yield interrupted_for_ever, whole, "write", MOST_ASKS + 12, WRITE_FAULT
+    yield interrupted_for_ever, whole, "write", MOST_ASKS + len(whole.answer[1]), WRITE_FAULT
     for command in COMMANDS:
         for words, wanted in ENDS:
             words = words.replace("FILE", os.path.join(EXAMPLES, "first-run.csexp"))
@@ -470,17 +473,15 @@ class Hostile(built.OfProgram):
     @classmethod
     def setUpClass(cls):
         super().setUpClass()
-        cls.room = tempfile.TemporaryDirectory()
-        cls.addClassCleanup(cls.room.cleanup)
-        cls.refusing = Program(cls.program, compiled(cls.room.name))
+        cls.refusing = Program(cls.program, compiled(room_for(cls)))
 
-    def is_met(self, part, tasks):
+    def check_part(self, part, tasks):
         """No task of a part may find a fault. `tasks` yields them, each a function and its words. `part` is the name that is printed."""
         begun = time.perf_counter()
         with ProcessPoolExecutor() as pool:
-            started = [pool.submit(attempted, do, self.refusing, *words) for do, *words in tasks()]
+            started = [pool.submit(run_task, function, self.refusing, *words) for function, *words in tasks()]
             results = [task.result() for task in started]
-        faults = [fault for *_, found in results for fault in found]
+        faults = [fault for *_, of_task in results for fault in of_task]
         runs, refusals = (sum(result[place] for result in results) for place in (0, 1))
         print(f"{part:<36}{len(results):>9}{runs:>9}{refusals:>11}{len(faults):>8}{time.perf_counter() - begun:>9.1f} s")
         if faults:
@@ -490,7 +491,7 @@ class Hostile(built.OfProgram):
 def made_test(part):
     """The test of a part."""
     test = needs.needs("valgrind") if part == "under_valgrind" else lambda it: it
-    return test(lambda self: self.is_met(part, PARTS[part]))
+    return test(lambda self: self.check_part(part, PARTS[part]))
 
 
 for name in PARTS:

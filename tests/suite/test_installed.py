@@ -21,13 +21,13 @@ def files_below(folder: str) -> set[str]:
     return {os.path.relpath(os.path.join(at, name), folder) for at, _, names in os.walk(folder) for name in names}
 
 
-def found(pattern: str, text: str) -> str:
+def first_group(pattern: str, text: str) -> str:
     """What the group of a pattern finds first in a text, or an empty text."""
     match = re.search(pattern, text, re.MULTILINE)
     return match[1] if match else ""
 
 
-def installed(program: str, library: str, **settings: str) -> tuple[tempfile.TemporaryDirectory, str]:
+def install(program: str, library: str, **settings: str) -> tuple[tempfile.TemporaryDirectory, str]:
     """Installs by install.sh into a new folder that has the files of OTHERS already, which uninstalling must leave. `settings` are more variables of
     the environment of install.sh. Returns the folder, and what install.sh wrote. Raises AssertionError if it fails."""
     prefix = tempfile.TemporaryDirectory()
@@ -35,10 +35,10 @@ def installed(program: str, library: str, **settings: str) -> tuple[tempfile.Tem
         os.makedirs(os.path.dirname(os.path.join(prefix.name, place)))
         with open(os.path.join(prefix.name, place), "w", encoding="ascii"):
             pass
-    status, said = output_of(os.path.join(TOP, "install.sh"), prefix.name, program, library, env={**os.environ, **settings})
+    status, output = output_of(os.path.join(TOP, "install.sh"), prefix.name, program, library, env={**os.environ, **settings})
     if status:
-        raise AssertionError(f"install.sh ended with status {status}: {said}")
-    return prefix, said
+        raise AssertionError(f"install.sh ended with status {status}: {output}")
+    return prefix, output
 
 
 @needs.needs(*needs.LIBRARY)
@@ -47,12 +47,12 @@ class Installed(built.OfLibrary):
 
     prefix: str
     page: str
-    said: str
+    output: str
 
     @classmethod
     def setUpClass(cls) -> None:
         super().setUpClass()
-        room, cls.said = installed(cls.program, cls.library)
+        room, cls.output = install(cls.program, cls.library)
         cls.addClassCleanup(room.cleanup)
         cls.prefix, cls.page = room.name, os.path.join(room.name, "share", "man", "man1", "spki.1")
 
@@ -90,25 +90,25 @@ class Installed(built.OfLibrary):
                     file.write(f"cmake_minimum_required(VERSION 3.13)\nproject(linked C)\nfind_package(spki {version} REQUIRED)\n"
                                f"add_executable(linked {TESTS}/programs/linked.c)\ntarget_link_libraries(linked {target})\n")
                 words = ["cmake", "-S", room, "-B", room, f"-DCMAKE_PREFIX_PATH={self.prefix}"]
-                status, said = output_of(*words)
-                self.assertEqual(status == 0, is_found, said)
+                status, output = output_of(*words)
+                self.assertEqual(status == 0, is_found, output)
                 if is_found:
                     self.assertEqual(output_of("cmake", "--build", room)[0], 0)
                     self.assertEqual(output_of(os.path.join(room, "linked")), (0, ""))
 
     def test_loader(self) -> None:
         """The last line says how a program finds the shared library, if the loader does not look there."""
-        self.assertIn(f"the loader does not look into {self.prefix}/lib: name the folder in", self.said.splitlines()[-1])
+        self.assertIn(f"the loader does not look into {self.prefix}/lib: name the folder in", self.output.splitlines()[-1])
 
     def test_version(self) -> None:
         """All that is installed, and the README, have the version of the file VERSION."""
         header = text_of(os.path.join(self.prefix, "include", "spki.h"))
-        numbers = [found(rf"^#define SPKI_VERSION_{part} (\d+)$", header) for part in ("MAJOR", "MINOR", "PATCH")]
-        met = {"the header's numbers": ".".join(numbers), "the header": found(r'^#define SPKI_VERSION "(.*)"$', header),
-               "the manual": found(r'^\.TH SPKI 1 "[^"]*" "Conguraki (.*?)"', text_of(self.page)),
-               "the README": found(r"The version is\s+(\d+\.\d+\.\d+)\.", text_of("README.md")),
-               "spki.pc": found(r"^Version: (.*)$", text_of(os.path.join(self.prefix, "lib", "pkgconfig", "spki.pc")))}
-        self.assertEqual(met, dict.fromkeys(met, text_of("VERSION").strip()))
+        numbers = [first_group(rf"^#define SPKI_VERSION_{part} (\d+)$", header) for part in ("MAJOR", "MINOR", "PATCH")]
+        versions = {"the header's numbers": ".".join(numbers), "the header": first_group(r'^#define SPKI_VERSION "(.*)"$', header),
+                    "the manual": first_group(r'^\.TH SPKI 1 "[^"]*" "Conguraki (.*?)"', text_of(self.page)),
+                    "the README": first_group(r"The version is\s+(\d+\.\d+\.\d+)\.", text_of("README.md")),
+                    "spki.pc": first_group(r"^Version: (.*)$", text_of(os.path.join(self.prefix, "lib", "pkgconfig", "spki.pc")))}
+        self.assertEqual(versions, dict.fromkeys(versions, text_of("VERSION").strip()))
 
     @needs.needs("man")
     def test_warnings_of_the_manual(self) -> None:
@@ -134,7 +134,7 @@ class Uninstalled(built.OfLibrary):
 
     def test_files_left(self) -> None:
         for folder in ("lib", "lib/x86_64-linux-gnu"):
-            with self.subTest(folder=folder), installed(self.program, self.library, LIBDIR=folder)[0] as prefix:
+            with self.subTest(folder=folder), install(self.program, self.library, LIBDIR=folder)[0] as prefix:
                 self.assertTrue(os.path.exists(os.path.join(prefix, folder, "libspki_c.so")))
-                status, said = output_of(os.path.join(TOP, "install.sh"), "--uninstall", prefix, env={**os.environ, "LIBDIR": folder})
-                self.assertEqual((status, files_below(prefix)), (0, set(OTHERS)), said)
+                status, output = output_of(os.path.join(TOP, "install.sh"), "--uninstall", prefix, env={**os.environ, "LIBDIR": folder})
+                self.assertEqual((status, files_below(prefix)), (0, set(OTHERS)), output)
