@@ -13,7 +13,7 @@ import threading
 import time
 import unittest
 import urllib.parse
-from collections.abc import Callable, Iterator
+from collections.abc import Callable, Iterator, Sequence
 
 from harness import built, golang, needs, served
 from harness.support import output_of, room_for, text_of, waits_for
@@ -35,23 +35,23 @@ def listens(path: str) -> bool:
 
 
 @contextlib.contextmanager
-def asked_by_many(asks: Callable[[], list[int]]) -> Iterator[list[object]]:
-    """A context in which THREADS threads call `asks` again and again until it ends. Its list gets the statuses that `asks` returns, and each OSError
-    that it raises as a text."""
-    ends, statuses = threading.Event(), list[object]()
+def asked_by_many(asks: Callable[[], Sequence[object]]) -> Iterator[list[object]]:
+    """A context in which THREADS threads call `asks` again and again until it ends. Its list gets the answers that
+    `asks` returns, and each exception that it raises as a text."""
+    ends, answers = threading.Event(), list[object]()
 
     def ask_until_end() -> None:
         while not ends.is_set():
             try:
-                statuses.extend(asks())
-            except OSError as why:
-                statuses.append(repr(why))
+                answers.extend(asks())
+            except Exception as why:
+                answers.append(repr(why))
 
     threads = [threading.Thread(target=ask_until_end) for _ in range(THREADS)]
     for each in threads:
         each.start()
     try:
-        yield statuses
+        yield answers
     finally:
         ends.set()
         for each in threads:

@@ -40,9 +40,9 @@ def faults_of_wrong_bodies() -> Iterator[str]:
         folder = os.path.join(ROOT, "crates", crate)
         for path in (path for pattern in WRONG_BODIES for path in sorted(glob.glob(os.path.join(ROOT, pattern.replace("*", crate, 1))))):
             why = toolchain.applied(path, folder)[1]
-            odd = [line for line in text_of(path).split("\n") if not READ.match(line)]
-            if why or odd:
-                yield f"{os.path.relpath(path, ROOT)}: {why or f'this line is not read: {odd[0]}'}"
+            unread = [line for line in text_of(path).split("\n") if not READ.match(line)]
+            if why or unread:
+                yield f"{os.path.relpath(path, ROOT)}: {why or f'this line is not read: {unread[0]}'}"
             if os.path.basename(os.path.dirname(path)) == "must-fail":
                 tried.add((crate, os.path.basename(path).removesuffix(".edit")))
     listed = {(crate, name) for crate, names in LISTED.findall(text_of("CONTRIBUTING.md")) for name in re.findall(r"[\w-]+", names)}
@@ -51,7 +51,7 @@ def faults_of_wrong_bodies() -> Iterator[str]:
 
 
 def git(*words):
-    """Runs git in the repository. Returns how it ended, and its output."""
+    """Runs git in the repository. Returns the `CompletedProcess`, with its standard output."""
     return subprocess.run(["git", *words], cwd=ROOT, stdout=subprocess.PIPE, stderr=subprocess.DEVNULL, text=True)
 
 
@@ -60,7 +60,7 @@ class Layout(unittest.TestCase):
 
     def test_sources(self) -> None:
         crates = sorted(os.path.dirname(path) for path in glob.glob(os.path.join(ROOT, "crates", "*", "src")))
-        faults = {os.path.relpath(crate, ROOT): said for crate in crates if (said := files_laid_out_wrongly(crate))}
+        faults = {os.path.relpath(crate, ROOT): files for crate in crates if (files := files_laid_out_wrongly(crate))}
         self.assertEqual(faults, {}, f"run rt fmt in {', '.join(faults)}")
 
     def test_wrong_bodies(self) -> None:

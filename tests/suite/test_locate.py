@@ -13,6 +13,7 @@ import sys
 import tempfile
 import unittest
 from collections.abc import Callable, Iterator
+from unittest import mock
 
 from generators.asked import Question
 from generators.guards import guard_question
@@ -125,15 +126,14 @@ PLACE = re.compile(r"^(?:line \d+, column \d+, )?octet (\d+)", re.MULTILINE)
 LOCATE = loaded(PATH)
 
 
-def printed(text, *words):
-    """The exit status of `locate` on a text, and what it prints. `words` are those of a refusal."""
-    with tempfile.NamedTemporaryFile() as file:
-        file.write(text)
+def locate(text, refusal):
+    """The exit status of `locate` on a text, and what it prints. `refusal` has the words behind `refused` that it is
+    given, or is empty."""
+    with tempfile.NamedTemporaryFile() as file, contextlib.redirect_stdout(io.StringIO()) as out:
+        file.write(text.encode())
         file.flush()
-        out, sys.argv = io.StringIO(), ["locate", file.name, *words]
-        with contextlib.redirect_stdout(out):
-            status = LOCATE.main(LOCATE.__doc__ or "")
-    return status, out.getvalue()
+        with mock.patch.object(sys, "argv", ["locate", file.name, *(["refused", *refusal.split()] if refusal else [])]):
+            return LOCATE.main(LOCATE.__doc__ or ""), out.getvalue()
 
 
 def has_no_place(answer):
@@ -142,8 +142,9 @@ def has_no_place(answer):
 
 
 def show_places(wrong, inner, places):
-    """Has `locate` show each place of the fault `wrong`, unless it is None. It must not raise. `inner` is the text in which the places are. Of a text
-    in braces this is what they hold, and `places` are the offsets of its octets in the file. For any other text `places` is None."""
+    """Has `locate` show each place of the fault `wrong`, unless it is None. It must not raise. `inner` is the text in
+    which the places are. Of a text in braces this is the text inside, and `places` are the offsets of its octets in the
+    file. For any other text `places` is None."""
     for at, _ in [(wrong.at, wrong.why), *wrong.others] if wrong else []:
         LOCATE.place_shown(inner, places, at)
 
@@ -163,36 +164,37 @@ def refusal_of_part(name, text):
 class Refusals(unittest.TestCase):
     """What the tool finds in texts."""
 
-    def shows(self, text: str, given: str, wanted: str, place: tuple[int, int], words: str) -> None:
-        """`locate` must show a refusal at a line and column, with these words, and no place twice. `given` are the words of the refusal, or empty."""
-        said = printed(text.encode(), *(["refused", *given.split()] if given else []))[1]
-        first, offsets = said.split("\n")[1] if "\n" in said else "", PLACE.findall(said)
-        is_right = f"refused {wanted}\n" in said and first.startswith(f"line {place[0]}, column {place[1]},") and words in said
+    def check_mistake(self, text: str, given: str, wanted: str, place: tuple[int, int], words: str) -> None:
+        """`locate` must show the refusal `wanted` at a line and column, with these words, and no place twice. `given`
+        is the refusal that it gets, or empty."""
+        output = locate(text, given)[1]
+        first, offsets = output.split("\n")[1] if "\n" in output else "", PLACE.findall(output)
+        is_right = f"refused {wanted}\n" in output and first.startswith(f"line {place[0]}, column {place[1]},") and words in output
         if not is_right or len(set(offsets)) < len(offsets):
-            self.fail(f"text   {text!r}, given {given!r}\nwanted {wanted} at line {place[0]}, column {place[1]}, {words}\ncame   {said}")
+            self.fail(f"text   {text!r}, given {given!r}\nwanted {wanted} at line {place[0]}, column {place[1]}, {words}\ncame   {output}")
 
-    def finds(self, place: str, command: str, text: bytes, wanted: tuple[int, bytes]) -> None:
+    def check_refusal(self, place: str, command: str, text: bytes, wanted: tuple[int, bytes]) -> None:
         """`locate` must find the refusal that a command answers to a text, or none if it answers otherwise. `wanted` is its status and its answer,
         and `place` names the text."""
         (wrong, inner, places), _ = LOCATE.read_text(text, READ_AS.get(command, "refused form"))
-        found = f"{LOCATE.refusal(wrong, places)}\n".encode() if wrong else b""
+        located = f"{LOCATE.refusal(wrong, places)}\n".encode() if wrong else b""
         show_places(wrong, inner, places)
         status, answer = wanted
-        refused = answer if status == 2 and not has_no_place(answer) else b""
-        self.assertEqual(found, refused, f"{place}: {command}\ntext   {text[:1000]!r}\nwanted {refused!r}\ncame   {found!r}")
+        refusal = answer if status == 2 and not has_no_place(answer) else b""
+        self.assertEqual(located, refusal, f"{place}: {command}\ntext   {text[:1000]!r}\nwanted {refusal!r}\ncame   {located!r}")
 
     def test_statuses(self) -> None:
         for text, given, wanted, words in STATUSES:
             with self.subTest(text):
-                status, said = printed(text.encode(), *(["refused", *given.split()] if given else []))
-                self.assertTrue(status == wanted and words in said, f"{text!r}, given {given!r}: status {status}, wanted {wanted}: {said}")
+                status, output = locate(text, given)
+                self.assertTrue(status == wanted and words in output, f"{text!r}, given {given!r}: status {status}, wanted {wanted}: {output}")
 
     def test_generated_texts(self) -> None:
         for number in range(GENERATED):
             asked = question(SEED, number)
             if isinstance(asked, Question) and asked.command in COMMANDS:
                 with self.subTest(number):
-                    self.finds(f"case {number}", asked.command, asked.text, answer(asked.command, asked.text))
+                    self.check_refusal(f"case {number}", asked.command, asked.text, answer(asked.command, asked.text))
 
     def test_generated_parts(self) -> None:
         """The parts of questions to a guard, each given with its refusal, or if it has none with its name."""
@@ -203,19 +205,18 @@ class Refusals(unittest.TestCase):
                 with self.subTest(number, part=name):
                     wanted = refusal_of_part(name, text)
                     (wrong, inner, places), _ = LOCATE.read_text(text, wanted or f"refused {name}")
-                    found = LOCATE.refusal(wrong, places) if wrong else None
                     show_places(wrong, inner, places)
-                    self.assertEqual(found, wanted, f"question {number}, {name}: {text!r}")
+                    self.assertEqual(LOCATE.refusal(wrong, places) if wrong else None, wanted, f"question {number}, {name}: {text!r}")
 
 
 def mistake_test(text: str, given: str, wanted: str, place: tuple[int, int], words: str) -> Callable[[Refusals], None]:
     """The test of a text with a mistake."""
-    return lambda self: self.shows(text, given, wanted, place, words)
+    return lambda self: self.check_mistake(text, given, wanted, place, words)
 
 
 def row_test(row: Row) -> Callable[[Refusals], None]:
     """The test of a row."""
-    return lambda self: self.finds(row.place, row.command, row.text, (row.status, row.answer))
+    return lambda self: self.check_refusal(row.place, row.command, row.text, (row.status, row.answer))
 
 
 def mistakes() -> Iterator[tuple[str, Callable[[Refusals], None]]]:

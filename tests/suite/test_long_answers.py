@@ -5,10 +5,9 @@ import os
 import pickle
 import subprocess
 import sys
-import tempfile
 
 from harness import golang, needs
-from harness.support import TESTS, canonical, output_of
+from harness.support import TESTS, canonical, output_of, room_for
 from suite import test_bindings
 from suite.test_bindings import CRATE, PYTHON, SECONDS, Asked
 
@@ -43,8 +42,7 @@ class Counted(test_bindings.Binding):
     @classmethod
     def setUpClass(cls):
         super().setUpClass()
-        cls.room = tempfile.mkdtemp()
-        cls.addClassCleanup(subprocess.run, ["rm", "-rf", cls.room], check=True)
+        cls.room = room_for(cls)
         # (renames the calls of NAMES in the library, and joins it with counted.c, which has these names: as an archive and as a shared library)
         renamed, own, whole, archive, cls.counting = (os.path.join(cls.room, name) for name in (
             "renamed.a", "counted.o", "whole.o", "libspki_c.a", "libspki_c.so"))
@@ -72,7 +70,8 @@ class Counted(test_bindings.Binding):
             self.assertEqual(file.read().splitlines(), [f"{each.command} {DONE} {len(each.wanted)}" for each in asked])
 
     def test_the_answers_are_long(self):
-        """Those by the usual limits are longer than a small buffer, and one by the highest is longer than the usual limit of an answer."""
+        """Those by the usual limits are longer than 8 KiB, with which bindings try first, and one by the highest is
+        longer than 1 MiB, the usual limit of an answer."""
         lengths = {limits: sorted(len(each.wanted) for each in self.asked if each.limits == limits) for limits in ("usual", "highest")}
         self.assertGreater(lengths["usual"][0], 8192)
         self.assertGreater(lengths["highest"][-1], 1 << 20)

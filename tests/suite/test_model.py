@@ -49,10 +49,10 @@ class Model(unittest.TestCase):
         for row in (row for table in tables_here() for row in rows_of(table)):
             with self.subTest(row.place, command=row.command):
                 try:
-                    status, said = answer(row.command, row.text)
+                    status_and_answer = answer(row.command, row.text)
                 except ModelDisagrees as why:
                     self.fail(f"{row.place}: {row.command}: {why}")
-                self.assertEqual((status, said), (row.status, row.answer), f"{row.place}: {row.command}\ntext   {shown(row.text)}")
+                self.assertEqual(status_and_answer, (row.status, row.answer), f"{row.place}: {row.command}\ntext   {shown(row.text)}")
 
     def test_words_of_the_document(self) -> None:
         """Each word of docs/FORMATS.md for a fault, a cause, a stop or a status is in a row of the model."""
@@ -66,13 +66,14 @@ class Model(unittest.TestCase):
 class Generated(built.OfProgram):
     """The library on each case and the program on some; or the program alone on each text."""
 
-    # `differ` and `ended` are the numbers of the cases that differ, and of those that ended their process. `rows` counts how often each row of the
-    # model came. `told` has what is printed of some of these cases, by their numbers. `by_program` is how many cases the program answered.
+    # `differ` and `ended` are the numbers of the cases that differ, and of those that ended their process. `rows`
+    # counts how often each row of the model came. `described` has what is printed of some of these cases, by their
+    # numbers. `by_program` is how many cases the program answered.
     seed: str
     differ: list[int]
     ended: list[int]
     rows: Counter
-    told: dict[int, str]
+    described: dict[int, str]
     by_program: int
 
     @classmethod
@@ -84,14 +85,14 @@ class Generated(built.OfProgram):
             archive = None if built.IS_ALONE else built.library()
             comparison = differential.comparison_of(cls.program, archive, folder, cls.seed)
             cls.differ, cls.ended, cls.rows = differential.compare(comparison, 0, built.CASES, os.cpu_count() or 1)
-            cls.told = {number: differential.lines_of_case(comparison, number) for number in cls.differ[:differential.SHOWN]}
-        cls.told.update({number: differential.line_of_ended(cls.seed, number) for number in cls.ended})
+            cls.described = {number: differential.lines_of_case(comparison, number) for number in cls.differ[:differential.SHOWN]}
+        cls.described.update({number: differential.line_of_ended(cls.seed, number) for number in cls.ended})
         cls.by_program = comparison.by_program
 
     def check_command(self, command: str) -> None:
         """No case of a command may differ."""
         alone = " --program-alone" if built.IS_ALONE else ""
-        faults = [f"{self.told.get(number, f'case {number} differs')}\n"
+        faults = [f"{self.described.get(number, f'case {number} differs')}\n"
                   f"alone  tests/differential.py{alone} --seed {self.seed} --first {number} --cases 1"
                   for number in [*self.differ, *self.ended] if question(self.seed, number).command == command]
         if faults:
@@ -115,9 +116,9 @@ class GeneratedOnArm(built.OfProgram):
             relayed = Relayed([*ON_ARM, relay])
             comparison = differential.Comparison(differential.Library(relayed), self.program, seed)
             differ, ended, _ = differential.compare(comparison, 0, cases, os.cpu_count() or 1)
-            told = [differential.lines_of_case(comparison, number) for number in differ[:differential.SHOWN]]
+            described = [differential.lines_of_case(comparison, number) for number in differ[:differential.SHOWN]]
             relayed.close()
-        self.assertEqual((told, ended), ([], []), f"cases 0 to {cases}, seed {seed}")
+        self.assertEqual((described, ended), ([], []), f"cases 0 to {cases}, seed {seed}")
 
 
 def made_test(command: str) -> Callable[[Generated], None]:

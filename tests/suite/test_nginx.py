@@ -10,19 +10,19 @@ import signal
 import socket
 import subprocess
 import tempfile
-import threading
 import unittest
 from typing import Any
 
 from harness import needs, served
 from harness.served import Site
+from harness.support import TESTS, output_of, text_of, waits_for
 from rows.attackers import ASKED, DENIED, GRANTED, READ, UNDECIDED, Asked, Attackers, faults_of, in_braces, sequence, statuses
+from suite.test_authd import asked_by_many
 from suite.test_go import sealed
 from spki_cert_tool.keys import digest_of
-from harness.support import TESTS, output_of, text_of, waits_for
 
 LOGS = ("log/files.log", "log/error.log", "log/authd.log", "log/grants.log")
-READERS, CHANGES = 4, 20
+CHANGES = 20
 
 
 class OfSite(unittest.TestCase):
@@ -35,17 +35,17 @@ class OfSite(unittest.TestCase):
         cls.site = Site()
         cls.addClassCleanup(cls.site.end)
 
-    def grants_ann(self) -> None:
+    def check_ann(self) -> None:
         """Ann must get the page that she may read."""
         self.assertEqual(self.site.status("ann", "GET", "/web/index.html"), 200)
 
 
 @needs.needs(*served.NEEDS, *needs.LIBRARY)
 class Attacks(OfSite):
-    """What the attacks of test_attacks.py are made of, and one that cannot be sent as octets."""
+    """The requests from which the attacks of test_attacks.py are made, and an attack in the handshake of TLS."""
 
     def lines(self) -> int:
-        """How many lines the logs of the daemon have."""
+        """How many lines the logs of nginx and of the daemon have."""
         return sum(self.site.text(name).count("\n") for name in LOGS)
 
     def test_what_is_granted(self) -> None:
@@ -60,15 +60,15 @@ class Attacks(OfSite):
         files = map(self.site.at, ("keys/ann.crt", "keys/eve.crt", "keys/eve"))
         words = ("go", "run", os.path.join(TESTS, "programs", "foreign.go"), f"127.0.0.1:{self.site.port}", *files)
         before = self.lines()
-        said = output_of(*words, seconds=served.SECONDS)[1]
-        self.assertNotIn("HTTP/1.1 2", said)
-        self.assertIn("tls:", said)
+        output = output_of(*words, seconds=served.SECONDS)[1]
+        self.assertNotIn("HTTP/1.1 2", output)
+        self.assertIn("tls:", output)
         waits_for("a line in a log", lambda: self.lines() > before)
-        self.grants_ann()
+        self.check_ann()
 
 
-SORRY = "/web/out/main.js"
-ERRORS = "500 502 503 504"
+# The error page of SITES and LOCKS, and the statuses for which it comes.
+SORRY, ERRORS = "/web/out/main.js", "500 502 503 504"
 CACHE = "proxy_cache_path {room}/tmp/cache keys_zone=site:1m; proxy_cache site; proxy_cache_valid any 1h; "
 # Ordinary lines of a site, by what they do: those of `http`, and those of the example's `server`.
 SITES: list[tuple[str, str, str]] = [
@@ -118,7 +118,7 @@ class Sites(OfSite):
     """The example among the ordinary lines of other sites: none of them turns a denial into a grant, nor a daemon that does not answer."""
 
     def setUp(self) -> None:
-        self.kept = {name: self.site.text(f"etc/{name}") for name in ("loopback.conf", "files.conf")}
+        self.own_lines = {name: self.site.text(f"etc/{name}") for name in ("loopback.conf", "files.conf")}
         self.addCleanup(lambda: self.restart_nginx("", ""))
 
     def restart_nginx(self, of_all: str, of_server: str, without: str = "no such line") -> None:
@@ -126,10 +126,10 @@ class Sites(OfSite):
         matches."""
         for name, place, lines in (("loopback.conf", "include files.conf;", of_all), ("files.conf", "server_name localhost;", of_server)):
             more = lines.replace("{room}", self.site.room)
-            self.site.write(f"etc/{name}", re.sub(f"(?m)^ *{without}$", "", self.kept[name]).replace(place, f"{more}\n{place}", 1))
+            self.site.write(f"etc/{name}", re.sub(f"(?m)^ *{without}$", "", self.own_lines[name]).replace(place, f"{more}\n{place}", 1))
         self.site.restart_server()
 
-    def get_nothing(self, asked: list[Asked], must: set[int]) -> None:
+    def check_denied(self, asked: list[Asked], must: set[int]) -> None:
         """No request may be granted: each must have one of these statuses."""
         for each in asked:
             self.assertEqual(faults_of(self.site, each, must), [])
@@ -139,9 +139,9 @@ class Sites(OfSite):
         for name, of_all, of_server in SITES:
             self.restart_nginx(of_all, of_server)
             with self.subTest(name):
-                self.grants_ann()
-                self.get_nothing(ASKED, DENIED)
-                self.grants_ann()
+                self.check_ann()
+                self.check_denied(ASKED, DENIED)
+                self.check_ann()
 
     def test_included(self) -> None:
         """A file that Ann writes includes none that she may not read."""
@@ -156,22 +156,22 @@ class Sites(OfSite):
         for name, of_all, line in LOCKS:
             self.restart_nginx(of_all, "", without=line)
             with self.subTest(name):
-                self.get_nothing([each for each in ASKED if each[2] != "/web/"], DENIED | UNDECIDED)
+                self.check_denied([each for each in ASKED if each[2] != "/web/"], DENIED | UNDECIDED)
 
     def test_daemon_stopped(self) -> None:
         """While no daemon answers, nobody gets anything, not even Ann what she may."""
-        self.grants_ann()
+        self.check_ann()
         self.site.stop_daemon()
         self.addCleanup(self.site.start_daemon)
         for name, of_all, of_server in SITES:
             self.restart_nginx(of_all, of_server)
             with self.subTest(name):
-                self.get_nothing([*ASKED, *GRANTED], DENIED - {401} | UNDECIDED)
+                self.check_denied([*ASKED, *GRANTED], DENIED - {401} | UNDECIDED)
 
     def test_full_queue(self) -> None:
         """Where the queue of the daemon's socket is full, nginx cannot ask, and nobody gets anything."""
         self.restart_nginx(f"error_page {ERRORS} = {SORRY};", "")
-        self.grants_ann()
+        self.check_ann()
         self.site.stop_daemon()
         self.addCleanup(self.site.start_daemon)
         with contextlib.ExitStack() as stack:
@@ -183,7 +183,7 @@ class Sites(OfSite):
                 waiting.setblocking(False)
                 with contextlib.suppress(BlockingIOError):
                     waiting.connect(self.site.at("run/socket"))
-            self.get_nothing([*ASKED, *GRANTED], DENIED - {401} | UNDECIDED)
+            self.check_denied([*ASKED, *GRANTED], DENIED - {401} | UNDECIDED)
 
 
 class Numbers(unittest.TestCase):
@@ -199,7 +199,8 @@ class Numbers(unittest.TestCase):
         self.assertLessEqual(40 * self.number(r"keepalive (\d+);"), 768)
 
     def test_rates(self) -> None:
-        """An address takes at most a tenth of a core: 18 ms a request with certificates, and 0.1 ms without."""
+        """Requests of one address, of 18 ms each, that show or leave certificates take at most a tenth of a core.
+        Others, of 0.1 ms, take a hundredth."""
         self.assertLessEqual(self.number(r"zone=spki_showing:\w+ rate=(\d+)r/s") * 0.018, 0.1)
         self.assertLessEqual(self.number(r"zone=spki_leaving:\w+ rate=(\d+)r/s") * 0.018, 0.1)
         self.assertLessEqual(self.number(r"zone=spki:\w+ rate=(\d+)r/s") * 0.0001, 0.01)
@@ -214,55 +215,41 @@ class Changes(OfSite):
         refused, and the one before it stays. Nobody gets a wrong answer."""
         without_ben = self.site.text("etc/acl.sexp")
         self.site.cert("entry", "--to", "keys/ben.pub", "--tag", READ, "--acl", "etc/acl.sexp")
-        with_ben, met, ends = self.site.text("etc/acl.sexp"), set[tuple[str, object]](), threading.Event()
-
-        def asks() -> None:
-            while not ends.is_set():
-                for who in ("ann", "ben", "eve"):
-                    try:
-                        met.add((who, self.site.status(who, "GET", "/web/index.html")))
-                    except Exception as why:
-                        met.add((who, repr(why)))
-
-        readers = [threading.Thread(target=asks) for _ in range(READERS)]
-        for each in readers:
-            each.start()
+        with_ben = self.site.text("etc/acl.sexp")
         try:
-            for number in range(CHANGES):
-                self.site.write("etc/new", "(acl" if number % 5 == 4 else with_ben if number % 2 else without_ben)
-                os.replace(self.site.at("etc/new"), self.site.at("etc/acl.sexp"))
-                said = self.site.reload()
-                self.assertEqual("refused" in said, number % 5 == 4, said)
-                if number % 5 != 4:
-                    self.assertEqual(self.site.status("ben", "GET", "/web/index.html"), 200 if number % 2 else 401)
+            with asked_by_many(lambda: [(who, self.site.status(who, "GET", "/web/index.html")) for who in ("ann", "ben", "eve")]) as answers:
+                for number in range(CHANGES):
+                    self.site.write("etc/new", "(acl" if number % 5 == 4 else with_ben if number % 2 else without_ben)
+                    os.replace(self.site.at("etc/new"), self.site.at("etc/acl.sexp"))
+                    message = self.site.reload()
+                    self.assertEqual("refused" in message, number % 5 == 4, message)
+                    if number % 5 != 4:
+                        self.assertEqual(self.site.status("ben", "GET", "/web/index.html"), 200 if number % 2 else 401)
         finally:
-            ends.set()
-            for each in readers:
-                each.join()
             self.site.write("etc/acl.sexp", without_ben)
             self.site.reload()
-        self.assertEqual(met, {("ann", 200), ("ben", 200), ("ben", 401), ("eve", 401)})
+        self.assertEqual(set(answers), {("ann", 200), ("ben", 200), ("ben", 401), ("eve", 401)})
 
     def test_slow_clients(self) -> None:
-        """Clients that never end their header, or their body, hold up nobody."""
+        """Clients that never end their header, or their body, do not delay others."""
         halves = [b"GET /web/index.html HTTP/1.1\r\nHost: loc", b"PUT /web/slow HTTP/1.1\r\nHost: localhost\r\nContent-Length: 9\r\n\r\nab"] * 20
-        open_ones = []
+        connections = []
         try:
             for half in halves:
                 waiting = self.site.connected("ann")
-                open_ones.append(waiting)
+                connections.append(waiting)
                 waiting.__enter__().sendall(half)
             for _ in range(10):
-                self.grants_ann()
+                self.check_ann()
         finally:
-            for waiting in open_ones:
+            for waiting in connections:
                 waiting.__exit__(None, None, None)
-        self.grants_ann()
+        self.check_ann()
         self.assertFalse(os.path.exists(self.site.at("files/web/slow")))
 
     def test_daemon_killed(self) -> None:
         """Without its daemon nginx grants nothing. Started again, the daemon takes over the socket that was left."""
-        self.grants_ann()
+        self.check_ann()
         self.site.daemon.send_signal(signal.SIGKILL)
         self.site.daemon.wait()
         for who in ("ann", "eve", None):
@@ -270,7 +257,7 @@ class Changes(OfSite):
         self.assertGreaterEqual(self.site.status("ann", "PUT", "/web/killed", body="x"), 500)
         self.assertFalse(os.path.exists(self.site.at("files/web/killed")))
         self.site.start_daemon()
-        self.grants_ann()
+        self.check_ann()
 
     def test_daemon_ended(self) -> None:
         """At SIGTERM the daemon ends with status 0, and leaves no socket."""
@@ -278,18 +265,19 @@ class Changes(OfSite):
         self.assertEqual(self.site.daemon.wait(served.SECONDS), 0)
         self.assertGreaterEqual(self.site.status("ann", "GET", "/web/index.html"), 500)
         self.site.start_daemon()
-        self.grants_ann()
+        self.check_ann()
 
     def test_ended_certificates(self) -> None:
-        """A certificate whose digest is in the file counts no longer, and counts again when it is gone from the file, and that is wanted."""
+        """A certificate whose digest is in the file of ended certificates grants nothing. It grants again once a reload
+        with `-fewer` accepts a file without it."""
         shown_by_ben = sequence(self.site, "ann", "ben", READ)
         shown, before = f"Authorization: SPKI {in_braces(shown_by_ben)}", self.site.text("etc/ended")
         self.assertEqual(self.site.status("ben", "GET", "/web/index.html", shown), 200)
         asks = (self.site.program, "-config", self.site.at("etc/authd.json"), "-reload")
-        for text, words, done, status in ((sealed(f"{digest_of(shown_by_ben[1]).hex()}\n"), (), 0, 403), ("no digest\n", (), 1, 403),
-                                          (before, (), 1, 403), (before, ("-fewer",), 0, 200)):
+        for text, words, ended, status in ((sealed(f"{digest_of(shown_by_ben[1]).hex()}\n"), (), 0, 403), ("no digest\n", (), 1, 403),
+                                           (before, (), 1, 403), (before, ("-fewer",), 0, 200)):
             self.site.write("etc/ended", text)
-            self.assertEqual(output_of(*asks, *words)[0], done)
+            self.assertEqual(output_of(*asks, *words)[0], ended)
             self.assertEqual(self.site.status("ben", "GET", "/web/index.html", shown), status)
 
 
@@ -312,14 +300,14 @@ class Limits(OfSite):
 
     def test_rate(self) -> None:
         """Past the rate a client sees 429, and the daemon is not asked."""
-        self.grants_ann()
+        self.check_ann()
         before, count = len(self.lines()), 400
         each = "GET /web/index.html HTTP/1.1\r\nHost: localhost\r\n"
         answer = self.site.answer_at_once("ann", f"{each}\r\n".encode() * (count - 1) + f"{each}Connection: close\r\n\r\n".encode())
-        met = statuses(answer)
-        self.assertEqual((len(met), set(met)), (count, {200, 429}))
-        self.assertEqual(len(self.lines()) - before, met.count(200))
-        self.grants_ann()
+        codes = statuses(answer)
+        self.assertEqual((len(codes), set(codes)), (count, {200, 429}))
+        self.assertEqual(len(self.lines()) - before, codes.count(200))
+        self.check_ann()
 
     def test_rate_of_certificates(self) -> None:
         """Who shows certificates has a lower rate, and the daemon is not asked past it."""
@@ -328,12 +316,12 @@ class Limits(OfSite):
         asked = f"{each}\r\n".encode() * (count - 1) + f"{each}Connection: close\r\n\r\n".encode()
 
         def is_limited() -> bool:
-            before, met = len(self.lines()), statuses(self.site.answer_at_once("ben", asked))
-            self.assertEqual((len(met), len(self.lines()) - before), (count, met.count(200)))
-            return set(met) == {200, 429}
+            before, codes = len(self.lines()), statuses(self.site.answer_at_once("ben", asked))
+            self.assertEqual((len(codes), len(self.lines()) - before), (count, codes.count(200)))
+            return set(codes) == {200, 429}
         # (requests of the tests before may have used the rate up)
         waits_for("a request within the rate", is_limited)
-        self.grants_ann()
+        self.check_ann()
 
     def test_numbers_of_requests(self) -> None:
         """Both logs have the number of a request, and a client cannot set it."""
@@ -359,7 +347,7 @@ class Limits(OfSite):
             with socket.socket(socket.AF_UNIX) as silent:
                 silent.connect(self.site.at("run/socket"))
                 before = len(self.lines())
-                self.grants_ann()
+                self.check_ann()
                 self.assertEqual((silent.recv(1), len(self.lines())), (b"", before + 1))
         finally:
             self.with_limits()
@@ -373,7 +361,7 @@ class Limits(OfSite):
                 slow.sendall(b"GET / HTTP/1.1\r\nHost: x\r\n")
                 self.assertEqual(slow.recv(1), b"")
             self.assertEqual(self.lines()[-1]["reason"], "the request did not end in time")
-            self.grants_ann()
+            self.check_ann()
         finally:
             self.with_limits()
 
@@ -384,7 +372,7 @@ class Limits(OfSite):
             self.assertEqual(self.site.status("ann", "GET", "/web/index.html"), 500)
         finally:
             self.site.daemon.send_signal(signal.SIGCONT)
-        self.grants_ann()
+        self.check_ann()
 
 
 @needs.needs(*served.NEEDS, *needs.LIBRARY)

@@ -11,22 +11,22 @@ from suite import test_guide
 class Operating(unittest.TestCase):
     """The page in a shell."""
 
-    def is_run(self, shell: str) -> None:
+    def check_page(self, shell: str) -> None:
         """A shell that runs the commands of the page must write what the page says."""
         site = served.Site()
         self.addCleanup(site.end)
         steps = list(test_guide.steps_of_markdown(text_of("docs/OPERATING.md")))
         settings = {**site.settings, "EXAMPLE": served.EXAMPLE, "PATH": f"{os.path.dirname(site.program)}:{site.settings['PATH']}"}
         try:
-            said = output_of(shell, text="".join(test_guide.script(steps)), cwd=site.room, env=settings, seconds=served.SECONDS)[1]
+            output = output_of(shell, text="".join(test_guide.script(steps)), cwd=site.room, env=settings, seconds=served.SECONDS)[1]
         finally:
             # (the page starts a second daemon, which would run on)
             output_of("sh", "-c", "kill $(cat run/second.pid)", cwd=site.room)
-        met = [each.strip("\n") for each in said.split(f"{test_guide.END}\n")]
-        self.assertEqual(met, [*(answer.strip("\n") for _, _, answer in steps), ""])
+        written = [each.strip("\n") for each in output.split(f"{test_guide.END}\n")]
+        self.assertEqual(written, [*(answer.strip("\n") for _, _, answer in steps), ""])
 
     def test_in_sh(self) -> None:
-        self.is_run("sh")
+        self.check_page("sh")
 
     def test_in_bash(self) -> None:
-        self.is_run("bash")
+        self.check_page("bash")

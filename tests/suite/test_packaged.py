@@ -37,7 +37,7 @@ RELATIONS = {"spki": r"Depends: libc6 \(>= 2\.\d+\)$", SHARED: r"Depends: libc6 
              "spki-authd": r"Depends: libc6 \(>= 2\.\d+\), adduser, init-system-helpers"}
 # What packages.sh reads.
 SOURCES = ("*.sh", "VERSION", "CHANGELOG.md", "README.md", "apps", "bindings", "crates/spki_c/*.h*", "docs", "examples", "packaging")
-# There is no license yet.
+# What lintian says since there is no license yet.
 TAGS_OF_LINTIAN = {"copyright-without-copyright-notice"}
 # The sections that programs and shared libraries must not have, and those that the static library must not have, which needs its symbols.
 SYMBOLS, DEBUG = re.compile(r"\.(?:symtab|strtab|z?debug\w*)$"), re.compile(r"\.z?debug\w*$")
@@ -62,7 +62,7 @@ def logics(path: str) -> set[bytes]:
         return set(re.findall(rb"rattle logic=[0-9a-f]{64}", file.read()))
 
 
-def copied_sources(folder: str) -> str:
+def copy_sources(folder: str) -> str:
     """Copies the sources of the packages into a folder, which is no clone of git. Returns the folder."""
     words = ["git", "ls-files", "-z", "-co", "--exclude-standard", "--", *SOURCES]
     listed = subprocess.run(words, cwd=TOP, stdout=subprocess.PIPE, check=True).stdout
@@ -72,24 +72,24 @@ def copied_sources(folder: str) -> str:
 
 @needs.needs("dpkg-deb", "go", *needs.LIBRARY)
 class Packages(built.OfLibrary):
-    """What is in the packages."""
+    """What is in the packages. `packages` has the path of each by its name, and `folder` is where they are."""
 
     folder: str
     unpacked: str
-    made: dict[str, str]
+    packages: dict[str, str]
 
     @classmethod
     def setUpClass(cls) -> None:
         super().setUpClass()
         room = room_for(cls)
         cls.folder = os.path.join(room, "packages")
-        status, said = make_packages(TOP, "--maintainer", MAINTAINER, cls.folder, cls.program, cls.library)
+        status, output = make_packages(TOP, "--maintainer", MAINTAINER, cls.folder, cls.program, cls.library)
         if status:
-            raise AssertionError(f"packages.sh ended with status {status}: {said}")
-        cls.made = {name.split("_")[0]: os.path.join(cls.folder, name) for name in os.listdir(cls.folder) if name.endswith(".deb")}
+            raise AssertionError(f"packages.sh ended with status {status}: {output}")
+        cls.packages = {name.split("_")[0]: os.path.join(cls.folder, name) for name in os.listdir(cls.folder) if name.endswith(".deb")}
         cls.unpacked = os.path.join(room, "unpacked")
         os.mkdir(cls.unpacked)
-        for name, path in cls.made.items():
+        for name, path in cls.packages.items():
             output_of("dpkg-deb", "-x", path, cls.inside(name))
             output_of("dpkg-deb", "-e", path, cls.inside(name, "DEBIAN"))
 
@@ -99,7 +99,7 @@ class Packages(built.OfLibrary):
         return os.path.join(cls.unpacked, name, *path)
 
     def test_packages(self) -> None:
-        self.assertEqual(set(self.made), set(FILES))
+        self.assertEqual(set(self.packages), set(FILES))
 
     def test_files(self) -> None:
         of_all = ("usr/share/doc/{0}/copyright", "usr/share/doc/{0}/changelog.gz")
@@ -108,7 +108,7 @@ class Packages(built.OfLibrary):
         self.assertEqual(missing, [])
 
     def test_fields(self) -> None:
-        for name in self.made:
+        for name in self.packages:
             control = text_of(self.inside(name, "DEBIAN", "control"))
             with self.subTest(name=name):
                 self.assertIn(f"\nVersion: {VERSION}\n", control)
@@ -116,7 +116,8 @@ class Packages(built.OfLibrary):
                 self.assertRegex(control, re.compile(f"^{RELATIONS[name]}", re.MULTILINE))
 
     def test_soname(self) -> None:
-        """The library's package has the name of its soname, and programs that are linked with it depend on this package."""
+        """The library's package has the version of its soname in its name. By its `shlibs`, programs that are linked
+        with the library depend on this package."""
         soname = re.findall(r"SONAME.*\[(.*)\]", output_of("readelf", "-dW", self.shared)[1])
         self.assertEqual(soname, [f"libspki_c.so.{INTERFACE}"])
         self.assertEqual(text_of(self.inside(SHARED, "DEBIAN", "shlibs")), f"libspki_c {INTERFACE} {SHARED} (>= {INTERFACE})\n")
@@ -152,7 +153,7 @@ class Packages(built.OfLibrary):
 
     @needs.needs("cmake")
     def test_cmake(self) -> None:
-        """CMake finds the libraries and the header, also by the way of /lib."""
+        """CMake finds the libraries and the header, also by the path through /lib."""
         root = self.root_with("libspki-dev", SHARED)
         for prefix in (os.path.join(root, "usr"), root):
             with self.subTest(prefix=prefix), tempfile.TemporaryDirectory() as room:
@@ -161,10 +162,10 @@ class Packages(built.OfLibrary):
                                "find_package(spki REQUIRED)\nforeach(name spki static)\nget_target_property(place spki::${name} IMPORTED_LOCATION)\n"
                                "get_target_property(headers spki::${name} INTERFACE_INCLUDE_DIRECTORIES)\n"
                                "message(STATUS \"found ${place} ${headers}\")\nendforeach()\n")
-                said = output_of("cmake", "-S", room, "-B", room, f"-DCMAKE_PREFIX_PATH={prefix}")[1]
-                found = re.findall("^-- found (.*) (.*)$", said, re.MULTILINE)
-                self.assertEqual(len(found), 2, said)
-                self.assertEqual([it for line in found for it in line if not os.path.exists(it)], [])
+                output = output_of("cmake", "-S", room, "-B", room, f"-DCMAKE_PREFIX_PATH={prefix}")[1]
+                lines = re.findall("^-- found (.*) (.*)$", output, re.MULTILINE)
+                self.assertEqual(len(lines), 2, output)
+                self.assertEqual([path for line in lines for path in line if not os.path.exists(path)], [])
 
     def test_python(self) -> None:
         """The module of spki-cert finds the library of its version by the loader alone, also beside one of another version."""
@@ -172,8 +173,8 @@ class Packages(built.OfLibrary):
         shutil.copy(self.inside(SHARED, "DEBIAN", "control"), os.path.join(folder, PLACE, "libspki_c.so"))
         settings = {name: value for name, value in os.environ.items() if name != "SPKI_LIBRARY"}
         settings.update(PYTHONPATH=self.inside("spki-cert", "usr", "share", "spki-cert"), LD_LIBRARY_PATH=os.path.join(folder, PLACE))
-        said = output_of(sys.executable, "-B", "-c", "import spki; print(spki.library._name)", env=settings)
-        self.assertEqual(said, (0, f"libspki_c.so.{INTERFACE}\n"))
+        output = output_of(sys.executable, "-B", "-c", "import spki; print(spki.library._name)", env=settings)
+        self.assertEqual(output, (0, f"libspki_c.so.{INTERFACE}\n"))
 
     @needs.needs("pkg-config")
     def test_linked(self) -> None:
@@ -195,30 +196,31 @@ class Packages(built.OfLibrary):
         epoch = output_of("git", "log", "-1", "--format=%ct", cwd=TOP)[1].strip()
         name, address = MAINTAINER.rstrip(">").split(" <")
         with tempfile.TemporaryDirectory() as room:
-            top, folder = copied_sources(room), os.path.join(room, "made")
-            status, said = make_packages(top, folder, self.program, self.library, SOURCE_DATE_EPOCH=epoch, DEBFULLNAME=name, DEBEMAIL=address,
-                                         TZ="Asia/Tokyo", LC_ALL="C.UTF-8", HOME=room,
-                                         GOCACHE=os.path.join(room, "go") if built.IS_LONG else GO_CACHE)
-            self.assertEqual(status, 0, said)
+            top, folder = copy_sources(room), os.path.join(room, "made")
+            settings = {"SOURCE_DATE_EPOCH": epoch, "DEBFULLNAME": name, "DEBEMAIL": address, "TZ": "Asia/Tokyo", "LC_ALL": "C.UTF-8",
+                        "HOME": room, "GOCACHE": os.path.join(room, "go") if built.IS_LONG else GO_CACHE}
+            status, output = make_packages(top, folder, self.program, self.library, **settings)
+            self.assertEqual(status, 0, output)
             self.assertEqual(sorted(os.listdir(folder)), sorted(os.listdir(self.folder)))
-            for made in sorted(os.listdir(folder)):
-                with open(os.path.join(folder, made), "rb") as one, open(os.path.join(self.folder, made), "rb") as other:
-                    self.assertTrue(one.read() == other.read(), f"{made} has other octets")
+            for file in sorted(os.listdir(folder)):
+                with open(os.path.join(folder, file), "rb") as one, open(os.path.join(self.folder, file), "rb") as other:
+                    self.assertTrue(one.read() == other.read(), f"{file} has other octets")
 
-    def is_accepted_by_lintian(self, *names: str) -> None:
-        """lintian must have nothing to say of packages but that the license is missing."""
-        status, said = output_of("lintian", "--allow-root", "--tag-display-limit", "0", *map(self.made.__getitem__, names), seconds=600)
-        tags = [line for line in said.splitlines() if re.match("[EW]: ", line)]
-        self.assertEqual([line for line in tags if line.split()[2] not in TAGS_OF_LINTIAN], [], said)
-        self.assertEqual({line.split()[1].rstrip(":") for line in tags}, set(names), said)
+    def check_lintian(self, *names: str) -> None:
+        """The only error or warning of lintian about packages, for each of them, must be that the license is missing
+        (TAGS_OF_LINTIAN)."""
+        status, output = output_of("lintian", "--allow-root", "--tag-display-limit", "0", *map(self.packages.__getitem__, names), seconds=600)
+        tags = [line for line in output.splitlines() if re.match("[EW]: ", line)]
+        self.assertEqual([line for line in tags if line.split()[2] not in TAGS_OF_LINTIAN], [], output)
+        self.assertEqual({line.split()[1].rstrip(":") for line in tags}, set(names), output)
 
     @needs.needs("lintian")
     def test_lintian_of_the_libraries(self) -> None:
-        self.is_accepted_by_lintian("spki", SHARED, "libspki-dev")
+        self.check_lintian("spki", SHARED, "libspki-dev")
 
     @needs.needs("lintian")
     def test_lintian_of_the_commands(self) -> None:
-        self.is_accepted_by_lintian("spki-cert", "spki-authd")
+        self.check_lintian("spki-cert", "spki-authd")
 
     def test_sums(self) -> None:
         self.assertEqual(output_of("sha256sum", "--strict", "--check", "--quiet", "SHA256SUMS", cwd=self.folder), (0, ""))
@@ -230,13 +232,13 @@ class Packages(built.OfLibrary):
         listed = json.loads(text_of(os.path.join(self.folder, f"spki_{VERSION}.spdx.json")))
         self.assertEqual((listed["spdxVersion"], listed["SPDXID"]), ("SPDX-2.3", "SPDXRef-DOCUMENT"))
         files = {it["SPDXID"]: it for it in listed["files"]}
-        held = [(it["spdxElementId"], it["relatedSpdxElement"]) for it in listed["relationships"] if it["relationshipType"] == "CONTAINS"]
+        contained = [(it["spdxElementId"], it["relatedSpdxElement"]) for it in listed["relationships"] if it["relationshipType"] == "CONTAINS"]
         for package in (it for it in listed["packages"] if "packageFileName" in it):
             name = package["name"]
-            met = {file["fileName"]: {it["algorithm"]: it["checksumValue"] for it in file["checksums"]}
-                   for owner, it in held if owner == package["SPDXID"] for file in [files[it]]}
-            self.assertEqual(met, self.digests(name), name)
-            whole = hashlib.sha1("".join(sorted(it["SHA1"] for it in met.values())).encode()).hexdigest()
+            digests = {file["fileName"]: {it["algorithm"]: it["checksumValue"] for it in file["checksums"]}
+                       for owner, it in contained if owner == package["SPDXID"] for file in [files[it]]}
+            self.assertEqual(digests, self.digests(name), name)
+            whole = hashlib.sha1("".join(sorted(it["SHA1"] for it in digests.values())).encode()).hexdigest()
             self.assertEqual(package["packageVerificationCode"]["packageVerificationCodeValue"], whole, name)
         linked = {(it["spdxElementId"], it["relatedSpdxElement"]) for it in listed["relationships"] if it["relationshipType"] == "STATIC_LINK"}
         proved = {f"SPDXRef-{name}-amd64" for name in FILES if name != "spki-cert"}
@@ -244,28 +246,28 @@ class Packages(built.OfLibrary):
         self.assertEqual({pair for pair in linked if "logic" in pair[1]}, {(name, f"SPDXRef-rattle-logic-{it}") for name in proved for it in logic})
         self.assertEqual([pair[0] for pair in linked if "SPDXRef-go-" in pair[1]], ["SPDXRef-spki-authd-amd64"])
         named = {it["packageFileName"] for it in listed["packages"] if "packageFileName" in it}
-        self.assertEqual(named, {os.path.basename(path) for path in self.made.values()})
+        self.assertEqual(named, {os.path.basename(path) for path in self.packages.values()})
 
     def digests(self, name: str) -> dict[str, dict[str, str]]:
         """The SHA-1 and the SHA-256 of each file of an unpacked package, by its path, which begins with `./`."""
-        found: dict[str, dict[str, str]] = {}
+        digests: dict[str, dict[str, str]] = {}
         for path in output_of("find", ".", "-name", "DEBIAN", "-prune", "-o", "-type", "f", "-print", cwd=self.inside(name))[1].splitlines():
             with open(self.inside(name, path), "rb") as file:
                 octets = file.read()
-            found[path] = {"SHA1": hashlib.sha1(octets).hexdigest(), "SHA256": hashlib.sha256(octets).hexdigest()}
-        return found
+            digests[path] = {"SHA1": hashlib.sha1(octets).hexdigest(), "SHA256": hashlib.sha256(octets).hexdigest()}
+        return digests
 
     @needs.needs("dpkg-parsechangelog")
     def test_changelog(self) -> None:
-        """The newest release in Debian's form has the version, the maintainer, and each item of CHANGELOG.md that is not in an older one."""
+        """The changelog in Debian's form has the version, the maintainer, and as many items as CHANGELOG.md."""
         packed = self.inside("spki", "usr", "share", "doc", "spki", "changelog.gz")
         text = subprocess.run(["gzip", "-dc", packed], stdout=subprocess.PIPE, check=True, text=True).stdout
-        said = output_of("dpkg-parsechangelog", "-l", "-", text=text)[1]
+        output = output_of("dpkg-parsechangelog", "-l", "-", text=text)[1]
         for line in ("Source: spki", f"Version: {VERSION}", f"Maintainer: {MAINTAINER}"):
-            self.assertIn(f"{line}\n", said)
-        met = len(re.findall(r"^  \* ", text, re.MULTILINE))
+            self.assertIn(f"{line}\n", output)
+        packed_items = re.findall(r"^  \* ", text, re.MULTILINE)
         items = [it for it in re.split(r"\n\n|\n(?=- )", text_of("CHANGELOG.md")) if it.strip() and not it.strip().startswith("#")]
-        self.assertEqual(met, len(items))
+        self.assertEqual(len(packed_items), len(items))
 
 
 @needs.needs("dpkg-deb", "go", *needs.LIBRARY)
@@ -273,7 +275,7 @@ class Scripts(unittest.TestCase):
     """What runs where a package is installed, and what packages.sh refuses."""
 
     def test_maintainer(self) -> None:
-        """Without somebody who answers for them no packages are made."""
+        """Without the name and the address of a maintainer no packages are made."""
         rows: list[tuple[list[str], dict[str, str]]] = [
             ([], {}), ([], {"DEBFULLNAME": "Ann"}), ([], {"DEBEMAIL": "ann@conguraki.org"}), (["--maintainer", "ann"], {}),
             (["--maintainer", ""], {}),
@@ -282,16 +284,16 @@ class Scripts(unittest.TestCase):
         for words, settings in rows:
             with self.subTest(words=words, settings=settings), tempfile.TemporaryDirectory() as room:
                 environment = {"PATH": os.environ["PATH"], **settings}
-                status, said = output_of(os.path.join(TOP, "packages.sh"), *words, os.path.join(room, "made"), env=environment)
-                self.assertNotEqual(status, 0, said)
-                self.assertIn("packages.sh: ", said)
+                status, output = output_of(os.path.join(TOP, "packages.sh"), *words, os.path.join(room, "made"), env=environment)
+                self.assertNotEqual(status, 0, output)
+                self.assertIn("packages.sh: ", output)
                 self.assertEqual(os.listdir(room), [])
 
     def test_time(self) -> None:
-        """Sources that are no clone need the time that the packages get."""
+        """Sources that are no clone need SOURCE_DATE_EPOCH, the time of the files in the packages."""
         with tempfile.TemporaryDirectory() as room:
-            status, said = make_packages(copied_sources(room), "--maintainer", MAINTAINER, os.path.join(room, "made"))
-            self.assertEqual((status, "set SOURCE_DATE_EPOCH" in said), (2, True), said)
+            status, output = make_packages(copy_sources(room), "--maintainer", MAINTAINER, os.path.join(room, "made"))
+            self.assertEqual((status, "set SOURCE_DATE_EPOCH" in output), (2, True), output)
             self.assertFalse(os.path.exists(os.path.join(room, "made")))
 
     def test_installing_the_daemon(self) -> None:
@@ -302,10 +304,10 @@ class Scripts(unittest.TestCase):
                     file.write(f'#!/bin/sh\necho {name} "$@"\n')
                 os.chmod(file.name, 0o755)
             settings = {**os.environ, "PATH": f"{room}:{os.environ['PATH']}"}
-            status, said = output_of("sh", os.path.join(TOP, "packaging", "spki-authd.postinst"), "configure", "", env=settings)
-        self.assertEqual(status, 0, said)
-        self.assertRegex(said, "adduser .*--system --group .* spki-authd\nchown root:spki-authd /etc/spki-authd\nchmod 750 /etc/spki-authd\n")
-        self.assertEqual(re.findall(r"^(?:systemctl|deb-systemd-invoke) .*(?:start|enable).*", said, re.MULTILINE), [])
+            status, output = output_of("sh", os.path.join(TOP, "packaging", "spki-authd.postinst"), "configure", "", env=settings)
+        self.assertEqual(status, 0, output)
+        self.assertRegex(output, "adduser .*--system --group .* spki-authd\nchown root:spki-authd /etc/spki-authd\nchmod 750 /etc/spki-authd\n")
+        self.assertEqual(re.findall(r"^(?:systemctl|deb-systemd-invoke) .*(?:start|enable).*", output, re.MULTILINE), [])
 
     @needs.needs("man")
     def test_manual_of_the_daemon(self) -> None:
@@ -328,8 +330,8 @@ class PackagesForArm(built.OfLibrary):
     def test_libraries(self) -> None:
         """The code is that of the libraries for ARM."""
         with tempfile.TemporaryDirectory() as room:
-            status, said = make_packages(TOP, "--maintainer", MAINTAINER, "--arm64", room, self.program, self.library)
-            self.assertEqual(status, 0, said)
+            status, output = make_packages(TOP, "--maintainer", MAINTAINER, "--arm64", room, self.program, self.library)
+            self.assertEqual(status, 0, output)
             self.assertEqual(len([name for name in os.listdir(room) if name.endswith(".deb")]), len(FILES) + 2)
             for name, end, own in ((SHARED, f"so.{INTERFACE}", "so"), ("libspki-dev", "a", "a")):
                 package = os.path.join(room, f"{name}_{VERSION}_arm64.deb")

@@ -17,22 +17,22 @@ ADVICE = ("no test knows these commands. Put each where a test runs it: into a b
 class Lists(unittest.TestCase):
     """The commands of the pages beside the lists of page_commands.py."""
 
-    found: list[Command]
+    commands: list[Command]
 
     @classmethod
     def setUpClass(cls) -> None:
-        cls.found = page_commands.all_commands()
+        cls.commands = page_commands.all_commands()
 
     def test_all_are_known(self) -> None:
-        unknown = page_commands.uncovered(self.found)
+        unknown = page_commands.uncovered(self.commands)
         self.assertEqual(unknown, [], "\n".join([ADVICE, *unknown]))
 
     def test_each_row_is_about_a_command(self) -> None:
         """A row whose commands are gone is to be removed."""
-        idle = [row for row in RUN if not any((it.page, it.kind) == (row.page, row.kind) for it in self.found)]
-        self.assertEqual(idle, [], "these rows of RUN are about no command: remove them")
-        left = [row for row in NOT_RUN if not any(page_commands.covers(row, it) for it in self.found)]
-        self.assertEqual(left, [], "these rows of NOT_RUN are about no command: remove them")
+        unused = [row for row in RUN if not any((it.page, it.kind) == (row.page, row.kind) for it in self.commands)]
+        self.assertEqual(unused, [], "these rows of RUN are about no command: remove them")
+        unused = [row for row in NOT_RUN if not any(page_commands.covers(row, it) for it in self.commands)]
+        self.assertEqual(unused, [], "these rows of NOT_RUN are about no command: remove them")
 
     def test_the_tests_read_their_pages(self) -> None:
         """The test that a row of RUN names has the name of its page in its source."""
@@ -45,7 +45,7 @@ class Lists(unittest.TestCase):
         options behind the command."""
         helps: dict[str, str] = {}
         flags = "".join(text_of(path) for path in tracked() if path.startswith("apps/spki-authd/") and path.endswith(".go"))
-        for it in self.found:
+        for it in self.commands:
             named = re.fullmatch(r"(spki-cert|spki|spki-authd) -?([a-z]+)((?: --[a-z-]+)*)", it.line)
             if not named or it.kind != "inline":
                 continue

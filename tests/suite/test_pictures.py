@@ -20,33 +20,32 @@ CASES = {
 class Pictures(built.OfProgram):
     """What is drawn."""
 
-    def drawn(self, name: str) -> tuple[int, str]:
+    def draw(self, name: str) -> tuple[int, str]:
         """The status of examples/picture.py on a case, and what it draws."""
         return output_of(os.path.join(EXAMPLES, "picture.py"), os.path.join(EXAMPLES, name), self.program)
 
-    def has_words(self, name: str) -> None:
+    def check_words(self, name: str) -> None:
         """The picture of a case must have its words."""
-        status, drawn = self.drawn(name)
-        missing = [word for word in CASES[name] if word not in drawn]
-        self.assertEqual((status, missing), (0, []), f"{name} is drawn without {missing}\n{drawn}")
+        status, picture = self.draw(name)
+        missing = [word for word in CASES[name] if word not in picture]
+        self.assertEqual((status, missing), (0, []), f"{name} is drawn without {missing}\n{picture}")
 
-    def is_read(self, name: str) -> None:
+    def check_by_graphviz(self, name: str) -> None:
         """Graphviz must read the picture of a case."""
-        status, said = output_of("dot", "-Tplain", text=self.drawn(name)[1])
-        self.assertEqual(status, 0, f"dot does not read the picture of {name}: {said}")
+        status, output = output_of("dot", "-Tplain", text=self.draw(name)[1])
+        self.assertEqual(status, 0, f"dot does not read the picture of {name}: {output}")
 
     def test_pictures_of_the_documents(self) -> None:
         draw = os.path.join(TOP, "docs", "pictures", "draw.py")
-        status, said = output_of(draw, "--check", self.program)
-        self.assertEqual(status, 0, said)
-        status, said = output_of(draw, "/bin/false", "--check")
-        self.assertEqual((status, said), (2, "/bin/false explain ended with status 1 and no answer\n"))
+        status, output = output_of(draw, "--check", self.program)
+        self.assertEqual(status, 0, output)
+        self.assertEqual(output_of(draw, "/bin/false", "--check"), (2, "/bin/false explain ended with status 1 and no answer\n"))
 
     def test_what_is_not_drawn(self) -> None:
         """A case that is refused, a file that is not there, and a program that fails at a command each end in one line and status 2. The program is a
-        script, which does `fails` for the command."""
+        script, which runs the shell's words `fails` for `command`, and else the real program."""
         program = os.path.join(room_for(self), "spki")
-        for case, command, fails, said in [
+        for case, command, fails, message in [
                 ("bad-date.csexp", "", ":", "refused at BadDate"), ("none", "", ":", "No such file or directory"),
                 ("delegation.sexp", "explain", "exit 3", "explain ended with status 3 and no answer"),
                 ("delegation.sexp", "explain", "exit 0", "explain ended with status 0 and no answer"),
@@ -56,15 +55,15 @@ class Pictures(built.OfProgram):
             with open(program, "w", encoding="utf-8") as file:
                 file.write(f"#!/bin/sh\n[ \"$1\" != '{command}' ] || {{ {fails}; }}\nexec '{self.program}' \"$@\"\n")
             os.chmod(program, 0o755)
-            with self.subTest(said, command=command):
-                status, written = output_of(os.path.join(EXAMPLES, "picture.py"), os.path.join(EXAMPLES, case), program)
-                self.assertEqual((status, written.count("\n"), said in written), (2, 1, True), written)
+            with self.subTest(message, command=command):
+                status, output = output_of(os.path.join(EXAMPLES, "picture.py"), os.path.join(EXAMPLES, case), program)
+                self.assertEqual((status, output.count("\n"), message in output), (2, 1, True), output)
 
 
 def add(name: str) -> None:
     """Adds the tests of a case."""
-    words: Callable[[Pictures], None] = lambda self: self.has_words(name)
-    read: Callable[[Pictures], None] = lambda self: self.is_read(name)
+    words: Callable[[Pictures], None] = lambda self: self.check_words(name)
+    read: Callable[[Pictures], None] = lambda self: self.check_by_graphviz(name)
     place = os.path.splitext(name)[0]
     setattr(Pictures, f"test_picture:{place}", words)
     setattr(Pictures, f"test_picture:{place}:read", needs.needs("dot")(read))

@@ -35,7 +35,7 @@ def is_script(path: str) -> bool:
 class Scripts(unittest.TestCase):
     """All scripts in Python."""
 
-    def finds_nothing(self, *words: str) -> None:
+    def check_all(self, *words: str) -> None:
         """A command, which gets the paths of all scripts behind these words, must find nothing in them."""
         done = subprocess.run([*words, *scripts()], cwd=TOP, stdout=subprocess.PIPE, stderr=subprocess.STDOUT, text=True)
         self.assertEqual(done.returncode, 0, done.stdout)
@@ -61,8 +61,8 @@ class Scripts(unittest.TestCase):
 
     @needs.needs("pyflakes3")
     def test_faults(self) -> None:
-        self.finds_nothing("pyflakes3")
+        self.check_all("pyflakes3")
 
     @needs.needs("pycodestyle")
     def test_layout(self) -> None:
-        self.finds_nothing("pycodestyle", "--max-line-length", str(LINE_LENGTH))
+        self.check_all("pycodestyle", "--max-line-length", str(LINE_LENGTH))

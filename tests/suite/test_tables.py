@@ -83,12 +83,10 @@ def classes(base: type[built.OfProgram], ending: str = "") -> Iterator[type]:
 
 def add_classes() -> None:
     """Adds the classes to this module, those of the second compiler's program where it is there."""
-    found = list(classes(built.OfProgram))
+    added = list(classes(built.OfProgram))
     if os.path.exists(built.BY_RATTLE) and not built.IS_ALONE:
-        found += classes(BySecondCompiler, "BySecondCompiler")
-    for made in found:
-        made.__module__ = __name__
-        globals()[made.__name__] = made
+        added += classes(BySecondCompiler, "BySecondCompiler")
+    globals().update({each.__name__: each for each in added})
 
 
 add_classes()

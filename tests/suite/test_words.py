@@ -26,9 +26,9 @@ class Words(built.OfProgram):
     def test_wrong_words(self) -> None:
         for words in WRONG:
             with self.subTest(words):
-                status, out, said = self.run_with(words)
-                is_said = said.startswith(b"error: ") or b"Usage: spki" in said
-                self.assertEqual((status, out, is_said), (2, b"", True), f"spki {b' '.join(words)!r}: {said!r}")
+                status, out, errors = self.run_with(words)
+                is_message = errors.startswith(b"error: ") or b"Usage: spki" in errors
+                self.assertEqual((status, out, is_message), (2, b"", True), f"spki {b' '.join(words)!r}: {errors!r}")
 
     def test_words_that_are_no_text(self) -> None:
         self.assertEqual(self.run_with((b"\xff",)), NO_TEXT)
@@ -37,9 +37,9 @@ class Words(built.OfProgram):
     def test_help(self) -> None:
         for words in HELP:
             with self.subTest(words):
-                status, out, said = self.run_with(words)
-                is_said = b"Usage: spki" in said and all(each in said for each in STATUSES)
-                self.assertEqual((status, out, is_said), (0, b"", True), f"spki {b' '.join(words)!r}: {said!r}")
+                status, out, errors = self.run_with(words)
+                is_help = b"Usage: spki" in errors and all(each in errors for each in STATUSES)
+                self.assertEqual((status, out, is_help), (0, b"", True), f"spki {b' '.join(words)!r}: {errors!r}")
         self.assertTrue(self.run_with((b"--help",))[2].startswith(b"Decides"))
 
     def test_right_word(self) -> None:

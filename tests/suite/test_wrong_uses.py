@@ -1,5 +1,6 @@
-"""What happens where a call of the bindings is held wrong, by the table of wrong_uses.py. Rows that do not compile are compiled together, and each
-must be named by the compiler with the word that its row says. All others are run. What is granted is a kind that docs/GUIDE.md names."""
+"""What happens where a call of the bindings is used wrongly, by the tables that rows/wrong_uses.py reads. Rows that do
+not compile are compiled together, and the compiler must name a line of each, with the word of its row. All others are
+run. A wrong use that is granted is of a kind that docs/GUIDE.md names."""
 import os
 import subprocess
 import sys
@@ -28,7 +29,7 @@ class Table(unittest.TestCase):
         self.assertGreaterEqual(sum(map(len, rows.values())), 40)
         self.assertGreaterEqual(min(map(len, rows.values())), 10)
         guide = text_of("docs/GUIDE.md")
-        for row in (row for of in rows.values() for row in of if row.outcome == "is granted"):
+        for row in (row for of_language in rows.values() for row in of_language if row.outcome == "is granted"):
             kind = next((kind for kind in GRANTED if row.name.startswith(kind)), None)
             self.assertIsNotNone(kind, row.name)
             self.assertIn(f"| {kind} |", guide)
@@ -44,14 +45,14 @@ class WrongUses(built.OfLibrary):
         self.room = room_for(self)
         self.environment = {**os.environ, "SPKI_LIBRARY": self.shared, "PYTHONPATH": PYTHON, "LC_ALL": "C"}
 
-    def said(self, *words: str, folder: str = "", status: int | None = None) -> str:
+    def output(self, *words: str, folder: str = "", status: int | None = None) -> str:
         """Runs a command in a folder, by default that of the test. Its status must be the given one, if any. Returns what it writes."""
         done = subprocess.run(words, cwd=folder or self.room, stdout=subprocess.PIPE, stderr=subprocess.STDOUT, text=True, timeout=SECONDS,
                               env=self.environment)
         self.assertIn(done.returncode, (done.returncode if status is None else status,), done.stdout)
         return done.stdout
 
-    def written(self, name: str, shared: str, rows: list[Row]) -> tuple[str, dict[int, Row]]:
+    def write_program(self, name: str, shared: str, rows: list[Row]) -> tuple[str, dict[int, Row]]:
         """Writes a program with the code that all rows share, and these rows. Returns its path, and the row of each line that is in one."""
         text, lines = wrong_uses.program_of(shared, rows)
         path = os.path.join(self.room, name)
@@ -60,21 +61,21 @@ class WrongUses(built.OfLibrary):
             file.write(text)
         return path, lines
 
-    def are_refused(self, rows: list[Row], said: str, path: str, lines: dict[int, Row]) -> None:
-        """The compiler must name a line of each of these rows, and say the row's word there. `said` is what it writes, and `lines` has the row of
-        each line."""
-        met: defaultdict[str, str] = defaultdict(str)
-        for row, why in wrong_uses.faults_in(said, path, lines):
-            met[row.name] += why
+    def check_refused(self, rows: list[Row], output: str, path: str, lines: dict[int, Row]) -> None:
+        """The compiler must name a line of each of these rows, and write the row's word there. `output` is what it
+        writes about the program at a path, and `lines` has the row of each line."""
+        faults: defaultdict[str, str] = defaultdict(str)
+        for row, fault in wrong_uses.faults_in(output, path, lines):
+            faults[row.name] += fault
         for row in rows:
             with self.subTest(row.name):
                 # (the word may be empty, which every text has)
-                self.assertIn(row.name, met)
-                self.assertRegex(met[row.name], f"(?s){row.said}")
+                self.assertIn(row.name, faults)
+                self.assertRegex(faults[row.name], f"(?s){row.said}")
 
-    def check_outcomes(self, rows: list[Row], said: str) -> None:
-        """The program of these rows must have said the outcome of each: a line with the place of the row and its outcome."""
-        self.assertEqual(said, "".join(f"{row.place} {row.outcome}\n" for row in rows), [f"{row.place}: {row.name}" for row in rows])
+    def check_outcomes(self, rows: list[Row], output: str) -> None:
+        """The program of these rows must have written a line for each, with the place of the row and its outcome."""
+        self.assertEqual(output, "".join(f"{row.place} {row.outcome}\n" for row in rows), [f"{row.place}: {row.name}" for row in rows])
 
     def split(self, language: str) -> tuple[str, list[Row], list[Row]]:
         """The code that all rows of a language share, the rows that must not compile, and the other rows."""
@@ -84,60 +85,61 @@ class WrongUses(built.OfLibrary):
     def test_c(self) -> None:
         shared, wrong, others = self.split("c")
         words = ["gcc", "-std=c11", *WARNINGS, "-I", CRATE, "-I", os.path.join(EXAMPLES, "c"), "-x", "c"]
-        path, lines = self.written("wrong.c", shared, wrong)
-        self.are_refused(wrong, self.said(*words, "-c", "-O1", "-o", "wrong.o", path, status=1), path, lines)
-        path, _ = self.written("run.c", shared, others)
-        self.said(*words, "-o", "run", path, "-x", "none", self.library, status=0)
-        self.check_outcomes(others, self.said("./run", status=0))
+        path, lines = self.write_program("wrong.c", shared, wrong)
+        self.check_refused(wrong, self.output(*words, "-c", "-O1", "-o", "wrong.o", path, status=1), path, lines)
+        path, _ = self.write_program("run.c", shared, others)
+        self.output(*words, "-o", "run", path, "-x", "none", self.library, status=0)
+        self.check_outcomes(others, self.output("./run", status=0))
 
     @needs.needs("g++")
     def test_cpp(self) -> None:
         shared, wrong, others = self.split("cpp")
         words = ["g++", "-std=c++17", *WARNINGS, "-I", CRATE]
-        path, lines = self.written("wrong.cpp", shared, wrong)
-        self.are_refused(wrong, self.said(*words, "-fsyntax-only", path, status=1), path, lines)
-        path, _ = self.written("run.cpp", shared, others)
-        self.said(*words, "-o", "run", path, self.library, status=0)
-        self.check_outcomes(others, self.said("./run", status=0))
+        path, lines = self.write_program("wrong.cpp", shared, wrong)
+        self.check_refused(wrong, self.output(*words, "-fsyntax-only", path, status=1), path, lines)
+        path, _ = self.write_program("run.cpp", shared, others)
+        self.output(*words, "-o", "run", path, self.library, status=0)
+        self.check_outcomes(others, self.output("./run", status=0))
 
     @needs.needs("cargo")
     def test_rust(self) -> None:
         """One by one, since the compiler finds faults of one kind before it looks for those of the next."""
         shared, wrong, others = self.split("rust")
         self.environment.update(SPKI_LIB_DIR=os.path.dirname(self.library), CARGO_NET_OFFLINE="true")
-        self.said("cargo", "build", "--quiet", "--lib", folder=RUST, status=0)
-        made = os.path.join(RUST, "out", "debug")
-        library, others_of_it = os.path.join(made, "libspki.rlib"), os.path.join(made, "deps")
-        words = ["rustc", "--edition=2021", "--extern", f"spki={library}", "-L", f"dependency={others_of_it}"]
+        self.output("cargo", "build", "--quiet", "--lib", folder=RUST, status=0)
+        folder = os.path.join(RUST, "out", "debug")
+        library, dependencies = os.path.join(folder, "libspki.rlib"), os.path.join(folder, "deps")
+        words = ["rustc", "--edition=2021", "--extern", f"spki={library}", "-L", f"dependency={dependencies}"]
         for row in wrong:
-            path, lines = self.written("wrong.rs", shared, [row])
-            self.are_refused([row], self.said(*words, "--emit=metadata", "-o", "wrong.rmeta", path, status=1), path, lines)
-        path, _ = self.written("run.rs", shared, others)
-        self.said(*words, "-o", "run", path, status=0)
-        self.check_outcomes(others, self.said("./run", status=0))
+            path, lines = self.write_program("wrong.rs", shared, [row])
+            self.check_refused([row], self.output(*words, "--emit=metadata", "-o", "wrong.rmeta", path, status=1), path, lines)
+        path, _ = self.write_program("run.rs", shared, others)
+        self.output(*words, "-o", "run", path, status=0)
+        self.check_outcomes(others, self.output("./run", status=0))
 
     @needs.needs("go")
     def test_go(self) -> None:
         shared, wrong, others = self.split("go")
         self.environment.update(golang.settings(self.library))
         for name, rows in (("wrong", wrong), ("run", others)):
-            path, lines = self.written(f"{name}/main.go", shared, rows)
+            path, lines = self.write_program(f"{name}/main.go", shared, rows)
             with open(os.path.join(self.room, name, "go.mod"), "w", encoding="utf-8") as file:
                 file.write(GO_MODULE.format(module=golang.MODULE))
-            said = self.said("go", "build", "-gcflags=-e", "-o", "made", ".", folder=os.path.dirname(path), status=None if rows is wrong else 0)
+            words = ("go", "build", "-gcflags=-e", "-o", "program", ".")
+            output = self.output(*words, folder=os.path.dirname(path), status=None if rows is wrong else 0)
             if rows is wrong:
-                self.are_refused(wrong, said, path, lines)
-        self.check_outcomes(others, self.said(os.path.join(self.room, "run", "made"), status=0))
+                self.check_refused(wrong, output, path, lines)
+        self.check_outcomes(others, self.output(os.path.join(self.room, "run", "program"), status=0))
 
     @needs.needs("mypy")
     def test_python_by_types(self) -> None:
         shared, wrong, others = self.split("python")
         self.environment["MYPYPATH"] = PYTHON
-        path, lines = self.written("wrong.py", shared, wrong)
+        path, lines = self.write_program("wrong.py", shared, wrong)
         mypy = ["mypy", "--strict", "--cache-dir", os.devnull, "--no-error-summary", "--follow-imports", "silent"]
-        self.are_refused(wrong, self.said(*mypy, path, status=1), path, lines)
+        self.check_refused(wrong, self.output(*mypy, path, status=1), path, lines)
 
     def test_python(self) -> None:
         shared, _, others = self.split("python")
-        path, _ = self.written("run.py", shared, others)
-        self.check_outcomes(others, self.said(sys.executable, "-W", "ignore", path, status=0))
+        path, _ = self.write_program("run.py", shared, others)
+        self.check_outcomes(others, self.output(sys.executable, "-W", "ignore", path, status=0))
