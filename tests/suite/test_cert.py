@@ -26,7 +26,7 @@ from harness import built, needs
 from harness.support import TESTS, TOP, output_of, room_for, text_of
 from model import answers, guard, tags as model_tags, values as model_values
 from rows.mistakes import MISTAKES, certificate
-from suite import test_guide
+from suite import test_go, test_guide
 from spki_cert_tool import arguments, asking, commands, keys, sexp, tag_words
 from spki_cert_tool.certificates import Keys, certificates_in, fault_of_signature, keys_in
 from spki_cert_tool.checking import remarks_on
@@ -36,10 +36,8 @@ from spki_cert_tool.places import read_text, value_in
 sys.path.append(os.path.join(TOP, "bindings", "python"))
 COMMAND = os.path.join(TOP, "apps", "spki-cert", "spki-cert")
 NOW = b"2026-03-01_12:00:00"
-# The kinds of keys, with the options of ssh-keygen, and of `openssl genpkey -algorithm`, that make one.
+# The kinds of keys, each with the options of ssh-keygen that make one.
 TYPES = {"ed25519": ["-t", "ed25519"], "rsa": ["-t", "rsa", "-b", "2048"], "p256": ["-t", "ecdsa", "-b", "256"], "p384": ["-t", "ecdsa", "-b", "384"]}
-PEM_TYPES = {"ed25519": ["ed25519"], "rsa": ["RSA", "-pkeyopt", "rsa_keygen_bits:2048"], "p256": ["EC", "-pkeyopt", "ec_paramgen_curve:P-256"],
-             "p384": ["EC", "-pkeyopt", "ec_paramgen_curve:P-384"]}
 TAG = "(packages (* set read write) (* prefix /web/))"
 # A reason as the library gives it: the numbers of an entry and an item, each or None, and the word of `explain`.
 Reason = collections.namedtuple("Reason", "entry item word")
@@ -123,7 +121,7 @@ class Case(unittest.TestCase):
 
     def pem_key(self, name, kind, *encryption):
         """Makes a key in PEM in the folder. `encryption` are options of openssl."""
-        quiet("openssl", "genpkey", "-algorithm", *PEM_TYPES[kind], *encryption, "-out", self.at(name))
+        quiet("openssl", "genpkey", "-algorithm", *test_go.KINDS[kind], *encryption, "-out", self.at(name))
 
     def verify(self, name):
         """The certificates of the sequence in a file. Each must be signed by its issuer, as `cryptography` verifies."""
@@ -151,7 +149,7 @@ class OfKeys(Case):
     @needs.needs("openssl")
     def test_keys_of_pem_are_read_and_written(self):
         from cryptography.hazmat.primitives.serialization import Encoding, PublicFormat
-        for kind in PEM_TYPES:
+        for kind in test_go.KINDS:
             self.pem_key("key.pem", kind)
             public_pem = quiet("openssl", "pkey", "-in", self.at("key.pem"), "-pubout")
             self.write("public.pem", public_pem)

@@ -12,12 +12,12 @@ SECONDS = 1800
 class Example(unittest.TestCase):
     """A test of an example."""
 
-    def passes(self, *words: str, **settings: str) -> None:
+    def check_example(self, *words: str, **settings: str) -> None:
         """An example must end with status 0, and its last line must count no failure. `words` are its path below examples/ and its arguments, and
         `settings` more variables of the environment."""
-        status, said = output_of(os.path.join(EXAMPLES, words[0]), *words[1:], seconds=SECONDS, env={**os.environ, **settings})
-        self.assertRegex(said, r"(?:^|\n)[1-9]\d* passed, 0 failed\n$", said[-3000:])
-        self.assertEqual(status, 0, said[-3000:])
+        status, output = output_of(os.path.join(EXAMPLES, words[0]), *words[1:], seconds=SECONDS, env={**os.environ, **settings})
+        self.assertRegex(output, r"(?:^|\n)[1-9]\d* passed, 0 failed\n$", output[-3000:])
+        self.assertEqual(status, 0, output[-3000:])
 
 
 class OfProgram(Example):
@@ -25,11 +25,11 @@ class OfProgram(Example):
 
     @needs.needs("import cryptography")
     def test_signed(self) -> None:
-        self.passes("signed/run.py", built.program())
+        self.check_example("signed/run.py", built.program())
 
     @needs.needs("lsh-keygen", "sexp-conv")
     def test_lsh(self) -> None:
-        self.passes("lsh.py", built.program())
+        self.check_example("lsh.py", built.program())
 
 
 @needs.needs("import cryptography", *needs.LIBRARY, *databases.NEEDED)
@@ -38,4 +38,4 @@ class OfDatabase(Example):
 
     def test_story(self) -> None:
         with databases.Server() as server:
-            self.passes("database/story.py", server.address, SPKI_LIBRARY=built.shared())
+            self.check_example("database/story.py", server.address, SPKI_LIBRARY=built.shared())

@@ -70,8 +70,7 @@ class Counted(test_bindings.Binding):
             self.assertEqual(file.read().splitlines(), [f"{each.command} {DONE} {len(each.wanted)}" for each in asked])
 
     def test_the_answers_are_long(self):
-        """Those by the usual limits are longer than 8 KiB, with which bindings try first, and one by the highest is
-        longer than 1 MiB, the usual limit of an answer."""
+        """Those by the usual limits are longer than 8 KiB, and one by the highest than 1 MiB, the usual limit."""
         lengths = {limits: sorted(len(each.wanted) for each in self.asked if each.limits == limits) for limits in ("usual", "highest")}
         self.assertGreater(lengths["usual"][0], 8192)
         self.assertGreater(lengths["highest"][-1], 1 << 20)

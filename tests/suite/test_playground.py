@@ -34,7 +34,7 @@ BOXES = ("acl", "sequence", "key", "labels")
 MARKUP = '<img src="x" onerror="attacked=1"><script>attacked=1</script>'
 # How long a question may take on a page whose answers are compared, and on one that is given a hostile text. The first ends what hangs.
 SECONDS, HOSTILE_SECONDS = 600, 2
-# How often a question is asked on a machine that may be slow.
+# How often a question with HOSTILE_SECONDS is asked until it is answered in time, since the machine may be slow.
 TRIES = 100
 
 
@@ -63,12 +63,13 @@ class Page:
 
     def __init__(self, engine, seconds):
         words = [sys.executable, FOLDER, "--no-browser", "--engine", engine, "--seconds", str(seconds)]
-        tested = {"SPKI_PROGRAM": built.program(), **({"SPKI_LIBRARY": built.shared()} if engine == "library" else {})}
-        self.process: Any = subprocess.Popen(words, stdout=subprocess.PIPE, text=True, env={**os.environ, **tested})
+        settings = {"SPKI_PROGRAM": built.program(), **({"SPKI_LIBRARY": built.shared()} if engine == "library" else {})}
+        self.process: Any = subprocess.Popen(words, stdout=subprocess.PIPE, text=True, env={**os.environ, **settings})
         self.address = urlsplit(self.process.stdout.readline().strip())
         self.origin = f"http://{self.address.netloc}"
 
     def end(self):
+        """Ends the playground. It may be called twice."""
         self.process.terminate()
         self.process.wait()
         self.process.stdout.close()
@@ -78,8 +79,8 @@ class Page:
         connection = http.client.HTTPConnection(self.address.hostname, self.address.port, timeout=SECONDS)
         with contextlib.closing(connection):
             connection.request(method, path, body, headers)
-            got = connection.getresponse()
-            return got.status, got.headers, got.read()
+            response = connection.getresponse()
+            return response.status, response.headers, response.read()
 
     def ask(self, name, **question):
         """The server's answer to a question of a kind (`name`), as the page gets it, with the case. It must have status 200."""
@@ -134,7 +135,7 @@ class OfPage(built.OfProgram):
 
 
 class Answers(OfPage):
-    """What the page is answered where the program decides."""
+    """What the server answers to the page where the program decides."""
 
     def test_examples_have_the_answers_of_the_program(self) -> None:
         for example in EXAMPLES:
@@ -292,18 +293,19 @@ class Answers(OfPage):
                          [run(built.program(), name, text.encode())[1].decode().rstrip("\n") for name in ("canonical", "advanced", "transport")])
 
     def test_labels_and_comments(self) -> None:
-        """The text of a reason has the label of a key and the comment of an entry. A line of the labels that is none is told by its number."""
+        """The text of a reason has the label of a key and the comment of an entry. A line of the labels that is none is
+        named by its number."""
         text = STORY["acl"].replace("(entry (public-key (test bob))", '(entry (public-key (test bob)) (comment "The cook")')
         answer = self.page.ask("question", **{**STORY, "acl": text, "labels": "Carol of Web (public-key (test carol))\nnobody"})
-        said = " ".join(reason["says"] for reason in answer["reasons"])
-        self.assertIn("Carol of Web", said)
-        self.assertIn("The cook", said)
+        text = " ".join(reason["says"] for reason in answer["reasons"])
+        self.assertIn("Carol of Web", text)
+        self.assertIn("The cook", text)
         self.assertEqual(answer["labelFaults"][0]["line"], 2)
 
     def test_a_signature_that_does_not_count(self) -> None:
         answer = self.page.ask("question", **{**STORY, "refused": [0]})
-        met = answer["line"], line_of_reason(answer["reasons"][0]), answer["signatures"][0]["counts"]
-        self.assertEqual(met, ("no", "item 1 NotAccepted", False))
+        self.assertEqual((answer["line"], line_of_reason(answer["reasons"][0])), ("no", "item 1 NotAccepted"))
+        self.assertFalse(answer["signatures"][0]["counts"])
 
     def test_what_is_no_question(self) -> None:
         """Whatever object is sent gets an answer, and is no fault of the server. A list of a wrong type is named, and not taken for another one."""
@@ -341,13 +343,13 @@ class Answers(OfPage):
         self.assertEqual([self.page.ask("question", **{**STORY, "acl": acl})["chain"]["steps"][0]["whole"] for acl in (
             f"(acl (entry {key} (tag x)))", f"(acl (entry {key} (tag x)) (entry {key} (tag x)))")], ["1 entry", "2 entries"])
         line = [f"(public-key (test k{place}))" for place in range(32)]
-        for holders, drawn, said in ((line[:29], 28, []), (line[:30], 28, ["1 certificate is not drawn"]),
-                                     (line, 28, ["3 certificates are not drawn"]), (line[:1] * 70, 55, ["14 certificates are not drawn"])):
+        for holders, drawn, left_out in ((line[:29], 28, []), (line[:30], 28, ["1 certificate is not drawn"]),
+                                         (line, 28, ["3 certificates are not drawn"]), (line[:1] * 70, 55, ["14 certificates are not drawn"])):
             certificates = [f"(cert (issuer {one}) (subject {other}) (propagate) (tag (*)))" for one, other in zip(holders, holders[1:])]
             asked = {**STORY, "acl": f"(acl (entry {holders[0]} (propagate) (tag (*))))", "key": holders[-1]}
             steps = self.page.ask("question", **{**asked, "sequence": f"(sequence {' '.join(certificates)})"})["chain"]["steps"]
             lines = [it for step in steps for it in step.get("lines", [])]
-            self.assertEqual((sum(it.startswith("certificate ") for it in lines), [it for it in lines if it.endswith("drawn")]), (drawn, said))
+            self.assertEqual((sum(it.startswith("certificate ") for it in lines), [it for it in lines if it.endswith("drawn")]), (drawn, left_out))
 
     def test_text_stays_text(self) -> None:
         for name in (*BOXES, "at"):
@@ -358,7 +360,7 @@ class Answers(OfPage):
 
 @needs.needs(*needs.LIBRARY)
 class AnswersOfLibrary(Answers):
-    """What the page is answered where the library decides."""
+    """What the server answers to the page where the library decides."""
 
     engine = "library"
 
@@ -368,7 +370,7 @@ class Hostile(OfPage):
 
     seconds = HOSTILE_SECONDS
 
-    def answered(self, word, **question):
+    def field_of_answer(self, word, **question):
         """The field `word` of the answer to a question. On a slow machine it is asked up to TRIES times."""
         for _ in range(TRIES):
             answer = self.page.ask("question", **question)
@@ -381,13 +383,14 @@ class Hostile(OfPage):
         self.assertRegex(answer["notice"], "took longer than 2 seconds|has no explanation here")
         # (either the answer took too long, and there is none, or its explanation did)
         self.assertNotEqual(answer["notice"].startswith("The answer"), "kind" in answer)
-        self.assertEqual(self.answered("line", **STORY, page="a"), "yes entry 1")
+        self.assertEqual(self.field_of_answer("line", **STORY, page="a"), "yes entry 1")
 
     def test_gives_way_to_the_next_question(self) -> None:
-        """A question of a page ends the one that the page has under way. Another thread has asked that, and gets what there is of its answer."""
+        """A question of a page ends the one that the page asked before and that is not answered yet. The thread that
+        asked it gets what there is of its answer."""
         with ThreadPoolExecutor(1) as pool:
             before = pool.submit(self.page.ask, "question", **hostile(), page="b")
-            self.assertEqual(self.answered("line", **STORY, page="b"), "yes entry 1")
+            self.assertEqual(self.field_of_answer("line", **STORY, page="b"), "yes entry 1")
             self.assertIsInstance(before.result(), dict)
 
 
@@ -398,28 +401,28 @@ class HostileToLibrary(Hostile):
     engine = "library"
 
     def test_has_a_decision(self) -> None:
-        self.assertIn(self.answered("kind", **hostile()), ("yes", "no"))
+        self.assertIn(self.field_of_answer("kind", **hostile()), ("yes", "no"))
 
 
-class Doors(OfPage):
-    """Who is answered."""
+class Requests(OfPage):
+    """Which requests are answered, and by which status the others are refused."""
 
-    def posted(self, path=None, body="{}", **headers):
+    def post(self, path=None, body="{}", **headers):
         """The status of a POST to the server, by default as the page sends it. A header that is None is left out."""
         usual = {"Origin": self.page.origin, "Content-Type": "application/json"}
-        wanted = {name.replace("_", "-"): value for name, value in {**usual, **headers}.items() if value is not None}
-        return self.page.reply("POST", path or self.page.address.path + "question", body, **wanted)[0]
+        sent = {name.replace("_", "-"): value for name, value in {**usual, **headers}.items() if value is not None}
+        return self.page.reply("POST", path or self.page.address.path + "question", body, **sent)[0]
 
     def test_questions_from_the_page_itself(self) -> None:
-        self.assertEqual(self.posted(), 200)
-        self.assertEqual(self.posted(Origin=f"http://localhost:{self.page.address.port}", Host=f"localhost:{self.page.address.port}"), 200)
+        self.assertEqual(self.post(), 200)
+        self.assertEqual(self.post(Origin=f"http://localhost:{self.page.address.port}", Host=f"localhost:{self.page.address.port}"), 200)
 
     def test_another_origin(self) -> None:
         port = self.page.address.port
         others = (f"http://127.0.0.1:{port + 1}", f"https://127.0.0.1:{port}", f"http://127.0.0.1.example:{port}")
         for origin in ("http://example.org", "null", None, *others):
-            self.assertEqual(self.posted(Origin=origin), 403, origin)
-        self.assertEqual(self.posted(Sec_Fetch_Site="cross-site"), 403)
+            self.assertEqual(self.post(Origin=origin), 403, origin)
+        self.assertEqual(self.post(Sec_Fetch_Site="cross-site"), 403)
 
     def test_another_host(self) -> None:
         for host in ("example.org", f"example.org:{self.page.address.port}", "127.0.0.1", ""):
@@ -428,23 +431,23 @@ class Doors(OfPage):
     def test_another_token(self) -> None:
         for path in ("/", "/question", "//", "/x/", self.page.address.path[:-2] + "/", self.page.address.path[:-1]):
             self.assertEqual(self.page.reply("GET", path)[0], 403, path)
-            self.assertEqual(self.posted(path), 403, path)
+            self.assertEqual(self.post(path), 403, path)
 
     def test_only_files_of_the_page(self) -> None:
         """GET gives only files of page/, and no job, such as `question`. POST does only jobs."""
         for name in ("../server.py", "..%2fserver.py", "/etc/passwd", "page.js/", "question", "./page.js"):
             self.assertEqual(self.page.reply("GET", self.page.address.path + name)[0], 404, name)
-        self.assertEqual(self.posted(self.page.address.path + "no-such-job"), 404)
+        self.assertEqual(self.post(self.page.address.path + "no-such-job"), 404)
 
     def test_bodies(self) -> None:
         # The page answers before the body is sent.
         for length in (str((1 << 20) + 1), "9" * 30):
-            self.assertEqual(self.posted(body="", Content_Length=length), 413)
-        self.assertEqual(self.posted(body="", Content_Length="-1"), 411)
-        self.assertEqual(self.posted(body=iter([b"{}"]), Transfer_Encoding="chunked"), 411)
-        self.assertEqual(self.posted(Content_Type="text/plain"), 415)
+            self.assertEqual(self.post(body="", Content_Length=length), 413)
+        self.assertEqual(self.post(body="", Content_Length="-1"), 411)
+        self.assertEqual(self.post(body=iter([b"{}"]), Transfer_Encoding="chunked"), 411)
+        self.assertEqual(self.post(Content_Type="text/plain"), 415)
         for body in ("", "[]", "{", "[" * 100_000, "5"):
-            self.assertEqual(self.posted(body=body), 400, body[:9])
+            self.assertEqual(self.post(body=body), 400, body[:9])
 
     def test_headers_of_every_reply(self) -> None:
         for path in (self.page.address.path, self.page.address.path + "page.js", "/", self.page.address.path + "none"):
@@ -476,10 +479,10 @@ class Faults(unittest.TestCase):
         self.addCleanup(thread.join)
         self.addCleanup(self.server.shutdown)
 
-    def asked(self, answers):
-        """The first line of what the server sends until it closes the connection, and all that it prints. `answers` is what the question is answered
-        with, or an error that is raised instead."""
-        self.server.workers.answer.side_effect = [answers]
+    def ask(self, outcome):
+        """The first line of what the server sends until it closes the connection, and all that it prints. `outcome` is
+        the answer to the question, or an error that is raised instead."""
+        self.server.workers.answer.side_effect = [outcome]
         host = self.server.hosts[0][0]
         with contextlib.redirect_stderr(io.StringIO()) as printed, socket.create_connection(self.server.server_address, SECONDS) as connection:
             connection.sendall(f"POST /{self.server.token}/question HTTP/1.1\r\nHost: {host}\r\nOrigin: http://{host}\r\nConnection: close\r\n"
@@ -489,21 +492,21 @@ class Faults(unittest.TestCase):
 
     def test_what_fails_is_printed(self) -> None:
         """A fault gets status 500, and is printed. A connection that breaks or takes too long is not."""
-        for error, line, said in [
+        for error, line, message in [
                 (KeyError("lost"), "HTTP/1.1 500 Internal Server Error", "KeyError: 'lost'"),
                 (OSError(24, "Too many open files"), "HTTP/1.1 500 Internal Server Error", "Too many open files"),
                 (BrokenPipeError("lost"), "", ""), (ConnectionResetError("lost"), "", ""), (TimeoutError("lost"), "", "")]:
             with self.subTest(error=error):
-                first, printed = self.asked(error)
-                self.assertEqual((first, printed.count("Traceback"), said in printed), (line, int(bool(said)), True), printed)
+                first, printed = self.ask(error)
+                self.assertEqual((first, printed.count("Traceback"), message in printed), (line, int(bool(message)), True), printed)
 
     def test_a_thread_that_does_not_start(self) -> None:
         """The connection is closed, and its place is free for the next one: there is one place."""
         self.server.room = threading.BoundedSemaphore(1)
         with mock.patch.object(threading.Thread, "start", side_effect=RuntimeError("can't start new thread")):
-            first, printed = self.asked({})
+            first, printed = self.ask({})
         self.assertEqual((first, "can't start new thread" in printed), ("", True))
-        self.assertEqual(self.asked({}), ("HTTP/1.1 200 OK", ""))
+        self.assertEqual(self.ask({}), ("HTTP/1.1 200 OK", ""))
 
 
 @needs.needs(*needs.BROWSER)
@@ -534,13 +537,13 @@ class InChromium(OfPage):
         faults = [entry["message"] for entry in self.browser.get_log("browser") if entry["level"] == "SEVERE"]
         self.assertEqual(faults, [])
 
-    def until(self, script, *given):
-        """Waits until a script returns something true, and returns it."""
-        ends = time.monotonic() + SECONDS
-        while not (got := self.browser.execute_script(script, *given)):
-            self.assertLess(time.monotonic(), ends, f"{script} {given}: {self.text_shown('verdict')}")
+    def until(self, script, *arguments):
+        """Waits until a script returns something true, and returns it. `arguments` are those of the script."""
+        end = time.monotonic() + SECONDS
+        while not (value := self.browser.execute_script(script, *arguments)):
+            self.assertLess(time.monotonic(), end, f"{script} {arguments}: {self.text_shown('verdict')}")
             time.sleep(0.01)
-        return got
+        return value
 
     def text_shown(self, name):
         """The text of an element of the page, by its id."""
@@ -560,7 +563,7 @@ class InChromium(OfPage):
         from selenium.webdriver.common.action_chains import ActionChains
         ActionChains(self.browser, duration=0).send_keys(*keys).perform()
 
-    def focused(self):
+    def focus(self):
         """The id of the element that has the focus, or its text if it has no id."""
         return self.browser.execute_script("return document.activeElement.id || document.activeElement.textContent")
 
@@ -609,12 +612,12 @@ class InChromium(OfPage):
     def test_by_the_keyboard_alone(self) -> None:
         from selenium.webdriver.common.action_chains import ActionChains
         from selenium.webdriver.common.keys import Keys
-        met: list[str] = []
-        while "slider" not in met and len(met) < 60:
+        reached: list[str] = []
+        while "slider" not in reached and len(reached) < 60:
             self.keys(Keys.TAB)
-            met.append(self.focused())
+            reached.append(self.focus())
         wanted = ["Skip to the answer", "tab-question", "example", "link", "acl", "sequence", "all", "key", "request", "at", "now", "slider"]
-        self.assertEqual([it for it in wanted if it not in met], [])
+        self.assertEqual([it for it in wanted if it not in reached], [])
         self.browser.execute_script("document.getElementById('request').focus()")
         ActionChains(self.browser).key_down(Keys.CONTROL).send_keys("a").key_up(Keys.CONTROL).perform()
         self.keys("packages", Keys.ENTER, "write", Keys.ENTER, "/builds/x")
@@ -622,7 +625,7 @@ class InChromium(OfPage):
         self.assertIn("does not contain this request", self.text_shown("spoken"))
         self.browser.execute_script("document.getElementById('tab-question').focus()")
         self.keys(Keys.ARROW_RIGHT, Keys.ARROW_RIGHT)
-        self.assertEqual(self.focused(), "tab-tags")
+        self.assertEqual(self.focus(), "tab-tags")
         self.until("return document.getElementById('both').textContent === '(packages read (* prefix /builds/web/))'")
 
     def test_everything_has_a_name(self) -> None:
@@ -688,7 +691,7 @@ class InChromium(OfPage):
         """From now on questions of a kind have this answer, which is JavaScript: a reply as JSON, or a promise."""
         self.browser.execute_script(f"const before = fetch; window.fetch = (kind, options) => kind === '{kind}' ? {answer} : before(kind, options)")
 
-    def shows_nothing_else(self):
+    def check_nothing_left(self):
         """Nothing of an earlier answer may be seen: no card, no time, no fault, and neither yes nor no."""
         seen = self.browser.execute_script("return [...document.querySelectorAll('#answer .card > :not(summary), #bar, #span, .fault li, #notice')]"
                                            ".filter((it) => it.checkVisibility({visibilityProperty: true}) && it.getBoundingClientRect().height"
@@ -702,7 +705,7 @@ class InChromium(OfPage):
         self.put("request", "packages\nwrite")
         self.assertEqual(self.browser.execute_script("return document.querySelectorAll('.old').length > 3"), True)
         self.until("return document.getElementById('title').textContent === 'Waiting for the answer.'")
-        self.shows_nothing_else()
+        self.check_nothing_left()
 
     def test_an_answer_that_was_stopped(self) -> None:
         self.put("acl", STORY["acl"].replace("(propagate)", "(propagated)"))
@@ -711,36 +714,37 @@ class InChromium(OfPage):
         self.put("acl", STORY["acl"])
         self.until("return document.getElementById('verdict').textContent.includes('It took too long.')")
         self.assertEqual(self.text_shown("kind"), "No answer")
-        self.shows_nothing_else()
+        self.check_nothing_left()
 
     def test_an_answer_to_an_earlier_text(self) -> None:
-        """`held` has functions that answer the questions to the server, in their order. An answer to the first text is not shown once the second is
-        typed; the last answer is."""
+        """`replies` has functions that answer the questions to the server, in their order. An answer to the first text
+        is not shown once the second is typed; the last answer is."""
         answer = '{"kind": "no", "line": "no", "title": "an earlier answer", "reasons": [], "chain": null}'
-        self.instead_of_server("question", f"new Promise((done) => (window.held ??= []).push(() => done(new Response('{answer}'))))")
+        self.instead_of_server("question", f"new Promise((done) => (window.replies ??= []).push(() => done(new Response('{answer}'))))")
         self.put("request", "packages\nwrite")
         self.put("request", "packages\nread")
-        self.browser.execute_script("held[0]()")
-        self.until("return held.length === 2 || document.getElementById('title').textContent === 'Waiting for the answer.'")
+        self.browser.execute_script("replies[0]()")
+        self.until("return replies.length === 2 || document.getElementById('title').textContent === 'Waiting for the answer.'")
         self.assertNotIn("an earlier answer", self.text_shown("verdict"))
-        self.browser.execute_script("held.at(-1)()")
+        self.browser.execute_script("replies.at(-1)()")
         self.until("return document.getElementById('title').textContent === 'an earlier answer'")
 
     def test_a_paste_over_the_limit(self) -> None:
         self.put("acl", f"(acl {'(entry (public-key (test a)) (tag (*)))' * 30_000})")
         self.until("return document.getElementById('title').textContent.includes('too long for this page')")
-        self.shows_nothing_else()
+        self.check_nothing_left()
         self.put("acl", STORY["acl"])
         self.until("return document.getElementById('kind').textContent === 'Yes' && !document.querySelector('main > :not(.wide) .old, .verdict.old')")
 
     def test_a_server_that_has_ended(self) -> None:
         page = Page(self.engine, self.seconds)
+        self.addCleanup(page.end)
         self.browser.get(page.address.geturl())
         self.until("return document.getElementById('span').textContent")
         page.end()
         self.put("request", "packages\nwrite")
         self.until("return document.getElementById('title').textContent.includes('The server does not answer')")
-        self.shows_nothing_else()
+        self.check_nothing_left()
         for tab, card in (("tags", "tags-card"), ("forms", "forms-card")):
             self.choose(tab)
             self.until("return document.getElementById(arguments[0]).textContent.includes('The server does not answer')", card)
@@ -763,9 +767,9 @@ class Starting(built.OfProgram):
             done = subprocess.run(words, cwd=room, env=bare, stdout=subprocess.PIPE, stderr=subprocess.PIPE, text=True, timeout=SECONDS)
             self.assertEqual((done.returncode, done.stdout), (2, ""))
             self.assertIn("`tests/run --quick words`", done.stderr)
-            made = os.path.join(room, os.path.relpath(building.TRIED, TOP))
-            os.makedirs(os.path.dirname(made))
-            shutil.copy(self.program, made)
+            program = os.path.join(room, os.path.relpath(building.TRIED, TOP))
+            os.makedirs(os.path.dirname(program))
+            shutil.copy(self.program, program)
             words[1] = os.path.join(room, words[1])
             with subprocess.Popen(words, cwd=TOP, env=bare, stdout=subprocess.PIPE, text=True) as started:
                 self.addCleanup(started.kill)
@@ -775,13 +779,13 @@ class Starting(built.OfProgram):
 
     def test_a_port_that_is_not_free(self) -> None:
         with socket.create_server(("127.0.0.1", 0)) as other:
-            for port, said in ((other.getsockname()[1], "Address already in use"), (65_536, "must be 0-65535")):
+            for port, message in ((other.getsockname()[1], "Address already in use"), (65_536, "must be 0-65535")):
                 done = subprocess.run([sys.executable, FOLDER, "--no-browser", "--engine", "program", "--port", str(port)], capture_output=True,
                                       env={**os.environ, "SPKI_PROGRAM": self.program}, text=True, timeout=SECONDS)
-                self.assertEqual((done.returncode, done.stdout, done.stderr.count("\n"), said in done.stderr), (2, "", 1, True), done.stderr)
+                self.assertEqual((done.returncode, done.stdout, done.stderr.count("\n"), message in done.stderr), (2, "", 1, True), done.stderr)
 
     def test_a_program_that_is_gone(self) -> None:
-        """A program that was there at the start, and cannot be run any more, is said."""
+        """If a program that was there at the start cannot be run any more, the message says so."""
         engine = loaded(os.path.join(FOLDER, "engine.py"))
         with self.assertRaisesRegex(engine.Failed, "The program cannot be run: No such file or directory."):
             engine.ByProgram(os.path.join(FOLDER, "none")).command("canonical", b"x")

@@ -80,22 +80,22 @@ class Proxies(unittest.TestCase):
         self.start(["nginx", "-p", self.room, "-c", "conf", "-e", "log", "-g", as_user],
                    NGINX.format(room=self.room, to=to or self.service.name, more=more, http=http))
 
-    def asked(self, method: str, target: str, change: Change = same, host: str = NAME, body: bytes = b"") -> str:
+    def ask(self, method: str, target: str, change: Change = same, host: str = NAME, body: bytes = b"") -> str:
         """Sends a signed request through the proxy. `change` changes the lines with its signature before they are sent. Returns `valid`, or the
         verifier's refusal, or the status if the proxy itself answers."""
         fields = self.signer.fields(method, f"http://{NAME}{target}", body)
         length = [f"Content-Length: {len(body)}"] if body else []
         lines = change([f"{name}: {it}" for name, it in fields.items()])
         head = [f"{method} {target} HTTP/1.1", f"Host: {host}", "Connection: close", *length, *lines]
-        said = b""
+        answer = b""
         with socket.socket(socket.AF_UNIX) as client:
             client.settimeout(SECONDS)
             client.connect(os.path.join(self.room, "proxy"))
             client.sendall("\r\n".join([*head, "", ""]).encode() + body)
             while octets := client.recv(65536):
-                said += octets
-        status, answer = said.split(b" ", 2)[1].decode(), said.partition(b"\r\n\r\n")[2]
-        return "valid" if b"(10:public-key" in answer else answer.decode() if status == "401" else status
+                answer += octets
+        status, text = answer.split(b" ", 2)[1].decode(), answer.partition(b"\r\n\r\n")[2]
+        return "valid" if b"(10:public-key" in text else text.decode() if status == "401" else status
 
     def check_answers(self, wanted: dict[str, str]) -> None:
         """Each kind of request must have its usual answer, or the one in `wanted`. Usually all are valid but folded lines, a line twice and another
@@ -108,10 +108,10 @@ class Proxies(unittest.TestCase):
             "spaces": ("/a", lambda lines: [line.replace(": ", ":  \t", 1) + " \t" for line in lines], NAME),
             "folded": ("/a", lambda lines: [line.replace(";created", "\r\n ;created") for line in lines], NAME),
             "a line twice": ("/a", lambda lines: [*lines, lines[-1]], NAME), "another name": ("/a", same, "evil.example")}
-        met = {name: self.asked("GET", *kind) for name, kind in kinds.items()}
-        met["a body"] = self.asked("PUT", "/a", body=b"some octets")
-        usual = dict.fromkeys(met, "valid") | {"folded": "400", "a line twice": "repeated-field", "another name": "other-authority"}
-        self.assertEqual(met, usual | wanted)
+        answers = {name: self.ask("GET", *kind) for name, kind in kinds.items()}
+        answers["a body"] = self.ask("PUT", "/a", body=b"some octets")
+        usual = dict.fromkeys(answers, "valid") | {"folded": "400", "a line twice": "repeated-field", "another name": "other-authority"}
+        self.assertEqual(answers, usual | wanted)
 
     @needs.needs("nginx")
     def test_nginx(self) -> None:
@@ -121,14 +121,15 @@ class Proxies(unittest.TestCase):
 
     @needs.needs("nginx")
     def test_nginx_before_two_services(self) -> None:
-        """Where nginx chooses by the nonce, a request that is sent again comes to the service that has it, also with tabs around the field, which
-        nginx takes for a part of it."""
+        """Where nginx chooses between services by the nonce, a request that is sent again comes to the service that has
+        seen its nonce, also with tabs around the field, which nginx takes for a part of it. Until both services have
+        got a request, but at least 20 times."""
         servers = " ".join(f"server {service.name};" for service in self.services)
         self.start_nginx(OWN_HOST, "both", f"{BY_NONCE} upstream both {{ hash $spki_nonce consistent; {servers} }}")
         for turn in range(1000):
             sent = [f"{name}: {it}" for name, it in self.signer.fields("GET", f"http://{NAME}/a").items()]
-            self.assertEqual(self.asked("GET", "/a", lambda _: sent), "valid")
-            self.assertEqual(self.asked("GET", "/a", lambda _: [line.replace(": ", ": \t ", 1) + "\t " for line in sent]), "nonce-seen")
+            self.assertEqual(self.ask("GET", "/a", lambda _: sent), "valid")
+            self.assertEqual(self.ask("GET", "/a", lambda _: [line.replace(": ", ": \t ", 1) + "\t " for line in sent]), "nonce-seen")
             if turn >= 20 and all(service.requests for service in self.services):
                 break
         self.assertTrue(all(service.requests for service in self.services))
@@ -137,7 +138,7 @@ class Proxies(unittest.TestCase):
     def test_nginx_with_a_host_of_its_own(self) -> None:
         """Without `proxy_set_header Host` the name is that of the upstream."""
         self.start_nginx("")
-        self.assertEqual(self.asked("GET", "/a"), "other-authority")
+        self.assertEqual(self.ask("GET", "/a"), "other-authority")
 
     @needs.needs("caddy")
     def test_caddy(self) -> None:

@@ -107,7 +107,8 @@ def proofs(story: LastingStory) -> Iterator[tuple[str, Sent, bool]]:
 
 
 def first_line_for(port: int, octets: bytes) -> bytes:
-    """The first line of what the service at a port answers to these octets, empty if it answers nothing."""
+    """The first line of what the service at a port answers to these octets. It is empty if the service answers nothing
+    or breaks the connection."""
     with socket.create_connection(("127.0.0.1", port), timeout=SECONDS) as client, contextlib.suppress(OSError):
         client.sendall(octets)
         client.shutdown(socket.SHUT_WR)
@@ -150,9 +151,9 @@ class Service(built.OfLibrary):
     def check_service(self, *words: str, **settings: str) -> None:
         """The service that these words start must answer each request as it should, and must not start on a wrong list. Neither a sanitizer nor
         valgrind may report a fault in what it writes. `settings` are more variables of its environment."""
-        others = {**os.environ, **settings}
-        with open(os.path.join(self.room, "said"), "w+b") as said, subprocess.Popen(
-                [*words, self.path, NAME], stdout=subprocess.PIPE, stderr=said, env=others) as service:
+        environment = {**os.environ, **settings}
+        with open(os.path.join(self.room, "errors"), "w+b") as errors, subprocess.Popen(
+                [*words, self.path, NAME], stdout=subprocess.PIPE, stderr=errors, env=environment) as service:
             try:
                 assert service.stdout is not None
                 port = int(service.stdout.readline())
@@ -166,15 +167,15 @@ class Service(built.OfLibrary):
             finally:
                 service.terminate()
                 service.wait()
-            said.seek(0)
-            self.assertNotRegex(said.read(), rb"lost in|Invalid|uninitialised|ERROR")
+            errors.seek(0)
+            self.assertNotRegex(errors.read(), rb"lost in|Invalid|uninitialised|ERROR")
         for text in ("(acl (entry (public-key (test a))))", "(acl) (acl)", "(acl)".ljust(1_048_577), ""):
             self.write(path := os.path.join(self.room, "wrong"), text)
-            done: Any = subprocess.run([*words, path, NAME], stdout=subprocess.PIPE, stderr=subprocess.PIPE, timeout=SECONDS, env=others)
+            done: Any = subprocess.run([*words, path, NAME], stdout=subprocess.PIPE, stderr=subprocess.PIPE, timeout=SECONDS, env=environment)
             self.assertEqual((done.returncode == 0, done.stdout), (False, b""), text[:99])
 
     def test_lines(self) -> None:
-        """Each service has at most so many lines."""
+        """Each service of SERVICES has at most the lines that stand there."""
         for path, most in SERVICES.items():
             with open(os.path.join(TOP, path), encoding="utf-8") as file:
                 self.assertLessEqual(len(file.readlines()), most, path)
@@ -184,7 +185,7 @@ class Service(built.OfLibrary):
 class InC(Service):
     """The service in C as it is, under AddressSanitizer, and under valgrind."""
 
-    def compiled(self, *more: str, verifier: str = "verify_openssl.c", library: str = "-lcrypto") -> str:
+    def compile(self, *more: str, verifier: str = "verify_openssl.c", library: str = "-lcrypto") -> str:
         """Compiles the service without warnings, with more options of the compiler. Returns its path. `verifier` is the source that verifies
         signatures, and `library` the option that links what it uses."""
         service = os.path.join(self.room, self.id())
@@ -193,18 +194,18 @@ class InC(Service):
         return service
 
     def test_service(self) -> None:
-        self.check_service(self.compiled())
+        self.check_service(self.compile())
 
     @needs.needs("/usr/include/gcrypt.h")
     def test_service_by_gcrypt(self) -> None:
-        self.check_service(self.compiled(verifier="verify_gcrypt.c", library="-lgcrypt"))
+        self.check_service(self.compile(verifier="verify_gcrypt.c", library="-lgcrypt"))
 
     def test_under_address_sanitizer(self) -> None:
-        self.check_service(self.compiled(*SANITIZED))
+        self.check_service(self.compile(*SANITIZED))
 
     @needs.needs("valgrind")
     def test_under_valgrind(self) -> None:
-        self.check_service(*VALGRIND, self.compiled())
+        self.check_service(*VALGRIND, self.compile())
 
 
 class InOtherLanguages(Service):
@@ -213,8 +214,8 @@ class InOtherLanguages(Service):
     @needs.needs("cargo", "openssl")
     def test_rust(self) -> None:
         settings = {**os.environ, "SPKI_LIB_DIR": os.path.dirname(self.library), "CARGO_NET_OFFLINE": "true"}
-        status, said = output_of("cargo", "build", "--quiet", "--example", "service", cwd=RUST, env=settings, seconds=SECONDS)
-        self.assertEqual(status, 0, said)
+        status, output = output_of("cargo", "build", "--quiet", "--example", "service", cwd=RUST, env=settings, seconds=SECONDS)
+        self.assertEqual(status, 0, output)
         self.check_service(os.path.join(RUST, "out", "debug", "examples", "service"))
 
     def test_python(self) -> None:

@@ -39,24 +39,24 @@ class OfSites(unittest.TestCase):
         """The fields of a request for a path that somebody signs. `words` are options of `spki-cert request`."""
         return self.site.cert("request", "--by", f"keys/{who}", *words, f"https://localhost:{self.site.port}{path}").splitlines()
 
-    def asked(self, method: str, path: str, *lines: str, body: str = "") -> int:
+    def status(self, method: str, path: str, *lines: str, body: str = "") -> int:
         """The status of the answer to a request without a certificate for TLS."""
         return self.site.status(None, method, path, *lines, body=body)
 
     def check_signed(self) -> None:
-        """Who signs is granted what the key may do, once."""
+        """A signed request is granted once, and only what its key may do: its own path, method and body. A certificate
+        of TLS grants too, but not beside a wrong signature."""
         ann = self.fields("ann", PAGE)
-        self.assertEqual([self.asked("GET", PAGE, *ann) for _ in range(2)], [200, 403])
+        self.assertEqual([self.status("GET", PAGE, *ann) for _ in range(2)], [200, 403])
         self.assertIn("nonce-seen", self.site.text("log/authd.log"))
-        self.assertEqual(self.asked("GET", "/secret/plan.txt", *self.fields("ann", "/secret/plan.txt")), 401)
-        self.assertEqual(self.asked("GET", PAGE, *self.fields("eve", PAGE)), 401)
-        self.assertEqual(self.asked("GET", PAGE), 401)
-        self.assertEqual(self.asked("GET", PAGE, *(line for line in self.fields("ann", PAGE) if not line.startswith("X-Spki-Public-Key"))), 403)
-        self.assertEqual(self.asked("GET", "/web/out/main.js", *self.fields("ann", PAGE)), 403)
-        self.assertEqual(self.asked("HEAD", PAGE, *self.fields("ann", PAGE)), 403)
-        self.assertEqual(self.asked("PUT", PAGE, *self.fields("ann", PAGE), body="x"), 403)
-        both = self.fields("ann", PAGE)
-        self.assertEqual(self.asked("GET", PAGE, *both, "Signature: spki=:AAAA:"), self.second_line)
+        self.assertEqual(self.status("GET", "/secret/plan.txt", *self.fields("ann", "/secret/plan.txt")), 401)
+        self.assertEqual(self.status("GET", PAGE, *self.fields("eve", PAGE)), 401)
+        self.assertEqual(self.status("GET", PAGE), 401)
+        self.assertEqual(self.status("GET", PAGE, *(line for line in self.fields("ann", PAGE) if not line.startswith("X-Spki-Public-Key"))), 403)
+        self.assertEqual(self.status("GET", "/web/out/main.js", *self.fields("ann", PAGE)), 403)
+        self.assertEqual(self.status("HEAD", PAGE, *self.fields("ann", PAGE)), 403)
+        self.assertEqual(self.status("PUT", PAGE, *self.fields("ann", PAGE), body="x"), 403)
+        self.assertEqual(self.status("GET", PAGE, *self.fields("ann", PAGE), "Signature: spki=:AAAA:"), self.second_line)
         self.assertEqual(self.site.status("ann", "GET", PAGE), 200)
         self.assertEqual(self.site.status("ann", "GET", PAGE, "Signature: spki=:AAAA:"), 403)
         self.check_chain()
@@ -66,10 +66,10 @@ class OfSites(unittest.TestCase):
         right = ("--tag", "(files read (* prefix /web/))", "--days", "9")
         self.site.cert("sign", "--by", "keys/ann", "--to", "keys/ben.pub", *right, "--force", "-o", "b")
         ben = self.fields("ben", PAGE, "--cert", "b")
-        self.assertEqual(self.asked("GET", PAGE, *ben), 200)
-        self.assertEqual([self.site.status("ben", "GET", PAGE), self.asked("GET", PAGE, *self.fields("ben", PAGE))], [401, 401])
+        self.assertEqual(self.status("GET", PAGE, *ben), 200)
+        self.assertEqual([self.site.status("ben", "GET", PAGE), self.status("GET", PAGE, *self.fields("ben", PAGE))], [401, 401])
         sent = self.fields("ben", PAGE)
-        self.assertEqual(self.asked("GET", PAGE, *sent, next(line for line in ben if line.startswith("X-Spki-Sequence"))), 403)
+        self.assertEqual(self.status("GET", PAGE, *sent, next(line for line in ben if line.startswith("X-Spki-Sequence"))), 403)
 
     def check_left_chain(self) -> None:
         """Ben leaves Ann's certificate with the daemon, by a request that counts once. Then his requests need nothing but his key, by a signature or
@@ -83,11 +83,11 @@ class OfSites(unittest.TestCase):
             *(("PUT", place + query, self.fields("ben", place + query, "--body", "b"), body) for query in ("?", f"?GET={PAGE}"))]
         for method, path, lines, text in wrong:
             # (502 where the daemon has answered before the web server has passed on the body)
-            self.assertIn(self.asked(method, path, *lines, body=text), (*range(400, 500), 502), (method, path))
-        self.assertEqual([self.site.status("ben", "GET", PAGE), self.asked("GET", PAGE, *self.fields("ben", PAGE))], [401, 401])
-        self.assertEqual([self.asked("PUT", place, *sent, body=body) for _ in range(2)], [201, 403])
-        self.assertEqual([self.site.status("ben", "GET", PAGE), self.asked("GET", PAGE, *self.fields("ben", PAGE))], [200, 200])
-        self.assertEqual(self.asked("GET", "/secret/plan.txt", *self.fields("ben", "/secret/plan.txt")), 401)
+            self.assertIn(self.status(method, path, *lines, body=text), (*range(400, 500), 502), (method, path))
+        self.assertEqual([self.site.status("ben", "GET", PAGE), self.status("GET", PAGE, *self.fields("ben", PAGE))], [401, 401])
+        self.assertEqual([self.status("PUT", place, *sent, body=body) for _ in range(2)], [201, 403])
+        self.assertEqual([self.site.status("ben", "GET", PAGE), self.status("GET", PAGE, *self.fields("ben", PAGE))], [200, 200])
+        self.assertEqual(self.status("GET", "/secret/plan.txt", *self.fields("ben", "/secret/plan.txt")), 401)
         sender = attackers.Attackers(self.site, self.site.form)
         for each in attacks.with_statuses(attacks.of_leaving(), attacks.UNCLEAR):
             answer = self.site.answer(each.who, sender.filled(each.octets))
@@ -101,8 +101,8 @@ class OfSites(unittest.TestCase):
         url = f"https://localhost:{self.site.port}/web/new"
         self.site.cert("request", "--by", "keys/ann", "--body", "new", "--curl", url, "--", "--silent", "--fail", "--cacert", "ca/ca.crt")
         self.assertEqual(self.site.text("files/web/new"), "some text")
-        said = self.site.cert("request", "--by", "keys/ann", "--curl", url, "--", "--silent", "--fail", "--cacert", "ca/ca.crt")
-        self.assertEqual(said, "some text")
+        answer = self.site.cert("request", "--by", "keys/ann", "--curl", url, "--", "--silent", "--fail", "--cacert", "ca/ca.crt")
+        self.assertEqual(answer, "some text")
 
 
 @needs.needs(*NEEDS)
@@ -126,9 +126,8 @@ class Git(OfSites):
     kind = web_servers.Nginx
 
     def test_git(self) -> None:
-        said = self.site.sh(os.path.join(EXAMPLE, "git.sh"))
-        self.assertEqual(said.splitlines(), ["Ben clones: denied", "Ben leaves Ann's certificate", "Ben clones: one", "Ben pulls: two",
-                                             "Eve clones: denied"])
+        lines = self.site.sh(os.path.join(EXAMPLE, "git.sh")).splitlines()
+        self.assertEqual(lines, ["Ben clones: denied", "Ben leaves Ann's certificate", "Ben clones: one", "Ben pulls: two", "Eve clones: denied"])
 
 
 @needs.needs(*NEEDS, *web_servers.Caddy.needs)
@@ -193,9 +192,8 @@ class Rsync(OfSites):
     kind = WithRsync
 
     def test_rsync(self) -> None:
-        said = self.site.sh(os.path.join(TOP, "examples", "haproxy", "rsync.sh"))
-        self.assertEqual(said.splitlines(), ["Ann copies", "Ben copies: denied", "Ben leaves Ann's certificate", "Ben copies: a page",
-                                             "Eve copies: denied"])
+        lines = self.site.sh(os.path.join(TOP, "examples", "haproxy", "rsync.sh")).splitlines()
+        self.assertEqual(lines, ["Ann copies", "Ben copies: denied", "Ben leaves Ann's certificate", "Ben copies: a page", "Eve copies: denied"])
 
 
 @needs.needs(*NEEDS, *web_servers.Apache.needs)

@@ -50,37 +50,55 @@ def fill(folder: str) -> str:
     return path
 
 
+def kill_twice(server: Server) -> None:
+    """Kills a server two times, and each time starts it again after FAILING seconds."""
+    for _ in range(2):
+        server.kill()
+        time.sleep(FAILING)
+        server.start()
+        time.sleep(1)
+
+
+def cut_twice(node: networks.Node) -> None:
+    """Cuts a node from its network two times, each time for FAILING seconds."""
+    for _ in range(2):
+        node.cut()
+        time.sleep(FAILING)
+        node.mend()
+        time.sleep(FAILING)
+
+
 Entered = TypeVar("Entered", Server, networks.Network)
 
 
 class Failing(test_store.OfServed):
     """Tests with servers of their own."""
 
-    def entered(self, made: Entered) -> Entered:
+    def enter(self, context: Entered) -> Entered:
         """Enters the context of a server or a network, until the test ends. Returns it."""
-        self.addCleanup(made.__exit__)
-        made.__enter__()
-        return made
+        self.addCleanup(context.__exit__)
+        context.__enter__()
+        return context
 
     def primary(self, settings: dict[str, str] = USUAL, at: networks.Node | None = None, mib: int = 0) -> Server:
         """Starts a server, at a node and on a disk of so many MiB if given, and makes the store of this test there. Its table `error` says by how
         much its clock is wrong: the tests in Go add this to the moment of each heartbeat."""
-        made = self.entered(Server(at, mib, **settings))
+        server = self.enter(Server(at, mib, **settings))
         self.store.close()
-        self.store = Store(made.address, self.schema)
+        self.store = Store(server.address, self.schema)
         self.addCleanup(self.store.close)
         self.store.make()
-        execute(made, f"CREATE TABLE {self.schema}.error (by interval)", f"INSERT INTO {self.schema}.error VALUES ('0 s')")
-        return made
+        execute(server, f"CREATE TABLE {self.schema}.error (by interval)", f"INSERT INTO {self.schema}.error VALUES ('0 s')")
+        return server
 
     def replica(self, of: Server, settings: dict[str, str] = USUAL, at: networks.Node | None = None, mib: int = 0) -> Server:
         """Starts a replica of a server, at a node and on a disk of so many MiB if given."""
-        return self.entered(of.replica(at, mib, **settings))
+        return self.enter(of.replica(at, mib, **settings))
 
     def network(self, count: int) -> list[networks.Node]:
         """Makes a network, and returns so many nodes of it."""
-        made = self.entered(networks.Network())
-        return [made.node() for _ in range(count)]
+        network = self.enter(networks.Network())
+        return [network.node() for _ in range(count)]
 
     def give_certificate(self, server: Server) -> str:
         """Gives a server a certificate for its address. Returns the path of the certificate, which is its own authority."""
@@ -107,16 +125,17 @@ class Questions(Failing):
         golang.go(golang.DAEMON, ["test", *test_store.WITH_DRIVER, "-c", "-o", cls.questions, "."], cls.library).check_returncode()
 
     def ask_while(self, host: str, writers: list[Server], fails: Callable[[], None], *before: str, root: str = "") -> None:
-        """Runs the generated questions of the daemon's tests on the store at a host, while `fails` makes something fail. All answers must be right.
-        The list is changed on the one of `writers` that can be written to. `before` are words before the command, and `root` is the path of the
-        certificate by which TLS trusts the host: empty without TLS."""
+        """Runs the generated questions of the daemon's tests on the store at a host, while `fails`, which is called
+        once they have begun, makes something fail and mends it. The questions go on until it returns. All answers must
+        be right. The list is changed on the one of `writers` that can be written to. `before` are words before the
+        command, and `root` is the path of the certificate by which TLS trusts the host: empty without TLS."""
         end = os.path.join(self.room, "end")
         settings = {**golang.settings(self.library), "SPKI_STORE_HOST": host, "SPKI_STORE_ROOT": root, "SPKI_STORE_SCHEMA": self.schema,
                     "SPKI_STORE_WRITERS": ",".join(each.folder for each in writers), "SPKI_STORE_SEED": str(secrets.randbelow(1 << 32)),
                     "SPKI_STORE_QUESTIONS": str(test_store.QUESTIONS), "SPKI_STORE_END": end}
         words = [*before, self.questions, "-test.run", "^TestQuestionsUnderFailures$", "-test.v", "-test.timeout", "30m"]
-        with open(os.path.join(self.room, "said"), "w+b") as said:
-            process = subprocess.Popen(words, cwd=golang.DAEMON, env=settings, stdout=said, stderr=said)
+        with open(os.path.join(self.room, "output"), "w+b") as output:
+            process = subprocess.Popen(words, cwd=golang.DAEMON, env=settings, stdout=output, stderr=output)
             with databases.killed_at_end(process):
                 time.sleep(1)
                 try:
@@ -124,37 +143,24 @@ class Questions(Failing):
                 finally:
                     self.file(b"", "end")
                 status = process.wait(databases.SECONDS)
-            said.seek(0)
-            text = said.read().decode()
+            output.seek(0)
+            text = output.read().decode()
         self.assertEqual(status, 0, text[-4000:])
         self.assertNotIn("SKIP", text)
         print("\n" + self.id().rpartition(".")[2] + ": " + next(line for line in text.splitlines() if "versions" in line).strip())
 
     def test_primary_that_dies(self) -> None:
         primary = self.primary()
-
-        def fails() -> None:
-            for _ in range(2):
-                primary.kill()
-                time.sleep(FAILING)
-                primary.start()
-                time.sleep(1)
-        self.ask_while(primary.folder, [primary], fails)
+        self.ask_while(primary.folder, [primary], lambda: kill_twice(primary))
 
     def test_replica_that_dies(self) -> None:
         primary = self.primary()
         replica = self.replica(primary)
-
-        def fails() -> None:
-            for _ in range(2):
-                replica.kill()
-                time.sleep(FAILING)
-                replica.start()
-                time.sleep(1)
-        self.ask_while(replica.folder, [primary], fails)
+        self.ask_while(replica.folder, [primary], lambda: kill_twice(replica))
 
     def test_failover(self) -> None:
-        """The primary dies, the replica that received most takes its place, and the other one, which is asked, follows that."""
+        """The primary dies, and the replica that received most takes its place. The second replica is asked. If it is
+        not the promoted one, it is told to follow that."""
         primary = self.primary(SHORT)
         replicas = [self.replica(primary) for _ in range(2)]
         make_synchronous(primary)
@@ -162,14 +168,14 @@ class Questions(Failing):
         def fails() -> None:
             primary.kill()
             time.sleep(FAILING)
-            other = replicas[1] if received(replicas[1]) > received(replicas[0]) else replicas[0]
-            other.promote()
-            if other is replicas[0]:
-                test_store.follow(replicas[1], other)
+            promoted = replicas[1] if received(replicas[1]) > received(replicas[0]) else replicas[0]
+            promoted.promote()
+            if promoted is replicas[0]:
+                test_store.follow(replicas[1], promoted)
         self.ask_while(replicas[1].folder, [primary, *replicas], fails)
 
     def test_replica_that_lags(self) -> None:
-        """A replica replays nothing for a while, and then what was 1, 4 and 2 seconds ago."""
+        """A replica replays nothing for FAILING seconds, and then the changes of 1, 4 and 2 seconds ago."""
         primary = self.primary()
         replica = self.replica(primary)
 
@@ -198,14 +204,7 @@ class Questions(Failing):
         first, second = self.network(2)
         primary = self.primary(SHORT, first)
         replica = self.replica(primary, at=second)
-
-        def fails() -> None:
-            for _ in range(2):
-                second.cut()
-                time.sleep(FAILING)
-                second.mend()
-                time.sleep(FAILING)
-        self.ask_while(replica.folder, [primary], fails)
+        self.ask_while(replica.folder, [primary], lambda: cut_twice(second))
 
     @needs.needs("ip")
     def test_network_to_the_store(self) -> None:
@@ -213,14 +212,7 @@ class Questions(Failing):
         first, second = self.network(2)
         primary = self.primary(at=first)
         root = self.give_certificate(primary)
-
-        def fails() -> None:
-            for _ in range(2):
-                second.cut()
-                time.sleep(FAILING)
-                second.mend()
-                time.sleep(FAILING)
-        self.ask_while(primary.host, [primary], fails, *second.words, root=root)
+        self.ask_while(primary.host, [primary], lambda: cut_twice(second), *second.words, root=root)
 
     @needs.needs("ip")
     def test_full_disk_of_the_primary(self) -> None:
@@ -303,8 +295,8 @@ class Daemons(Failing):
 
     @needs.needs("ip")
     def test_full_disk_for_entries(self) -> None:
-        """Where the entries and the log of changes have no room, what is added is refused, and what is removed too. Both are said, and nothing is
-        half done. Daemons decide by what is there."""
+        """Where the disk of the entries and the log of changes is full, `spki-store` adds nothing and removes nothing,
+        and says so. No change is half done, and the daemon decides by the entries that are there."""
         primary, room = self.primary(), tempfile.mkdtemp()
         self.addCleanup(os.rmdir, room)
         databases.mount(room, 3)
@@ -320,7 +312,7 @@ class Daemons(Failing):
         it.wait_for_status(200, alice)
         listed = [test_store.key_entry(b"k%06d" % place, b"(1:*)") for place in range(20_000)]
         path = self.file(b"(3:acl" + b"".join(listed) + b")")
-        self.assertIn("No space left on device", self.does(3, "import", path))
+        self.assertIn("No space left on device", self.spki_store(3, "import", path))
         fill(room)
         (count,), = self.store.rows("SELECT count(*) FROM {entries}")
         self.assertTrue(1 < count < len(listed))
@@ -329,10 +321,10 @@ class Daemons(Failing):
         while failed < 10:
             failed = 0 if self.removes(count) else failed + 1
             count -= 1
-        self.does(3, "remove", str(number))
+        self.spki_store(3, "remove", str(number))
         self.assertEqual((it.status(alice), it.status(bob)), (200, 401))
         subprocess.run(["mount", "-o", "remount,size=16m", room], check=True)
-        self.does(0, "remove", str(number))
+        self.spki_store(0, "remove", str(number))
         it.wait_for_status(401, alice)
 
     def removes(self, number: int) -> bool:
@@ -352,7 +344,7 @@ class Daemons(Failing):
         number = self.add_entry(bob)
         it.wait_for_status(200, bob)
         filler = fill(primary.folder)
-        self.does(0, "remove", str(number))
+        self.spki_store(0, "remove", str(number))
         write_until_it_ends(primary)
         it.wait_for_status(503, alice)
         it.wait_for_status(503, bob)
