@@ -190,11 +190,11 @@ def strings_in(octets):
         yield octets[colon + 1:at]
 
 
-def cargo(folder, words, given=None):
-    """Runs cargo in the crate, offline, with the libraries of a folder and the input `given`. Returns the
+def cargo(folder, words, octets=None):
+    """Runs cargo in the crate, offline, with the libraries of a folder and these octets as its input. Returns the
     `CompletedProcess`."""
     settings = {**os.environ, "SPKI_LIB_DIR": folder, "RUSTDOCFLAGS": "-D warnings", "CARGO_NET_OFFLINE": "true"}
-    return subprocess.run(["cargo", *words], cwd=RUST, input=given, capture_output=True, env=settings, timeout=SECONDS)
+    return subprocess.run(["cargo", *words], cwd=RUST, input=octets, capture_output=True, env=settings, timeout=SECONDS)
 
 
 # ---- the tests
@@ -225,9 +225,9 @@ class Words(unittest.TestCase):
         """The crate and the package know the same words of each kind: causes, faults and parts. Both have `Other` too, which a macro adds in Rust."""
         rust, python = text_of("bindings/rust/src/words.rs"), text_of("bindings/python/spki/_words.py")
         kinds = re.findall(r"^    (Cause|Fault|Part) \{\n(.*?)^    \}$", rust, re.MULTILINE | re.DOTALL)
-        found = {kind: re.findall(r"^        (\w+),$", members, re.MULTILINE) for kind, members in kinds}
-        self.assertEqual(len(found), 3)
-        for kind, words in found.items():
+        by_kind = {kind: re.findall(r"^        (\w+),$", members, re.MULTILINE) for kind, members in kinds}
+        self.assertEqual(len(by_kind), 3)
+        for kind, words in by_kind.items():
             members = re.search(rf"^class {kind}\(_Word\):\n(.*?)(?=^class|\Z)", python, re.MULTILINE | re.DOTALL)[1]
             self.assertEqual([word.lower() for word in re.findall(r'^    [A-Z_0-9]+ = "(\w+)"$', members, re.MULTILINE)],
                              [word.lower() for word in [*words, "Other"]], kind)
@@ -281,10 +281,10 @@ class Binding(built.OfLibrary):
             issuer = keys.principal_of(alice.key)
             access_list = [b"acl", [b"entry", issuer, [b"propagate"], [b"tag", [b"ftp"]]]]
             certificate = [b"cert", [b"issuer", issuer], [b"subject", bob.key], [b"tag", [b"ftp"]]]
-            value = alice.sign(canonical(certificate))
+            right = alice.sign(canonical(certificate))
             other = alice.sign(canonical([*certificate, [b"propagate"]]))
-            for holder, shown, wanted in ((bob, value, "granted\n"), (carol, value, "denied\n"), (bob, other, "denied\n")):
-                signature = [b"signature", keys.hash_of(certificate), issuer, shown]
+            for holder, value, wanted in ((bob, right, "granted\n"), (carol, right, "denied\n"), (bob, other, "denied\n")):
+                signature = [b"signature", keys.hash_of(certificate), issuer, value]
                 self.check_output(words, (access_list, [b"sequence", alice.key, certificate, signature], holder.key), wanted)
 
     def check_output(self, words, parts, wanted):
@@ -423,9 +423,9 @@ class InCpp(Binding):
 class InRust(Binding):
     """The crate in Rust."""
 
-    def cargo(self, *words, given=None):
-        """Runs cargo in the crate, with the input `given`. It must succeed. Returns its standard output."""
-        done = cargo(self.folder, words, given)
+    def cargo(self, *words, octets=None):
+        """Runs cargo in the crate, with these octets as its input. It must succeed. Returns its standard output."""
+        done = cargo(self.folder, words, octets)
         self.assertEqual(done.returncode, 0, f"cargo {' '.join(words)}: {(done.stdout + done.stderr).decode(errors='replace')[-4000:]}")
         return done.stdout
 
@@ -456,7 +456,7 @@ class InRust(Binding):
 
     def test_questions(self):
         asked = all_questions(self.program)
-        lines = strings_in(self.cargo("run", "--quiet", "--example", "asked", given=b"".join(map(framed, asked))))
+        lines = strings_in(self.cargo("run", "--quiet", "--example", "asked", octets=b"".join(map(framed, asked))))
         fault = faults_of_answers(asked, [line + b"\n" for line in lines])
         self.assertEqual(fault, "", fault)
 

@@ -42,9 +42,9 @@ class Caches(built.OfLibrary):
         acl: "Value" = [b"acl", [b"entry", issuer, [b"propagate"], [b"tag", [b"cache"]]]]
         tag: "Value" = [b"tag", [b"cache", [b"*", b"set", b"read", b"write"], prefix]]
         certificate: list["Value"] = [b"cert", [b"issuer", issuer], [b"subject", bob.key], tag]
-        value, other = alice.sign(canonical(certificate)), alice.sign(canonical([*certificate, [b"propagate"]]))
-        for name, holder, shown in (("bob", bob, value), ("carol", carol, value), ("forged", bob, other)):
-            signature: "Value" = [b"signature", keys.hash_of(certificate), issuer, shown]
+        right, other = alice.sign(canonical(certificate)), alice.sign(canonical([*certificate, [b"propagate"]]))
+        for name, holder, value in (("bob", bob, right), ("carol", carol, right), ("forged", bob, other)):
+            signature: "Value" = [b"signature", keys.hash_of(certificate), issuer, value]
             sequence: "Value" = [b"sequence", alice.key, certificate, signature]
             answers = self.answers(words, name, acl, holder.key, sequence)
             self.assertEqual(answers, [wanted if name == "bob" else "denied" for _, wanted in LINES], name)

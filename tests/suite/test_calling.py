@@ -85,8 +85,8 @@ def calls(crate, module="lib"):
     if module != "lib":
         yield from ((path, name, name) for owner, name in calls_in(source) if owner is None)
     for inner in re.findall(r"^pub mod (\w+);", source, re.MULTILINE):
-        for file, name, shown in calls(crate, inner):
-            yield file, name, shown if "::" in shown else f"{inner}::{shown}"
+        for file, name, public_name in calls(crate, inner):
+            yield file, name, public_name if "::" in public_name else f"{inner}::{public_name}"
 
 
 def is_law(name):
@@ -107,12 +107,12 @@ def checks(crate):
         is_there = path.startswith("crates/test_callers/") and f"\n{block}" in text_of(path)
         yield f"the block of {path}", None if is_there else "does not stand in the file"
     rows = {path_in(crate, path): set(re.findall(r"`([^`]+)`", named)) for path, named in ROW.findall(page)}
-    passed_on = {(path, shown) for path, _, shown in calls(crate)}
-    for path, shown in sorted(passed_on):
-        is_there = path in rows and (is_law(shown) or shown in rows[path])
-        yield f"{path}: {shown}", None if is_there else "is not on the page"
-    for path, shown in sorted((path, shown) for path, named in rows.items() for shown in named):
-        yield f"{path}: {shown}", None if (path, shown) in passed_on else "is not passed on"
+    passed_on = {(path, public_name) for path, _, public_name in calls(crate)}
+    for path, public_name in sorted(passed_on):
+        is_there = path in rows and (is_law(public_name) or public_name in rows[path])
+        yield f"{path}: {public_name}", None if is_there else "is not on the page"
+    for path, public_name in sorted((path, public_name) for path, named in rows.items() for public_name in named):
+        yield f"{path}: {public_name}", None if (path, public_name) in passed_on else "is not passed on"
 
 
 class Pages(unittest.TestCase):

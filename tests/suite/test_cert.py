@@ -143,8 +143,7 @@ class OfKeys(Case):
             self.write("key.sexp", public)
             self.assertEqual(public, self.cert("key", "key.sexp"))
             self.write("back.pub", keys.openssh_line(keys.public_of(value_in(public.encode()).value)))
-            shown = [quiet("ssh-keygen", "-l", "-f", self.at(name)).split()[:2] for name in (f"{kind}.pub", "back.pub")]
-            self.assertEqual(*shown)
+            self.assertEqual(*(quiet("ssh-keygen", "-l", "-f", self.at(name)).split()[:2] for name in (f"{kind}.pub", "back.pub")))
 
     @needs.needs("openssl")
     def test_keys_of_pem_are_read_and_written(self):

@@ -248,11 +248,11 @@ class OfAsk(unittest.TestCase):
         """A search compares the digests of keys, 32 octets, and not the keys, however long they are. The canonical text of a key that is added is
         made once."""
         from spki_cert_tool import certificates
-        long, known = key("k", 10_000), certificates.Keys()
-        known.add(long)
-        self.assertEqual([len(it) for it in certificates.holder_of(hash_of(long), [b"n"], known)], [32, 3])
-        self.assertEqual(certificates.holder_of(hash_of(long), [], known), certificates.holder_of(long, [], known))
-        self.assertIs(known.text_of(hash_of(long)), known.text_of(hash_of(long)))
+        long, keys = key("k", 10_000), certificates.Keys()
+        keys.add(long)
+        self.assertEqual([len(it) for it in certificates.holder_of(hash_of(long), [b"n"], keys)], [32, 3])
+        self.assertEqual(certificates.holder_of(hash_of(long), [], keys), certificates.holder_of(long, [], keys))
+        self.assertIs(keys.text_of(hash_of(long)), keys.text_of(hash_of(long)))
 
     def test_many_keys_of_a_file(self) -> None:
         """After the first MOST_KEYS keys of a file, here 3, a last remark says that no more are looked at, and what to do. The keys are faulty, so

@@ -179,10 +179,10 @@ def faults_of_clients(connect):
         return list(filter(None, pool.map(lambda place: fault_of_client(connect, place), range(CLIENTS))))
 
 
-def is_refused(call, *given, **more):
+def is_refused(call, *arguments):
     """Whether `call` with these arguments raises `spki.Refused` or `ValueError`. Any other exception is raised."""
     try:
-        call(*given, **more)
+        call(*arguments)
     except (spki.Refused, ValueError):
         return True
     return False

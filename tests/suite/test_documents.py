@@ -91,13 +91,13 @@ def dead_paths(page, names):
 # ---- names in the sources
 
 DEFINED = re.compile(r"^\| ([A-Z]\w+(?:, [A-Z]\w+)*) \| ((?:`[\w-]+`(?:, )?)+) \|", re.MULTILINE)
-# The definitions of a specification: also fields and constructors.
+# A definition of a specification, or a field or constructor of one.
 OF_SPECS = re.compile(r"^ *(?:(?:abbrev|pub|record|data|unfoldable) )*([\w-]+)\b|\(pub ([\w-]+)", re.MULTILINE)
 
 
-def names_in(pattern: re.Pattern[str], paths: list[str]) -> set[str]:
-    """The names that a pattern finds in files."""
-    return {name for path in paths for found in pattern.findall(text_of(path)) for name in ([found] if isinstance(found, str) else found)}
+def names_in_specs(paths: list[str]) -> set[str]:
+    """The names that specifications define, by their paths: also of fields and constructors."""
+    return {name for path in paths for names in OF_SPECS.findall(text_of(path)) for name in names if name}
 
 
 def below_crates(part: str) -> list[str]:
@@ -110,7 +110,7 @@ def undefined() -> Iterator[str]:
     for head, rows in claims.SECTION.findall(text_of("docs/DEFINITIONS.md")):
         for files, names in DEFINED.findall(rows):
             paths = [f"crates/{crate}/specs/{file}.antt" for crate in re.findall(r"`(\w+)`", head) for file in files.split(", ")]
-            there = names_in(OF_SPECS, [path for path in paths if os.path.exists(os.path.join(TOP, path))])
+            there = names_in_specs([path for path in paths if os.path.exists(os.path.join(TOP, path))])
             yield from (f"{files}: {name}" for name in re.findall(r"`([\w-]+)`", names) if name not in there)
 
 

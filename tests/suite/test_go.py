@@ -32,9 +32,10 @@ KINDS = {"ed25519": ["ed25519"], "rsa": ["RSA", "-pkeyopt", "rsa_keygen_bits:204
 class OfGo(test_bindings.Binding):
     """A test of what is written in Go."""
 
-    def go(self, folder: str, *words: str, given: bytes | None = None, **more: str) -> bytes:
-        """Runs a command of Go in a folder, with the input `given` and more settings of the environment. It must succeed. Returns its output."""
-        done = golang.go(folder, list(words), self.library, given, **more)
+    def go(self, folder: str, *words: str, octets: bytes | None = None, **more: str) -> bytes:
+        """Runs a command of Go in a folder, with these octets as its input and more settings of the environment. It
+        must succeed. Returns its output."""
+        done = golang.go(folder, list(words), self.library, octets, **more)
         output = (done.stdout + done.stderr).decode(errors="replace")
         self.assertEqual(done.returncode, 0, f"go {' '.join(words)}: {output[-4000:]}")
         return done.stdout
@@ -75,7 +76,7 @@ class InGo(OfGo):
         """A program in Go answers all questions of the tables as `spki` does. It reads them as `test_bindings.framed` writes them, and writes its
         answers as strings in canonical form."""
         asked = test_bindings.all_questions(self.program)
-        lines = self.go(golang.MODULE, "run", "./examples/asked", given=b"".join(map(test_bindings.framed, asked)))
+        lines = self.go(golang.MODULE, "run", "./examples/asked", octets=b"".join(map(test_bindings.framed, asked)))
         fault = test_bindings.faults_of_answers(asked, [line + b"\n" for line in test_bindings.strings_in(lines)])
         self.assertEqual(fault, "", fault)
 
@@ -208,8 +209,8 @@ class Daemon:
         the daemon's own, where a proxy listens."""
         headers = {"X-Original-Method": method, "X-Original-URI": target, "X-Client-Cert": urllib.parse.quote(who.certificate)}
         if sequence:
-            shown = subprocess.run([built.program(), "transport"], input=sequence, stdout=subprocess.PIPE, check=True).stdout
-            headers["Authorization"] = f"SPKI {shown.decode().strip()}"
+            braced = subprocess.run([built.program(), "transport"], input=sequence, stdout=subprocess.PIPE, check=True).stdout
+            headers["Authorization"] = f"SPKI {braced.decode().strip()}"
         connection = OverSocket(path or self.socket)
         try:
             connection.request("GET", "/", headers=headers)
@@ -252,15 +253,15 @@ class Served(OfGo):
             with self.served(f"(acl {entries})", room) as daemon:
                 for number, alice in enumerate(alices, 1):
                     for bob in bobs:
-                        shown = alice.gives(bob, "(files read (* prefix /web/))")
-                        answer = daemon.ask(bob, "GET", "/web/a", shown)
+                        sequence = alice.gives(bob, "(files read (* prefix /web/))")
+                        answer = daemon.ask(bob, "GET", "/web/a", sequence)
                         self.assertEqual((answer.status, answer.headers["X-Spki-Entry"]), (200, str(number)))
                         self.assertEqual(answer.headers["X-Spki-Key"], bob.digest)
-                        self.assertEqual(daemon.ask(bob, "PUT", "/web/a", shown).status, 403)
-                        self.assertEqual(daemon.ask(bob, "GET", "/web/../a", shown).status, 400)
-                        self.assertEqual(daemon.ask(alice, "GET", "/web/a", shown).status, 403)
+                        self.assertEqual(daemon.ask(bob, "PUT", "/web/a", sequence).status, 403)
+                        self.assertEqual(daemon.ask(bob, "GET", "/web/../a", sequence).status, 400)
+                        self.assertEqual(daemon.ask(alice, "GET", "/web/a", sequence).status, 403)
                         self.assertEqual(daemon.ask(bob, "GET", "/web/a").status, 401)
-                        self.assertEqual(daemon.ask(bob, "GET", "/web/a", self.with_wrong_signature(shown)).status, 403)
+                        self.assertEqual(daemon.ask(bob, "GET", "/web/a", self.with_wrong_signature(sequence)).status, 403)
 
     @staticmethod
     def with_wrong_signature(sequence: bytes) -> bytes:
@@ -277,8 +278,8 @@ class Served(OfGo):
             alice, bob = (Person(room, name, "ed25519") for name in ("alice", "bob"))
             text = f"(acl (entry {alice.key} (propagate) (tag (files read))))"
             with self.served(text, room) as daemon:
-                shown = alice.gives(bob, "(files read (* prefix /web/))")
-                self.assertEqual(daemon.ask(bob, "GET", "/web/a", shown).status, 200)
+                sequence = alice.gives(bob, "(files read (* prefix /web/))")
+                self.assertEqual(daemon.ask(bob, "GET", "/web/a", sequence).status, 200)
                 digests = daemon.last_grant()["certificates"]
                 assert isinstance(digests, list)
                 daemon.write(daemon.ended, sealed(f"{digests[0]} # Bob has left\n"))
@@ -286,10 +287,10 @@ class Served(OfGo):
                 message = daemon.reload()
                 self.assertEqual(message["event"], "reloaded not")
                 self.assertIn("refused acl 1 Shape", str(message["detail"]))
-                self.assertEqual(daemon.ask(bob, "GET", "/web/a", shown).status, 200)
+                self.assertEqual(daemon.ask(bob, "GET", "/web/a", sequence).status, 200)
                 daemon.write(daemon.list, text)
                 self.assertEqual(daemon.reload()["event"], "reloaded")
-                self.assertEqual(daemon.ask(bob, "GET", "/web/a", shown).status, 403)
+                self.assertEqual(daemon.ask(bob, "GET", "/web/a", sequence).status, 403)
                 self.assertEqual(daemon.ask(alice, "GET", "/web/a").status, 200)
                 daemon.write(daemon.list, "(acl)")
                 self.assertEqual(daemon.reload()["event"], "reloaded")

@@ -82,16 +82,16 @@ class Counted(test_bindings.Binding):
 
     @needs.needs("go")
     def test_in_go(self):
-        given = b"".join(map(test_bindings.framed, self.asked))
-        done = golang.go(golang.MODULE, ["run", "./examples/asked"], self.archive, given, SPKI_COUNTED=self.counts)
+        octets = b"".join(map(test_bindings.framed, self.asked))
+        done = golang.go(golang.MODULE, ["run", "./examples/asked"], self.archive, octets, SPKI_COUNTED=self.counts)
         self.assertEqual(done.returncode, 0, done.stderr)
         self.check_counts(self.asked, [answer + b"\n" for answer in test_bindings.strings_in(done.stdout)])
 
     @needs.needs("cargo")
     def test_in_rust(self):
-        given, target = b"".join(map(test_bindings.framed, self.asked)), os.path.join(TESTS, "out", "counted")
+        octets, target = b"".join(map(test_bindings.framed, self.asked)), os.path.join(TESTS, "out", "counted")
         settings = {**self.settings, "SPKI_LIB_DIR": self.room, "CARGO_TARGET_DIR": target, "CARGO_NET_OFFLINE": "true"}
-        done = subprocess.run(["cargo", "run", "--quiet", "--example", "asked"], cwd=test_bindings.RUST, input=given, stdout=subprocess.PIPE,
+        done = subprocess.run(["cargo", "run", "--quiet", "--example", "asked"], cwd=test_bindings.RUST, input=octets, stdout=subprocess.PIPE,
                               env=settings, check=True, timeout=SECONDS)
         self.check_counts(self.asked, [answer + b"\n" for answer in test_bindings.strings_in(done.stdout)])
 

@@ -442,11 +442,11 @@ class OfTheRightOfAChain(OfChains):
         """Days are whole days: a chain that ends some hours before gives them. A moment that is given is meant."""
         moment = datetime.datetime.now(datetime.timezone.utc) + datetime.timedelta(30)
         near, far, later = ((moment + datetime.timedelta(hours=it)).strftime("%Y-%m-%d_%H:%M:%S") for it in (-23, -25, 1))
-        for ends, given, warns in ((near, ("--days", "30"), False), (far, ("--days", "30"), True), (near, ("--until", later), True)):
-            with self.subTest(ends=ends, given=given):
+        for ends, limit, warns in ((near, ("--days", "30"), False), (far, ("--days", "30"), True), (near, ("--until", later), True)):
+            with self.subTest(ends=ends, limit=limit):
                 signs = "sign", "--tag", "(packages)", "--force", "-o"
                 self.cert(*signs, "b.sexp", "--by", "alice", "--to", "bob.pub", "--propagate", "--until", ends)
-                output = self.cert(*signs, "c.sexp", "--by", "bob", "--to", "carol.pub", "--chain", "b.sexp", *given, wanted=4 if warns else 0)
+                output = self.cert(*signs, "c.sexp", "--by", "bob", "--to", "carol.pub", "--chain", "b.sexp", *limit, wanted=4 if warns else 0)
                 self.assertEqual("item 1 of the chain ends earlier" in output, warns, output)
 
     def test_certificates_of_a_key_for_itself_are_no_burden(self):

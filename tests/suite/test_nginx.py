@@ -191,8 +191,8 @@ class Numbers(unittest.TestCase):
 
     def number(self, pattern: str) -> int:
         """The number that a pattern finds in the example, once."""
-        found, = re.findall(pattern, text_of("examples/nginx/files.conf"))
-        return int(found)
+        number, = re.findall(pattern, text_of("examples/nginx/files.conf"))
+        return int(number)
 
     def test_idle_connections(self) -> None:
         """The idle connections of 40 workers leave a quarter of the 1,024 places of a daemon to others."""
@@ -270,15 +270,15 @@ class Changes(OfSite):
     def test_ended_certificates(self) -> None:
         """A certificate whose digest is in the file of ended certificates grants nothing. It grants again once a reload
         with `-fewer` accepts a file without it."""
-        shown_by_ben = sequence(self.site, "ann", "ben", READ)
-        shown, before = f"Authorization: SPKI {in_braces(shown_by_ben)}", self.site.text("etc/ended")
-        self.assertEqual(self.site.status("ben", "GET", "/web/index.html", shown), 200)
+        of_ben = sequence(self.site, "ann", "ben", READ)
+        field, before = f"Authorization: SPKI {in_braces(of_ben)}", self.site.text("etc/ended")
+        self.assertEqual(self.site.status("ben", "GET", "/web/index.html", field), 200)
         asks = (self.site.program, "-config", self.site.at("etc/authd.json"), "-reload")
-        for text, words, ended, status in ((sealed(f"{digest_of(shown_by_ben[1]).hex()}\n"), (), 0, 403), ("no digest\n", (), 1, 403),
+        for text, words, ended, status in ((sealed(f"{digest_of(of_ben[1]).hex()}\n"), (), 0, 403), ("no digest\n", (), 1, 403),
                                            (before, (), 1, 403), (before, ("-fewer",), 0, 200)):
             self.site.write("etc/ended", text)
             self.assertEqual(output_of(*asks, *words)[0], ended)
-            self.assertEqual(self.site.status("ben", "GET", "/web/index.html", shown), status)
+            self.assertEqual(self.site.status("ben", "GET", "/web/index.html", field), status)
 
 
 @needs.needs(*served.NEEDS, *needs.LIBRARY)
@@ -311,8 +311,8 @@ class Limits(OfSite):
 
     def test_rate_of_certificates(self) -> None:
         """Who shows certificates has a lower rate, and the daemon is not asked past it."""
-        shown = f"Authorization: SPKI {in_braces(sequence(self.site, 'ann', 'ben', READ))}"
-        each, count = f"GET /web/index.html HTTP/1.1\r\nHost: localhost\r\n{shown}\r\n", 80
+        field = f"Authorization: SPKI {in_braces(sequence(self.site, 'ann', 'ben', READ))}"
+        each, count = f"GET /web/index.html HTTP/1.1\r\nHost: localhost\r\n{field}\r\n", 80
         asked = f"{each}\r\n".encode() * (count - 1) + f"{each}Connection: close\r\n\r\n".encode()
 
         def is_limited() -> bool:

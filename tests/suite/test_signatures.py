@@ -127,9 +127,9 @@ class Requests(unittest.TestCase):
         """The chain is sent as `spki-cert show --braces` has it, and is signed."""
         self.cert("sign", "--by", "ed25519", "--to", "p256.pub", "--tag", "(files read)", "--days", "9", "-o", "chain.sexp")
         fields = self.cert("request", "--by", "p256", "--cert", "chain.sexp", self.url)
-        shown = self.cert("show", "--braces", "chain.sexp").strip()
-        self.assertIn(f"X-Spki-Sequence: {shown}\n", fields)
-        self.assertEqual(self.ask(fields.replace(shown, "{KDg6c2VxdWVuY2Up}")), (401, b"invalid-signature"))
+        chain = self.cert("show", "--braces", "chain.sexp").strip()
+        self.assertIn(f"X-Spki-Sequence: {chain}\n", fields)
+        self.assertEqual(self.ask(fields.replace(chain, "{KDg6c2VxdWVuY2Up}")), (401, b"invalid-signature"))
         self.assertEqual(self.ask(fields)[0], 200)
 
     @needs.needs("curl")

@@ -394,13 +394,13 @@ class StoreDaemon:
         self.daemon = test_go.Daemon(room, program, "(acl)", *before, list={"postgres": store}, **with_chains)
         self.room, self.process = room, self.daemon.process
 
-    def status(self, who: Person, shown: bytes = b"") -> int:
+    def status(self, who: Person, sequence: bytes = b"") -> int:
         """The status of the answer to a request of a person, who shows a sequence or none."""
-        return self.daemon.ask(who, "GET", "/web/a", shown).status
+        return self.daemon.ask(who, "GET", "/web/a", sequence).status
 
-    def wait_for_status(self, wanted: int, who: Person, shown: bytes = b"") -> None:
+    def wait_for_status(self, wanted: int, who: Person, sequence: bytes = b"") -> None:
         """Waits until a person's request is answered with this status."""
-        waits_for(f"{wanted} for {os.path.basename(who.path)} from {self.room}", lambda: self.status(who, shown) == wanted)
+        waits_for(f"{wanted} for {os.path.basename(who.path)} from {self.room}", lambda: self.status(who, sequence) == wanted)
 
     def kill(self) -> None:
         """Ends the daemon at once, if it still runs."""
@@ -443,20 +443,20 @@ class Served(OfServed):
         """An entry that is added grants. One that is removed and a certificate that has ended do not. Where the store
         is stale, each answer is 503."""
         alice, bob, mallory = (self.people[name] for name in ("alice", "bob", "mallory"))
-        beats, shown = self.start_beat(self.server.address), alice.gives(bob, "(files read (* prefix /web/))")
+        beats, sequence = self.start_beat(self.server.address), alice.gives(bob, "(files read (* prefix /web/))")
         it = self.start_daemon("one", self.server)
         it.wait_for_status(401, alice)
         number = self.add_entry(alice)
         it.wait_for_status(200, alice)
-        answer = it.daemon.ask(bob, "GET", "/web/a", shown)
+        answer = it.daemon.ask(bob, "GET", "/web/a", sequence)
         self.assertEqual((answer.status, answer.headers["X-Spki-Entry"]), (200, str(number)))
         self.assertEqual(it.daemon.last_grant()["list"], "change 1")
-        self.assertEqual((it.status(mallory), it.status(mallory, shown)), (401, 403))
+        self.assertEqual((it.status(mallory), it.status(mallory, sequence)), (401, 403))
         self.assertEqual([it.daemon.run(word)[0] for word in ("-health", "-state")], [0, 0])
         digests = it.daemon.last_grant()["certificates"]
         assert isinstance(digests, list)
         self.spki_store(0, "end", *digests)
-        it.wait_for_status(403, bob, shown)
+        it.wait_for_status(403, bob, sequence)
         self.assertEqual(it.status(alice), 200)
         self.spki_store(0, "remove", str(number))
         it.wait_for_status(401, alice)
@@ -464,7 +464,7 @@ class Served(OfServed):
         it.wait_for_status(200, alice)
         beats.kill()
         it.wait_for_status(503, alice)
-        self.assertEqual((it.status(bob, shown), it.status(mallory)), (503, 503))
+        self.assertEqual((it.status(bob, sequence), it.status(mallory)), (503, 503))
         status, output, errors = it.daemon.run("-health")
         self.assertEqual((status, "is stale" in errors), (1, True), output + errors)
         self.start_beat(self.server.address)
@@ -479,17 +479,17 @@ class Served(OfServed):
         self.start_beat(self.server.address)
         store = {"host": self.server.folder, "database": "postgres", "user": "postgres", "schema": self.schema}
         alice, bob = self.people["alice"], self.people["bob"]
-        shown = alice.gives(bob, "(files read (* prefix /web/))")
+        sequence = alice.gives(bob, "(files read (* prefix /web/))")
         self.add_entry(alice)
         one, other = (self.start_daemon(name, self.server, chains={"postgres": store}) for name in ("one", "other"))
         one.wait_for_status(200, alice)
         other.wait_for_status(401, bob)
-        body, target = os.path.join(self.room, "shown"), "/.well-known/spki-chain"
+        body, target = os.path.join(self.room, "sequence"), "/.well-known/spki-chain"
         with open(body, "wb") as file:
-            file.write(shown)
+            file.write(sequence)
         fields = test_go.spki_cert("request", "--by", bob.path, "--body", body, f"https://{SITE}{target}").decode().splitlines()
         connection = test_go.OverSocket(one.daemon.socket)
-        connection.request("PUT", target, shown, {"Host": SITE, **dict(field.split(": ", 1) for field in fields)})
+        connection.request("PUT", target, sequence, {"Host": SITE, **dict(field.split(": ", 1) for field in fields)})
         answer = connection.getresponse()
         self.assertEqual((answer.status, answer.headers["X-Spki-Answer"]), (201, "kept"))
         connection.close()
