@@ -10,7 +10,6 @@ import subprocess
 import sys
 import tempfile
 import threading
-import time
 import unittest
 import urllib.parse
 from collections.abc import Callable, Iterator, Sequence
@@ -330,10 +329,9 @@ class Started(OfDaemon):
             with open(daemon.log, "ab") as log:
                 process = subprocess.Popen(words, stdout=log, stderr=log)
             try:
-                # (the socket has its name a moment before anybody listens there)
-                while not any("Listening on" in line for line in self.lines(daemon.log)):
-                    self.assertIsNone(process.poll())
-                    time.sleep(0.02)
+                # (the socket has its name a moment before systemd-socket-activate listens there)
+                waits_for("systemd-socket-activate listens or has ended", lambda: process.poll() is not None or any(
+                    "Listening on" in line for line in self.lines(daemon.log)))
                 # (a unit sets SocketMode)
                 os.chmod(daemon.socket, 0o600)
                 self.assertEqual(self.ask_often(daemon.socket, 2, self.headers()), [200, 200])

@@ -48,8 +48,6 @@ MOST_TIMES, MOST_MODULES = 20, 100
 # After how many seconds a program that hangs is ended.
 SECONDS = 1800
 MANUAL = text_of("docs/spki-cert.1")
-
-
 needs_ssh = needs.needs("ssh-keygen")
 
 
@@ -234,6 +232,7 @@ class OfPassphrases(Case):
         it writes."""
         child, terminal = pty.fork()
         if child == 0:
+            signal.alarm(SECONDS)
             os.chdir(self.room)
             os.execve(sys.executable, [sys.executable, COMMAND, *words], self.settings)
         output, answered = b"", 0
@@ -569,7 +568,7 @@ class OfWords(Case):
         for is_cut, wanted in ((False, ["no chain leads"]), (True, ["no chain was found that leads", "the search for chains ended after"])):
             answer = asking.Answer([b"sequence"], None, [Reason(1, None, "NotTheKey")], [], 2, is_cut)
             lines = list(asking.Words(asked, answer).lines())[-len(wanted):]
-            self.assertTrue(all(words in line for words, line in zip(wanted, lines)), lines)
+            self.assertTrue(all(words in line for words, line in zip(wanted, lines, strict=True)), lines)
 
     def test_a_name_at_the_end(self):
         """What `ask` says where the right ends at the name `builders of alice`. `defined` are the certificates at hand:

@@ -126,6 +126,7 @@ class Documents(unittest.TestCase):
     def test_paths_of_tests(self) -> None:
         """What scripts and programs name of tests/ is there too."""
         named = re.findall(r"tests/.*", output_of("git", "grep", "-ohE", r"(^|[^A-Za-z0-9_/.-])tests/[a-z][A-Za-z0-9_/.*]*[a-z/]", cwd=TOP)[1])
+        self.assertTrue(named)
         self.assertEqual({path for path in named if "/out/" not in path and not glob.glob(os.path.join(TOP, path))}, set())
 
     def test_lengths(self) -> None:

@@ -99,7 +99,7 @@ class Generated(built.OfProgram):
             self.fail("\n".join(faults))
 
     def test_all_are_asked(self) -> None:
-        """Each case is of a command that has a test here."""
+        """Each case that differs or has ended its process is of a command that has a test here."""
         others = {question(self.seed, number).command for number in [*self.differ, *self.ended]} - {*ASKED}
         self.assertEqual(others, set())
 

@@ -5,6 +5,7 @@ import contextlib
 import hashlib
 import http.client
 import io
+import itertools
 import os
 import re
 import secrets
@@ -15,6 +16,7 @@ import subprocess
 import threading
 import time
 import urllib.parse
+from collections.abc import Iterable
 from typing import Any
 
 from harness import built, databases, golang, needs
@@ -409,6 +411,12 @@ class StoreDaemon:
             self.process.communicate()
 
 
+def wait_for_all(daemons: Iterable[StoreDaemon], wanted: int, *people: Person) -> None:
+    """Waits until each daemon answers a request of each of these people with this status."""
+    for daemon, who in itertools.product(daemons, people):
+        daemon.wait_for_status(wanted, who)
+
+
 @needs.needs("openssl", "import cryptography")
 class OfServed(OfDaemon):
     """Tests of the daemon as a program."""
@@ -429,6 +437,13 @@ class OfServed(OfDaemon):
         daemon = StoreDaemon(os.path.join(self.room, name), self.program, server, self.schema, *before, chains=chains, **more)
         self.addCleanup(daemon.kill)
         return daemon
+
+    def start_asker(self, daemons: list[StoreDaemon], who: Person) -> "Asker":
+        """Starts to ask daemons for a person, until `end` is called or the test ends."""
+        asker = Asker(daemons, who)
+        asker.start()
+        self.addCleanup(asker.end)
+        return asker
 
     def add_entry(self, who: Person, store: Store | None = None) -> int:
         """Adds an entry for a person to a store, by default that of the test. Returns its number."""
@@ -541,7 +556,7 @@ class Asker(threading.Thread):
                         self.granted.append((begun, time.monotonic()))
 
     def end(self) -> list[tuple[float, float]]:
-        """Stops asking. Returns when each granted request began and ended."""
+        """Stops asking. Returns when each granted request began and ended. It may be called twice."""
         self.ends.set()
         self.join()
         return self.granted
@@ -606,23 +621,17 @@ class Replicated(OfServed):
             self.wait_for_beat()
             alice, bob, mallory = (self.people[name] for name in ("alice", "bob", "mallory"))
             daemons = [self.start_daemon(f"on-{place}", each) for place, each in enumerate(replicas)]
-            askers = [Asker(daemons, each) for each in (bob, mallory)]
-            for each in askers:
-                each.start()
+            askers = [self.start_asker(daemons, each) for each in (bob, mallory)]
             self.add_entry(alice)
             number = self.add_entry(bob)
-            for it in daemons:
-                it.wait_for_status(200, alice)
-                it.wait_for_status(200, bob)
+            wait_for_all(daemons, 200, alice, bob)
             self.check_lag(replicas[0], daemons)
             self.store.remove(number)
             removed = time.monotonic()
-            for it in daemons:
-                it.wait_for_status(401, bob)
+            wait_for_all(daemons, 401, bob)
             self.server.kill()
             self.addCleanup(self.server.start)
-            for it in daemons:
-                it.wait_for_status(503, alice)
+            wait_for_all(daemons, 503, alice)
             replicas[0].promote()
             daemons[0].wait_for_status(200, alice)
             self.assertEqual(daemons[1].status(alice), 503)
@@ -632,12 +641,10 @@ class Replicated(OfServed):
             stack.callback(new_primary.close)
             added_again = time.monotonic()
             number = self.add_entry(bob, new_primary)
-            for it in daemons:
-                it.wait_for_status(200, bob)
+            wait_for_all(daemons, 200, bob)
             new_primary.remove(number)
             removed_again = time.monotonic()
-            for it in daemons:
-                it.wait_for_status(401, bob)
+            wait_for_all(daemons, 401, bob)
             bobs, mallorys = [each.end() for each in askers]
             self.assertEqual(mallorys, [])
             self.assertEqual([(begun, ended) for begun, ended in bobs if begun > removed + STALE and ended < added_again

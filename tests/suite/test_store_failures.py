@@ -260,13 +260,10 @@ class Daemons(Failing):
         old, near, far = (self.start_daemon("old", primary), self.start_daemon("near", replicas[0]),
                           self.start_daemon("far", replicas[1], *nodes[3].words, host=nodes[2].address, root=root))
         alice, bob = self.people["alice"], self.people["bob"]
-        asker = test_store.Asker([old, near, far], bob)
-        asker.start()
+        asker = self.start_asker([old, near, far], bob)
         self.add_entry(alice)
         number = self.add_entry(bob)
-        for it in (old, near, far):
-            it.wait_for_status(200, alice)
-            it.wait_for_status(200, bob)
+        test_store.wait_for_all((old, near, far), 200, alice, bob)
         for node, cut, others in ((nodes[1], near, (old, far)), (nodes[3], far, (old, near))):
             node.cut()
             cut.wait_for_status(503, alice)
@@ -274,17 +271,14 @@ class Daemons(Failing):
             node.mend()
             cut.wait_for_status(200, alice)
         nodes[0].cut()
-        for it in (old, near, far):
-            it.wait_for_status(503, alice)
+        test_store.wait_for_all((old, near, far), 503, alice)
         replicas[0].promote()
         test_store.follow(replicas[1], replicas[0])
-        for it in (near, far):
-            it.wait_for_status(200, alice)
+        test_store.wait_for_all((near, far), 200, alice)
         with contextlib.closing(Store(replicas[0].address, self.schema)) as store:
             store.remove(number)
         removed = time.monotonic()
-        for it in (near, far):
-            it.wait_for_status(401, bob)
+        test_store.wait_for_all((near, far), 401, bob)
         nodes[0].mend()
         for _ in range(20):
             self.assertEqual([old.status(alice), old.status(bob), near.status(alice), far.status(alice)], [503, 503, 200, 200])

@@ -49,7 +49,8 @@ class WrongUses(built.OfLibrary):
         """Runs a command in a folder, by default that of the test. Its status must be the given one, if any. Returns what it writes."""
         done = subprocess.run(words, cwd=folder or self.room, stdout=subprocess.PIPE, stderr=subprocess.STDOUT, text=True, timeout=SECONDS,
                               env=self.environment)
-        self.assertIn(done.returncode, (done.returncode if status is None else status,), done.stdout)
+        if status is not None:
+            self.assertEqual(done.returncode, status, done.stdout)
         return done.stdout
 
     def write_program(self, name: str, shared: str, rows: list[Row]) -> tuple[str, dict[int, Row]]:
