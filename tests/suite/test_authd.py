@@ -273,7 +273,8 @@ class Started(OfDaemon):
     """The daemon under a service manager."""
 
     def test_what_the_manager_is_told(self) -> None:
-        """At a reload, at one that is refused since the list has a fault, and at the end. The daemon does not remove the manager's socket."""
+        """Messages come at a reload, at one that is refused since the list has a fault, and at the end. The daemon does
+        not remove the manager's socket."""
         with managed(self.daemon_program, self.access_list) as manager:
             process = manager.start()
             try:

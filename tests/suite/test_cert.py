@@ -261,7 +261,7 @@ class OfPassphrases(Case):
 
     @needs.needs("openssl")
     def test_without_a_terminal_it_is_refused(self):
-        """Neither an encrypted key is read nor a new one encrypted."""
+        """Without a terminal an encrypted key is not read, and a new one is not encrypted: both are refused."""
         self.pem_key("key.pem", "ed25519", "-aes-256-cbc", "-pass", "pass:sesame")
         done = subprocess.run([sys.executable, COMMAND, "key", "key.pem"], cwd=self.room, stdin=subprocess.DEVNULL, capture_output=True,
                               text=True, start_new_session=True)
@@ -302,7 +302,7 @@ class OfCertificates(Case):
             self.assertEqual(each.terms.tag, value_in(TAG.encode()).value)
 
     def test_the_agent_signs(self):
-        """By a public key, whose private key only ssh-agent has: its file is removed."""
+        """The issuer is given as a public key, whose private key only ssh-agent has: its file is removed."""
         socket = {"SSH_AUTH_SOCK": start_agent(self)}
         self.assertIn("does not hold it", self.sign("--days", "30", by="alice.pub", wanted=2, **socket))
         for kind in TYPES:
@@ -705,8 +705,8 @@ class OfAnswers(Case):
         self.assertIn("no moment of that is in the windows before it (NoValidity)", self.cert(*asks, wanted=1))
 
     def check_names(self, asks):
-        """What is said of a name that is misspelt, and of one that another issuer defines. `asks` are the words of an `ask`, which end with the file
-        c.sexp, `--` and the request."""
+        """What `ask` says of a name that is misspelt, and of one that another issuer defines. `asks` are the words of
+        an `ask`, which end with the file c.sexp, `--` and the request."""
         defines, more = ("name", "--to", "carol.pub", "--days", "30"), (*asks[:-5], "c.sexp", "d.sexp", *asks[-4:])
         self.cert(*defines, "--by", "alice", "--name", "bilders", *into("c.sexp"))
         self.assertIn("the right is with builders of alice there; is `builders` meant? (NotTheName)", self.cert(*asks, wanted=1))

@@ -190,7 +190,7 @@ class OfCheck(unittest.TestCase):
 
 
 class OfMessages(unittest.TestCase):
-    """What is said of a long request or name."""
+    """Messages about a long request or word."""
 
     def test_long_requests(self) -> None:
         """`lacks` shows only the first 400 octets of a long request. For a set of 900 strings that lacks it there is one message, and not one for

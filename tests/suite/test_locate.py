@@ -79,7 +79,6 @@ MISTAKES = [
     (with_certificate(KEY).replace(':00"))', ':00") (polisy strict))'), "case Shape", (5, 71), "is `policy` meant?"),
 ]
 
-
 # Parts of a question to a guard, and access lists: the text, the words of the refusal that `locate` is given or none, the refusal that it must
 # show, the place as line and column, and words of the remark.
 SIGNED = f"(signature {HASH} {KEY} sig)"
@@ -121,8 +120,6 @@ MODEL = {"sequence": structures.read_sequence, "key": structures.read_key, "requ
 GUARD_QUESTIONS = 600
 # The offset of a place that is shown.
 PLACE = re.compile(r"^(?:line \d+, column \d+, )?octet (\d+)", re.MULTILINE)
-
-
 LOCATE = loaded(PATH)
 
 

@@ -66,7 +66,7 @@ class Room(Case):
 
 
 class OfWriting(Room):
-    """What is there already stays."""
+    """No key and no input is written over, and a command that fails leaves the file as it is."""
 
     def test_no_key_and_no_input_is_written_over(self):
         signs = ("sign", "--by", "alice", "--to", "bob.pub", "--tag", "(packages read)", "--days", "30")
@@ -406,7 +406,8 @@ class OfTheRightOfAChain(OfChains):
         self.sign_behind(chain="both", tag="(packages (* set read write))")
 
     def test_what_the_issuer_cannot_give_is_not_signed(self):
-        """Neither as it is nor by `--yes`. With `--anyway` it is signed, and the message comes too."""
+        """A right that the chain does not give to the issuer is signed only with `--anyway`, not with `--yes`. The
+        message comes in each case."""
         text = octets_in(self.at("to-bob"))
         self.write("changed", text.replace(b"(packages read)", b"(packages)"))
         self.write("tampered", re.sub(rb"\(s\s+#..", lambda it: it[0][:-2] + b"%02x" % (int(it[0][-2:], 16) ^ 1), text))
@@ -621,7 +622,7 @@ class OfSignals(Room):
         return outcome
 
     def test_a_file_is_whole_when_a_signal_comes(self):
-        """The signal comes while the file is written, and waits until it is in its place."""
+        """A signal that comes while the file is written ends the command once the file is whole and in its place."""
         for call in ("fsync", "fchmod", "link"):
             def before(call=call, real=getattr(os, call)):
                 signal.signal(signal.SIGTERM, signal.SIG_DFL)

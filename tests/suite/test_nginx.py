@@ -56,7 +56,7 @@ class Attacks(OfSite):
         self.assertEqual(self.site.status("ann", "GET", "/web/%69ndex.html"), 200)
 
     def test_foreign_certificate(self) -> None:
-        """Who holds another key than that of the certificate gets no connection."""
+        """A client that has another key than that of the certificate that it shows gets no connection."""
         files = map(self.site.at, ("keys/ann.crt", "keys/eve.crt", "keys/eve"))
         words = ("go", "run", os.path.join(TESTS, "programs", "foreign.go"), f"127.0.0.1:{self.site.port}", *files)
         before = self.lines()
@@ -67,7 +67,7 @@ class Attacks(OfSite):
         self.check_ann()
 
 
-# The error page of SITES and LOCKS, and the statuses for which it comes.
+# The error page of SITES and LOCKS, and the statuses that lead to it.
 SORRY, ERRORS = "/web/out/main.js", "500 502 503 504"
 CACHE = "proxy_cache_path {room}/tmp/cache keys_zone=site:1m; proxy_cache site; proxy_cache_valid any 1h; "
 # Ordinary lines of a site, by what they do: those of `http`, and those of the example's `server`.
@@ -152,14 +152,15 @@ class Sites(OfSite):
         self.assertTrue(answer.endswith(page.encode()), answer)
 
     def test_one_lock(self) -> None:
-        """Where the first lock is broken, the second holds: an answer of 200 that is not the daemon's finds no file."""
+        """Where the first lock is broken, the second one denies: an answer of 200 that is not the daemon's leads to no
+        file."""
         for name, of_all, line in LOCKS:
             self.restart_nginx(of_all, "", without=line)
             with self.subTest(name):
                 self.check_denied([each for each in ASKED if each[2] != "/web/"], DENIED | UNDECIDED)
 
     def test_daemon_stopped(self) -> None:
-        """While no daemon answers, nobody gets anything, not even Ann what she may."""
+        """While no daemon answers, nothing is granted, not even to Ann."""
         self.check_ann()
         self.site.stop_daemon()
         self.addCleanup(self.site.start_daemon)
@@ -169,7 +170,7 @@ class Sites(OfSite):
                 self.check_denied([*ASKED, *GRANTED], DENIED - {401} | UNDECIDED)
 
     def test_full_queue(self) -> None:
-        """Where the queue of the daemon's socket is full, nginx cannot ask, and nobody gets anything."""
+        """Where the queue of the daemon's socket is full, nginx cannot ask, and nothing is granted."""
         self.restart_nginx(f"error_page {ERRORS} = {SORRY};", "")
         self.check_ann()
         self.site.stop_daemon()
@@ -310,7 +311,7 @@ class Limits(OfSite):
         self.check_ann()
 
     def test_rate_of_certificates(self) -> None:
-        """Who shows certificates has a lower rate, and the daemon is not asked past it."""
+        """A client that shows certificates has a lower rate. Past it the daemon is not asked."""
         field = f"Authorization: SPKI {in_braces(sequence(self.site, 'ann', 'ben', READ))}"
         each, count = f"GET /web/index.html HTTP/1.1\r\nHost: localhost\r\n{field}\r\n", 80
         asked = f"{each}\r\n".encode() * (count - 1) + f"{each}Connection: close\r\n\r\n".encode()
@@ -341,7 +342,7 @@ class Limits(OfSite):
         self.site.start_daemon()
 
     def test_connections(self) -> None:
-        """Where all connections are taken, a client waits until the daemon has closed one that says nothing."""
+        """If all connections are in use, a client waits until the daemon closes one on which nothing is sent."""
         self.with_limits(connections=1, seconds=1)
         try:
             with socket.socket(socket.AF_UNIX) as silent:

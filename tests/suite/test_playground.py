@@ -36,14 +36,10 @@ MARKUP = '<img src="x" onerror="attacked=1"><script>attacked=1</script>'
 SECONDS, HOSTILE_SECONDS = 600, 2
 # How often a question with HOSTILE_SECONDS is asked until it is answered in time, since the machine may be slow.
 TRIES = 100
-
-
 EXAMPLES = loaded(os.path.join(FOLDER, "examples.py")).EXAMPLES
 STORY = EXAMPLES[0]["question"]
-
-
 # What people paste: the box, the text of it in whose place they paste, or nothing for all of it, what they paste, the first character that is
-# marked, and what is said of it.
+# marked, and words of the remark.
 PASTED = [
     ("key", "", "-----BEGIN CERTIFICATE-----\nMIIBszCCAVmg\n-----END CERTIFICATE-----\n", "-", "an X.509 certificate"),
     ("key", "", "-----BEGIN CERTIFICATE REQUEST-----\nMIIBszCCAVmg\n-----END CERTIFICATE REQUEST-----\n", "-", "a request for an X.509 certificate"),
@@ -173,6 +169,8 @@ class Answers(OfPage):
             self.assertEqual([line_of_reason(reason) for reason in answer["reasons"]], lines_of("explain", text))
 
     def test_a_mistake_is_found_at_its_place(self) -> None:
+        """Each row has a box, what is replaced in its text and by what, the text that is marked then, and words of the
+        remark."""
         mistakes = [
             ("acl", "(tag (packages", "(tagg (packages", "(tagg", "is `tag` meant?"),
             ("acl", "(* set read", "(* sett read", "sett", "is `set` meant?"),
@@ -593,6 +591,7 @@ class InChromium(OfPage):
         self.until("return document.getElementById('kind').textContent === 'Yes' && !document.querySelector('[data-box=acl] mark')")
 
     def test_text_stays_text_in_every_box(self) -> None:
+        """What is put into a box makes no element of the page, and no script of it runs."""
         quoted = MARKUP.replace('"', '\\"')
         for tab, name, text in [
                 *(("question", box, MARKUP) for box in (*BOXES, "request")), ("question", "labels", f"{MARKUP} (public-key (test carol))"),

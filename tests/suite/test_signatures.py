@@ -160,7 +160,7 @@ class Requests(unittest.TestCase):
 
     @needs.needs("ssh-keygen")
     def test_agent(self) -> None:
-        """Keys that ssh-agent holds sign too."""
+        """Keys that ssh-agent has sign too."""
         socket = test_cert.start_agent(self)
         for kind in KINDS:
             subprocess.run(["ssh-add", "-q", kind], cwd=self.room, env={**os.environ, "SSH_AUTH_SOCK": socket}, check=True)

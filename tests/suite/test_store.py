@@ -259,7 +259,7 @@ class Schema(OfStore):
         self.assertEqual(self.spki_store(1, "check").splitlines()[-1], "entries checked: 2, wrong 1")
 
     def test_roles(self) -> None:
-        """Who reads cannot write, and who writes cannot rewrite what was."""
+        """An account that reads cannot write, and one that writes cannot change rows or the log."""
         self.store.add(A)
         no = psycopg.errors.InsufficientPrivilege
         for role in ("reader", "writer"):
@@ -292,7 +292,8 @@ class Schema(OfStore):
         return store
 
     def test_rows_of_others(self) -> None:
-        """Who adds can remove what the same account has added, and who writes can remove any entry. The log says who did."""
+        """An `adder` can remove only what the same account has added, and a `writer` any entry. The log has the
+        accounts."""
         ann, ben, carl = (self.account(*words) for words in (("ann", "adder"), ("ben", "adder"), ("carl", "writer")))
         first, second = ann.add(A), ben.add(ZEROS)
         self.assertEqual([ann.remove(second), ben.remove(first), ben.remove(second), carl.remove(first)], [False, False, True, True])

@@ -104,7 +104,8 @@ class WrongUses(built.OfLibrary):
 
     @needs.needs("cargo")
     def test_rust(self) -> None:
-        """One by one, since the compiler finds faults of one kind before it looks for those of the next."""
+        """The rows are compiled one by one: the compiler finds faults of one kind before it looks for those of the
+        next."""
         shared, wrong, others = self.split("rust")
         self.environment.update(SPKI_LIB_DIR=os.path.dirname(self.library), CARGO_NET_OFFLINE="true")
         self.output("cargo", "build", "--quiet", "--lib", folder=RUST, status=0)
