@@ -830,8 +830,8 @@ def version():
 
 
 def data_for_libgcrypt(kind, message):
-    """The S-expression by which libgcrypt is given a message, to verify a signature of it by a key of this kind: the message for Ed25519, and
-    otherwise its digest."""
+    """The S-expression of a message that libgcrypt signs, or verifies, by a key of this kind: it has the message itself
+    for Ed25519, and otherwise its digest."""
     sha256, sha384 = ([b"hash", name.encode(), hashlib.new(name, message).digest()] for name in ("sha256", "sha384"))
     return {"ed25519": [b"data", [b"flags", b"eddsa"], [b"hash-algo", b"sha512"], [b"value", message]],
             "rsa": [b"data", [b"flags", b"pkcs1"], sha256], "p256": [b"data", [b"flags", b"raw"], sha256],
