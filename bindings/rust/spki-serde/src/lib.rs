@@ -32,13 +32,13 @@ use serde::ser::{SerializeMap, SerializeSeq};
 use serde::Serializer;
 use spki::{Denied, Explanation, Grant, Refusal};
 use std::fmt::Display;
-use std::time::UNIX_EPOCH;
+use std::time::{SystemTime, UNIX_EPOCH};
 
 pub mod limits;
 pub mod policy;
 
-/// Writes a decision as a map. `granted` says whether the request is granted. A yes has also `entry`, the entry that grants it, and `until`, the last
-/// second since 1970, or null if no window ends. A refusal has `refused`, its line, and a verifier that failed has `failed`.
+/// Writes a decision as a map. `granted` says whether the request is granted. A yes has also `entry`, the number of the entry that grants it, and
+/// `until`, the last second since 1970, or null if no window ends. A refusal has `refused`, its line, and a verifier that failed has `failed`.
 ///
 /// # Errors
 ///
@@ -52,16 +52,23 @@ pub fn decision<S: Serializer, E: Display>(
     match decision {
         Ok(grant) => {
             map.serialize_entry("entry", &grant.entry)?;
-            let until = grant
-                .until
-                .and_then(|it| it.duration_since(UNIX_EPOCH).ok());
-            map.serialize_entry("until", &until.map(|it| it.as_secs()))?;
+            map.serialize_entry("until", &grant.until.map(seconds_of))?;
         }
         Err(Denied::No) => {}
         Err(Denied::Refused(refusal)) => map.serialize_entry("refused", refusal.line())?,
         Err(other) => map.serialize_entry("failed", &other.to_string())?,
     }
     map.end()
+}
+
+/// A time that is a whole second as the seconds since 1970, which are below 0 before it.
+fn seconds_of(time: SystemTime) -> i64 {
+    match time.duration_since(UNIX_EPOCH) {
+        Ok(after) => i64::try_from(after.as_secs()).unwrap_or(i64::MAX),
+        Err(error) => {
+            i64::try_from(error.duration().as_secs()).map_or(i64::MIN, |seconds| -seconds)
+        }
+    }
 }
 
 /// Writes the line of a refusal.

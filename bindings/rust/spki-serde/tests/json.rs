@@ -3,7 +3,7 @@
 use serde::de::value::{Error, MapDeserializer};
 use serde_json::value::Serializer;
 use serde_json::{json, Value};
-use spki::{Denied, Guard, Limits, Policy, ProvenKey, Question, Request};
+use spki::{Denied, Guard, Limits, Moment, Policy, ProvenKey, Question, Request};
 use spki_serde::{decision, explanation, limits, policy, refusal};
 use std::time::{Duration, UNIX_EPOCH};
 
@@ -67,21 +67,21 @@ fn decisions_are_written() {
     let guard = Guard::read(LIST, Policy::Strict, Limits::default()).expect("a list");
     let key = ProvenKey::assume(&b"(public-key (test b))"[..]);
     let now = UNIX_EPOCH + Duration::from_secs(1_704_067_200);
-    let asked = |word: &'static [u8], sequence: &'static [u8]| {
+    let decide = |word: &'static [u8], sequence: &'static [u8]| {
         let words = [word];
         guard.decide(
             &Question::new(sequence, &key, Request::Words(&words), now),
             |_| false,
         )
     };
-    let of = |decided: &_| decision(decided, Serializer).expect("a map");
+    let json_of = |decided: &_| decision(decided, Serializer).expect("a map");
     assert_eq!(
-        of(&asked(b"http", b"(sequence)")),
+        json_of(&decide(b"http", b"(sequence)")),
         json!({"granted": false})
     );
-    let refused = asked(b"ftp", b"(sequence");
+    let refused = decide(b"ftp", b"(sequence");
     assert_eq!(
-        of(&refused),
+        json_of(&refused),
         json!({"granted": false, "refused": "refused sequence Short"})
     );
     let line = refused
@@ -100,7 +100,7 @@ fn decisions_are_written() {
     );
     let question = Question::new(b"(sequence)", &key, Request::Text(b"(ftp)"), now);
     assert_eq!(
-        of(&guard.decide(&question, |_| false)),
+        json_of(&guard.decide(&question, |_| false)),
         json!({"granted": true, "entry": 2, "until": 1_782_863_999})
     );
     let explained = guard
@@ -111,5 +111,15 @@ fn decisions_are_written() {
     assert_eq!(
         explanation(&explained, Serializer).expect("lines"),
         json!(["entry 1 NotTheKey", "entry 2 grants"])
+    );
+    // (a window that ends before 1970 ends all the same)
+    let list =
+        b"(acl (entry (public-key (test b)) (tag (ftp)) (not-after \"1969-12-31_23:59:58\")))";
+    let guard = Guard::read(list, Policy::Strict, Limits::default()).expect("a list");
+    let moment = Moment::Text(b"\"1969-01-01_00:00:00\"");
+    let question = Question::new(b"(sequence)", &key, Request::Text(b"(ftp)"), moment);
+    assert_eq!(
+        json_of(&guard.decide(&question, |_| false)),
+        json!({"granted": true, "entry": 1, "until": -2})
     );
 }
