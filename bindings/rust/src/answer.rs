@@ -86,19 +86,20 @@ pub(crate) fn line_of(answer: &[u8]) -> &str {
         .trim_end_matches('\n')
 }
 
-/// Makes a call that writes one line. `call` gets a buffer, its room, and where the length goes. `made` gets what `call` returns, and the line.
-/// Returns what `made` returns.
+/// Makes a call that writes one line, which needs no allocation. `call` gets a buffer, its room, and where the length goes. `result_of` gets what
+/// `call` returns, and the line, which is empty if the call writes none. Returns what `result_of` returns.
 pub(crate) fn with_line<A, T>(
     call: impl FnOnce(*mut c_void, usize, *mut usize) -> A,
-    made: impl FnOnce(A, &[u8]) -> T,
+    result_of: impl FnOnce(A, &[u8]) -> T,
 ) -> T {
     let (mut buffer, mut needed) = ([0u8; LINE], 0);
     let returned = call(buffer.as_mut_ptr().cast(), LINE, &mut needed);
-    made(returned, &buffer[..needed.min(LINE)])
+    result_of(returned, &buffer[..needed.min(LINE)])
 }
 
-/// Makes a call that writes at most `most` octets, or one line. Returns its status and the answer, which is empty if it does not fit. If there is
-/// no memory for the buffer, the call is not made, and the status is `NO_MEMORY`.
+/// Makes a call that writes an answer of at most `most` octets, or one line. `call` gets a buffer, its room, and where the length goes. Returns its
+/// status and the answer, which is empty if it does not fit. If there is no memory for the buffer, the call is not made, and the status is
+/// `NO_MEMORY`.
 pub(crate) fn with_answer(
     most: usize,
     call: impl FnOnce(*mut c_void, usize, *mut usize) -> Status,

@@ -92,14 +92,14 @@ impl Asked {
             return Err(self.no_place(place));
         }
         let none = sys::Text::NONE;
-        let mut signed = sys::Signed {
+        let mut texts = sys::Signed {
             key: none,
             message: none,
             value: none,
             octets: none,
         };
         // SAFETY: the handle is open, and the place of the result is valid.
-        let status = unsafe { sys::spki_asked_signature(self.handle.as_ptr(), place, &mut signed) };
+        let status = unsafe { sys::spki_asked_signature(self.handle.as_ptr(), place, &mut texts) };
         match status {
             sys::DONE => {}
             _ => return Err(Refusal::of(status, b"")),
@@ -109,9 +109,9 @@ impl Asked {
             unsafe { slice::from_raw_parts(text.octets.cast::<u8>(), text.length) }
         };
         Ok(Signature {
-            key: octets_of(signed.key),
-            message: octets_of(signed.message),
-            value: octets_of(signed.value),
+            key: octets_of(texts.key),
+            message: octets_of(texts.message),
+            value: octets_of(texts.value),
         })
     }
 
@@ -175,13 +175,15 @@ impl Asked {
         self.decided()
     }
 
-    /// Like `decide`, for a caller whose verifier may fail with an `E`.
+    /// Like `decide`, for a caller whose verifier may fail with an `E`. It never returns `Denied::Verifier`: nothing is verified here.
     pub(crate) fn decided<E>(&self) -> Result<Grant, Denied<E>> {
         let call = |buffer, room, needed| self.call(sys::spki_asked_decide, (buffer, room, needed));
-        with_line(call, |met: sys::Decision, line| match met.status {
-            sys::YES => grant_of(line, met.until).map_err(Denied::Refused),
-            sys::NO => Err(Denied::No),
-            status => Err(Denied::Refused(Refusal::of(status, line))),
+        with_line(call, |decision: sys::Decision, line| {
+            match decision.status {
+                sys::YES => grant_of(line, decision.until).map_err(Denied::Refused),
+                sys::NO => Err(Denied::No),
+                status => Err(Denied::Refused(Refusal::of(status, line))),
+            }
         })
     }
 
@@ -226,11 +228,12 @@ impl Asked {
     }
 }
 
-/// The grant of a line `yes entry N`, until a second since 1970. Another line is a refusal: the library is not the one that was expected.
+/// The grant of a line `yes entry N`, until a second since 1970, or `i64::MAX`. Another line is a refusal as misused: the library is not the one that
+/// was expected.
 fn grant_of(line: &[u8], until: i64) -> Result<Grant, Refusal> {
     line_of(line)
         .strip_prefix("yes entry ")
         .and_then(|number| number.parse().ok())
-        .map(|entry| Grant::lasting(entry, until))
+        .map(|entry| Grant::new(entry, until))
         .ok_or_else(|| Refusal::misused("libspki_c wrote another line"))
 }

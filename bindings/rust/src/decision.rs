@@ -19,13 +19,14 @@ pub struct Grant {
 }
 
 impl Grant {
-    /// The grant by an entry until a second since 1970. `i64::MAX` means that no window ends.
-    pub(crate) fn lasting(entry: usize, seconds: i64) -> Grant {
-        let (after, length) = (seconds >= 0, Duration::from_secs(seconds.unsigned_abs()));
-        let until = (seconds < i64::MAX).then(|| match after {
-            true => UNIX_EPOCH + length,
-            false => UNIX_EPOCH - length,
-        });
+    /// The grant by an entry until a second since 1970, which is negative for a window that ended before. `i64::MAX` means that no window ends.
+    pub(crate) fn new(entry: usize, until_second: i64) -> Grant {
+        let distance = Duration::from_secs(until_second.unsigned_abs());
+        let until = match until_second {
+            i64::MAX => None,
+            0.. => Some(UNIX_EPOCH + distance),
+            _ => Some(UNIX_EPOCH - distance),
+        };
         Grant { entry, until }
     }
 

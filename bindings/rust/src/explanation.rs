@@ -37,8 +37,8 @@ impl Explanation {
             .lines()
             .filter(|line| *line != "no entries")
             .map(|line| {
-                let (entry, rest) = numbered("entry ", line);
-                let (item, word) = numbered("item ", rest);
+                let (entry, rest) = take_number("entry ", line);
+                let (item, word) = take_number("item ", rest);
                 Reason {
                     entry,
                     item,
@@ -56,9 +56,9 @@ impl fmt::Display for Explanation {
 }
 
 /// The number after a word at the beginning of a line, and what follows. `None` and the whole line if the word is not there.
-fn numbered<'l>(word: &str, line: &'l str) -> (Option<usize>, &'l str) {
-    let found = line
+fn take_number<'l>(word: &str, line: &'l str) -> (Option<usize>, &'l str) {
+    let number_and_rest = line
         .strip_prefix(word)
         .and_then(|rest| rest.split_once(' '));
-    found.map_or((None, line), |(number, rest)| (number.parse().ok(), rest))
+    number_and_rest.map_or((None, line), |(number, rest)| (number.parse().ok(), rest))
 }

@@ -44,6 +44,7 @@ impl Limits {
     /// The highest limits. On some questions within them an explanation takes seconds.
     #[must_use]
     pub const fn highest() -> Limits {
+        // (each call lowers the number to its highest)
         let most = usize::MAX;
         let all = Limits::none().octets(most).certificates(most).words(most);
         all.nodes(most).work(most).answer(most)
@@ -72,23 +73,17 @@ impl Limits {
         }
     }
 
-    /// Whether no limit is set, so that the library may be given null.
-    const fn is_none(&self) -> bool {
-        let all = &self.values;
-        all.octets | all.certificates | all.words | all.nodes | all.work | all.answer == 0
-    }
-
     /// The limits by the names of the calls that set them. One that is not set is 0.
     #[must_use]
     pub const fn named(&self) -> [(&'static str, usize); 6] {
-        let of = &self.values;
+        let values = &self.values;
         [
-            ("octets", of.octets),
-            ("certificates", of.certificates),
-            ("words", of.words),
-            ("nodes", of.nodes),
-            ("work", of.work),
-            ("answer", of.answer),
+            ("octets", values.octets),
+            ("certificates", values.certificates),
+            ("words", values.words),
+            ("nodes", values.nodes),
+            ("work", values.work),
+            ("answer", values.answer),
         ]
     }
 
@@ -138,7 +133,7 @@ impl Limits {
     }
 }
 
-/// The smaller of a number and the highest, as `min` has it, which is no `const fn`.
+/// The smaller of a number and the highest. (`Ord::min` is no `const fn`.)
 const fn at_most(number: usize, highest: usize) -> usize {
     if number < highest {
         number
@@ -202,11 +197,6 @@ impl Guard {
         let mut handle = ptr::null_mut();
         let call = |buffer, room, needed| {
             let (octets, length) = (list.as_ptr().cast(), list.len());
-            let given: *const sys::Limits = if limits.is_none() {
-                ptr::null()
-            } else {
-                &limits.values
-            };
             let policy = policy.number();
             // SAFETY: each pointer is to as many octets as its length says, or to one value of its type, and they do not overlap.
             unsafe {
@@ -214,7 +204,7 @@ impl Guard {
                     octets,
                     length,
                     policy,
-                    given,
+                    &limits.values,
                     &mut handle,
                     buffer,
                     room,
@@ -223,7 +213,7 @@ impl Guard {
             }
         };
         let answer = with_line(call, |status, line| (status, line.to_owned()));
-        opened(handle, answer).map(|handle| Guard {
+        handle_of(handle, answer).map(|handle| Guard {
             handle,
             most_answer: limits.most_answer(),
         })
@@ -243,15 +233,15 @@ impl Guard {
     /// A part of the question cannot be read, or exceeds a limit; an allocation failed.
     pub fn ask(&self, question: &Question) -> Result<Asked, Refusal> {
         let mut handle = ptr::null_mut();
-        let answer = question.lend(|question| {
+        let answer = question.lend(|lent| {
             let call = |buffer, room, needed| {
                 let guard = self.handle.as_ptr();
                 // SAFETY: the handle is open. Each pointer is to as many octets as its length says, or to one value of its type, and none overlap.
-                unsafe { sys::spki_guard_ask(guard, question, &mut handle, buffer, room, needed) }
+                unsafe { sys::spki_guard_ask(guard, lent, &mut handle, buffer, room, needed) }
             };
             with_line(call, |status, line| (status, line.to_owned()))
         });
-        opened(handle, answer).map(|handle| Asked::new(handle, self.most_answer))
+        handle_of(handle, answer).map(|handle| Asked::new(handle, self.most_answer))
     }
 
     /// Decides whether the question's request is granted. Only `Ok` is a yes.
@@ -294,8 +284,8 @@ impl Guard {
     }
 }
 
-/// The handle that a call has opened, or the refusal by its status and its line.
-fn opened<T>(
+/// The handle that a call has opened, or the refusal by its status and its line. `handle` is null if the call failed.
+fn handle_of<T>(
     handle: *mut T,
     (status, line): (sys::Status, Vec<u8>),
 ) -> Result<NonNull<T>, Refusal> {

@@ -29,15 +29,15 @@ pub use nonces::{Nonces, TakeNonce};
 pub use unproved::Unproved;
 
 use crate::{NotProved, ProvenKey, Signature, Verdict};
-use fields::{Input, PUBLIC_KEY};
+use fields::{Input, PUBLIC_KEY, SEQUENCE};
 use form::Kind;
 use message::{authority_of, is_target};
 
-/// The seconds from `created` to `expires` at most, and those that a client's clock may be ahead.
+/// The most seconds from `created` to `expires`, and those that a client's clock may be ahead.
 const MOST_WINDOW: u64 = 300;
 const MOST_AHEAD: u64 = 60;
-/// How many characters a nonce has.
-const NONCE: std::ops::RangeInclusive<usize> = 16..=64;
+/// How many characters a nonce may have.
+const NONCE_LENGTHS: std::ops::RangeInclusive<usize> = 16..=64;
 
 /// Says which key has made a request to one service. Several threads may share it.
 #[derive(Debug)]
@@ -48,9 +48,6 @@ pub struct Requests<N = Nonces> {
     /// The second since 1970 before which no signature may be created.
     start: u64,
     sha256: fn(&[u8]) -> [u8; 32],
-    scheme: &'static str,
-    /// The name of the field with the certificates.
-    sequence: String,
 }
 
 /// The key that has signed a request. There is a value of this type only for a signature that is valid.
@@ -80,15 +77,10 @@ impl<N: TakeNonce> Requests<N> {
         sha256: fn(&[u8]) -> [u8; 32],
     ) -> Requests<N> {
         Requests {
-            names: names
-                .iter()
-                .map(|name| authority_of("https", name))
-                .collect(),
+            names: names.iter().map(|name| authority_of(name)).collect(),
             nonces,
             start,
             sha256,
-            scheme: "https",
-            sequence: "x-spki-sequence".to_string(),
         }
     }
 
@@ -126,7 +118,7 @@ impl<N: TakeNonce> Requests<N> {
         V: FnMut(Signature<'_>) -> A,
         A: Verdict,
     {
-        let (input, octets) = signature_of(message)?;
+        let (input, octets) = signature_fields(message)?;
         self.check_parameters(&input, now)?;
         let (text, digest) = self.check_message(message, &input)?;
         let (key, kind) = self.signer_of(message, &input)?;
@@ -142,7 +134,7 @@ impl<N: TakeNonce> Requests<N> {
         match ProvenKey::by(signed, verify) {
             Ok(key) => Ok(Proof {
                 key: key.into_owned(),
-                sequence: self.sequence_of(message),
+                sequence: Self::sequence_of(message),
                 digest,
                 nonce: input.nonce.to_string(),
             }),
@@ -151,18 +143,21 @@ impl<N: TakeNonce> Requests<N> {
         }
     }
 
-    /// The certificates that a request shows, or a sequence of none. The field has one line at most: `check_message` has required that it is
-    /// covered, and a covered field is in one line.
-    fn sequence_of(&self, message: &Message) -> Vec<u8> {
-        let shown = message.values(&self.sequence).next();
-        shown.unwrap_or(b"(sequence)").to_vec()
+    /// The certificates that a request shows, or a sequence of none. The field has one line at most: `check_message` has ensured that it is covered,
+    /// and a covered field is in one line.
+    fn sequence_of(message: &Message) -> Vec<u8> {
+        let field = message.values(SEQUENCE).next();
+        field.unwrap_or(b"(sequence)").to_vec()
     }
 
-    /// Tests the tag, the length of the nonce, and the times. Fails with the first of these that is wrong.
+    /// Tests the tag, the length of the nonce, and the times at `now`, in seconds since 1970. Fails with the first of these that is wrong.
     fn check_parameters(&self, input: &Input, now: u64) -> Result<(), Unproved> {
         let faults = [
             (input.tag != fields::TAG, Unproved::OtherTag),
-            (!NONCE.contains(&input.nonce.len()), Unproved::BadNonce),
+            (
+                !NONCE_LENGTHS.contains(&input.nonce.len()),
+                Unproved::BadNonce,
+            ),
             (
                 input.expires <= input.created || input.expires > input.created + MOST_WINDOW,
                 Unproved::BadWindow,
@@ -180,8 +175,9 @@ impl<N: TakeNonce> Requests<N> {
         }
     }
 
-    /// Tests the method, the target and the authority of a message, and that its authorization, certificates and digest are covered, as far as it has
-    /// them. Returns the signed text, and the digest of the body if one is covered.
+    /// Tests the method, the target and the authority of a message, that the covered fields are there, and that its authorization, certificates and
+    /// digest are covered, as far as it has them. Returns the signed text, and the digest of the body if one is covered. Fails if none is covered
+    /// although the request may have a body.
     fn check_message(
         &self,
         message: &Message,
@@ -193,12 +189,12 @@ impl<N: TakeNonce> Requests<N> {
         if !is_target(message.target) {
             return Err(Unproved::BadTarget);
         }
-        let authority = authority_of(self.scheme, message.authority);
+        let authority = authority_of(message.authority);
         if authority.is_empty() || !self.names.contains(&authority) {
             return Err(Unproved::OtherAuthority);
         }
-        let text = message.base(self.scheme, &authority, input)?;
-        for name in ["authorization", &self.sequence, message::DIGEST] {
+        let text = message.base(&authority, input)?;
+        for name in ["authorization", SEQUENCE, message::DIGEST] {
             if message.values(name).next().is_some() && !input.components.contains(&name) {
                 return Err(Unproved::UncoveredField);
             }
@@ -228,16 +224,17 @@ impl<N: TakeNonce> Requests<N> {
     }
 }
 
-/// Reads `Signature-Input`, and the octets of `Signature`.
-fn signature_of<'a>(message: &Message<'a>) -> Result<(Input<'a>, Vec<u8>), Unproved> {
+/// Reads `Signature-Input`, and the octets of `Signature`. Fails with `Absent` if the request has neither, with `RepeatedField` if one is there
+/// twice, and with `Malformed` if one is missing or cannot be read, unless docs/SIGNATURES.md has a name for what is wrong.
+fn signature_fields<'a>(message: &Message<'a>) -> Result<(Input<'a>, Vec<u8>), Unproved> {
     let inputs: Vec<&[u8]> = message.values("signature-input").collect();
     let signatures: Vec<&[u8]> = message.values("signature").collect();
     match (&inputs[..], &signatures[..]) {
         ([], []) => Err(Unproved::Absent),
         ([_, _, ..], _) | (_, [_, _, ..]) => Err(Unproved::RepeatedField),
         ([input], [signature]) => {
-            let read = fields::input_of(input)?;
-            Ok((read, fields::signature_of(signature)?))
+            let input = fields::input_of(input)?;
+            Ok((input, fields::signature_of(signature)?))
         }
         _ => Err(Unproved::Malformed),
     }

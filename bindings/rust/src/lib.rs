@@ -4,7 +4,8 @@
 //!
 //! A service reads its access list once, into a [`Guard`], and asks it a [`Question`] for each request. The parts of a question come
 //! from different sources, so each is a separate text. The service verifies signatures by a crypto library of its choice, in a closure or by
-//! a [`Verifier`]. A [`ProvenKey`] is the key of a client that has proved to hold it. Only `Ok` is a yes: a no, a refusal and a verifier that fails are [`Denied`].
+//! a [`Verifier`]. A [`ProvenKey`] is the key of a client that has proved to hold it. Only `Ok` is a yes: a no, a refusal and a verifier that
+//! fails are [`Denied`].
 //!
 //! ```
 //! use spki::{Guard, Limits, Moment, Policy, ProvenKey, Question, Request, Signature};
@@ -22,7 +23,7 @@
 //! let now = Moment::Seconds(1_772_366_400); // the service's own clock: SystemTime::now()
 //! let question = Question::new(sequence, &key, request, now);
 //! // Call your crypto library here. The keys of this example are words, and so are their signatures.
-//! let verify = |it: Signature| it.value == b"15:signed-by-alice";
+//! let verify = |signature: Signature| signature.value == b"15:signed-by-alice";
 //! let grant = guard.decide(&question, verify)?;
 //! assert_eq!(grant.entry, 1);
 //! # Ok::<(), Box<dyn std::error::Error>>(())

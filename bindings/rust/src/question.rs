@@ -51,10 +51,12 @@ impl From<SystemTime> for Moment<'_> {
     fn from(time: SystemTime) -> Self {
         let seconds = match time.duration_since(UNIX_EPOCH) {
             Ok(after) => i64::try_from(after.as_secs()).unwrap_or(i64::MAX),
-            Err(before) => {
-                let before = before.duration();
-                let started = u64::from(before.subsec_nanos() > 0);
-                i64::try_from(before.as_secs() + started).map_or(i64::MIN, |whole| -whole)
+            Err(error) => {
+                let before_epoch = error.duration();
+                // (a time inside of a second belongs to the second that began before it, which is one further from 1970)
+                let is_inside = before_epoch.subsec_nanos() > 0;
+                i64::try_from(before_epoch.as_secs() + u64::from(is_inside))
+                    .map_or(i64::MIN, |seconds| -seconds)
             }
         };
         Moment::Seconds(seconds)
@@ -82,21 +84,21 @@ impl<'q> Question<'q> {
     /// call only: up to `WORDS` strings of a request lie on the stack, and more in a vector.
     pub(crate) fn lend<T>(&self, call: impl FnOnce(&sys::Question) -> T) -> T {
         let Request::Words(words) = self.request else {
-            return call(&self.with(ptr::null(), 0));
+            return call(&self.raw(ptr::null(), 0));
         };
         let mut few = [sys::Text::NONE; WORDS];
         if words.len() > WORDS {
             let many: Vec<_> = words.iter().map(|word| sys::Text::of(word)).collect();
-            return call(&self.with(many.as_ptr(), many.len()));
+            return call(&self.raw(many.as_ptr(), many.len()));
         }
         for (text, word) in few.iter_mut().zip(words) {
             *text = sys::Text::of(word);
         }
-        call(&self.with(few.as_ptr(), words.len()))
+        call(&self.raw(few.as_ptr(), words.len()))
     }
 
     /// The question as the library takes it. `words` are the strings of its request: null, and 0 of them, if the request is a text.
-    fn with(&self, words: *const sys::Text, word_count: usize) -> sys::Question {
+    fn raw(&self, words: *const sys::Text, word_count: usize) -> sys::Question {
         let request = match self.request {
             Request::Text(text) => sys::Text::of(text),
             Request::Words(_) => sys::Text::NONE,

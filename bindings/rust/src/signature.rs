@@ -16,7 +16,7 @@ pub struct Signature<'a> {
     pub value: &'a [u8],
 }
 
-/// How a signature is made, by the form of its key: docs/FORMATS.md, "Keys and signatures of services".
+/// How a signature is made: docs/FORMATS.md, "Keys and signatures of services".
 #[non_exhaustive]
 #[derive(Clone, Copy, Debug, PartialEq, Eq, Hash)]
 pub enum Scheme {
@@ -28,8 +28,8 @@ pub enum Scheme {
     P256,
 }
 
-/// What the canonical texts of keys begin with.
-const FRONTS: [(&[u8], Scheme); 3] = [
+/// What the canonical texts of the keys of each scheme begin with.
+const KEY_BEGINNINGS: [(&[u8], Scheme); 3] = [
     (
         b"(10:public-key(3:ecc(5:curve7:Ed25519)(5:flags5:eddsa)",
         Scheme::Ed25519,
@@ -39,11 +39,13 @@ const FRONTS: [(&[u8], Scheme); 3] = [
 ];
 
 impl<'a> Signature<'a> {
-    /// How the signature is made, by the form of its key. `None` for a key of another form, such as one of P-384.
+    /// How the signature is made, by the beginning of its key, whose numbers are not tested. `None` for another key, such as one of P-384.
     #[must_use]
     pub fn scheme(&self) -> Option<Scheme> {
-        let found = FRONTS.iter().find(|(front, _)| self.key.starts_with(front));
-        found.map(|(_, scheme)| *scheme)
+        KEY_BEGINNINGS
+            .iter()
+            .find(|(beginning, _)| self.key.starts_with(beginning))
+            .map(|(_, scheme)| *scheme)
     }
 
     /// The octets of a value that is one string. `None` for a list, and for a string with a display hint.

@@ -25,12 +25,11 @@ use std::ptr;
 pub fn string_at<'t>(text: &'t [u8], path: &[usize]) -> Result<Option<&'t [u8]>, Refusal> {
     library::check();
     let (mut octets, mut length) = (ptr::null(), 0);
-    let (from, size) = (text.as_ptr().cast(), text.len());
     // SAFETY: each pointer is to as many values as its length says, or to one value of its type, and they do not overlap.
     let status = unsafe {
         sys::spki_string(
-            from,
-            size,
+            text.as_ptr().cast(),
+            text.len(),
             path.as_ptr(),
             path.len(),
             &mut octets,
@@ -58,7 +57,7 @@ pub fn string_at<'t>(text: &'t [u8], path: &[usize]) -> Result<Option<&'t [u8]>,
 /// # Ok::<(), spki::Refusal>(())
 /// ```
 pub fn canonical(text: &[u8]) -> Result<Vec<u8>, Refusal> {
-    converted(sys::CANONICAL, text)
+    convert(sys::CANONICAL, text)
 }
 
 /// The advanced form of a text, which [`canonical`] would accept, on one line, with a line feed at its end.
@@ -72,7 +71,7 @@ pub fn canonical(text: &[u8]) -> Result<Vec<u8>, Refusal> {
 /// # Ok::<(), spki::Refusal>(())
 /// ```
 pub fn advanced(text: &[u8]) -> Result<Vec<u8>, Refusal> {
-    converted(sys::ADVANCED, text)
+    convert(sys::ADVANCED, text)
 }
 
 /// The transport form of a text, which [`canonical`] would accept, on one line, with a line feed at its end.
@@ -86,13 +85,13 @@ pub fn advanced(text: &[u8]) -> Result<Vec<u8>, Refusal> {
 /// # Ok::<(), spki::Refusal>(())
 /// ```
 pub fn transport(text: &[u8]) -> Result<Vec<u8>, Refusal> {
-    converted(sys::TRANSPORT, text)
+    convert(sys::TRANSPORT, text)
 }
 
 /// A text in another form: `command` is `sys::CANONICAL`, `sys::ADVANCED` or `sys::TRANSPORT`.
-fn converted(command: c_int, text: &[u8]) -> Result<Vec<u8>, Refusal> {
+fn convert(command: c_int, text: &[u8]) -> Result<Vec<u8>, Refusal> {
     library::check();
-    // (the most that a text grows: of `1:x`, where x is not printable, the 3 octets become the 7 of `|AA==|` and a space)
+    // (an octet that is printed in base64 takes 7 for the 3 of its canonical text; `a(b)`, again and again, takes 8 for 3 in transport form)
     let (status, answer) = with_answer(3 * text.len() + 64, |buffer, room, needed| {
         // SAFETY: each pointer is to as many octets as its length says, or to one value of its type, and they do not overlap.
         unsafe {

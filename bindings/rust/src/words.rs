@@ -28,13 +28,13 @@ macro_rules! words {
 words! {
     /// Why a text or a question is refused.
     Fault {
-        /// A string is followed by octets that no S-expression has there.
+        /// An octet that is not allowed in its place, or a string whose octets are not as many or not as encoded as its form requires.
         Bad,
-        /// A date that the calendar does not have, or seconds below 0 or past the year 9999.
+        /// A date that is not written as `2026-03-01_12:00:00`, or has a number such as month 13; seconds below 0 or past the year 9999.
         BadDate,
         /// A digest of another length than its algorithm has.
         DigestLength,
-        /// A list of nothing in a tag or a request.
+        /// A list without members in a tag or a request.
         EmptyList,
         /// A hash by another algorithm than SHA-1, SHA-256 or SHA-512.
         HashAlg,
@@ -44,7 +44,7 @@ words! {
         KeyUris,
         /// A subject `(keyholder ..)`.
         Keyholder,
-        /// A list in a tag that begins with a list.
+        /// A list in a tag or a request that begins with a list.
         ListHead,
         /// An allocation failed.
         Memory,
@@ -60,7 +60,7 @@ words! {
         RelativeInEntry,
         /// A value that has none of the forms.
         Shape,
-        /// The end of a text inside of a value.
+        /// A text that ends before its value does.
         Short,
         /// A `(* ..)` in a request.
         StarInRequest,
@@ -68,7 +68,7 @@ words! {
         StraySignature,
         /// A subject `(k-of-n ..)`.
         Threshold,
-        /// Lists inside of lists, more than a limit.
+        /// More than 64 lists that are open at once.
         TooDeep,
         /// Tags or lines of an explanation or a reduction exceed a limit.
         TooLarge,
@@ -80,7 +80,7 @@ words! {
         TooManyNodes,
         /// A request has more strings than a limit.
         TooManyWords,
-        /// Octets behind a value.
+        /// An octet behind the value of a text.
         Trailing,
         /// A `(do ..)` that is not `(do hash ..)`.
         UnknownOp,
@@ -108,11 +108,11 @@ words! {
         NoTag,
         /// No moment is within both windows.
         NoValidity,
-        /// Its signature is not valid.
+        /// Its signature is not marked as valid.
         NotAccepted,
-        /// The subject so far is another than the issuer.
+        /// The subject so far has names left, or is another than the issuer.
         NotIssuer,
-        /// The last subject is another than the client's key.
+        /// The last subject has names left, or is another than the client's key.
         NotTheKey,
         /// The subject so far does not begin with the name that the certificate defines.
         NotTheName,

@@ -12,6 +12,7 @@ use std::panic::{catch_unwind, AssertUnwindSafe};
 use std::time::{Duration, UNIX_EPOCH};
 
 const LIST: &[u8] = b"(acl (entry (public-key (test a)) (propagate) (tag (*))))";
+/// A certificate by which key a lets b do everything, and its signature. SIGNED is what a verifier gets of them.
 const PAIR: &str = "(cert (issuer (public-key (test a))) (subject (public-key (test b))) (tag (*)))
     (signature (hash sha256 #d71ecfb335b8e4b04cb035426566a94e817a12cfcfa4dbf5b704b6cd670c7ad2#) (public-key (test a)) sig)";
 const SIGNED: Signature = Signature {
@@ -36,18 +37,18 @@ fn guard(list: &[u8]) -> Guard {
     Guard::read(list, Policy::Strict, Limits::highest()).expect("a list")
 }
 
-/// A question by KEY, at NOW, that shows a sequence.
-fn shows(sequence: &[u8]) -> Question<'_> {
-    Question::new(sequence, held(KEY), WORDS, NOW)
+/// A question by KEY, at NOW, for WORDS, that shows a sequence.
+fn question_showing(sequence: &[u8]) -> Question<'_> {
+    Question::new(sequence, proven(KEY), WORDS, NOW)
 }
 
-/// A question without certificates, for a request.
-fn requests(request: Request) -> Question {
-    Question::new(b"(sequence)", held(KEY), request, NOW)
+/// A question by KEY, at NOW, without certificates, for a request.
+fn question_for(request: Request) -> Question {
+    Question::new(b"(sequence)", proven(KEY), request, NOW)
 }
 
-/// A sequence of the same certificate so many times.
-fn shown(times: usize) -> Vec<u8> {
+/// A sequence of PAIR, the certificate from a to b, so many times.
+fn sequence_of(times: usize) -> Vec<u8> {
     format!("(sequence {})", PAIR.repeat(times)).into()
 }
 
@@ -57,12 +58,12 @@ fn valid(_: Signature) -> bool {
 }
 
 /// A key that is taken as proved. It is never freed, so that questions may borrow it.
-fn held(key: &'static [u8]) -> &'static ProvenKey<'static> {
+fn proven(key: &'static [u8]) -> &'static ProvenKey<'static> {
     Box::leak(Box::new(ProvenKey::assume(key)))
 }
 
 /// The line of a refusal. Panics if there is none.
-fn refused<T: std::fmt::Debug>(result: Result<T, Denied>) -> String {
+fn refusal_line<T: std::fmt::Debug>(result: Result<T, Denied>) -> String {
     match result {
         Err(Denied::Refused(refusal)) => refusal.to_string(),
         other => panic!("this is no refusal: {other:?}"),
@@ -77,24 +78,24 @@ fn lines(explanation: &Explanation) -> Vec<(Option<usize>, Option<usize>, &str)>
 
 #[test]
 fn a_verifier_is_given_what_is_signed() -> Outcome {
-    let sequence = shown(1);
+    let sequence = sequence_of(1);
     let mut calls = 0;
-    let grant = guard(LIST).decide(&shows(&sequence), |signature| {
+    let grant = guard(LIST).decide(&question_showing(&sequence), |signature| {
         calls += 1;
         signature == SIGNED
     })?;
     assert_eq!((grant.entry, calls), (1, 1));
-    let denied = guard(LIST).decide(&shows(&sequence), |_| false);
+    let denied = guard(LIST).decide(&question_showing(&sequence), |_| false);
     assert_eq!(denied, Err(Denied::No));
     Ok(())
 }
 
 #[test]
 fn a_verifier_is_not_called_behind_the_first_wrong_one() -> Outcome {
-    let wrong = PAIR.replace("sig)", "wrong)");
-    let sequence = format!("(sequence {PAIR} {wrong} {PAIR})");
+    let invalid = PAIR.replace("sig)", "invalid)");
+    let sequence = format!("(sequence {PAIR} {invalid} {PAIR})");
     let guard = guard(LIST);
-    let mut asked = guard.ask(&shows(sequence.as_bytes()))?;
+    let mut asked = guard.ask(&question_showing(sequence.as_bytes()))?;
     let mut calls = 0;
     asked.verify(|it| {
         calls += 1;
@@ -110,7 +111,7 @@ fn a_verifier_is_not_called_behind_the_first_wrong_one() -> Outcome {
 fn a_verifier_is_called_for_each_of_many() -> Outcome {
     let sequence = format!("(sequence {} {PAIR})", OWN.repeat(39));
     let mut calls = 0;
-    let grant = guard(LIST).decide(&shows(sequence.as_bytes()), |it| {
+    let grant = guard(LIST).decide(&question_showing(sequence.as_bytes()), |it| {
         calls += 1;
         (it.key, it.value) == (SIGNED.key, SIGNED.value)
     })?;
@@ -121,8 +122,11 @@ fn a_verifier_is_called_for_each_of_many() -> Outcome {
 /// Nothing is verified where no signature could help: the certificate is for another key, or the list has no entry for the issuer.
 #[test]
 fn a_verifier_is_not_called_in_vain() {
-    let sequence = shown(2);
-    for (list, question) in [(LIST, shows(&sequence)), (b"(acl)", shows(FORGED))] {
+    let sequence = sequence_of(2);
+    for (list, question) in [
+        (LIST, question_showing(&sequence)),
+        (b"(acl)", question_showing(FORGED)),
+    ] {
         let verify = |_: Signature| -> bool { panic!("a signature is verified") };
         assert_eq!(guard(list).decide(&question, verify), Err(Denied::No));
     }
@@ -132,11 +136,11 @@ fn a_verifier_is_not_called_in_vain() {
 #[test]
 fn marks_are_of_one_question() -> Outcome {
     let guard = guard(LIST);
-    let sequence = shown(1);
-    let mut good = guard.ask(&shows(&sequence))?;
+    let sequence = sequence_of(1);
+    let mut good = guard.ask(&question_showing(&sequence))?;
     let mut bad = guard.ask(&Question::new(
         FORGED,
-        held(b"(public-key (test c))"),
+        proven(b"(public-key (test c))"),
         WORDS,
         NOW,
     ))?;
@@ -164,7 +168,7 @@ fn marks_are_of_one_place() -> Outcome {
     for place in [0, 1] {
         let question = Question::new(
             sequence.as_bytes(),
-            held(b"(public-key (test a))"),
+            proven(b"(public-key (test a))"),
             WORDS,
             NOW,
         );
@@ -182,8 +186,8 @@ fn marks_are_of_one_place() -> Outcome {
 #[test]
 fn other_numbers_are_no_places() -> Outcome {
     let guard = guard(LIST);
-    let sequence = shown(1);
-    let mut asked = guard.ask(&shows(&sequence))?;
+    let sequence = sequence_of(1);
+    let mut asked = guard.ask(&question_showing(&sequence))?;
     for place in [1, 0x101, usize::MAX, usize::MAX - 254] {
         assert!(asked.signature(place).is_err());
         let refusal = asked.mark(place).expect_err("a refusal");
@@ -204,8 +208,8 @@ fn other_numbers_are_no_places() -> Outcome {
 
 #[test]
 fn an_error_of_a_verifier_goes_on() {
-    let sequence = shown(1);
-    let decide = |answer| guard(LIST).decide(&shows(&sequence), |_| answer);
+    let sequence = sequence_of(1);
+    let decide = |answer| guard(LIST).decide(&question_showing(&sequence), |_| answer);
     assert_eq!(
         decide(Err("no such key")),
         Err(Denied::Verifier("no such key"))
@@ -245,23 +249,23 @@ fn texts(error: &dyn Error) -> Vec<String> {
 #[test]
 fn an_error_of_a_verifier_is_told_once() {
     let failed = || NoAnswer("x".parse::<u8>().expect_err("no number"));
-    let told = [
+    let wanted = [
         "a signature could not be verified: no answer",
         "invalid digit found in string",
     ];
-    assert_eq!(texts(&Denied::Verifier(failed())), told);
-    assert_eq!(texts(&NotProved::Verifier(failed())), told);
+    assert_eq!(texts(&Denied::Verifier(failed())), wanted);
+    assert_eq!(texts(&NotProved::Verifier(failed())), wanted);
     assert_eq!(texts(&Denied::<NoAnswer>::No), ["no"]);
 }
 
 #[test]
 fn a_panic_of_a_verifier_goes_on() {
-    let sequence = shown(1);
+    let sequence = sequence_of(1);
     let guard = guard(LIST);
     let fail = |_: Signature| -> bool { panic!("no such key") };
-    let ask = AssertUnwindSafe(|| guard.decide(&shows(&sequence), fail));
+    let ask = AssertUnwindSafe(|| guard.decide(&question_showing(&sequence), fail));
     assert!(catch_unwind(ask).is_err());
-    assert!(guard.decide(&shows(&sequence), valid).is_ok());
+    assert!(guard.decide(&question_showing(&sequence), valid).is_ok());
 }
 
 /// The question mark passes on a no, a refusal and an error of the verifier. What is behind it has a grant.
@@ -271,21 +275,24 @@ fn a_question_mark_is_no_grant() {
         guard.decide(question, |_| false)?;
         Ok(())
     }
-    let sequence = shown(1);
-    assert_eq!(serve(&guard(LIST), &shows(&sequence)), Err(Denied::No));
+    let sequence = sequence_of(1);
     assert_eq!(
-        refused(serve(&guard(LIST), &shows(b""))),
+        serve(&guard(LIST), &question_showing(&sequence)),
+        Err(Denied::No)
+    );
+    assert_eq!(
+        refusal_line(serve(&guard(LIST), &question_showing(b""))),
         "refused sequence Short"
     );
     let own = guard(b"(acl (entry (public-key (test b)) (tag (*))))");
-    assert_eq!(serve(&own, &shows(b"(sequence)")), Ok(()));
+    assert_eq!(serve(&own, &question_showing(b"(sequence)")), Ok(()));
 }
 
 #[test]
 fn an_opened_question_needs_no_texts() -> Outcome {
     let guard = guard(LIST);
-    let mut sequence = shown(2);
-    let mut asked = guard.ask(&shows(&sequence))?;
+    let mut sequence = sequence_of(2);
+    let mut asked = guard.ask(&question_showing(&sequence))?;
     sequence.fill(b' ');
     for signature in asked.signatures() {
         assert_eq!(signature, SIGNED);
@@ -303,7 +310,9 @@ fn an_opened_question_needs_no_texts() -> Outcome {
 fn a_value_that_is_a_list_has_no_octets() -> Outcome {
     let sequence = PAIR.replace(" sig)", " (sig-val x))");
     let guard = guard(LIST);
-    let asked = guard.ask(&shows(format!("(sequence {sequence})").as_bytes()))?;
+    let asked = guard.ask(&question_showing(
+        format!("(sequence {sequence})").as_bytes(),
+    ))?;
     let octets: Vec<_> = asked
         .signatures()
         .map(|it| (it.value, it.octets()))
@@ -324,7 +333,7 @@ fn strings_are_strings() {
         (&[b"cache"], false),
     ];
     for (words, is_granted) in rows {
-        let decision = guard.decide(&requests(Request::Words(words)), valid);
+        let decision = guard.decide(&question_for(Request::Words(words)), valid);
         assert_eq!(decision.is_ok(), is_granted, "{words:?}");
     }
 }
@@ -342,7 +351,7 @@ fn many_strings_are_strings() {
         (1000, true),
     ] {
         let words = vec![&b"w"[..]; count];
-        let decision = guard.decide(&requests(Request::Words(&words)), valid);
+        let decision = guard.decide(&question_for(Request::Words(&words)), valid);
         assert_eq!(decision.is_ok(), is_granted, "{count}");
     }
 }
@@ -357,7 +366,7 @@ fn requests_and_moments_may_be_texts() {
     ];
     for (text, is_granted) in texts {
         let moment = Moment::Text(b"\"2024-01-01_00:00:00\"");
-        let question = Question::new(b"(sequence)", held(KEY), Request::Text(text), moment);
+        let question = Question::new(b"(sequence)", proven(KEY), Request::Text(text), moment);
         assert_eq!(guard.decide(&question, valid).is_ok(), is_granted);
     }
 }
@@ -383,7 +392,7 @@ fn a_moment_before_1970_or_past_9999_is_refused() {
     let ended =
         b"(acl (entry (public-key (test b)) (tag (*)) (not-after \"1999-12-31_23:59:59\")))";
     let guard = guard(ended);
-    let at = |seconds| Question::new(b"(sequence)", held(KEY), WORDS, Moment::Seconds(seconds));
+    let at = |seconds| Question::new(b"(sequence)", proven(KEY), WORDS, Moment::Seconds(seconds));
     assert!(guard.decide(&at(0), valid).is_ok());
     assert_eq!(guard.decide(&at(253_402_300_799), valid), Err(Denied::No));
     for seconds in [
@@ -394,29 +403,32 @@ fn a_moment_before_1970_or_past_9999_is_refused() {
         253_402_300_800,
         i64::MAX,
     ] {
-        let line = refused(guard.decide(&at(seconds), valid));
+        let line = refusal_line(guard.decide(&at(seconds), valid));
         assert_eq!(line, "refused at BadDate", "{seconds}");
     }
     let before = Question::new(
         b"(sequence)",
-        held(KEY),
+        proven(KEY),
         WORDS,
         UNIX_EPOCH - Duration::from_nanos(1),
     );
-    assert_eq!(refused(guard.decide(&before, valid)), "refused at BadDate");
+    assert_eq!(
+        refusal_line(guard.decide(&before, valid)),
+        "refused at BadDate"
+    );
 }
 
 /// A grant holds till the least window ends, and no second longer.
 #[test]
 fn a_grant_says_until_when_it_holds() -> Outcome {
-    let sequence = shown(1);
+    let sequence = sequence_of(1);
     let list = b"(acl (entry (public-key (test a)) (propagate) (tag (*)) (not-after \"2026-06-30_23:59:59\")))";
     let (last, second) = (
         UNIX_EPOCH + Duration::from_secs(1_782_863_999),
         Duration::from_secs(1),
     );
     let ending = guard(list);
-    let ask = |time| ending.decide(&Question::new(&sequence, held(KEY), WORDS, time), valid);
+    let ask = |time| ending.decide(&Question::new(&sequence, proven(KEY), WORDS, time), valid);
     let grant = ask(last - 1000 * second)?;
     assert_eq!(grant.until, Some(last));
     for (time, holds) in [
@@ -428,7 +440,7 @@ fn a_grant_says_until_when_it_holds() -> Outcome {
         assert_eq!((grant.holds_at(time), ask(time).is_ok()), (holds, holds));
     }
     assert!(!grant.holds_at(UNIX_EPOCH - Duration::from_nanos(1)));
-    let endless = guard(LIST).decide(&shows(&sequence), valid)?;
+    let endless = guard(LIST).decide(&question_showing(&sequence), valid)?;
     assert_eq!(
         (endless.until, endless.holds_at(last + second)),
         (None, true)
@@ -444,9 +456,9 @@ fn a_login_proves_its_key() {
         value: b"3:sig",
     };
     let message = b"(5:login7:service5:nonce)";
-    let proven = ProvenKey::by(login(message), |it| it.key == KEY && it.message == message);
-    assert_eq!(proven.as_ref(), Ok(held(KEY)));
-    assert_eq!(proven.map(ProvenKey::into_owned), Ok(held(KEY).clone()));
+    let client = ProvenKey::by(login(message), |it| it.key == KEY && it.message == message);
+    assert_eq!(client.as_ref(), Ok(proven(KEY)));
+    assert_eq!(client.map(ProvenKey::into_owned), Ok(proven(KEY).clone()));
     assert_eq!(ProvenKey::by(login(message), |_| false), Err(NotProved::No));
     let failed = ProvenKey::by(login(message), |_| Err("no such key"));
     assert_eq!(failed, Err(NotProved::Verifier("no such key")));
@@ -483,10 +495,10 @@ fn an_opened_question_is_stored() -> Outcome {
     fn storable<T: Send + Sync + 'static>(stored: T) -> T {
         stored
     }
-    let sequence = shown(1);
+    let sequence = sequence_of(1);
     let mut asked: Asked = {
         let guard = storable(guard(LIST));
-        storable(guard.ask(&shows(&sequence))?)
+        storable(guard.ask(&question_showing(&sequence))?)
     };
     asked.mark(0)?;
     let grant: Grant = std::thread::spawn(move || asked.decide())
@@ -499,11 +511,11 @@ fn an_opened_question_is_stored() -> Outcome {
 #[test]
 fn the_words_of_lines_are_types() -> Outcome {
     let guard = guard(LIST);
-    let asked = guard.ask(&shows(b"(sequence)"))?;
+    let asked = guard.ask(&question_showing(b"(sequence)"))?;
     let explanation = asked.explain()?;
     let causes: Vec<_> = explanation.reasons().map(|it| it.cause).collect();
     assert_eq!(causes, [Cause::NotTheKey]);
-    let own = Question::new(b"(sequence)", held(b"(public-key (test a))"), WORDS, NOW);
+    let own = Question::new(b"(sequence)", proven(b"(public-key (test a))"), WORDS, NOW);
     let explanation = guard.ask(&own)?.explain()?;
     let causes: Vec<_> = explanation.reasons().map(|it| it.cause).collect();
     assert_eq!(causes, [Cause::Grants]);
@@ -531,52 +543,61 @@ fn the_words_of_lines_are_types() -> Outcome {
 #[test]
 fn refusals_name_the_part() {
     let guard = guard(LIST);
-    let decided = |question: Question| refused(guard.decide(&question, valid));
+    let decide = |question: Question| refusal_line(guard.decide(&question, valid));
     assert_eq!(
-        decided(shows(b"(sequence) x")),
+        decide(question_showing(b"(sequence) x")),
         "refused sequence Trailing 11"
     );
-    let refusal = guard.ask(&shows(b"(sequence) x")).expect_err("a refusal");
+    let refusal = guard
+        .ask(&question_showing(b"(sequence) x"))
+        .expect_err("a refusal");
     assert_eq!(
         (refusal.part(), refusal.fault()),
         (Some(Part::Sequence), Fault::Trailing)
     );
     assert_eq!(
-        decided(requests(Request::Words(&[]))),
+        decide(question_for(Request::Words(&[]))),
         "refused request EmptyList"
     );
-    let never = Question::new(b"(sequence)", held(KEY), WORDS, Moment::Seconds(i64::MIN));
-    assert_eq!(decided(never), "refused at BadDate");
-    let nobody = Question::new(b"(sequence)", held(b""), WORDS, NOW);
-    assert_eq!(decided(nobody), "refused key Short");
+    let never = Question::new(b"(sequence)", proven(KEY), WORDS, Moment::Seconds(i64::MIN));
+    assert_eq!(decide(never), "refused at BadDate");
+    let nobody = Question::new(b"(sequence)", proven(b""), WORDS, NOW);
+    assert_eq!(decide(nobody), "refused key Short");
 }
 
 #[test]
 fn questions_have_limits() -> Outcome {
-    let decided = |limits, question: &Question| {
+    let decide = |limits, question: &Question| {
         let guard = Guard::read(LIST, Policy::AllowSha1, limits).expect("a list");
         guard.decide(question, valid)
     };
-    let (one, many) = (shown(1), shown(17));
+    let (one, many) = (sequence_of(1), sequence_of(17));
     let usual = Limits::default();
-    assert!(decided(usual, &shows(&one)).is_ok());
-    let line = refused(decided(usual.octets(64), &shows(&one)));
+    assert!(decide(usual, &question_showing(&one)).is_ok());
+    let line = refusal_line(decide(usual.octets(64), &question_showing(&one)));
     assert_eq!(line, "refused question TooLong");
-    let line = refused(decided(usual, &shows(&many)));
+    let line = refusal_line(decide(usual, &question_showing(&many)));
     assert_eq!(line, "refused question TooManyCertificates");
     let words = [&b"w"[..]; 65];
-    let line = refused(decided(usual, &requests(Request::Words(&words))));
+    let line = refusal_line(decide(usual, &question_for(Request::Words(&words))));
     assert_eq!(line, "refused question TooManyWords");
     let most = usize::MAX;
-    assert!(decided(usual.octets(most).nodes(most).answer(most), &shows(&one)).is_ok());
-    assert!(decided(usual.octets(0).words(0), &shows(&one)).is_ok());
-    let line = refused(decided(usual.certificates(0).work(7), &shows(&many)));
+    assert!(decide(
+        usual.octets(most).nodes(most).answer(most),
+        &question_showing(&one)
+    )
+    .is_ok());
+    assert!(decide(usual.octets(0).words(0), &question_showing(&one)).is_ok());
+    let line = refusal_line(decide(
+        usual.certificates(0).work(7),
+        &question_showing(&many),
+    ));
     assert_eq!(line, "refused question TooManyCertificates");
     // (by a tag of three nodes)
     let narrow = b"(acl (entry (public-key (test a)) (propagate) (tag (ftp host))))";
     for limits in [usual.work(1), usual.nodes(1), usual.answer(5)] {
         let guard = Guard::read(narrow, Policy::AllowSha1, limits)?;
-        let mut asked = guard.ask(&shows(&one))?;
+        let mut asked = guard.ask(&question_showing(&one))?;
         asked.mark(0)?;
         assert!(asked.decide().is_ok());
         let refusal = asked.explain().expect_err("a refusal");
@@ -592,7 +613,7 @@ fn long_answers_are_whole() -> Outcome {
     let entries = "(entry (public-key (test b)) (tag (*)))".repeat(500);
     let guard = guard(format!("(acl {entries})").as_bytes());
     assert_eq!(guard.entries(), 500);
-    let asked = guard.ask(&shows(b"(sequence)"))?;
+    let asked = guard.ask(&question_showing(b"(sequence)"))?;
     let explanation = asked.explain()?;
     let wanted: Vec<_> = (1..=500)
         .map(|entry| (Some(entry), None, "grants"))
@@ -603,26 +624,28 @@ fn long_answers_are_whole() -> Outcome {
     Ok(())
 }
 
-/// Nothing becomes longer than an octet that is printed in base64: 7 octets for 3.
+/// No text grows more in advanced form than octets that are printed in base64, 7 octets for 3, nor more in transport form than `a(b)`, 8 for 3.
 #[test]
 fn long_forms_are_whole() -> Outcome {
     let text = format!("({})", "1:\0".repeat(1000));
     assert_eq!(spki::advanced(text.as_bytes())?.len(), 7002);
+    let text = format!("({})", "a(b)".repeat(3000));
+    assert_eq!(spki::transport(text.as_bytes())?.len(), 32007);
     Ok(())
 }
 
 #[test]
 fn several_threads_ask_one_guard() -> Outcome {
     let guard = guard(LIST);
-    let sequence = shown(1);
-    let mut asked = guard.ask(&shows(&sequence))?;
+    let sequence = sequence_of(1);
+    let mut asked = guard.ask(&question_showing(&sequence))?;
     asked.mark(0)?;
     let asked = asked;
     std::thread::scope(|scope| {
         for _ in 0..8 {
             scope.spawn(|| {
                 for _ in 0..200 {
-                    assert!(guard.decide(&shows(&sequence), valid).is_ok());
+                    assert!(guard.decide(&question_showing(&sequence), valid).is_ok());
                     assert!(asked.decide().is_ok());
                 }
             });
@@ -635,13 +658,13 @@ fn several_threads_ask_one_guard() -> Outcome {
 #[test]
 fn several_threads_serve_two_clients() {
     let guard = guard(LIST);
-    let sequence = shown(1);
+    let sequence = sequence_of(1);
     let serve = |is_forged: bool| {
         for _ in 0..200 {
             let question = if is_forged {
-                Question::new(FORGED, held(b"(public-key (test c))"), WORDS, NOW)
+                Question::new(FORGED, proven(b"(public-key (test c))"), WORDS, NOW)
             } else {
-                shows(&sequence)
+                question_showing(&sequence)
             };
             let answer = guard.decide(&question, |it: Signature| it.value == b"3:sig");
             assert_eq!(answer.is_ok(), !is_forged);

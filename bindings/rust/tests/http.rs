@@ -24,7 +24,8 @@ const SIGNATURE: [&str; 2] = [
     "f1d0d2a87203eab8b8326a19f30e70c0532e5e09d95850490b223fb7da889ab3",
 ];
 
-/// A row of the table. `on` has the method, the target, the authority and the time. `again`: how many seconds before the same request came.
+/// A row of the table, with the names that the table has. `on` has the method, the target, the authority and the time in seconds since 1970.
+/// `again` is how many seconds before that the same request came, and `gives` the answer: `valid`, or the name of the refusal.
 #[derive(Default)]
 struct Row {
     name: String,
@@ -50,14 +51,14 @@ impl Row {
 
 /// The octets of a line of the table, which writes some as `\t`, `\n`, `\r` or `\xHH`. Behind another backslash is the octet itself.
 fn unescaped(text: &str) -> Vec<u8> {
-    let mut made = Vec::new();
+    let mut octets = Vec::new();
     let mut rest = text.bytes();
     while let Some(octet) = rest.next() {
         if octet != b'\\' {
-            made.push(octet);
+            octets.push(octet);
             continue;
         }
-        made.push(match rest.next() {
+        octets.push(match rest.next() {
             Some(b't') => b'\t',
             Some(b'n') => b'\n',
             Some(b'r') => b'\r',
@@ -68,7 +69,7 @@ fn unescaped(text: &str) -> Vec<u8> {
             other => other.expect("what is escaped"),
         });
     }
-    made
+    octets
 }
 
 /// The octets of hexadecimal digits.
@@ -79,18 +80,18 @@ fn hexadecimal(digits: &str) -> Vec<u8> {
         .collect()
 }
 
-/// Reads the table.
+/// Reads the table. A line is a word and its value, and each line `row NAME` begins a row.
 fn rows() -> Vec<Row> {
-    let mut made: Vec<Row> = Vec::new();
+    let mut rows: Vec<Row> = Vec::new();
     for line in fs::read_to_string(ROWS).expect("the table").lines() {
         let (word, rest) = line.split_once(' ').unwrap_or((line, ""));
         if word == "row" {
-            made.push(Row {
+            rows.push(Row {
                 name: rest.to_string(),
                 ..Row::default()
             });
         }
-        let Some(row) = made.last_mut() else {
+        let Some(row) = rows.last_mut() else {
             continue;
         };
         let octets = unescaped(rest);
@@ -108,7 +109,7 @@ fn rows() -> Vec<Row> {
             _ => {}
         }
     }
-    made
+    rows
 }
 
 /// Whether a digest is that of a body, by coreutils. Without a digest the body must be empty.
@@ -124,12 +125,13 @@ fn is_digest_of(digest: Option<&ContentDigest>, body: &[u8]) -> bool {
     let mut input = program.stdin.take().expect("its input");
     input.write_all(body).expect("it reads");
     drop(input);
-    let said = program.wait_with_output().expect("it answers").stdout;
-    hexadecimal(std::str::from_utf8(&said[..2 * digest.octets.len()]).expect("digits"))
-        == digest.octets
+    let output = program.wait_with_output().expect("it answers").stdout;
+    // (behind the digits it prints the name of the file)
+    let digits = std::str::from_utf8(&output[..2 * digest.octets.len()]).expect("digits");
+    hexadecimal(digits) == digest.octets
 }
 
-/// Proves the request of a row, and compares its body. Returns `valid`, or the name of the refusal.
+/// Proves the request of a row at `now`, in seconds since 1970, and compares its body with the digest. Returns `valid`, or the name of the refusal.
 fn answer(requests: &Requests, row: &Row, now: u64) -> &'static str {
     let fields = row.fields();
     let message = row.message(&fields);
@@ -166,7 +168,7 @@ fn the_rows_are_answered() {
     }
 }
 
-/// A wrong hash function only refuses.
+/// With a wrong hash function no request is valid. One that is valid otherwise is `other-key`.
 #[test]
 fn a_wrong_hash_proves_no_key() {
     for row in &rows() {
@@ -202,8 +204,8 @@ fn a_body_that_no_field_says_needs_a_digest() {
         let fields = row.fields();
         let message = row.message(&fields).with_body(has_body);
         let requests = Requests::new(&["example.com"], Nonces::new(10), START, sha256);
-        let met = requests.prove(&message, START + 100, |it: Signature| Openssl.verify(it));
-        assert_eq!(met.err(), wanted, "{name}, {has_body}");
+        let proof = requests.prove(&message, START + 100, |it: Signature| Openssl.verify(it));
+        assert_eq!(proof.err(), wanted, "{name}, {has_body}");
     }
 }
 
@@ -227,8 +229,8 @@ fn a_modulus_of_nothing_proves_no_key() {
         ];
         let message = Message::new("GET", "example.com", "/", fields);
         let requests = Requests::new(&["example.com"], Nonces::new(10), START, |_| [0; 32]);
-        let met = requests.prove(&message, START + 100, |_: Signature| true);
-        assert_eq!(met.err(), Some(Unproved::InvalidSignature), "{key}");
+        let proof = requests.prove(&message, START + 100, |_: Signature| true);
+        assert_eq!(proof.err(), Some(Unproved::InvalidSignature), "{key}");
     }
 }
 
@@ -277,11 +279,8 @@ fn nonces_are_kept_in_two_sets() {
         ("c", 3000, ""),
         ("a", 3000, ""),
     ] {
-        let met = store
-            .take(b"key", nonce, now, 360)
-            .err()
-            .map_or("", Unproved::name);
-        assert_eq!(met, wanted, "{nonce} {now}");
+        let refusal = store.take(b"key", nonce, now, 360).err();
+        assert_eq!(refusal.map_or("", Unproved::name), wanted, "{nonce} {now}");
     }
     assert!(store.take(b"another key", "a", 3360, 360).is_ok());
 }

@@ -18,7 +18,7 @@ pub fn serialize<S: Serializer>(limits: &Limits, to: S) -> Result<S::Ok, S::Erro
 ///
 /// # Errors
 ///
-/// Those of the deserializer; a name that is no limit, or is there twice; what is no number from 0 on.
+/// Those of the deserializer; a name that is no limit, or is there twice; a value that is no whole number from 0 on, or too large for a `usize`.
 pub fn deserialize<'de, D: Deserializer<'de>>(from: D) -> Result<Limits, D::Error> {
     from.deserialize_map(Named)
 }
@@ -42,7 +42,7 @@ impl<'de> Visitor<'de> for Named {
                     "the limit {name} is there twice"
                 )));
             }
-            limits = with(limits, &name, most)
+            limits = with_limit(limits, &name, most)
                 .ok_or_else(|| A::Error::custom(format_args!("there is no limit {name}")))?;
             seen.push(name);
         }
@@ -51,7 +51,7 @@ impl<'de> Visitor<'de> for Named {
 }
 
 /// The limits with the one of this name set. `None` if no limit has this name.
-fn with(limits: Limits, name: &str, most: usize) -> Option<Limits> {
+fn with_limit(limits: Limits, name: &str, most: usize) -> Option<Limits> {
     Some(match name {
         "octets" => limits.octets(most),
         "certificates" => limits.certificates(most),

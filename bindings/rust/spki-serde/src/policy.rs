@@ -17,10 +17,9 @@ const WORDS: [(Policy, &str); 2] = [
 ///
 /// Those of the serializer; the policy is one that this crate does not know.
 pub fn serialize<S: Serializer>(policy: &Policy, to: S) -> Result<S::Ok, S::Error> {
-    let found = WORDS.iter().find(|(known, _)| known == policy);
+    let row = WORDS.iter().find(|(known, _)| known == policy);
     let unknown = || serde::ser::Error::custom("a policy without a word");
-    found
-        .ok_or_else(unknown)
+    row.ok_or_else(unknown)
         .and_then(|(_, word)| to.serialize_str(word))
 }
 
@@ -44,9 +43,8 @@ impl Visitor<'_> for Word {
     }
 
     fn visit_str<E: Error>(self, word: &str) -> Result<Policy, E> {
-        let found = WORDS.iter().find(|(_, known)| *known == word);
-        found
-            .map(|(policy, _)| *policy)
+        let row = WORDS.iter().find(|(_, known)| *known == word);
+        row.map(|(policy, _)| *policy)
             .ok_or_else(|| E::invalid_value(Unexpected::Str(word), &self))
     }
 }

@@ -2,19 +2,20 @@
 
 use super::Unproved;
 
-// The label of the signature, and the value of its parameter `tag`.
-pub(super) const LABEL: &str = "spki";
+/// The label of the signature, and the value of its parameter `tag`.
+const LABEL: &str = "spki";
 pub(super) const TAG: &str = "spki";
-// The most octets of a field that is taken apart, names of components in it, and digits of a number.
+/// The most octets of a field that is taken apart, names of components in it, and digits of a number.
 const MOST_INPUT: usize = 8192;
 const MOST_COMPONENTS: usize = 32;
 const MOST_DIGITS: usize = 15;
 /// The components that are not fields.
 const DERIVED: [&str; 5] = ["@method", "@authority", "@target-uri", "@path", "@query"];
-/// How many parameters there are, each of which is required.
-const PARAMETERS: usize = 6;
-/// The field with the key that signs, which is always covered.
+/// The parameters, each of which is required.
+const PARAMETERS: [&str; 6] = ["created", "expires", "nonce", "keyid", "alg", "tag"];
+/// The field with the key that signs, which is always covered, and the one with the certificates.
 pub(super) const PUBLIC_KEY: &str = "x-spki-public-key";
+pub(super) const SEQUENCE: &str = "x-spki-sequence";
 
 /// The digest of a body, of `Content-Digest`.
 #[derive(Clone, Debug, PartialEq, Eq)]
@@ -53,9 +54,9 @@ impl<'a> Parser<'a> {
             return Err(Unproved::Malformed);
         }
         let end = value.iter().position(|octet| !octet.is_ascii());
-        let read = &value[..end.unwrap_or(value.len())];
+        let ascii = &value[..end.unwrap_or(value.len())];
         let mut parser = Parser {
-            rest: std::str::from_utf8(read).unwrap_or_default(),
+            rest: std::str::from_utf8(ascii).unwrap_or_default(),
             is_cut: end.is_some(),
         };
         let name = parser.name()?;
@@ -94,22 +95,23 @@ impl<'a> Parser<'a> {
         {
             return Err(Unproved::Malformed);
         }
-        Ok(self.take_while(|it| {
-            it.is_ascii_lowercase() || it.is_ascii_digit() || b"_-.*".contains(&it)
+        Ok(self.take_while(|octet| {
+            octet.is_ascii_lowercase() || octet.is_ascii_digit() || b"_-.*".contains(&octet)
         }))
     }
 
     /// A string in quotes. An escape is refused: nothing in the profile needs one.
     fn string(&mut self) -> Result<&'a str, Unproved> {
         self.expect("\"")?;
-        let text = self.take_while(|it| (b' '..=b'~').contains(&it) && it != b'"' && it != b'\\');
+        let text = self
+            .take_while(|octet| matches!(octet, b' '..=b'~') && octet != b'"' && octet != b'\\');
         self.expect("\"")?;
         Ok(text)
     }
 
     /// A number of seconds, of at most `MOST_DIGITS` digits, without zeros before it.
     fn integer(&mut self) -> Result<u64, Unproved> {
-        let digits = self.take_while(|it| it.is_ascii_digit());
+        let digits = self.take_while(|octet| octet.is_ascii_digit());
         if digits.len() > MOST_DIGITS || digits.len() > 1 && digits.starts_with('0') {
             return Err(Unproved::Malformed);
         }
@@ -119,7 +121,7 @@ impl<'a> Parser<'a> {
     /// Octets between colons, in base64.
     fn octets(&mut self) -> Result<Vec<u8>, Unproved> {
         self.expect(":")?;
-        let text = self.take_while(|it| it != b':');
+        let text = self.take_while(|octet| octet != b':');
         let octets = decode_base64(text.as_bytes()).ok_or(Unproved::Malformed)?;
         self.expect(":")?;
         Ok(octets)
@@ -138,24 +140,24 @@ impl<'a> Parser<'a> {
         })
     }
 
-    /// The names in the list of components.
+    /// The names in the list of components, which is in parentheses.
     fn components(&mut self) -> Result<Vec<&'a str>, Unproved> {
-        let mut found = Vec::new();
+        let mut names = Vec::new();
         self.expect("(")?;
         while !self.try_skip(")") {
-            if found.len() == MOST_COMPONENTS || !found.is_empty() && !self.try_skip(" ") {
+            if names.len() == MOST_COMPONENTS || !names.is_empty() && !self.try_skip(" ") {
                 return Err(Unproved::Malformed);
             }
             let name = self.string()?;
             if !is_component(name) || self.rest.starts_with(';') {
                 return Err(Unproved::UnknownComponent);
             }
-            if found.contains(&name) {
+            if names.contains(&name) {
                 return Err(Unproved::ComponentTwice);
             }
-            found.push(name);
+            names.push(name);
         }
-        Ok(found)
+        Ok(names)
     }
 }
 
@@ -166,7 +168,7 @@ impl<'a> Input<'a> {
         let mut seen = Vec::new();
         while parser.try_skip(";") {
             let name = parser.name()?;
-            if !["created", "expires", "nonce", "keyid", "alg", "tag"].contains(&name) {
+            if !PARAMETERS.contains(&name) {
                 return Err(Unproved::UnknownParameter);
             }
             if seen.contains(&name) {
@@ -189,7 +191,7 @@ impl<'a> Input<'a> {
         if !has("@method") || !has("@authority") || !has(PUBLIC_KEY) || !has_target {
             return Err(Unproved::MissingComponent);
         }
-        if seen.len() < PARAMETERS {
+        if seen.len() < PARAMETERS.len() {
             return Err(Unproved::MissingParameter);
         }
         Ok(())
@@ -211,13 +213,13 @@ fn is_component(name: &str) -> bool {
 /// Reads the value of `Signature-Input`. A component or a parameter that the profile requires must not be missing.
 pub(super) fn input_of(value: &[u8]) -> Result<Input<'_>, Unproved> {
     let mut parser = Parser::new(value)?;
-    let mut made = Input {
+    let mut input = Input {
         text: parser.rest,
         components: parser.components()?,
         ..Input::default()
     };
-    made.read_parameters(&mut parser)?;
-    Ok(made)
+    input.read_parameters(&mut parser)?;
+    Ok(input)
 }
 
 /// The octets of the signature in the value of `Signature`.
@@ -253,12 +255,13 @@ pub(super) fn digest_of(value: &[u8]) -> Result<ContentDigest, Unproved> {
 
 /// The octets of a text in base64. `None` if the text is not exactly how these octets are encoded, with padding.
 pub(super) fn decode_base64(text: &[u8]) -> Option<Vec<u8>> {
-    let padding = text.iter().rev().take(2).filter(|it| **it == b'=').count();
+    let last_two = text.iter().rev().take(2);
+    let padding = last_two.filter(|octet| **octet == b'=').count();
     if text.len() % 4 != 0 {
         return None;
     }
     // (the lowest `count` of `bits` are those that are not in an octet yet, and the others are 0; those behind the last octet must be 0 too)
-    let (mut made, mut bits, mut count) = (Vec::with_capacity(text.len() / 4 * 3), 0u32, 0);
+    let (mut octets, mut bits, mut count) = (Vec::with_capacity(text.len() / 4 * 3), 0u32, 0);
     for octet in &text[..text.len() - padding] {
         let six = match octet {
             b'A'..=b'Z' => octet - b'A',
@@ -268,13 +271,13 @@ pub(super) fn decode_base64(text: &[u8]) -> Option<Vec<u8>> {
             b'/' => 63,
             _ => return None,
         };
-        bits = (bits << 6 | u32::from(six)) & 0xffff;
+        bits = bits << 6 | u32::from(six);
         count += 6;
         if count >= 8 {
             count -= 8;
-            made.push((bits >> count) as u8);
+            octets.push((bits >> count) as u8);
             bits &= (1 << count) - 1;
         }
     }
-    (bits == 0).then_some(made)
+    (bits == 0).then_some(octets)
 }

@@ -7,8 +7,8 @@ use super::Unproved;
 const MOST_KEY: usize = 4096;
 /// The canonical text of a signature value by ECDSA, with `%` for each of its two strings.
 const ECDSA: &str = "(7:sig-val(5:ecdsa(1:r%)(1:s%)))";
-/// The algorithms, the canonical texts of their keys and of the values of their signatures, with `%` for each string, and the octets of a signature:
-/// 0 where the key says it.
+/// The algorithms, the canonical texts of their keys and of the values of their signatures, with `%` for each string, and how many octets a signature
+/// has: 0 where these are as many as those of the key's modulus.
 const FORMS: [(&str, &str, &str, usize); 4] = [
     (
         "ed25519",
@@ -36,7 +36,7 @@ const FORMS: [(&str, &str, &str, usize); 4] = [
     ),
 ];
 
-/// The algorithm of a key, how many octets a signature by it has, and the form of its canonical value.
+/// The algorithm of a key, how many octets a signature by it has, and the canonical text of a value, with `%` for each string.
 pub(super) struct Kind {
     pub(super) algorithm: &'static str,
     pub(super) octets: usize,
@@ -47,29 +47,29 @@ impl Kind {
     /// The canonical value, `(7:sig-val..)`, of the octets of a signature, which are as many as the algorithm has, and not none. With RSA they are
     /// one string of it, and otherwise two equal halves.
     pub(super) fn value_of(&self, octets: &[u8]) -> Vec<u8> {
-        let halves = self.value.matches('%').count();
-        let mut strings = octets.chunks(octets.len() / halves);
-        let mut made = Vec::new();
+        let string_count = self.value.matches('%').count();
+        let mut strings = octets.chunks(octets.len() / string_count);
+        let mut text = Vec::new();
         for octet in self.value.bytes() {
             if octet == b'%' {
                 let string = strings.next().unwrap_or_default();
-                made.extend_from_slice(format!("{}:", string.len()).as_bytes());
-                made.extend_from_slice(string);
+                text.extend_from_slice(format!("{}:", string.len()).as_bytes());
+                text.extend_from_slice(string);
             } else {
-                made.push(octet);
+                text.push(octet);
             }
         }
-        made
+        text
     }
 }
 
 /// The canonical text of a key that is given in transport form, and its kind. A signature of RSA has as many octets as the modulus, the first string
-/// of the key. Fails with `BadKey`.
+/// of the key. Fails with `BadKey` if the text is longer than `MOST_KEY`, or its octets have none of the forms.
 pub(super) fn key_of(text: &[u8]) -> Result<(Vec<u8>, Kind), Unproved> {
-    let bare = text
+    let base64 = text
         .strip_prefix(b"{")
         .and_then(|rest| rest.strip_suffix(b"}"));
-    let key = bare
+    let key = base64
         .filter(|_| text.len() <= MOST_KEY)
         .and_then(decode_base64)
         .ok_or(Unproved::BadKey)?;

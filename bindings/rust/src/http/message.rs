@@ -5,6 +5,8 @@ use super::Unproved;
 
 /// The field with the digest of the body.
 pub(super) const DIGEST: &str = "content-digest";
+/// The port of https, which is not signed.
+const PORT: &str = ":443";
 
 /// A request, as it was sent.
 #[derive(Clone, Copy, Debug)]
@@ -56,11 +58,11 @@ impl<'a> Message<'a> {
     {
         self.fields
             .iter()
-            .filter(move |(known, _)| known.eq_ignore_ascii_case(name))
+            .filter(move |(field, _)| field.eq_ignore_ascii_case(name))
             .map(|(_, value)| trimmed(value))
     }
 
-    /// The value of a field, which must be there in one line of printable ASCII.
+    /// The value of a field, which must be there in one line of printable ASCII and tabs. Fails with `AbsentField`, `RepeatedField` or `BadValue`.
     pub(super) fn field(&self, name: &str) -> Result<Vec<u8>, Unproved> {
         let mut values = self.values(name);
         let value = values.next().ok_or(Unproved::AbsentField)?;
@@ -69,7 +71,7 @@ impl<'a> Message<'a> {
         }
         if value
             .iter()
-            .any(|it| *it != b'\t' && !(b' '..=b'~').contains(it))
+            .any(|octet| !matches!(octet, b'\t' | b' '..=b'~'))
         {
             return Err(Unproved::BadValue);
         }
@@ -86,38 +88,33 @@ impl<'a> Message<'a> {
 
     /// The signature base: the text that is signed. `authority` is as `authority_of` returns it. Fails if `field` refuses one of the
     /// covered fields.
-    pub(super) fn base(
-        &self,
-        scheme: &str,
-        authority: &str,
-        input: &Input,
-    ) -> Result<Vec<u8>, Unproved> {
-        let mut made = Vec::with_capacity(1024);
+    pub(super) fn base(&self, authority: &str, input: &Input) -> Result<Vec<u8>, Unproved> {
+        let mut text = Vec::with_capacity(1024);
         for name in &input.components {
-            let value = self.value(scheme, authority, name)?;
-            made.extend_from_slice(format!("\"{name}\": ").as_bytes());
-            made.extend_from_slice(&value);
-            made.push(b'\n');
+            let value = self.component(authority, name)?;
+            text.extend_from_slice(format!("\"{name}\": ").as_bytes());
+            text.extend_from_slice(&value);
+            text.push(b'\n');
         }
-        made.extend_from_slice(format!("\"@signature-params\": {}", input.text).as_bytes());
-        Ok(made)
+        text.extend_from_slice(format!("\"@signature-params\": {}", input.text).as_bytes());
+        Ok(text)
     }
 
-    /// The value of a component by its name, such as `@path`. It fails for a field that `field` refuses.
-    fn value(&self, scheme: &str, authority: &str, name: &str) -> Result<Vec<u8>, Unproved> {
+    /// The value of a component by its name, such as `@path`. Fails if it is a field that `field` refuses.
+    fn component(&self, authority: &str, name: &str) -> Result<Vec<u8>, Unproved> {
         let (path, query) = match self.target.split_once('?') {
             Some((path, query)) => (path, Some(query)),
             None => (self.target, None),
         };
-        let made = match name {
+        let value = match name {
             "@method" => self.method.to_string(),
             "@authority" => authority.to_string(),
             "@path" => path.to_string(),
             "@query" => format!("?{}", query.unwrap_or_default()),
-            "@target-uri" => format!("{scheme}://{authority}{}", self.target),
+            "@target-uri" => format!("https://{authority}{}", self.target),
             _ => return self.field(name),
         };
-        Ok(made.into_bytes())
+        Ok(value.into_bytes())
     }
 }
 
@@ -129,12 +126,10 @@ fn trimmed(mut value: &[u8]) -> &[u8] {
     value
 }
 
-/// A name with its port as it is signed: in small letters, without the port that the scheme has anyway.
-pub(super) fn authority_of(scheme: &str, authority: &str) -> String {
-    let usual = if scheme == "http" { ":80" } else { ":443" };
-    let name = authority.to_ascii_lowercase();
-    name.strip_suffix(usual)
-        .map_or(name.clone(), str::to_string)
+/// A name with its port as it is signed: in small letters, without the port of https.
+pub(super) fn authority_of(name: &str) -> String {
+    let name = name.strip_suffix(PORT).unwrap_or(name);
+    name.to_ascii_lowercase()
 }
 
 /// Whether a target is one of a request: a path and perhaps a query, of visible characters.

@@ -25,7 +25,7 @@ pub struct Nonces {
     sets: Mutex<Sets>,
 }
 
-/// The hashes. `turned` is when the young set began, in seconds.
+/// The hashes. `turned` is when the young set began, in seconds since 1970: 0 before the first nonce.
 #[derive(Debug, Default)]
 struct Sets {
     turned: u64,
@@ -62,8 +62,8 @@ impl TakeNonce for Nonces {
 }
 
 impl Sets {
-    /// Makes the young set the old one once it is `seconds` old, and forgets it too if it is twice as old. If the clock went back, nothing is
-    /// forgotten.
+    /// Makes the young set the old one once it is `seconds` old, and begins an empty one. One that is twice as old is forgotten as well. If the clock
+    /// went back, nothing is forgotten.
     fn turn(&mut self, now: u64, seconds: u64) {
         let age = now.saturating_sub(self.turned);
         if age < seconds {

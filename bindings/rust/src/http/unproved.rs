@@ -3,6 +3,7 @@
 use std::error::Error;
 use std::fmt;
 
+/// Makes the enum of the refusals, and its function from each to its name.
 macro_rules! unproved {
     ($($variant:ident $name:literal,)*) => {
         /// Why a request proves no key. The names are those of docs/SIGNATURES.md.
