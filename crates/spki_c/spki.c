@@ -29,7 +29,7 @@ uint32_t spki_c_asked_signature(struct handle *asked, size_t place, struct texts
 uint32_t spki_c_asked_mark(struct handle asked, size_t place, struct handle *back);
 bool spki_c_asked_granted(struct handle *asked);
 bool spki_c_asked_possible(struct handle *asked);
-uint32_t spki_c_asked_answer(uint32_t wish, struct handle *asked, int64_t *until, ANSWER);
+uint32_t spki_c_asked_answer(uint32_t query, struct handle *asked, int64_t *until, ANSWER);
 uint32_t spki_c_string(struct spki_text text, const size_t *path, size_t depth, size_t *at, size_t *length);
 
 /* Whether a pointer to `count` values of `size` octets is misuse: null with a count, or more than memory can have. */
@@ -38,16 +38,16 @@ static bool is_misuse(const void *at, size_t count, size_t size)
     return count > PTRDIFF_MAX / size || (!at && count);
 }
 
-/* Begins a call that returns an answer: replaces a null buffer, and a null `needed` by `unasked`, sets `**needed` to 0, and empties the line in the
- * buffer. False if the buffer is misuse. */
-static bool begin_answer(void **buffer, size_t length, size_t **needed, size_t *unasked)
+/* Begins a call that returns an answer: replaces a null buffer by one that is not used, and a null `needed` by `unused`, sets `**needed` to 0, and
+ * empties the line in the buffer. False if the buffer is misuse. */
+static bool begin_answer(void **buffer, size_t length, size_t **needed, size_t *unused)
 {
     static unsigned char no_buffer;
     bool is_buffer = !is_misuse(*buffer, length, 1);
     if (is_buffer && length)
         *(unsigned char *)*buffer = 0;
     *buffer = *buffer ? *buffer : &no_buffer;
-    *needed = *needed ? *needed : unasked;
+    *needed = *needed ? *needed : unused;
     **needed = 0;
     return is_buffer;
 }
@@ -78,10 +78,10 @@ enum spki_status spki_guard_open(const void *list, size_t list_length, enum spki
 {
     struct handle handle = {0};
     /* (a limit of 0 stands for the usual one) */
-    struct spki_limits some = {0};
+    struct spki_limits own = {0};
     enum spki_status status = SPKI_MISUSED;
-    if (BEGINS && guard && (!limits || READ(some, struct spki_limits, answer, limits)))
-        status = spki_c_guard_open((struct spki_text){list, list_length}, policy, &some, 1, &handle, TO);
+    if (BEGINS && guard && (!limits || READ(own, struct spki_limits, answer, limits)))
+        status = spki_c_guard_open((struct spki_text){list, list_length}, policy, &own, 1, &handle, TO);
     if (guard)
         *guard = handle.at;
     return status;
@@ -96,13 +96,13 @@ void spki_guard_close(spki_guard *guard)
 enum spki_status spki_guard_ask(const spki_guard *guard, const struct spki_question *question, spki_asked **asked, ANSWER)
 {
     struct handle handle = {0};
-    struct spki_question q;
+    struct spki_question own;
     enum spki_status status = SPKI_MISUSED;
-    /* (the last of the parts is whether strings are given) */
-    if (BEGINS && guard && asked && READ(q, struct spki_question, seconds, question) && !is_misuse(q.words, q.word_count, sizeof *q.words))
-        status = spki_c_guard_ask(LENT(guard), (struct parts){q.sequence, q.key.text, q.request, q.moment, q.words},
-                                  q.words ? q.words : &(struct spki_text){0}, q.word_count, q.seconds ? q.seconds : &(int64_t){0},
-                                  q.seconds ? 1 : 0, &handle, TO);
+    if (BEGINS && guard && asked && READ(own, struct spki_question, seconds, question) && !is_misuse(own.words, own.word_count, sizeof *own.words)) {
+        const struct parts parts = {own.sequence, own.key.text, own.request, own.moment, .is_worded = own.words};
+        status = spki_c_guard_ask(LENT(guard), parts, own.words ? own.words : &(struct spki_text){0}, own.word_count,
+                                  own.seconds ? own.seconds : &(int64_t){0}, own.seconds ? 1 : 0, &handle, TO);
+    }
     if (asked)
         *asked = handle.at;
     return status;
@@ -116,6 +116,7 @@ void spki_asked_close(spki_asked *asked)
 
 enum spki_status spki_asked_signature(const spki_asked *asked, size_t place, struct spki_signed *signature)
 {
+    /* (the proved library takes no null address for a text, also for one that it sets) */
     static const struct spki_text empty = {"", 0};
     struct texts texts = {{empty, empty, empty, empty}, false};
     enum spki_status status = asked && signature ? spki_c_asked_signature(LENT(asked), place, &texts) : SPKI_MISUSED;
@@ -128,7 +129,7 @@ enum spki_status spki_asked_signature(const spki_asked *asked, size_t place, str
 
 enum spki_status spki_asked_mark(spki_asked *asked, size_t place)
 {
-    /* (what is passed to the call comes back at the same address: it is boxed there, and not moved) */
+    /* (the call takes the question over and gives it back at the same address, so the handle that comes back is not looked at) */
     return asked ? spki_c_asked_mark((struct handle){asked}, place, &(struct handle){0}) : SPKI_MISUSED;
 }
 
@@ -137,18 +138,18 @@ bool spki_asked_granted(const spki_asked *asked)
     return asked && spki_c_asked_granted(LENT(asked));
 }
 
-/* Answers a question, and says until when a yes holds. `wish` is SPKI_CHECK, SPKI_EXPLAIN or SPKI_REDUCE. */
-static struct spki_decision answered(enum spki_command wish, const spki_asked *asked, ANSWER)
+/* Answers a question, and says until when a yes holds. `query` is SPKI_CHECK, SPKI_EXPLAIN or SPKI_REDUCE. */
+static struct spki_decision answer(enum spki_command query, const spki_asked *asked, ANSWER)
 {
-    struct spki_decision said = {SPKI_MISUSED, INT64_MIN};
+    struct spki_decision decision = {SPKI_MISUSED, INT64_MIN};
     if (BEGINS && asked)
-        said.status = spki_c_asked_answer(wish, LENT(asked), &said.until, TO);
-    return said;
+        decision.status = spki_c_asked_answer(query, LENT(asked), &decision.until, TO);
+    return decision;
 }
 
-struct spki_decision spki_asked_decide(const spki_asked *asked, ANSWER) { return answered(SPKI_CHECK, asked, TO); }
-struct spki_answered spki_asked_explain(const spki_asked *asked, ANSWER) { return (struct spki_answered){answered(SPKI_EXPLAIN, asked, TO).status}; }
-struct spki_answered spki_asked_reduce(const spki_asked *asked, ANSWER) { return (struct spki_answered){answered(SPKI_REDUCE, asked, TO).status}; }
+struct spki_decision spki_asked_decide(const spki_asked *asked, ANSWER) { return answer(SPKI_CHECK, asked, TO); }
+struct spki_answered spki_asked_explain(const spki_asked *asked, ANSWER) { return (struct spki_answered){answer(SPKI_EXPLAIN, asked, TO).status}; }
+struct spki_answered spki_asked_reduce(const spki_asked *asked, ANSWER) { return (struct spki_answered){answer(SPKI_REDUCE, asked, TO).status}; }
 
 enum spki_status spki_string(const void *text, size_t text_length, const size_t *path, size_t depth, const void **octets, size_t *length)
 {

@@ -188,7 +188,7 @@ enum spki_policy {
  * 2,000,000 of work and 1,048,576 octets of an answer. `nodes`, `work` and `answer` are for spki_asked_explain and _reduce: what exceeds one of
  * them is `refused TooLarge`. A decision computes no intersection. */
 struct spki_limits {
-    size_t size;         /* sizeof(struct spki_limits): "Structures" below */
+    size_t size;         /* sizeof(struct spki_limits): "Structures" above */
     size_t octets;       /* the most octets of a question's texts together: more are `refused question TooLong` */
     size_t certificates; /* the most certificates of a sequence: more are `refused question TooManyCertificates` */
     size_t words;        /* the most strings of a request: more are `refused question TooManyWords` */
@@ -259,7 +259,7 @@ SPKI_INLINE(struct spki_proven_key) spki_assume_key(struct spki_text key)
 
 /* Sets `*key` to the key of a login, and returns whether it is proved. The message of a login is a challenge that the service itself made, with a
  * nonce that it takes once. False if `verify` says that the signature is not valid, or if the message is a certificate, which proves nothing about
- * who shows it: `*key` is empty then, and a question with it is refused. */
+ * who shows it: `*key` is empty then, and a question with it is refused. The key's octets are not copied. */
 SPKI_RESULT SPKI_INLINE(bool) spki_prove_key(const struct spki_signed *login, bool (*verify)(const struct spki_signed *signature),
                                              struct spki_proven_key *key)
 {
@@ -360,13 +360,13 @@ void spki_asked_close(spki_asked *asked);
 
 /* ---- strings */
 
-/* Finds the octets of a string inside a value in canonical form. They are in the text. Each number of the path is that of the list
+/* Finds the octets of a string inside a value in canonical form. They are in the text. The path has `depth` numbers, each that of the list
  * member to enter, from 0. In `(public-key (rsa (n |..|) (e #010001#)))` the path {1, 1, 1} leads to the modulus.
  * With a depth of 0 the text itself is the string.
  *
- * SPKI_DONE: `*octets` and `*length` are set. With every other status they are null and 0. SPKI_NONE: no string is there.
+ * SPKI_DONE: `*octets` and `*length` are set. `length` may be null. With every other status they are null and 0. SPKI_NONE: no string is there.
  * SPKI_REFUSED: the text is no value in canonical form of at most 1,048,576 octets and 64 open lists. SPKI_NO_MEMORY: an allocation
- * failed, so it is not known whether there is a string. */
+ * failed, so it is not known whether there is a string. SPKI_MISUSED: `octets` is null, or a text or a path that has a length. */
 SPKI_RESULT enum spki_status spki_string(const void *text, size_t text_length, const size_t *path, size_t depth, const void **octets,
                              size_t *length);
 

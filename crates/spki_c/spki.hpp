@@ -52,16 +52,20 @@ struct signature {
 };
 
 /* What a verifier answers: a bool, and nothing that becomes one. */
-template <typename Verify> bool is_valid(Verify &&verify, const signature &it)
+template <typename Verify> bool is_valid(Verify &&verify, const signature &unverified)
 {
-    const auto answer = verify(it);
+    const auto answer = verify(unverified);
     static_assert(std::is_same_v<decltype(answer), const bool>, "a verifier returns a bool: an int such as -1 is no answer");
     return answer;
 }
 
-/* A key that a client has proved to hold. A public key is public: without a proof, each client that sends Alice's key would have Alice's rights. */
+/* A key that a client has proved to hold. A public key is public: without a proof, each client that sends Alice's key would have Alice's rights.
+ * Copies share the octets, and a move is a copy: what was moved away is still this key. */
 class proven_key {
 public:
+    proven_key(const proven_key &) = default;
+    proven_key &operator=(const proven_key &) = default;
+
     /* The key of a client that has proved to hold it elsewhere, as by TLS or SSH. Nothing checks that here: each client gets the rights of the
      * key that is named. */
     static proven_key assume(std::string_view key) { return proven_key(key); }
@@ -83,7 +87,7 @@ private:
 };
 
 /* What is asked. The texts are those of spki_question, and must last until `ask` or `decide` returns. `words` has the strings of the
- * request; an array, a vector or another container of std::string_view with `data` and `size` will do. */
+ * request; an array, a vector or another container of std::string_view or std::string will do. */
 struct question {
     template <typename Words>
     question(std::string_view sequence, proven_key key, const Words &words, std::chrono::system_clock::time_point now)
@@ -91,7 +95,7 @@ struct question {
     {
         for (std::string_view word : words)
             strings.push_back(text_of(word));
-        // (a null address would mean that the request is a text)
+        // (one that does not count, so that the address is not null where there is no string: null would mean that the request is a text)
         strings.push_back({nullptr, 0});
         asked.sequence = text_of(sequence);
         asked.key = spki_assume_key(text_of(this->key.text()));
@@ -120,59 +124,60 @@ class [[nodiscard]] decision {
 public:
     using time = std::chrono::system_clock::time_point;
 
-    explicit operator bool() const noexcept { return made.status == SPKI_YES; }
+    explicit operator bool() const noexcept { return result.status == SPKI_YES; }
 
     /* From its own moment to this second the same question is granted, if the same signatures are valid: it is the least `not-after` of the
-     * entry and of all certificates. After it another entry may grant it. Nothing if no window ends, and for a no. What the clock does not
-     * have is its last time. */
+     * entry and of all certificates. After it another entry may grant it. Nothing if no window ends, and for a no. A second that the clock
+     * does not have becomes the nearest that it has: the clock of GCC ends in 2262. */
     std::optional<time> until() const noexcept
     {
-        if (!*this || made.until == INT64_MAX)
+        if (!*this || result.until == INT64_MAX)
             return std::nullopt;
         const auto first = seconds_of(time::min()) + 1, last = seconds_of(time::max());
-        return time(std::chrono::seconds(std::clamp<std::int64_t>(made.until, first, last)));
+        return time(std::chrono::seconds(std::clamp<std::int64_t>(result.until, first, last)));
     }
 
     /* Whether a decision that was kept still grants the request at a time: spki_holds_at. */
-    bool holds_at(time now) const noexcept { return spki_holds_at(made, seconds_of(now)); }
+    bool holds_at(time now) const noexcept { return spki_holds_at(result, seconds_of(now)); }
 
 private:
     friend class asked;
-    explicit decision(spki_decision made) noexcept : made(made) {}
-    spki_decision made;
+    explicit decision(spki_decision result) noexcept : result(result) {}
+    spki_decision result;
 
+    /* The second since 1970 that a time is in. */
     static std::int64_t seconds_of(time moment) noexcept
     {
         return std::chrono::floor<std::chrono::seconds>(moment).time_since_epoch().count();
     }
 };
 
-/* Returns the status `met` of a call if it is one of the two that are allowed. Throws `refused` with the call's line if it is refused, and
-   std::logic_error otherwise. `length` counts the line feed at the end of the line, which is left out. It is 0 if there is no line. */
-inline spki_status expect(spki_status met, const char *line, std::size_t length, spki_status wanted, spki_status other)
+/* Throws unless the status of a call is SPKI_DONE: `refused` with the call's line if it is refused, and std::logic_error otherwise. `length` counts
+ * the line feed at the end of the line, which is left out. It is 0 if there is no line. */
+inline void require_done(spki_status status, const char *line = "", std::size_t length = 0)
 {
-    if (met == SPKI_REFUSED)
+    if (status == SPKI_REFUSED)
         throw refused(std::string(line, length ? length - 1 : 0));
-    if (met != wanted && met != other)
-        throw std::logic_error("a call of libspki_c is misused, or the library is of another version than spki.hpp");
-    return met;
+    if (status != SPKI_DONE)
+        throw std::logic_error("a call of libspki_c is misused or got no memory, or the library is of another version than spki.hpp");
 }
 
 /* A question that was read, with a mark for each signature that is found valid. */
 class asked {
 public:
+    /* How many signatures are to be verified. */
     std::size_t size() const noexcept { return spki_asked_count(handle.get()); }
 
-    /* The signature at a place. Its texts last as long as this object. */
+    /* The signature at a place, from 0. Its texts last as long as this object. Throws std::logic_error if there is none. */
     spki::signature signature(std::size_t place) const
     {
-        spki_signed found;
-        expect(spki_asked_signature(handle.get(), place, &found), "", 0, SPKI_DONE, SPKI_DONE);
-        return {view_of(found.key), view_of(found.message), view_of(found.value), view_of(found.octets)};
+        spki_signed texts;
+        require_done(spki_asked_signature(handle.get(), place, &texts));
+        return {view_of(texts.key), view_of(texts.message), view_of(texts.value), view_of(texts.octets)};
     }
 
-    /* Says that the signature at a place is valid. Throws std::logic_error if there is none. */
-    void mark(std::size_t place) { expect(spki_asked_mark(handle.get(), place), "", 0, SPKI_DONE, SPKI_DONE); }
+    /* Says that the signature at a place, from 0, is valid. Throws std::logic_error if there is none. */
+    void mark(std::size_t place) { require_done(spki_asked_mark(handle.get(), place)); }
 
     /* Whether the request would be granted if all signatures were valid. If not, none has to be verified. True grants nothing. */
     bool possible() const noexcept { return spki_asked_possible(handle.get()); }
@@ -191,7 +196,8 @@ public:
         return decision(spki_asked_decide(handle.get(), line, sizeof line, nullptr));
     }
 
-    /* The lines that say of each entry why it grants the request or does not, and which right remains of it. */
+    /* The lines that say of each entry why it grants the request or does not, and which right remains of it. Throws `refused` if they, or tags, are
+     * too large. */
     std::string explain() const { return lines(spki_asked_explain); }
     std::string reduce() const { return lines(spki_asked_reduce); }
 
@@ -212,7 +218,7 @@ private:
         const std::unique_ptr<char[]> lines(new char[room]);
         std::size_t length = 0;
         const spki_status status = call(handle.get(), lines.get(), room, &length).status;
-        expect(status, lines.get(), length, SPKI_DONE, SPKI_DONE);
+        require_done(status, lines.get(), length);
         return std::string(lines.get(), length);
     }
 };
@@ -220,7 +226,8 @@ private:
 /* An access list that is read once and asked often, also by several threads at the same time. */
 class guard {
 public:
-    /* Reads an access list. Throws `refused` if it is none, and std::logic_error if a limit is over the highest. */
+    /* Reads an access list. Throws `refused` if it is none, std::logic_error if a limit is over the highest, and std::runtime_error if the library is
+     * of another version. */
     explicit guard(std::string_view list, spki_policy policy = SPKI_STRICT, const spki_limits &limits = usual_limits)
         : room(std::max<std::size_t>(limits.answer ? limits.answer : SPKI_USUAL_ANSWER, line_room))
     {
@@ -228,12 +235,13 @@ public:
         std::size_t length;
         spki_guard *opened;
         check_version();
-        expect(limits.answer > SPKI_MOST_ANSWER ? SPKI_MISUSED : SPKI_DONE, "", 0, SPKI_DONE, SPKI_DONE);
+        require_done(limits.answer > SPKI_MOST_ANSWER ? SPKI_MISUSED : SPKI_DONE);
         spki_status status = spki_guard_open(list.data(), list.size(), policy, &limits, &opened, line, sizeof line, &length);
         handle.reset(opened);
-        expect(status, line, length, SPKI_DONE, SPKI_DONE);
+        require_done(status, line, length);
     }
 
+    /* The number of entries of the list. */
     std::size_t entries() const noexcept { return spki_guard_entries(handle.get()); }
 
     /* Reads a question. Throws `refused` if a part cannot be read or exceeds a limit. */
@@ -245,7 +253,7 @@ public:
         const spki_question lent = question.lent();
         spki_status status = spki_guard_ask(handle.get(), &lent, &opened, line, sizeof line, &length);
         spki::asked asked(opened, room);
-        expect(status, line, length, SPKI_DONE, SPKI_DONE);
+        require_done(status, line, length);
         return asked;
     }
 
@@ -263,6 +271,7 @@ private:
         void operator()(spki_guard *handle) const noexcept { spki_guard_close(handle); }
     };
     std::unique_ptr<spki_guard, close> handle;
+    /* The octets of the longest answer of each question. */
     std::size_t room;
     /* The octets that each refusal fits in. */
     static constexpr std::size_t line_room = 128;

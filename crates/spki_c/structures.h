@@ -3,16 +3,19 @@
 #include <stddef.h>
 #include <string.h>
 
+/* The most octets of a structure: a larger size was never set, or is that of something else. */
+enum { MOST_SIZE = 4096 };
+
 /* Copies a caller's structure, whose first field states its size, to one of `size` octets. Fields that the caller's lacks are 0. Those that this
- * library does not know must be 0. `least` is the size in version 0.2.0. False if the structure cannot be read: `to` is unchanged then. */
+ * library does not know must be 0. `least` is the size in version 0.2.0. False if the structure is null or cannot be read: `to` is unchanged then. */
 static bool copy_structure(void *to, size_t size, size_t least, const void *from)
 {
-    const size_t given = from ? *(const size_t *)from : 0;
-    bool is_fit = given >= least && given <= 4096 && given % sizeof given == 0;
-    for (size_t at = size; is_fit && at < given; at++)
+    const size_t stated = from ? *(const size_t *)from : 0;
+    bool is_fit = stated >= least && stated <= MOST_SIZE && stated % sizeof stated == 0;
+    for (size_t at = size; is_fit && at < stated; at++)
         is_fit = !((const unsigned char *)from)[at];
     if (is_fit)
-        memcpy(memset(to, 0, size), from, given < size ? given : size);
+        memcpy(memset(to, 0, size), from, stated < size ? stated : size);
     return is_fit;
 }
 

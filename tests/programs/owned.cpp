@@ -1,4 +1,4 @@
-// Calls spki.hpp, which owns handles in C++. Ends with the line of what is wrong.
+// Calls spki.hpp, which owns handles in C++. Prints the line of what is wrong, and ends with 1 then.
 #include <spki.hpp>
 
 #include <array>
@@ -20,16 +20,14 @@ static const std::string list = "(acl (entry (public-key (test a)) (propagate) (
 static const std::string pair
     = "(cert (issuer (public-key (test a))) (subject (public-key (test b))) (tag (*)))"
       "(signature (hash sha256 #d71ecfb335b8e4b04cb035426566a94e817a12cfcfa4dbf5b704b6cd670c7ad2#) (public-key (test a)) sig)";
-static const std::string shown = "(sequence " + pair + ")";
+static const std::string sequence = "(sequence " + pair + ")";
 static const spki::proven_key key = spki::proven_key::assume("(public-key (test b))");
 static const spki::proven_key other = spki::proven_key::assume("(public-key (test c))");
 static const std::array<std::string_view, 2> words = {"ftp", "host"};
 static const auto now = std::chrono::system_clock::from_time_t(1704067200);
 
-static bool is_sig(const spki::signature &it)
-{
-    return it.value == "3:sig";
-}
+// A verifier that accepts the value `sig` alone.
+static bool is_sig(const spki::signature &signature) { return signature.value == "3:sig"; }
 
 // The line with which a call is refused, or nothing if it is not.
 template <typename Call> static std::string refusal(Call call)
@@ -57,21 +55,19 @@ template <typename Call> static bool is_misuse(Call call)
 static int decisions()
 {
     spki::guard guard(list);
-    CHECK(guard.entries() == 1);
-    CHECK(guard.decide({shown, key, words, now}, is_sig));
-    CHECK(!guard.decide({shown, key, words, now}, [](auto) { return false; }));
-    CHECK(!guard.decide({"(sequence)", key, words, now}, is_sig));
-    CHECK(!guard.decide({shown, other, words, now}, is_sig));
+    CHECK(guard.entries() == 1 && guard.decide({sequence, key, words, now}, is_sig));
+    CHECK(!guard.decide({sequence, key, words, now}, [](auto) { return false; }));
+    CHECK(!guard.decide({"(sequence)", key, words, now}, is_sig) && !guard.decide({sequence, other, words, now}, is_sig));
     static_assert(!std::is_convertible_v<spki::decision, bool> && !std::is_convertible_v<spki::decision, int>, "a decision is no number");
     static_assert(!std::is_copy_constructible_v<spki::guard> && !std::is_copy_constructible_v<spki::asked>, "a handle has one owner");
     return 0;
 }
 
 // An opened question keeps its text, outlives its guard and a move, and is granted once its signature is marked.
-static int opened()
+static int opened_question()
 {
     auto guard = std::make_unique<spki::guard>(list);
-    std::string text = shown;
+    std::string text = sequence;
     spki::asked asked = guard->ask({text, key, words, now});
     text.assign(text.size(), ' ');
     guard.reset();
@@ -95,7 +91,7 @@ static int two_clients()
                                "(signature (hash sha256 #b0c7e53153c3b09dad60263b3b4738aa1ae756cc4642305bcf4fdc4114ff0d5d#)"
                                " (public-key (test a)) forged))";
     spki::guard guard(list);
-    spki::asked good = guard.ask({shown, key, words, now}), bad = guard.ask({forged, other, words, now});
+    spki::asked good = guard.ask({sequence, key, words, now}), bad = guard.ask({forged, other, words, now});
     good.verify(is_sig);
     bad.verify(is_sig);
     CHECK(good.decide() && !bad.decide());
@@ -123,7 +119,7 @@ static int equal_signatures()
 }
 
 // A decision holds till the least window ends, and no second longer. The clock has no time behind 2262.
-static int kept()
+static int decisions_that_are_kept()
 {
     using std::chrono::seconds;
     const auto ending = [](const char *date) {
@@ -131,41 +127,44 @@ static int kept()
     };
     const auto last = std::chrono::system_clock::from_time_t(1782863999);
     spki::guard guard(ending("2026-06-30_23:59:59")), late(ending("9998-01-01_00:00:00")), endless(list);
-    const spki::decision kept = guard.decide({shown, key, words, now}, is_sig);
-    CHECK(kept.until() == last && !guard.decide({shown, other, words, now}, is_sig).until());
+    const spki::decision kept = guard.decide({sequence, key, words, now}, is_sig);
+    CHECK(kept.until() == last && !guard.decide({sequence, other, words, now}, is_sig).until());
     for (const auto &[time, holds] : {std::pair(last - seconds(1), true), {last + std::chrono::milliseconds(999), true}, {last + seconds(1), false}})
-        CHECK(kept.holds_at(time) == holds && bool(guard.decide({shown, key, words, time}, is_sig)) == holds);
-    CHECK(!kept.holds_at(std::chrono::system_clock::from_time_t(-1)) && !guard.decide({shown, other, words, now}, is_sig).holds_at(now));
-    CHECK(late.decide({shown, key, words, now}, is_sig).until() > std::chrono::system_clock::time_point::max() - seconds(2));
-    const spki::decision always = endless.decide({shown, key, words, now}, is_sig);
+        CHECK(kept.holds_at(time) == holds && bool(guard.decide({sequence, key, words, time}, is_sig)) == holds);
+    CHECK(!kept.holds_at(std::chrono::system_clock::from_time_t(-1)) && !guard.decide({sequence, other, words, now}, is_sig).holds_at(now));
+    CHECK(late.decide({sequence, key, words, now}, is_sig).until() > std::chrono::system_clock::time_point::max() - seconds(2));
+    const spki::decision always = endless.decide({sequence, key, words, now}, is_sig);
     CHECK(always && !always.until() && always.holds_at(last + seconds(1)));
     return 0;
 }
 
 // Nothing is verified where no signature could help.
-static int impossible()
+static int impossible_requests()
 {
     spki::guard guard(list);
     int calls = 0;
-    const auto counted = [&](auto) { return ++calls > 0; };
-    CHECK(!guard.decide({shown, other, words, now}, counted) && calls == 0);
-    CHECK(guard.decide({shown, key, words, now}, counted) && calls == 1);
+    const auto count_and_accept = [&](auto) { return ++calls > 0; };
+    CHECK(!guard.decide({sequence, other, words, now}, count_and_accept) && calls == 0);
+    CHECK(guard.decide({sequence, key, words, now}, count_and_accept) && calls == 1);
     return 0;
 }
 
-// What has given its handle away is no guard and no question.
-static int given_away()
+// What has given its handle away is no guard and no question. A key that was moved away is still the key.
+static int handles_given_away()
 {
     spki::guard guard(list);
-    spki::asked asked = guard.ask({shown, key, words, now});
+    spki::asked asked = guard.ask({sequence, key, words, now});
     const spki::asked other = std::move(asked);
     asked.verify(is_sig);
     CHECK(asked.size() == 0 && !asked.decide());
     CHECK(is_misuse([&] { asked.signature(0); }) && is_misuse([&] { asked.mark(0); }));
     CHECK(is_misuse([&] { asked.explain(); }) && is_misuse([&] { asked.reduce(); }));
+    spki::proven_key client = key;
+    const spki::proven_key copy = std::move(client);
+    CHECK(client.text() == key.text() && copy.text() == key.text());
     const spki::guard last = std::move(guard);
     CHECK(guard.entries() == 0 && last.entries() == 1);
-    CHECK(is_misuse([&] { guard.ask({shown, key, words, now}); }) && is_misuse([&] { (void)guard.decide({shown, key, words, now}, is_sig); }));
+    CHECK(is_misuse([&] { guard.ask({sequence, key, words, now}); }) && is_misuse([&] { (void)guard.decide({sequence, key, words, now}, is_sig); }));
     return 0;
 }
 
@@ -174,13 +173,13 @@ static int refusals()
 {
     spki::guard guard(list);
     CHECK(refusal([] { spki::guard("(acl (entry))"); }) == "refused acl 1 Shape");
-    CHECK(refusal([&] { guard.ask({shown + "x", key, words, now}); }) == "refused sequence Trailing " + std::to_string(shown.size()));
-    CHECK(refusal([&] { guard.ask({shown, key, std::vector<std::string_view>(), now}); }) == "refused request EmptyList");
-    CHECK(refusal([&] { guard.ask({shown, key, std::vector<std::string_view>(65, "w"), now}); }) == "refused question TooManyWords");
+    CHECK(refusal([&] { guard.ask({sequence + "x", key, words, now}); }) == "refused sequence Trailing " + std::to_string(sequence.size()));
+    CHECK(refusal([&] { guard.ask({sequence, key, std::vector<std::string_view>(), now}); }) == "refused request EmptyList");
+    CHECK(refusal([&] { guard.ask({sequence, key, std::vector<std::string_view>(65, "w"), now}); }) == "refused question TooManyWords");
     spki_limits limits = spki::usual_limits;
     limits.octets = 64;
     spki::guard narrow(list, SPKI_STRICT, limits);
-    CHECK(refusal([&] { narrow.ask({shown, key, words, now}); }) == "refused question TooLong");
+    CHECK(refusal([&] { narrow.ask({sequence, key, words, now}); }) == "refused question TooLong");
     return 0;
 }
 
@@ -191,9 +190,9 @@ static int logins()
     CHECK(spki::proven_key::by(login, is_sig)->text() == key.text());
     CHECK(!spki::proven_key::by(login, [](auto) { return false; }));
     spki::guard guard(list);
-    const spki::asked asked = guard.ask({shown, key, words, now});
+    const spki::asked asked = guard.ask({sequence, key, words, now});
     CHECK(!spki::proven_key::by(asked.signature(0), is_sig));
-    CHECK(refusal([&] { guard.ask({shown, key, words, std::chrono::system_clock::from_time_t(0) - std::chrono::nanoseconds(1)}); })
+    CHECK(refusal([&] { guard.ask({sequence, key, words, std::chrono::system_clock::from_time_t(0) - std::chrono::nanoseconds(1)}); })
           == "refused at BadDate");
     return 0;
 }
@@ -211,7 +210,7 @@ static int literals()
 static int threads()
 {
     auto guard = std::make_unique<spki::guard>(list);
-    spki::asked marked = guard->ask({shown, key, words, now});
+    spki::asked marked = guard->ask({sequence, key, words, now});
     marked.verify(is_sig);
     const spki::asked shared = std::move(marked);
     std::array<int, 4> granted{};
@@ -219,12 +218,12 @@ static int threads()
     for (int &count : granted)
         asking.emplace_back([&] {
             for (int turn = 0; turn < 20; turn++)
-                count += guard->decide({shown, key, words, now}, is_sig) && shared.decide() ? 1 : 0;
+                count += guard->decide({sequence, key, words, now}, is_sig) && shared.decide() ? 1 : 0;
         });
     for (std::thread &thread : asking)
         thread.join();
     for (int &count : granted)
-        ending.emplace_back([&count, own = guard->ask({shown, key, words, now})]() mutable {
+        ending.emplace_back([&count, own = guard->ask({sequence, key, words, now})]() mutable {
             own.verify(is_sig);
             count += own.decide() ? 1 : 0;
         });
@@ -238,6 +237,6 @@ static int threads()
 
 int main()
 {
-    return decisions() || opened() || two_clients() || equal_signatures() || kept() || impossible() || given_away() || refusals() || logins()
-           || literals() || threads();
+    return decisions() || opened_question() || two_clients() || equal_signatures() || decisions_that_are_kept() || impossible_requests()
+           || handles_given_away() || refusals() || logins() || literals() || threads();
 }
