@@ -7,7 +7,7 @@
 
 enum { MOST = 65536 };
 
-/* The first octets of a file, at most `most`, in `room`. An empty text if it cannot be read. */
+/* The first octets of a file, at most `most`, which are read into `room`. An empty text if it cannot be read. */
 static struct spki_text octets_of(const char *path, void *room, size_t most)
 {
     FILE *file = fopen(path, "rb");
@@ -17,7 +17,7 @@ static struct spki_text octets_of(const char *path, void *room, size_t most)
     return text;
 }
 
-/* Decides at the present second. */
+/* Decides whether the client's key has the right to the request of three words at the present second. */
 static struct spki_decision decide(const spki_guard *guard, struct spki_proven_key key, struct spki_text sequence, const struct spki_text words[3])
 {
     const int64_t now = time(NULL);
@@ -25,7 +25,7 @@ static struct spki_decision decide(const spki_guard *guard, struct spki_proven_k
                                                          .word_count = 3, .seconds = &now});
 }
 
-/* Whether a path has one name only: no part of it is empty, `.` or `..`. */
+/* Whether a path is normal: it begins with `/`, and no part of it is empty, `.` or `..`. */
 static bool is_normal(const char *path)
 {
     char closed[MOST + 1];
@@ -33,20 +33,20 @@ static bool is_normal(const char *path)
     return *path == '/' && !strstr(closed, "//") && !strstr(closed, "/./") && !strstr(closed, "/../");
 }
 
-/* Writes the text to a file below the folder, or prints what the file has. */
+/* Writes the text to a file below the folder, or prints what the file has, at most MOST octets. */
 static void answer(bool writes, const char *folder, const char *path, const char *text)
 {
-    static char whole[2 * MOST], content[MOST];
-    snprintf(whole, sizeof whole, "%s%s", folder, path);
-    FILE *file = fopen(whole, writes ? "wb" : "rb");
-    if (!file)
-        puts("nothing is there");
+    static char name[2 * MOST], content[MOST];
+    snprintf(name, sizeof name, "%s%s", folder, path);
+    FILE *file = fopen(name, writes ? "wb" : "rb");
+    const size_t length = !file ? 0 : writes ? fwrite(text, 1, strlen(text), file) : fread(content, 1, sizeof content, file);
+    const bool has_failed = !file || ferror(file);
+    if ((file && fclose(file)) || has_failed)
+        puts(writes ? "not written" : "nothing is there");
     else if (writes)
-        printf("written %zu\n", fwrite(text, 1, strlen(text), file));
+        printf("written %zu\n", length);
     else
-        printf("%.*s\n", (int)fread(content, 1, sizeof content, file), content);
-    if (file)
-        fclose(file);
+        printf("%.*s\n", (int)length, content);
 }
 
 int main(int count, char **given)
@@ -57,10 +57,10 @@ int main(int count, char **given)
     spki_guard *guard;
     if (spki_guard_open(text.octets, text.length, SPKI_STRICT, NULL, &guard, line, sizeof line, NULL) != SPKI_DONE)
         return 2;
-    while (fgets(line, sizeof line, stdin)) {
+    /* (a line that does not fit, or has an octet 00, ends the program: its rest would be another request) */
+    while (fgets(line, sizeof line, stdin) && (strchr(line, '\n') || feof(stdin))) {
         line[strcspn(line, "\n")] = '\0';
-        char *content = line, *action = strsep(&content, " "), *path = strsep(&content, " ");
-        path = path ? path : "";
+        char *content = line, *action = strsep(&content, " "), *path = content ? strsep(&content, " ") : "";
         const struct spki_text words[] = {SPKI_LITERAL("cache"), {action, strlen(action)}, {path, strlen(path)}};
         snprintf(asked, sizeof asked, "%s %s", action, path);
         if (strcmp(asked, last) || !spki_holds_at(kept, time(NULL)))

@@ -23,7 +23,7 @@ struct Input {
 }
 
 impl Input {
-    /// Reads the next string, LENGTH:OCTETS, and returns its octets. `None` at the end of the input.
+    /// Reads the next string, LENGTH:OCTETS, and returns its octets. `None` at the end of the input. Panics if the octets are cut off.
     fn next(&mut self) -> Option<&[u8]> {
         let rest = &self.octets[self.at..];
         let colon = rest.iter().position(|octet| *octet == b':')?;
@@ -47,7 +47,7 @@ impl Input {
 }
 
 /// The line of an explanation as the program `spki` writes it, put together from its parts, so that the test compares these too.
-fn spelled(reason: Reason) -> String {
+fn line_of(reason: Reason) -> String {
     let entry = reason.entry.map(|number| format!("entry {number} "));
     let item = reason.item.map(|number| format!("item {number} "));
     format!(
@@ -63,15 +63,15 @@ fn answer(input: &mut Input) -> Option<Result<String, Refusal>> {
     let (command, policy, limits) = (input.text()?, input.text()?, input.text()?);
     let mut next = || input.next().map(<[u8]>::to_vec);
     let (list, sequence, key) = (next()?, next()?, next()?);
-    let (form, request) = (input.text()?, input.list()?);
-    let (clock, moment) = (input.text()?, input.next()?.to_vec());
+    let (request_form, request) = (input.text()?, input.list()?);
+    let (moment_form, moment) = (input.text()?, input.next()?.to_vec());
     let accepted = input.list()?;
     let words: Vec<&[u8]> = request.iter().map(Vec::as_slice).collect();
-    let request = match &form[..] {
+    let request = match &request_form[..] {
         "text" => Request::Text(words[0]),
         _ => Request::Words(&words),
     };
-    let moment = match &clock[..] {
+    let moment = match &moment_form[..] {
         "text" => Moment::Text(&moment),
         _ => Moment::Seconds(String::from_utf8(moment).ok()?.parse().ok()?),
     };
@@ -91,17 +91,20 @@ fn answer(input: &mut Input) -> Option<Result<String, Refusal>> {
 }
 
 /// Asks the guard the question, and answers by the command: `reduce`, `explain`, or else `check`, which decides. A signature is valid if its key,
-/// message and value are three strings of `accepted`, one after the other. A refusal alone is an error: a denial is the answer `no`.
+/// message and value are a row of `accepted`, which has three strings for each. A refusal alone is an error: a denial is the answer `no`.
 fn answer_to(
     command: &str,
     guard: &Guard,
     question: &Question,
     accepted: &[Vec<u8>],
 ) -> Result<String, Refusal> {
-    let verify = |it: Signature| {
-        accepted
-            .chunks(3)
-            .any(|row| row == [it.key, it.message, it.value])
+    let verify = |signature: Signature| {
+        let Signature {
+            key,
+            message,
+            value,
+        } = signature;
+        accepted.chunks(3).any(|row| row == [key, message, value])
     };
     let mut asked = guard.ask(question)?;
     match asked.verify(verify) {
@@ -112,7 +115,7 @@ fn answer_to(
     match command {
         "reduce" => asked.reduce(),
         "explain" => {
-            let lines: Vec<_> = asked.explain()?.reasons().map(spelled).collect();
+            let lines: Vec<_> = asked.explain()?.reasons().map(line_of).collect();
             Ok(if lines.is_empty() {
                 "no entries".into()
             } else {

@@ -7,7 +7,7 @@ use spki::{Denied, Grant, Guard, Limits, Policy, ProvenKey, Question, Request};
 use std::time::SystemTime;
 use std::{env, error::Error, fs, io};
 
-/// Whether a path has one name only: no part of it is empty, `.` or `..`.
+/// Whether a path is normal: it begins with `/`, and no part of it is empty, `.` or `..`.
 fn is_normal(path: &str) -> bool {
     let mut parts = path.split('/');
     parts.next() == Some("")
@@ -15,7 +15,7 @@ fn is_normal(path: &str) -> bool {
         && parts.all(|it| !["", ".", ".."].contains(&it))
 }
 
-/// Decides an action on a path.
+/// Decides whether the client may do an action, `read` or `write`, with a path. An error is that of the command `openssl`.
 fn decide(
     guard: &Guard,
     client: &ProvenKey,
@@ -50,13 +50,11 @@ fn main() -> Result<(), Box<dyn Error>> {
         if !["read", "write"].contains(&action) || !is_normal(path) || kept.is_none() {
             println!("denied");
         } else if action == "write" {
-            fs::write(file, text)?;
-            println!("written {}", text.len());
+            let outcome = fs::write(file, text).map(|()| format!("written {}", text.len()));
+            println!("{}", outcome.unwrap_or("not written".into()));
         } else {
-            println!(
-                "{}",
-                fs::read_to_string(file).unwrap_or("nothing is there".into())
-            );
+            let content = fs::read_to_string(file);
+            println!("{}", content.unwrap_or("nothing is there".into()));
         }
     }
     Ok(())

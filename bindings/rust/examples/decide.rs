@@ -10,10 +10,12 @@ mod by_openssl;
 
 use by_openssl::Openssl;
 use spki::{Denied, Guard, Limits, Policy, ProvenKey, Question, Request};
+use std::ffi::OsString;
+use std::os::unix::ffi::OsStrExt;
 use std::time::SystemTime;
 use std::{env, error::Error, fs, io};
 
-/// Ends well if a request is granted. Each word is one string of it, whatever octets it has.
+/// Succeeds if a request is granted now. Each word is one string of it, whatever octets it has.
 fn require_grant(
     guard: &Guard,
     sequence: &[u8],
@@ -26,8 +28,8 @@ fn require_grant(
 }
 
 fn main() -> Result<(), Box<dyn Error>> {
-    let given: Vec<String> = env::args().collect();
-    let [_, list, sequence, key, words @ ..] = &given[..] else {
+    let arguments: Vec<OsString> = env::args_os().collect();
+    let [_, list, sequence, key, words @ ..] = &arguments[..] else {
         return Err("usage: decide ACL SEQUENCE KEY WORD ..".into());
     };
     let words: Vec<&[u8]> = words.iter().map(|word| word.as_bytes()).collect();

@@ -9,18 +9,18 @@ use std::io::{self, BufRead, BufReader, Read, Write};
 use std::net::{TcpListener, TcpStream};
 use std::time::{Duration, SystemTime, UNIX_EPOCH};
 
+/// The most octets of a request that are read.
 const MOST_OCTETS: u64 = 65_536;
 
-/// Whether the key that has signed a request may read what it asks for: `Some` if it may, and `None` for all else.
+/// Whether the key that has signed a request may read what it asks for: `Some` if it may, and `None` for all else. `head` is the head of the request.
 fn grant(guard: &Guard, requests: &Requests, head: &str) -> Option<()> {
     let head = Head::read(head)?;
     let now = SystemTime::now();
     let seconds = now.duration_since(UNIX_EPOCH).ok()?.as_secs();
-    let verify = |it: Signature<'_>| Openssl.verify(it);
+    let verify = |signature: Signature<'_>| Openssl.verify(signature);
     let proof = requests.prove(&head.message(), seconds, verify).ok()?;
-    let is_normal = !["%", "?", "//", "/."]
-        .iter()
-        .any(|it| head.target.contains(it));
+    let excluded = ["%", "?", "//", "/."];
+    let is_normal = !excluded.iter().any(|part| head.target.contains(part));
     if head.method != "GET" || !is_normal {
         return None;
     }
@@ -29,7 +29,7 @@ fn grant(guard: &Guard, requests: &Requests, head: &str) -> Option<()> {
     guard.decide_by(&question, &mut Openssl).ok().map(|_| ())
 }
 
-/// Answers one request.
+/// Reads the head of one request, and answers by its status alone.
 fn answer(guard: &Guard, requests: &Requests, mut client: TcpStream) -> io::Result<()> {
     client.set_read_timeout(Some(Duration::from_secs(5)))?;
     let mut reader = BufReader::new(client.try_clone()?.take(MOST_OCTETS));

@@ -21,7 +21,7 @@ fn question<'q>(key: &'q ProvenKey) -> Question<'q> {
 }
 
 /// How many of 2 * TURNS decisions grant a question: TURNS that open it anew, and TURNS on one that was opened.
-fn granted(guard: &Guard) -> usize {
+fn count_grants(guard: &Guard) -> usize {
     let key = ProvenKey::assume(&b"(public-key (test b))"[..]);
     let question = question(&key);
     let asked = guard.ask(&question).expect("a question");
@@ -35,13 +35,13 @@ fn main() {
     let threads: Vec<_> = (0..THREADS)
         .map(|_| {
             let guard = Arc::clone(&guard);
-            thread::spawn(move || granted(&guard))
+            thread::spawn(move || count_grants(&guard))
         })
         .collect();
     drop(guard);
-    let all: usize = threads
+    let total: usize = threads
         .into_iter()
-        .map(|it| it.join().expect("a count"))
+        .map(|thread| thread.join().expect("a count"))
         .sum();
-    println!("{all} granted");
+    println!("{total} granted");
 }

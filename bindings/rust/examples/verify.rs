@@ -10,8 +10,8 @@ use spki::{Signature, Verifier};
 use std::error::Error;
 use std::io::{self, Read};
 
-/// The first string LENGTH:OCTETS of a text, and what is behind it. `None` at the end.
-fn next(text: &[u8]) -> Option<(&[u8], &[u8])> {
+/// The octets of the string LENGTH:OCTETS that a text begins with, and what is behind it. `None` at the end.
+fn split_string(text: &[u8]) -> Option<(&[u8], &[u8])> {
     let colon = text.iter().position(|octet| *octet == b':')?;
     let length: usize = std::str::from_utf8(&text[..colon]).ok()?.parse().ok()?;
     Some(text[colon + 1..].split_at(length))
@@ -22,15 +22,15 @@ fn main() -> Result<(), Box<dyn Error>> {
     io::stdin().read_to_end(&mut input)?;
     let mut strings = Vec::new();
     let mut rest = &input[..];
-    while let Some((string, behind)) = next(rest) {
+    while let Some((string, behind)) = split_string(rest) {
         strings.push(string);
         rest = behind;
     }
-    for it in strings.chunks_exact(3) {
+    for texts in strings.chunks_exact(3) {
         let signature = Signature {
-            key: it[0],
-            message: it[1],
-            value: it[2],
+            key: texts[0],
+            message: texts[1],
+            value: texts[2],
         };
         print!("{}", u8::from(Openssl.verify(signature)?));
     }

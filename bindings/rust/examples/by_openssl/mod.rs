@@ -1,6 +1,6 @@
 //! Verifies signatures by the command `openssl`, from OpenSSL 3.0 on, in the forms of docs/FORMATS.md, "Keys and signatures of services":
-//! Ed25519, RSA by PKCS#1 v1.5 with SHA-256, ECDSA with P-256 and SHA-256 or with P-384 and SHA-384. A crate of cryptography takes less time. It
-//! replaces `Signed::verifies` and `sha256`.
+//! Ed25519, RSA by PKCS#1 v1.5 with SHA-256, ECDSA with P-256 and SHA-256 or with P-384 and SHA-384. A crate of cryptography takes less time: put
+//! its calls into `Signed::verifies` and `sha256`.
 //! Points and numbers are tested first, as the same page has it: libraries differ in what they take.
 
 use spki::{Signature, Verifier};
@@ -13,13 +13,13 @@ use std::{env, fs, io, process};
 
 /// The octets of a point of Ed25519, and of each half of a signature.
 const HALF: usize = 32;
-/// How many bits the modulus of RSA may have, and its exponent at most.
+/// How many bits the modulus of RSA may have, and the most that its exponent may.
 const BITS: std::ops::RangeInclusive<usize> = 2048..=4096;
 const MOST_EXPONENT_BITS: usize = 31;
 /// A canonical text of more octets is no key and no value of a signature.
 const MOST_OCTETS: usize = 4096;
 
-/// Numbers, big-endian: p - 1 and the order of Ed25519, and the coordinate y of its points of order 8.
+/// Numbers, big-endian: p - 1 and the order of the group of Ed25519, and the coordinates y of its points of order 8.
 const LAST_Y: &str = "7fffffffffffffffffffffffffffffffffffffffffffffffffffffffffffffec";
 const ORDER_25519: &str = "1000000000000000000000000000000014def9dea2f79cd65812631a5cf5d3ed";
 const EIGHTHS: [&str; 2] = [
@@ -30,6 +30,7 @@ const EIGHTHS: [&str; 2] = [
 /// The beginnings of public keys in DER, up to the octets of the key.
 const ED25519: &[u8] = b"\x30\x2a\x30\x05\x06\x03\x2b\x65\x70\x03\x21\x00";
 const RSA: &[u8] = b"\x30\x0d\x06\x09\x2a\x86\x48\x86\xf7\x0d\x01\x01\x01\x05\x00";
+/// Tags of DER.
 const BIT_STRING: u8 = 3;
 const INTEGER: u8 = 2;
 const SEQUENCE: u8 = 0x30;
@@ -77,77 +78,90 @@ pub struct Openssl;
 impl Verifier for Openssl {
     type Error = io::Error;
 
-    fn verify(&mut self, it: Signature<'_>) -> io::Result<bool> {
-        // (the command takes no empty file, and no certificate is empty)
-        let signed = signed(it.key, it.value).filter(|_| !it.message.is_empty());
-        signed.map_or(Ok(false), |signed| signed.verifies(it.message))
+    fn verify(&mut self, signature: Signature<'_>) -> io::Result<bool> {
+        let Signature {
+            key,
+            message,
+            value,
+        } = signature;
+        match take_apart(key, value) {
+            // (the command takes no empty file, and no certificate is empty)
+            Some(signed) if !message.is_empty() => signed.verifies(message),
+            _ => Ok(false),
+        }
     }
 }
 
 /// The SHA-256 hash of octets. If the command fails, octets 00: no key is known that has this hash.
 #[allow(dead_code)] // (the examples without signed requests hash nothing)
 pub fn sha256(octets: &[u8]) -> [u8; 32] {
-    hashed(octets).unwrap_or_default()
+    try_sha256(octets).unwrap_or_default()
 }
 
 /// The SHA-256 hash of octets, or `None` if the command fails.
-fn hashed(octets: &[u8]) -> Option<[u8; 32]> {
-    let room = Room::new().ok()?;
-    fs::write(room.path.join("message"), octets).ok()?;
-    let done = Command::new("openssl")
+fn try_sha256(octets: &[u8]) -> Option<[u8; 32]> {
+    let folder = Folder::new().ok()?;
+    fs::write(folder.path.join("message"), octets).ok()?;
+    let output = Command::new("openssl")
         .args("dgst -sha256 -binary message".split(' '))
-        .current_dir(&room.path)
+        .current_dir(&folder.path)
         .output();
-    done.ok()?.stdout.try_into().ok()
+    output.ok()?.stdout.try_into().ok()
 }
 
 impl Signed {
     /// Whether the command finds the signature valid. The error is that of a file or of starting the command.
     fn verifies(&self, message: &[u8]) -> io::Result<bool> {
-        let room = Room::new()?;
+        let folder = Folder::new()?;
         for (name, octets) in [
             ("key", &self.key[..]),
             ("message", message),
             ("signature", &self.signature),
         ] {
-            fs::write(room.path.join(name), octets)?;
+            fs::write(folder.path.join(name), octets)?;
         }
         let words =
             "pkeyutl -verify -pubin -keyform DER -inkey key -rawin -in message -sigfile signature";
-        let done = Command::new("openssl")
+        let output = Command::new("openssl")
             .args(words.split(' '))
             .args(self.digest)
-            .current_dir(&room.path)
+            .current_dir(&folder.path)
             .output()?;
-        // A signature that is not valid and a key that cannot be read have the same status. `signed` has looked at the form of the key.
-        Ok(done.status.success())
+        // A signature that is not valid and a key that cannot be read have the same status. `take_apart` has tested the form of the key.
+        Ok(output.status.success())
     }
 }
 
 /// A folder that only this user can read, which is removed at the end.
-struct Room {
+struct Folder {
     path: PathBuf,
 }
 
-impl Room {
-    /// Makes a folder, whose name has the number of this process and a count.
-    fn new() -> io::Result<Room> {
+impl Folder {
+    /// Makes a folder, whose name has the number of this process and a count. A name that is there is passed over: an earlier process of the same
+    /// number may have been killed.
+    fn new() -> io::Result<Folder> {
         static COUNT: AtomicUsize = AtomicUsize::new(0);
-        let number = COUNT.fetch_add(1, Ordering::Relaxed);
-        let path = env::temp_dir().join(format!("spki-{}-{number}", process::id()));
-        DirBuilder::new().mode(0o700).create(&path)?;
-        Ok(Room { path })
+        loop {
+            let number = COUNT.fetch_add(1, Ordering::Relaxed);
+            let path = env::temp_dir().join(format!("spki-{}-{number}", process::id()));
+            match DirBuilder::new().mode(0o700).create(&path) {
+                Ok(()) => return Ok(Folder { path }),
+                Err(error) if error.kind() == io::ErrorKind::AlreadyExists => {}
+                Err(error) => return Err(error),
+            }
+        }
     }
 }
 
-impl Drop for Room {
+impl Drop for Folder {
     fn drop(&mut self) {
         let _ = remove_dir_all(&self.path);
     }
 }
 
 /// Takes a key and the value of a signature apart, by the first of the functions below that knows both. `None` if none does.
-fn signed(key: &[u8], value: &[u8]) -> Option<Signed> {
+fn take_apart(key: &[u8], value: &[u8]) -> Option<Signed> {
     ed25519(key, value)
         .or_else(|| CURVES.iter().find_map(|curve| ecdsa(curve, key, value)))
         .or_else(|| rsa(key, value))
@@ -160,16 +174,18 @@ fn ed25519(key: &[u8], value: &[u8]) -> Option<Signed> {
         b"(10:public-key(3:ecc(5:curve7:Ed25519)(5:flags5:eddsa)(1:q%)))",
     )?;
     let [r, s]: [&[u8]; 2] = strings(value, b"(7:sig-val(5:eddsa(1:r%)(1:s%)))")?;
-    let is_whole = [point, r, s].map(<[u8]>::len) == [HALF; 3];
-    (is_whole && is_of_large_order(point) && is_below(&reversed(s), ORDER_25519)).then(|| Signed {
-        key: [ED25519, point].concat(),
-        signature: [r, s].concat(),
-        digest: &[],
+    let has_lengths = [point, r, s].map(<[u8]>::len) == [HALF; 3];
+    (has_lengths && is_of_large_order(point) && is_below(&reversed(s), ORDER_25519)).then(|| {
+        Signed {
+            key: [ED25519, point].concat(),
+            signature: [r, s].concat(),
+            digest: &[],
+        }
     })
 }
 
-/// Whether the coordinate y of a point of Ed25519 is from 2^192 to below p - 1, and not that of a point of order 8. Then the point has no small
-/// order and no second text. That it is a point is not tested.
+/// Whether the coordinate y of a point of Ed25519, 32 octets, is from 2^192 to below p - 1, and not that of a point of order 8. Then the point has no
+/// small order and no second text. That it is a point is not tested.
 fn is_of_large_order(point: &[u8]) -> bool {
     let mut y = reversed(point);
     y[0] &= 0x7f;
@@ -181,14 +197,14 @@ fn is_of_large_order(point: &[u8]) -> bool {
 fn ecdsa(curve: &Curve, key: &[u8], value: &[u8]) -> Option<Signed> {
     let [point] = strings(key, curve.form)?;
     let numbers: [&[u8]; 2] = strings(value, b"(7:sig-val(5:ecdsa(1:r%)(1:s%)))")?;
-    let is_point = point.len() == 1 + 2 * curve.octets && point[0] == 4;
+    let has_form = point.len() == 1 + 2 * curve.octets && point[0] == 4;
     let mut coordinates = point.get(1..)?.chunks(curve.octets);
-    let is_written = is_point && coordinates.all(|it| is_below(it, curve.prime));
+    let is_point = has_form && coordinates.all(|number| is_below(number, curve.prime));
     let is_pair = numbers
         .iter()
-        .all(|it| !trimmed(it).is_empty() && is_below(it, curve.order));
+        .all(|number| !trimmed(number).is_empty() && is_below(number, curve.order));
     let [r, s] = numbers.map(|number| der(INTEGER, &signed_number(number)));
-    (is_written && is_pair).then(|| Signed {
+    (is_point && is_pair).then(|| Signed {
         key: [curve.begin, point].concat(),
         signature: der(SEQUENCE, &[r, s].concat()),
         digest: curve.digest,
@@ -241,8 +257,8 @@ fn strings<'t, const N: usize>(text: &'t [u8], form: &[u8]) -> Option<[&'t [u8];
     }
     let mut parts = form.split(|octet| *octet == b'%');
     let mut rest = text.strip_prefix(parts.next()?)?;
-    let mut found = [&text[..0]; N];
-    for (string, part) in found.iter_mut().zip(parts) {
+    let mut strings = [&text[..0]; N];
+    for (string, part) in strings.iter_mut().zip(parts) {
         let colon = rest.iter().position(|octet| *octet == b':')?;
         let length: usize = std::str::from_utf8(&rest[..colon]).ok()?.parse().ok()?;
         let end = (colon + 1).checked_add(length)?;
@@ -252,7 +268,7 @@ fn strings<'t, const N: usize>(text: &'t [u8], form: &[u8]) -> Option<[&'t [u8];
         *string = rest.get(colon + 1..end)?;
         rest = rest[end..].strip_prefix(part)?;
     }
-    rest.is_empty().then_some(found)
+    rest.is_empty().then_some(strings)
 }
 
 /// A number without octets 00 in front.
@@ -268,7 +284,7 @@ fn signed_number(number: &[u8]) -> Vec<u8> {
     [&[0; 1][..usize::from(is_high)], number].concat()
 }
 
-/// The count of bits of a number of a key. `None` if it is even, or is not written as keys have it.
+/// The count of bits of a number of a key. `None` if it is even, or has not an octet 00 in front exactly if its first bit is set.
 fn bits_of(number: &[u8]) -> Option<usize> {
     let is_odd = number.last().is_some_and(|last| last % 2 == 1);
     let first = trimmed(number).first()?;
@@ -280,13 +296,13 @@ fn bits_of(number: &[u8]) -> Option<usize> {
 fn der(tag: u8, octets: &[u8]) -> Vec<u8> {
     let length = octets.len().to_be_bytes();
     let length = trimmed(&length);
-    let mut made = vec![tag];
+    let mut value = vec![tag];
     if octets.len() >= 0x80 {
-        made.push(0x80 + u8::try_from(length.len()).expect("a small number"));
-        made.extend(length);
+        value.push(0x80 + u8::try_from(length.len()).expect("a small number"));
+        value.extend(length);
     } else {
-        made.push(u8::try_from(octets.len()).expect("a small number"));
+        value.push(u8::try_from(octets.len()).expect("a small number"));
     }
-    made.extend(octets);
-    made
+    value.extend(octets);
+    value
 }
