@@ -18,8 +18,8 @@
 
 enum { MOST_OCTETS = 65536, MOST_WORDS = 16, FIRST_WORD = 4 };
 
-/* Whether a request is granted. Each word is one string of it, whatever octets it has. A client who shows more than the limits of the guard
- * allow is denied. */
+/* Whether a request is granted at `now`, in seconds since 1970. Each word is one string of it, whatever octets it has. A client who shows more than
+ * the limits of the guard allow is denied. */
 static bool is_granted(const spki_guard *guard, struct spki_text sequence, struct spki_proven_key key, const struct spki_text *words,
                        size_t word_count, int64_t now)
 {
@@ -34,9 +34,9 @@ static bool is_granted(const spki_guard *guard, struct spki_text sequence, struc
     for (size_t place = 0; place < count && spki_asked_signature(asked, place, &signature) == SPKI_DONE; place++)
         if (verifies(&signature))
             spki_asked_mark(asked, place);
-    bool granted = spki_asked_granted(asked);
+    bool is_yes = spki_asked_granted(asked);
     spki_asked_close(asked);
-    return granted;
+    return is_yes;
 }
 
 /* Reads a file into `octets`, which has room for MOST_OCTETS. The program ends if it cannot be read, or is longer: it is not cut off. */

@@ -7,7 +7,8 @@
 #include <stdlib.h>
 #include <sys/random.h>
 
-/* Each set has 2 * `most` places, of which 0 is a free one. `count` is that of the young set, and `turned` is when it began. */
+/* Each set has 2 * `most` places for hashes, of which at most `most` are used. A free one is 0. `count` is how many hashes the young set has, and
+ * `turned` when it began, in seconds since 1970: 0 before the first nonce. `secret` is the key of SipHash. */
 struct http_nonces {
     uint64_t secret[2], *young, *old;
     size_t most, count;
@@ -31,7 +32,7 @@ static void sip_rounds(uint64_t v[4], int count)
     }
 }
 
-/* A SipHash under way: the words so far, and the octets of the next one. */
+/* A SipHash under way: its state, the octets of the next word, the least octet first, and how many octets were added. */
 struct sip {
     uint64_t v[4], word;
     size_t length;
@@ -55,8 +56,9 @@ static void sip_add(struct sip *sip, const void *octets, size_t length)
 /* The hash by `secret` of a key and a nonce, which is not 0. An octet 00 is between them: the canonical text of a key does not end with it. */
 static uint64_t hash_of(const uint64_t secret[2], struct spki_text key, struct spki_text nonce)
 {
-    const uint64_t a = secret[0], b = secret[1];
-    struct sip sip = {{a ^ 0x736f6d6570736575, b ^ 0x646f72616e646f6d, a ^ 0x6c7967656e657261, b ^ 0x7465646279746573}, 0, 0};
+    /* (the constants are those of SipHash: the octets of `somepseudorandomlygeneratedbytes`) */
+    struct sip sip = {{secret[0] ^ 0x736f6d6570736575, secret[1] ^ 0x646f72616e646f6d, secret[0] ^ 0x6c7967656e657261,
+                       secret[1] ^ 0x7465646279746573}, 0, 0};
     sip_add(&sip, key.octets, key.length);
     sip_add(&sip, "", 1);
     sip_add(&sip, nonce.octets, nonce.length);
@@ -81,27 +83,28 @@ static uint64_t *place_of(uint64_t *set, size_t most, uint64_t hash)
 
 struct http_nonces *http_nonces_open(size_t most)
 {
-    struct http_nonces *made = most > 0 && most < SIZE_MAX / 16 ? calloc(1, sizeof *made) : NULL;
-    if (!made)
+    struct http_nonces *nonces = most > 0 && most < SIZE_MAX / 2 / sizeof *nonces->young ? calloc(1, sizeof *nonces) : NULL;
+    if (!nonces)
         return NULL;
-    made->most = most;
-    made->young = calloc(2 * most, sizeof *made->young);
-    made->old = calloc(2 * most, sizeof *made->old);
-    if (made->young && made->old && getrandom(made->secret, sizeof made->secret, 0) == (ssize_t)sizeof made->secret)
-        return made;
-    http_nonces_close(made);
+    nonces->most = most;
+    nonces->young = calloc(2 * most, sizeof *nonces->young);
+    nonces->old = calloc(2 * most, sizeof *nonces->old);
+    if (nonces->young && nonces->old && getrandom(nonces->secret, sizeof nonces->secret, 0) == (ssize_t)sizeof nonces->secret)
+        return nonces;
+    http_nonces_close(nonces);
     return NULL;
 }
 
-/* Makes the young set the old one once it is `seconds` old. If the clock went back, nothing is forgotten. */
+/* Makes the young set the old one once it is `seconds` old, and begins an empty one. One that is twice as old is forgotten as well. If the clock went
+ * back, nothing is forgotten. */
 static void turn(struct http_nonces *nonces, long long now, long long seconds)
 {
     long long age = now - nonces->turned;
     if (age < seconds)
         return;
-    uint64_t *kept = nonces->young;
+    uint64_t *last_young = nonces->young;
     nonces->young = nonces->old;
-    nonces->old = kept;
+    nonces->old = last_young;
     memset(nonces->young, 0, 2 * nonces->most * sizeof *nonces->young);
     if (age >= 2 * seconds)
         memset(nonces->old, 0, 2 * nonces->most * sizeof *nonces->old);
@@ -112,9 +115,9 @@ static void turn(struct http_nonces *nonces, long long now, long long seconds)
 const char *http_nonces_take(void *store, struct spki_text key, struct spki_text nonce, long long now, long long seconds)
 {
     struct http_nonces *nonces = store;
-    uint64_t hash = hash_of(nonces->secret, key, nonce), *place;
+    const uint64_t hash = hash_of(nonces->secret, key, nonce);
     turn(nonces, now, seconds);
-    place = place_of(nonces->young, nonces->most, hash);
+    uint64_t *place = place_of(nonces->young, nonces->most, hash);
     if (*place || *place_of(nonces->old, nonces->most, hash))
         return "nonce-seen";
     if (nonces->count == nonces->most)

@@ -5,8 +5,12 @@
 
 #include <stdlib.h>
 
+/* The most octets of a field that is taken apart, names of components in it, digits of a number, octets of a key in transport form and of a
+ * signature (that of RSA with 4,096 bits), and the octets of a signature by P-384. */
 enum { MOST_INPUT = 8192, MOST_COMPONENTS = 32, MOST_DIGITS = 15, MOST_KEY_TEXT = 4096, MOST_SIGNATURE = 512, P384_OCTETS = 96 };
+/* The most seconds from `created` to `expires`, those that a client's clock may be ahead, and the characters of a nonce. */
 enum { MOST_WINDOW = 300, MOST_AHEAD = 60, LEAST_NONCE = 16, MOST_NONCE = 64 };
+/* The parameters, in the order of `parameter_names`. */
 enum { CREATED, EXPIRES, NONCE, KEYID, ALG, TAG, PARAMETERS };
 
 static const char *const parameter_names[PARAMETERS] = {"created", "expires", "nonce", "keyid", "alg", "tag"};
@@ -29,6 +33,7 @@ struct cursor {
 
 /* ---- texts */
 
+/* A C string as a text. */
 static struct spki_text literal(const char *text)
 {
     return (struct spki_text){text, strlen(text)};
@@ -45,6 +50,7 @@ static unsigned char lower_case(unsigned char octet)
     return octet >= 'A' && octet <= 'Z' ? (unsigned char)(octet | 0x20) : octet;
 }
 
+/* Whether two texts are equal, but for the case of letters. */
 static bool equals_ignoring_case(struct spki_text text, struct spki_text wanted)
 {
     const unsigned char *first = text.octets, *second = wanted.octets;
@@ -85,12 +91,13 @@ static bool covers(const struct input *input, const char *name)
 /* The number of a digit of base64, or -1. */
 static int six_bits(unsigned char octet)
 {
-    static const char all[] = "ABCDEFGHIJKLMNOPQRSTUVWXYZabcdefghijklmnopqrstuvwxyz0123456789+/";
-    const char *found = octet ? strchr(all, octet) : NULL;
-    return found ? (int)(found - all) : -1;
+    static const char digits[] = "ABCDEFGHIJKLMNOPQRSTUVWXYZabcdefghijklmnopqrstuvwxyz0123456789+/";
+    const char *place = octet ? strchr(digits, octet) : NULL;
+    return place ? (int)(place - digits) : -1;
 }
 
-/* Decodes base64 with its padding. False if the text is none, is not the one text of its octets, or has more octets than `room`. */
+/* Decodes base64 with its padding. False if the text is none, is not the one text of its octets, or has more octets than `room`. Of `bits` the
+ * lowest `count` are those that are not in an octet yet, and the others are 0. */
 static bool decode_base64(struct spki_text text, unsigned char *octets, size_t room, size_t *length)
 {
     const unsigned char *in = text.octets;
@@ -105,7 +112,7 @@ static bool decode_base64(struct spki_text text, unsigned char *octets, size_t r
         int six = six_bits(in[i]);
         if (six < 0)
             return false;
-        bits = (bits << 6 | (unsigned)six) & 0xfff;
+        bits = bits << 6 | (unsigned)six;
         if ((count += 6) < 8)
             continue;
         if (*length == room)
@@ -123,9 +130,9 @@ static bool decode_base64(struct spki_text text, unsigned char *octets, size_t r
 static bool try_skip(struct cursor *in, const char *text)
 {
     size_t length = strlen(text);
-    bool found = (size_t)(in->end - in->at) >= length && memcmp(in->at, text, length) == 0;
-    in->at += found ? length : 0;
-    return found;
+    bool is_next = (size_t)(in->end - in->at) >= length && memcmp(in->at, text, length) == 0;
+    in->at += is_next ? length : 0;
+    return is_next;
 }
 
 /* Reads the name of a member or of a parameter. It is empty if none is next. */
@@ -154,7 +161,7 @@ static bool read_string(struct cursor *in, struct spki_text *string)
     return try_skip(in, "\"");
 }
 
-/* Reads a number of at most MOST_DIGITS digits, and returns whether one is next. */
+/* Reads a number of at most MOST_DIGITS digits, without zeros before it, and returns whether one is next. */
 static bool read_integer(struct cursor *in, long long *number)
 {
     const unsigned char *first = in->at;
@@ -274,7 +281,7 @@ static bool read_octets(struct cursor *in, unsigned char *octets, size_t room, s
     return decode_base64(between(first, in->at), octets, room, length) && try_skip(in, ":");
 }
 
-/* Reads `Signature`, also if it is too long for each algorithm: check_message refuses that. Returns null, or the name of the refusal. */
+/* Reads `Signature`, also if it is too long for every algorithm: check_message refuses that. Returns null, or the name of the refusal. */
 static const char *read_signature(struct spki_text value, unsigned char octets[MOST_INPUT], size_t *length)
 {
     struct cursor in;
@@ -287,22 +294,19 @@ static const char *read_signature(struct spki_text value, unsigned char octets[M
 /* ---- the request */
 
 /* The number of lines that a field has. Sets `value`, unless it is null, to the value in the first of them. */
-static size_t count_lines(const struct http_request *request, const char *name, struct spki_text *value)
+static size_t count_lines(const struct http_request *request, struct spki_text name, struct spki_text *value)
 {
     size_t count = 0;
     for (size_t i = 0; i < request->field_count; i++)
-        if (equals_ignoring_case(request->fields[i].name, literal(name)) && count++ == 0 && value)
+        if (equals_ignoring_case(request->fields[i].name, name) && count++ == 0 && value)
             *value = trimmed(request->fields[i].value);
     return count;
 }
 
-/* Sets `value` to that of a field, which must be there in one line of printable ASCII. Returns null, or the name of the refusal. */
+/* Sets `value` to that of a field, which must be there in one line of printable ASCII and tabs. Returns null, or the name of the refusal. */
 static const char *read_field(const struct http_request *request, struct spki_text name, struct spki_text *value)
 {
-    size_t count = 0;
-    for (size_t i = 0; i < request->field_count; i++)
-        if (equals_ignoring_case(request->fields[i].name, name) && count++ == 0)
-            *value = trimmed(request->fields[i].value);
+    const size_t count = count_lines(request, name, value);
     if (count != 1)
         return count == 0 ? "absent-field" : "repeated-field";
     const unsigned char *octets = value->octets;
@@ -332,7 +336,7 @@ static bool is_target(struct spki_text target)
     return target.length > 0 && octets[0] == '/';
 }
 
-/* The name of the service that a request is for, or null if it has no such name. The port 443 is left out. */
+/* The name of the service that a request is for, as the service has it, or null if it has no such name. The port 443 is left out. */
 static const struct spki_text *authority_of(const struct http_service *service, const struct http_request *request)
 {
     struct spki_text asked = request->authority, port = SPKI_LITERAL(":443");
@@ -352,7 +356,7 @@ static bool may_have_body(const struct http_request *request)
         if (equals_ignoring_case(request->fields[i].name, literal("content-length")) && !is_text(trimmed(request->fields[i].value), "0"))
             return true;
     bool is_read = is_text(request->method, "GET") || is_text(request->method, "HEAD");
-    return request->has_body || !is_read || count_lines(request, "transfer-encoding", NULL) > 0;
+    return request->has_body || !is_read || count_lines(request, literal("transfer-encoding"), NULL) > 0;
 }
 
 /* ---- the signed text */
@@ -375,16 +379,16 @@ static void put(struct writer *out, struct spki_text text)
 static const char *put_value(struct writer *out, const struct http_request *request, struct spki_text authority, struct spki_text name)
 {
     struct spki_text target = request->target, value;
-    const unsigned char *first = target.octets, *mark = memchr(first, '?', target.length), *end = first + target.length;
+    const unsigned char *first = target.octets, *query = memchr(first, '?', target.length), *end = first + target.length;
     const char *why = NULL;
     if (is_text(name, "@method")) {
         put(out, request->method);
     } else if (is_text(name, "@authority")) {
         put(out, authority);
     } else if (is_text(name, "@path")) {
-        put(out, between(first, mark ? mark : end));
+        put(out, between(first, query ? query : end));
     } else if (is_text(name, "@query")) {
-        put(out, mark ? between(mark, end) : literal("?"));
+        put(out, query ? between(query, end) : literal("?"));
     } else if (is_text(name, "@target-uri")) {
         put(out, literal("https://"));
         put(out, authority);
@@ -414,7 +418,8 @@ static const char *put_base(struct writer *out, const struct http_request *reque
 
 /* ---- keys and signatures, as docs/FORMATS.md has them */
 
-/* Reads a key in transport form into the proof. Returns the name of its algorithm, and sets the length of its signatures. Null: no key. */
+/* Reads a key in transport form into the proof. Returns the name of its algorithm, and sets the octets of its signatures. Null if the text is no key
+ * of these four forms. The numbers of the key are not tested: the verifier does that. */
 static const char *read_key(struct spki_text text, struct http_proof *proof, size_t *signature_length)
 {
     const unsigned char *in = text.octets;
@@ -488,18 +493,18 @@ static const char *read_digest(struct spki_text value, struct http_proof *proof)
 {
     const unsigned char *first = value.octets;
     struct cursor in = {first, first + value.length};
-    size_t wanted = try_skip(&in, "sha-256=") ? 32 : try_skip(&in, "sha-512=") ? 64 : 0;
-    bool is_one = wanted && read_octets(&in, proof->digest, sizeof proof->digest, &proof->digest_length) && in.at == in.end;
-    return is_one && proof->digest_length == wanted ? NULL : "bad-digest";
+    size_t length = try_skip(&in, "sha-256=") ? 32 : try_skip(&in, "sha-512=") ? 64 : 0;
+    bool is_read = length && read_octets(&in, proof->digest, sizeof proof->digest, &proof->digest_length) && in.at == in.end;
+    return is_read && proof->digest_length == length ? NULL : "bad-digest";
 }
 
 /* Checks that fields on which the answer depends are covered, and reads the digest of the body. Returns null, or the name of the refusal. */
 static const char *check_fields(const struct http_request *request, const struct input *input, struct http_proof *proof)
 {
-    const char *const all[] = {chained, sequence, body_digest};
+    const char *const names[] = {chained, sequence, body_digest};
     struct spki_text value;
-    for (size_t i = 0; i < sizeof all / sizeof *all; i++)
-        if (count_lines(request, all[i], NULL) > 0 && !covers(input, all[i]))
+    for (size_t i = 0; i < sizeof names / sizeof *names; i++)
+        if (count_lines(request, literal(names[i]), NULL) > 0 && !covers(input, names[i]))
             return "uncovered-field";
     proof->digest_length = 0;
     if (!covers(input, body_digest))
@@ -520,7 +525,8 @@ static bool is_hash(struct spki_text text, const unsigned char hash[VERIFY_HASH]
     return is_text(text, written);
 }
 
-/* Reads the key, which must be that of `keyid` and `alg`. Sets the length of its signatures. Returns null, or the name of the refusal. */
+/* Reads the key, which must be that of `keyid` and `alg`, into the proof. Sets the octets of its signatures. Returns null, the name of the refusal,
+ * or "memory". */
 static const char *check_key(const struct http_request *request, const struct input *input, struct http_proof *proof, size_t *signature_length)
 {
     unsigned char hash[VERIFY_HASH];
@@ -538,18 +544,19 @@ static const char *check_key(const struct http_request *request, const struct in
     return is_text(input->strings[ALG], algorithm) ? NULL : "other-algorithm";
 }
 
-/* Verifies the octets of a signature, whose message is the signature base. Returns null, or the name of the refusal. */
+/* Verifies the octets of a signature, at most MOST_SIGNATURE, whose message is the signature base. Returns null, or the name of the refusal. */
 static const char *check_signature(struct spki_text key, struct spki_text algorithm, struct spki_text octets, struct writer *base)
 {
+    /* (what put_signature writes around the octets has less than 64) */
     unsigned char text[MOST_SIGNATURE + 64];
     struct writer value = {text, 0};
     put_signature(&value, algorithm, octets);
     const struct spki_signed signature = {.key = key, .message = {base->octets, base->length}, .value = {text, value.length}};
-    bool is_valid = verifies(&signature);
-    return is_valid ? NULL : "invalid-signature";
+    return verifies(&signature) ? NULL : "invalid-signature";
 }
 
-/* Tests the message, then its signature, and returns null or a refusal. The base is written twice: first only its octets are counted. */
+/* Tests the message, then its signature, which sets the key and the digest of the proof. Returns null, the name of the refusal, or "memory". The base
+ * is written twice: first only its octets are counted. */
 static const char *check_message(const struct http_service *service, const struct http_request *request, const struct input *input,
                                  struct spki_text octets, struct http_proof *proof)
 {
@@ -576,18 +583,19 @@ static const char *check_message(const struct http_service *service, const struc
     return why;
 }
 
-/* Reads `Signature-Input` and `Signature`. Returns null, or the name of the refusal. */
+/* Reads `Signature-Input`, and the octets of `Signature`. Returns null, or the name of the refusal. */
 static const char *read_fields(const struct http_request *request, struct input *input, unsigned char octets[MOST_INPUT], size_t *length)
 {
-    struct spki_text given, signature;
-    size_t inputs = count_lines(request, "signature-input", &given), signatures = count_lines(request, "signature", &signature);
+    struct spki_text input_text, signature;
+    size_t inputs = count_lines(request, literal("signature-input"), &input_text);
+    size_t signatures = count_lines(request, literal("signature"), &signature);
     if (inputs + signatures == 0)
         return "absent";
     if (inputs > 1 || signatures > 1)
         return "repeated-field";
     if (inputs != signatures)
         return malformed;
-    const char *why = read_input(given, input);
+    const char *why = read_input(input_text, input);
     return why ? why : read_signature(signature, octets, length);
 }
 
@@ -621,7 +629,7 @@ bool http_request_read(char *head, struct http_field *fields, size_t most, struc
 const char *http_request_refusal(const struct http_service *service, const struct http_request *request, long long now, struct http_proof *proof)
 {
     struct input input;
-    struct http_proof made = {.key_length = 0};
+    struct http_proof checked = {.key_length = 0};
     unsigned char octets[MOST_INPUT];
     size_t length = 0;
     const char *why = read_fields(request, &input, octets, &length);
@@ -629,12 +637,12 @@ const char *http_request_refusal(const struct http_service *service, const struc
         why = check_parameters(service, &input, now);
     if (why)
         return why;
-    if (count_lines(request, sequence, &made.sequence) == 0)
-        made.sequence = literal("(sequence)");
-    why = check_message(service, request, &input, (struct spki_text){octets, length}, &made);
+    if (count_lines(request, literal(sequence), &checked.sequence) == 0)
+        checked.sequence = literal("(sequence)");
+    why = check_message(service, request, &input, (struct spki_text){octets, length}, &checked);
     if (!why)
-        why = service->take(service->store, (struct spki_text){made.key, made.key_length}, input.strings[NONCE], now, MOST_WINDOW + MOST_AHEAD);
+        why = service->take(service->store, (struct spki_text){checked.key, checked.key_length}, input.strings[NONCE], now, MOST_WINDOW + MOST_AHEAD);
     if (!why)
-        *proof = made;
+        *proof = checked;
     return why;
 }

@@ -26,8 +26,9 @@ struct http_request {
     bool has_body;
 };
 
-/* A service: its names in small letters, with ports that are not 443, and the time before which nothing may be created, since its nonce may be
- * forgotten: the start of the process, or 0. `take` keeps a nonce of a key for so many seconds, and returns null, or the name of the refusal. */
+/* A service: its names in small letters, with ports that are not 443, and the time in seconds since 1970 before which nothing may be created, since
+ * its nonce may be forgotten: the start of the process, or 0. `take` gets `store`, keeps a nonce of a key for so many seconds from `now`, and returns
+ * null, or the name of the refusal: "nonce-seen" or "store-full". */
 struct http_service {
     const struct spki_text *names;
     size_t name_count;
@@ -59,8 +60,8 @@ static inline struct spki_proven_key http_proven_key(const struct http_proof *pr
     return spki_assume_key((struct spki_text){proof->key, proof->key_length});
 }
 
-/* Nonces in memory, as hashes of eight octets: room for `most` in each of two sets. Null if there is no memory. `http_nonces_take` is for `take` of a
- * service. One thread at a time may call. */
+/* Nonces in memory, as hashes of eight octets: room for `most` in each of two sets. Null if `most` is 0, or there is no memory or no randomness.
+ * `http_nonces_take` is for `take` of a service. One thread at a time may call. */
 struct http_nonces;
 struct http_nonces *http_nonces_open(size_t most);
 const char *http_nonces_take(void *nonces, struct spki_text key, struct spki_text nonce, long long now, long long seconds);

@@ -9,9 +9,9 @@
 #include <time.h>
 #include <unistd.h>
 
-enum { MOST = 65536, MOST_LIST = 1048576, MOST_FIELDS = 64, NONCES = 100000, SECONDS = 5 };
+enum { MOST_HEAD = 65536, MOST_LIST = 1048576, MOST_FIELDS = 64, MOST_NONCES = 100000, TIMEOUT_SECONDS = 5 };
 
-/* Whether `head` is a request whose signer may read what it asks for. The head is cut into its parts. */
+/* Whether `head`, a C string, is a request whose signer may read what it asks for. http_request_read cuts it into its parts. */
 static bool is_granted(const spki_guard *guard, const struct http_service *service, char *head)
 {
     struct http_field fields[MOST_FIELDS];
@@ -30,19 +30,19 @@ static bool is_granted(const spki_guard *guard, const struct http_service *servi
 }
 
 /* Reads until the empty line that ends a head, or until the stream ends, fails, times out or fills the buffer. `head` is a C string then. */
-static void read_head(int client, char head[MOST])
+static void read_head(int client, char head[MOST_HEAD])
 {
-    ssize_t used = 0, got;
+    ssize_t length = 0, count;
     head[0] = '\0';
-    while (!strstr(head, "\r\n\r\n") && (got = read(client, head + used, (size_t)(MOST - 1 - used))) > 0) {
-        used += got;
-        head[used] = '\0';
+    while (!strstr(head, "\r\n\r\n") && (count = read(client, head + length, (size_t)(MOST_HEAD - 1 - length))) > 0) {
+        length += count;
+        head[length] = '\0';
     }
 }
 
 int main(int count, char **given)
 {
-    static char list[MOST_LIST + 1], head[MOST];
+    static char list[MOST_LIST + 1], head[MOST_HEAD];
     struct sockaddr_in address = {.sin_family = AF_INET, .sin_addr = {htonl(INADDR_LOOPBACK)}};
     socklen_t size = sizeof address;
     const int listener = socket(AF_INET, SOCK_STREAM, 0);
@@ -52,11 +52,11 @@ int main(int count, char **given)
         || bind(listener, (struct sockaddr *)&address, size) || listen(listener, 16) || getsockname(listener, (struct sockaddr *)&address, &size))
         return 2;
     const struct spki_text name = {given[2], strlen(given[2])};
-    const struct http_service service = {&name, 1, time(NULL), http_nonces_take, http_nonces_open(NONCES)};
+    const struct http_service service = {&name, 1, time(NULL), http_nonces_take, http_nonces_open(MOST_NONCES)};
     signal(SIGPIPE, SIG_IGN);
     dprintf(STDOUT_FILENO, "%d\n", ntohs(address.sin_port));
     for (int client; service.store && (client = accept(listener, NULL, NULL)) >= 0; close(client)) {
-        setsockopt(client, SOL_SOCKET, SO_RCVTIMEO, &(struct timeval){.tv_sec = SECONDS}, sizeof(struct timeval));
+        setsockopt(client, SOL_SOCKET, SO_RCVTIMEO, &(struct timeval){.tv_sec = TIMEOUT_SECONDS}, sizeof(struct timeval));
         read_head(client, head);
         dprintf(client, "HTTP/1.1 %s\r\nContent-Length: 0\r\nConnection: close\r\n\r\n",
                 is_granted(guard, &service, head) ? "200 OK" : "403 Forbidden");

@@ -1,5 +1,6 @@
 /* A verifier of signatures in the forms of docs/FORMATS.md, "Keys and signatures of services": Ed25519, RSA by PKCS#1 v1.5 with SHA-256,
- * ECDSA with P-256 and SHA-256 or with P-384 and SHA-384. A service takes this file along with verify_gcrypt.c (libgcrypt) or verify_openssl.c (OpenSSL's libcrypto).
+ * ECDSA with P-256 and SHA-256 or with P-384 and SHA-384. A service takes this file along with verify_gcrypt.c (libgcrypt) or verify_openssl.c
+ * (OpenSSL's libcrypto).
  *
  *     if (verifies(&signature))
  *         spki_asked_mark(asked, place);
@@ -22,18 +23,19 @@ enum { VERIFY_HASH = 32 };
 /* The SHA-256 hash of octets, such as the canonical text of a key. False if the library fails, and then there is no hash. */
 SPKI_RESULT bool verify_hash(struct spki_text octets, unsigned char hash[VERIFY_HASH]);
 
-/* The decision of a guard on a question. Only the status SPKI_YES grants. No signature is verified where none can help. */
+/* The decision of a guard on a question. Only the status SPKI_YES grants. A question that is refused is a no. No signature is verified where none can
+ * help. */
 SPKI_RESULT static inline struct spki_decision verify_decides(const spki_guard *guard, const struct spki_question *question)
 {
     struct spki_decision decision = {SPKI_NO, INT64_MIN};
-    struct spki_signed it;
+    struct spki_signed signature;
     spki_asked *asked;
     char line[64];
     if (spki_guard_ask(guard, question, &asked, NULL, 0, NULL) != SPKI_DONE)
         return decision;
     const size_t count = spki_asked_possible(asked) ? spki_asked_count(asked) : 0;
-    for (size_t place = 0; place < count && spki_asked_signature(asked, place, &it) == SPKI_DONE; place++)
-        if (verifies(&it))
+    for (size_t place = 0; place < count && spki_asked_signature(asked, place, &signature) == SPKI_DONE; place++)
+        if (verifies(&signature))
             spki_asked_mark(asked, place);
     decision = spki_asked_decide(asked, line, sizeof line, NULL);
     spki_asked_close(asked);
@@ -42,7 +44,7 @@ SPKI_RESULT static inline struct spki_decision verify_decides(const spki_guard *
 
 /* ---- shared by the verifiers */
 
-/* The octets of half a signature by Ed25519 and of a point of P-384, and the bits of the numbers of a key by RSA. */
+/* The octets of half a signature by Ed25519, also of its keys, and of a point of P-384, and the bits of the numbers of a key by RSA. */
 enum { VERIFY_HALF = 32, VERIFY_MOST_POINT = 97, VERIFY_LEAST_BITS = 2048, VERIFY_MOST_BITS = 4096, VERIFY_MOST_EXPONENT_BITS = 31 };
 /* A canonical text of more octets is no key and no value of a signature. */
 enum { VERIFY_MOST_OCTETS = 4096 };
@@ -69,7 +71,7 @@ static inline const unsigned char *verify_string(const unsigned char *at, const 
     return at + length;
 }
 
-/* Whether a canonical text has a form, in which `%` is any string. Sets `strings[0]` and so on to these. */
+/* Whether a canonical text has a form, in which `%` is any string. Sets `strings[0]` and so on to these. Without the form some may be set too. */
 static inline bool verify_has_form(struct spki_text text, const char *form, struct spki_text *strings)
 {
     const unsigned char *at = text.octets, *end = at + text.length;
@@ -119,7 +121,7 @@ static inline size_t verify_bits(struct spki_text number)
     return bits;
 }
 
-/* The octets of half a signature in the reverse order. */
+/* Sets `reversed` to the octets of half a signature, or of a key, in the reverse order: Ed25519 has the least octet first. */
 static inline void verify_reverse(struct spki_text half, unsigned char reversed[VERIFY_HALF])
 {
     const unsigned char *octets = half.octets;
@@ -131,26 +133,27 @@ static inline void verify_reverse(struct spki_text half, unsigned char reversed[
  * the two of order 8. The number s is below the order of the group. */
 static inline bool verify_is_ed25519(struct spki_text q, struct spki_text r, struct spki_text s)
 {
-    static const char last[] = "\x7f\xff\xff\xff\xff\xff\xff\xff\xff\xff\xff\xff\xff\xff\xff\xff\xff\xff\xff\xff\xff\xff\xff\xff\xff\xff\xff\xff"
-                               "\xff\xff\xff\xec",
+    static const char last_y[] = "\x7f\xff\xff\xff\xff\xff\xff\xff\xff\xff\xff\xff\xff\xff\xff\xff\xff\xff\xff\xff\xff\xff\xff\xff\xff\xff\xff\xff"
+                                 "\xff\xff\xff\xec",
                       order[] = "\x10\0\0\0\0\0\0\0\0\0\0\0\0\0\0\0\x14\xde\xf9\xde\xa2\xf7\x9c\xd6\x58\x12\x63\x1a\x5c\xf5\xd3\xed",
                       eighth[] = "\x05\xfc\x53\x6d\x88\x02\x38\xb1\x39\x33\xc6\xd3\x05\xac\xdf\xd5\xf0\x98\xef\xf2\x89\xf4\xc3\x45"
                                  "\xb0\x27\xb2\xc2\x8f\x95\xe8\x26",
-                      other[] = "\x7a\x03\xac\x92\x77\xfd\xc7\x4e\xc6\xcc\x39\x2c\xfa\x53\x20\x2a\x0f\x67\x10\x0d\x76\x0b\x3c\xba"
-                                "\x4f\xd8\x4d\x3d\x70\x6a\x17\xc7";
-    unsigned char y[VERIFY_HALF], number[VERIFY_HALF];
+                      other_eighth[] = "\x7a\x03\xac\x92\x77\xfd\xc7\x4e\xc6\xcc\x39\x2c\xfa\x53\x20\x2a\x0f\x67\x10\x0d\x76\x0b\x3c\xba"
+                                       "\x4f\xd8\x4d\x3d\x70\x6a\x17\xc7";
+    unsigned char y[VERIFY_HALF], s_number[VERIFY_HALF];
     if (q.length != VERIFY_HALF || r.length != VERIFY_HALF || s.length != VERIFY_HALF)
         return false;
     verify_reverse(q, y);
-    verify_reverse(s, number);
+    verify_reverse(s, s_number);
+    /* (the highest bit of q says whether x is odd) */
     y[0] &= 0x7f;
-    return memcmp(y, (unsigned char[8]){0}, 8) != 0 && verify_is_below_half((struct spki_text){y, VERIFY_HALF}, last)
-           && memcmp(y, eighth, VERIFY_HALF) != 0 && memcmp(y, other, VERIFY_HALF) != 0
-           && verify_is_below_half((struct spki_text){number, VERIFY_HALF}, order);
+    return memcmp(y, (unsigned char[8]){0}, 8) != 0 && verify_is_below_half((struct spki_text){y, VERIFY_HALF}, last_y)
+           && memcmp(y, eighth, VERIFY_HALF) != 0 && memcmp(y, other_eighth, VERIFY_HALF) != 0
+           && verify_is_below_half((struct spki_text){s_number, VERIFY_HALF}, order);
 }
 
-/* Whether q can be a key of ECDSA, and r and s a signature, by a curve's prime p and order. The coordinates are below p, and r and s are from 1 to
- * below the order. A library tests that q is on the curve. */
+/* Whether q can be a key of ECDSA, and r and s a signature, by a curve's prime p and order. The coordinates are below p, and r and s, which have no
+ * octets 00 in front, are from 1 to below the order. A library tests that q is on the curve. */
 static inline bool verify_is_ecdsa(struct spki_text q, struct spki_text r, struct spki_text s, struct spki_text p, struct spki_text order)
 {
     const unsigned char *octets = q.octets;
@@ -178,7 +181,8 @@ static inline bool verify_is_p384(struct spki_text q, struct spki_text r, struct
     return verify_is_ecdsa(q, r, s, (struct spki_text){p, sizeof p - 1}, (struct spki_text){order, sizeof order - 1});
 }
 
-/* Whether n and e can be a key of RSA, and s a signature. Both of the key are odd and within the limits, and s is from 1 to below n. */
+/* Whether n and e can be a key of RSA, and s a signature. Both of the key are odd and within the limits, and s, which has no octets 00 in front, is
+ * from 1 to below n. */
 static inline bool verify_is_rsa(struct spki_text n, struct spki_text e, struct spki_text s)
 {
     size_t bits = verify_bits(n), exponent = verify_bits(e);
@@ -190,21 +194,22 @@ static inline bool verify_is_rsa(struct spki_text n, struct spki_text e, struct 
 static inline struct verify_parts verify_parts_of(struct spki_text key, struct spki_text value)
 {
     struct verify_parts parts = {.kind = VERIFY_NONE};
-    struct spki_text *k = parts.key, *v = parts.value;
-    if (verify_has_form(key, "(10:public-key(3:ecc(5:curve7:Ed25519)(5:flags5:eddsa)(1:q%)))", k)
-        && verify_has_form(value, "(7:sig-val(5:eddsa(1:r%)(1:s%)))", v)) {
-        if (verify_is_ed25519(k[0], v[0], v[1]))
+    struct spki_text *of_key = parts.key, *of_value = parts.value;
+    if (verify_has_form(key, "(10:public-key(3:ecc(5:curve7:Ed25519)(5:flags5:eddsa)(1:q%)))", of_key)
+        && verify_has_form(value, "(7:sig-val(5:eddsa(1:r%)(1:s%)))", of_value)) {
+        if (verify_is_ed25519(of_key[0], of_value[0], of_value[1]))
             parts.kind = VERIFY_ED25519;
-    } else if (verify_has_form(value, "(7:sig-val(5:ecdsa(1:r%)(1:s%)))", v)) {
-        v[0] = verify_trimmed(v[0]);
-        v[1] = verify_trimmed(v[1]);
-        if (verify_has_form(key, "(10:public-key(3:ecc(5:curve10:NIST P-256)(1:q%)))", k) && verify_is_p256(k[0], v[0], v[1]))
+    } else if (verify_has_form(value, "(7:sig-val(5:ecdsa(1:r%)(1:s%)))", of_value)) {
+        of_value[0] = verify_trimmed(of_value[0]);
+        of_value[1] = verify_trimmed(of_value[1]);
+        if (verify_has_form(key, "(10:public-key(3:ecc(5:curve10:NIST P-256)(1:q%)))", of_key) && verify_is_p256(of_key[0], of_value[0], of_value[1]))
             parts.kind = VERIFY_P256;
-        else if (verify_has_form(key, "(10:public-key(3:ecc(5:curve10:NIST P-384)(1:q%)))", k) && verify_is_p384(k[0], v[0], v[1]))
+        else if (verify_has_form(key, "(10:public-key(3:ecc(5:curve10:NIST P-384)(1:q%)))", of_key)
+                 && verify_is_p384(of_key[0], of_value[0], of_value[1]))
             parts.kind = VERIFY_P384;
-    } else if (verify_has_form(key, "(10:public-key(3:rsa(1:n%)(1:e%)))", k) && verify_has_form(value, "(7:sig-val(3:rsa(1:s%)))", v)) {
-        v[0] = verify_trimmed(v[0]);
-        if (verify_is_rsa(k[0], k[1], v[0]))
+    } else if (verify_has_form(key, "(10:public-key(3:rsa(1:n%)(1:e%)))", of_key) && verify_has_form(value, "(7:sig-val(3:rsa(1:s%)))", of_value)) {
+        of_value[0] = verify_trimmed(of_value[0]);
+        if (verify_is_rsa(of_key[0], of_key[1], of_value[0]))
             parts.kind = VERIFY_RSA;
     }
     return parts;

@@ -10,7 +10,7 @@
 #include <openssl/param_build.h>
 #include <string.h>
 
-/* The octets of the largest signature: that of RSA. */
+/* The octets of the largest signature, that of RSA: one by ECDSA in DER has at most 107. */
 enum { MOST_SIGNATURE = VERIFY_MOST_BITS / 8 };
 
 /* OpenSSL's public key of a kind, such as "RSA", by its parameters. Null if they are null or no key, or if memory ran out. */
@@ -42,13 +42,14 @@ static EVP_PKEY *rsa_key(struct spki_text modulus, struct spki_text exponent)
     return key;
 }
 
-/* OpenSSL's key of a point of a curve, or null. */
+/* OpenSSL's key of a point of P-256 or P-384, by the kind, or null. */
 static EVP_PKEY *ecdsa_key(enum verify_kind kind, struct spki_text point)
 {
-    char curve[] = "prime256v1", longer[] = "secp384r1";
+    /* (copies, because OSSL_PARAM takes no constants) */
+    char p256[] = "prime256v1", p384[] = "secp384r1";
     unsigned char octets[VERIFY_MOST_POINT];
     memcpy(octets, point.octets, point.length);
-    OSSL_PARAM parameters[] = {OSSL_PARAM_construct_utf8_string(OSSL_PKEY_PARAM_GROUP_NAME, kind == VERIFY_P256 ? curve : longer, 0),
+    OSSL_PARAM parameters[] = {OSSL_PARAM_construct_utf8_string(OSSL_PKEY_PARAM_GROUP_NAME, kind == VERIFY_P256 ? p256 : p384, 0),
                                OSSL_PARAM_construct_octet_string(OSSL_PKEY_PARAM_PUB_KEY, octets, point.length),
                                OSSL_PARAM_construct_end()};
     return key_from("EC", parameters);
@@ -62,38 +63,39 @@ static EVP_PKEY *key_of(const struct verify_parts *parts)
     return parts->kind == VERIFY_RSA ? rsa_key(parts->key[0], parts->key[1]) : ecdsa_key(parts->kind, parts->key[0]);
 }
 
-/* Writes the two numbers of a signature by ECDSA in DER. Returns the count of the octets, or 0 if that fails. */
+/* Writes the two numbers of a signature by ECDSA in DER. Returns the count of the octets, or 0 if memory ran out. */
 static size_t ecdsa_signature(struct spki_text r, struct spki_text s, unsigned char *octets)
 {
     ECDSA_SIG *pair = ECDSA_SIG_new();
-    BIGNUM *first = BN_bin2bn(r.octets, (int)r.length, NULL), *second = BN_bin2bn(s.octets, (int)s.length, NULL);
+    BIGNUM *r_number = BN_bin2bn(r.octets, (int)r.length, NULL), *s_number = BN_bin2bn(s.octets, (int)s.length, NULL);
     int length = 0;
-    if (pair && first && second && ECDSA_SIG_set0(pair, first, second) == 1)
+    /* (the pair owns the numbers from then on) */
+    if (pair && r_number && s_number && ECDSA_SIG_set0(pair, r_number, s_number) == 1)
         length = i2d_ECDSA_SIG(pair, &octets);
     else {
-        BN_free(first);
-        BN_free(second);
+        BN_free(r_number);
+        BN_free(s_number);
     }
     ECDSA_SIG_free(pair);
     return length > 0 ? (size_t)length : 0;
 }
 
 /* Writes a signature as OpenSSL has it: both halves of one by Ed25519, the number of one by RSA with all octets of the modulus, both numbers
- * of one by ECDSA. `size` is the octets of the modulus. Returns the count of the octets, or 0 if that fails. */
+ * of one by ECDSA. `size` is the octets of the modulus, and not used for the other kinds. Returns the count of the octets, or 0 if that fails. */
 static size_t signature_of(const struct verify_parts *parts, size_t size, unsigned char octets[MOST_SIGNATURE])
 {
-    struct spki_text first = parts->value[0], second = parts->value[1];
+    struct spki_text r = parts->value[0], s = parts->value[1], number = parts->value[0];
     if (parts->kind == VERIFY_P256 || parts->kind == VERIFY_P384)
-        return ecdsa_signature(first, second, octets);
+        return ecdsa_signature(r, s, octets);
     if (parts->kind == VERIFY_ED25519) {
-        memcpy(octets, first.octets, VERIFY_HALF);
-        memcpy(octets + VERIFY_HALF, second.octets, VERIFY_HALF);
+        memcpy(octets, r.octets, VERIFY_HALF);
+        memcpy(octets + VERIFY_HALF, s.octets, VERIFY_HALF);
         return 2 * VERIFY_HALF;
     }
-    if (size > MOST_SIGNATURE || first.length > size)
+    if (size > MOST_SIGNATURE || number.length > size)
         return 0;
-    memset(octets, 0, size - first.length);
-    memcpy(octets + size - first.length, first.octets, first.length);
+    memset(octets, 0, size - number.length);
+    memcpy(octets + size - number.length, number.octets, number.length);
     return size;
 }
 
@@ -107,13 +109,13 @@ bool verifies(const struct spki_signed *signature)
     unsigned char octets[MOST_SIGNATURE];
     struct spki_text message = signature->message;
     struct verify_parts parts = verify_parts_of(signature->key, signature->value);
-    EVP_PKEY *public = parts.kind == VERIFY_NONE || message.length == 0 ? NULL : key_of(&parts);
+    EVP_PKEY *key = parts.kind == VERIFY_NONE || message.length == 0 ? NULL : key_of(&parts);
     const EVP_MD *digest = parts.kind == VERIFY_ED25519 ? NULL : parts.kind == VERIFY_P384 ? EVP_sha384() : EVP_sha256();
-    size_t length = public ? signature_of(&parts, (size_t)EVP_PKEY_get_size(public), octets) : 0;
+    size_t length = key ? signature_of(&parts, (size_t)EVP_PKEY_get_size(key), octets) : 0;
     EVP_MD_CTX *context = EVP_MD_CTX_new();
-    bool right = length > 0 && context && EVP_DigestVerifyInit(context, NULL, digest, NULL, public) == 1
-                 && EVP_DigestVerify(context, octets, length, message.octets, message.length) == 1;
+    bool is_valid = length > 0 && context && EVP_DigestVerifyInit(context, NULL, digest, NULL, key) == 1
+                    && EVP_DigestVerify(context, octets, length, message.octets, message.length) == 1;
     EVP_MD_CTX_free(context);
-    EVP_PKEY_free(public);
-    return right;
+    EVP_PKEY_free(key);
+    return is_valid;
 }
