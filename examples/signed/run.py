@@ -26,7 +26,9 @@ import tools
 import spki_http
 from spki_cert_tool import sexp
 from spki_cert_tool.asking import Asked, case_of
+from spki_cert_tool.certificates import headed, members
 from spki_cert_tool.keys import ED25519, P256, RSA, FileSigner, hash_of, new_private, principal_of
+from spki_cert_tool.places import read_text, refusal
 from spki_cert_tool.sexp import laid_out, on_one_line, read
 from tools import canonical, spki
 
@@ -69,14 +71,14 @@ class Story:
 
     def sequence(self, last, keys=True):
         """Alice's key, unless `keys` is false, her two certificates with their signatures, and `last`, a certificate with its signature."""
-        shown = self.alice.text if keys else ""
-        return f"(sequence {shown} {signed(self.to_builders, self.alice)} {signed(self.bob_is_builder, self.alice)} {last})"
+        key = self.alice.text if keys else ""
+        return f"(sequence {key} {signed(self.to_builders, self.alice)} {signed(self.bob_is_builder, self.alice)} {last})"
 
 
 def signed(certificate, pair, named=None, changed=None):
-    """A certificate and its signature by a pair: the octets that are signed are those of `spki canonical`.
+    """A certificate and its signature by a pair, as one text: the octets that are signed are those of `spki canonical`.
 
-    A forger says that it is by another (`named`), or shows another certificate than the one that was signed (`changed`).
+    A forger says that it is by another pair (`named`), or shows another certificate than the one that was signed (`changed`).
     """
     octets = canonical(certificate)
     digest, signer = laid_out(hash_of(read(octets))), (named or pair).principal
@@ -102,7 +104,7 @@ def with_changed_bit(item):
     return f"{laid_out(certificate)} {laid_out(signature)}"
 
 
-def shown(sequence):
+def in_braces(sequence):
     """A sequence in transport form, as a client sends it. It is given as a text, or as octets in canonical form."""
     octets = sequence if isinstance(sequence, bytes) else canonical(sequence)
     return f"{{{base64.b64encode(octets).decode()}}}"
@@ -110,11 +112,11 @@ def shown(sequence):
 
 def asked_by(pair, words, sequence="(sequence)", name=NAME, named=None):
     """The method, the target and the fields of a request that the holder of `pair` signs. `words` are those of the request, such as READ. `sequence`
-    is what is shown, as `shown` takes it, and `name` the host for which it is signed. A forger says that it is by the key of another pair
+    is what is shown, as `in_braces` takes it, and `name` the host for which it is signed. A forger says that it is by the key of another pair
     (`named`)."""
     method = next(each for each, word in METHODS.items() if word == words[1])
     target = urllib.parse.quote(words[2])
-    signer = spki_http.Signer(sexp.canonical((named or pair).key), pair.sign, shown(sequence))
+    signer = spki_http.Signer(sexp.canonical((named or pair).key), pair.sign, in_braces(sequence))
     return method, target, signer.fields(method, f"https://{name}{target}")
 
 
@@ -125,18 +127,23 @@ class Service:
         self.access_list, self.verifier = read(canonical(access_list)), spki_http.Verifier(NAME)
 
     def ask(self, method, target, fields, moment):
-        """The case, the status and the answer of `spki check`. All but the moment is from outside.
+        """The case (`sexp.Value`), the status and the answer of `spki check`. All but the moment, which is written as NOON, is from outside.
 
-        Raises `spki_http.Refused` if the request proves no key, and `ValueError` for a sequence that is too long or is none.
+        Raises `spki_http.Refused` if the request proves no key, and `ValueError` for another method and for a sequence that is too long or is none.
         """
         proof = self.verifier.prove(method, NAME, target, fields.items(), b"")
+        if method not in METHODS:
+            raise ValueError(f"{method} is neither of {', '.join(METHODS)}")
         if len(proof.sequence) > MOST_SHOWN:
             raise ValueError(f"the sequence has more than {MOST_SHOWN} octets")
-        sequence = read(canonical(proof.sequence))
-        if [item[0] for item in sequence[1:]].count(b"cert") > MOST_CERTIFICATES:
+        # (`case_of` takes apart what can be read as a sequence, and nothing else)
+        (fault, _, places), node = read_text(canonical(proof.sequence), "refused sequence")
+        if fault is not None:
+            raise ValueError(refusal(fault, places))
+        if sum(headed(item, b"cert") for item in members(node.value)) > MOST_CERTIFICATES:
             raise ValueError(f"the sequence has more than {MOST_CERTIFICATES} certificates")
         request = [b"packages", METHODS[method].encode(), urllib.parse.unquote_to_bytes(target)]
-        case = case_of(Asked(self.access_list, read(proof.key), request, moment.encode(), labels=None), sequence)
+        case = case_of(Asked(self.access_list, read(proof.key), request, moment.encode(), labels=None), node.value)
         return case, *spki("check", sexp.canonical(case))
 
 
@@ -152,7 +159,7 @@ def requests(story):
     yield "Carol signed it for another service", asked_by(carol, READ, name="other.example"), "invalid-signature"
     yield "the path is another", (method, target + "x", fields), "invalid-signature"
     yield "reading was signed, and writing is asked for", ("PUT", target, fields), "body-without-digest"
-    yield "the certificates are others", (method, target, {**fields, "X-Spki-Sequence": shown("(sequence (key x))")}), "invalid-signature"
+    yield "the certificates are others", (method, target, {**fields, "X-Spki-Sequence": in_braces("(sequence (key x))")}), "invalid-signature"
     yield "the certificates are left out", (method, target, {it: fields[it] for it in fields if it != "X-Spki-Sequence"}), "absent-field"
     other = base64.b64encode(spki_http.octets_of(carol.sign(canonical(story.to_carol)))).decode()
     yield "the signature is Carol's, and of a certificate", (method, target, {**fields, "Signature": f"spki=:{other}:"}), "invalid-signature"
@@ -163,27 +170,30 @@ def try_request(service, remark, request, wanted):
     """Asks, prints the refusal or that a key is proved, and returns whether that is as wanted: a name of a refusal, or None."""
     try:
         service.ask(*request, NOON)
-        met = None
-    except spki_http.Refused as refusal:
-        met = refusal.name
-    print(f"  {met or 'proves the key'}: {remark}{'' if met == wanted else '; WANTED OTHERWISE'}")
-    return met == wanted
+        name = None
+    except spki_http.Refused as why:
+        name = why.name
+    print(f"  {name or 'proves the key'}: {remark}{'' if name == wanted else '; WANTED OTHERWISE'}")
+    return name == wanted
 
 
 def unasked(story):
-    """The sequences that the service refuses before it asks `spki check`: a remark and the sequence."""
+    """The sequences that the service refuses before it asks `spki check`: a remark, and the sequence as octets in canonical form."""
     good = signed(story.to_carol, story.bob)
     yield "the sequence is too long", sexp.canonical([b"sequence", bytes(MOST_SHOWN)])
     yield "there are too many certificates", canonical(story.sequence(good * (MOST_CERTIFICATES - 1)))
     yield "there are two sequences", canonical(story.sequence(good)) + b"(8:sequence)"
+    yield "the sequence is a string", b"3:abc"
+    yield "an item of it is an empty list", b"(8:sequence())"
+    yield "a certificate has no fields", b"(8:sequence(4:cert)(9:signature))"
 
 
 def try_unasked(story, remark, sequence):
     """Asks with a sequence of `unasked`, prints the refusal, and returns whether there was one."""
     try:
         Service(story.access_list).ask(*asked_by(story.carol, READ, sequence), NOON)
-    except ValueError as refusal:
-        print(f"  refused: {remark}: {refusal}")
+    except ValueError as why:
+        print(f"  refused: {remark}: {why}")
         return True
     print(f"  WANTED OTHERWISE: {remark}")
     return False
