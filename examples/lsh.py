@@ -36,45 +36,46 @@ class Home:
         os.close(seed)
 
     def run(self, words, text=b""):
-        """What a program writes to its standard output, run in the home with `text` as its input."""
+        """What a program writes to its standard output, run in the home with `text` as its input. Its status is not looked at."""
         return subprocess.run(words, input=text, stdout=subprocess.PIPE, stderr=subprocess.DEVNULL, cwd=self.folder, env=self.settings,
                               timeout=SECONDS).stdout
 
     def file(self, name):
-        """What is in a file."""
+        """What is in a file of the home."""
         with open(os.path.join(self.folder, name), "rb") as file:
             return file.read()
 
     def key_files(self, name, options):
-        """The files of a new key: as it was made, its private half as it is and locked, its public half."""
-        made = self.run(["lsh-keygen", *options])
-        self.run(["lsh-writekey", "-c", "none", "-l", "a label", "-o", name], made)
-        self.run(["lsh-writekey", "-c", "aes256-cbc", "-p", "secret", "-l", "a label", "-o", f"{name}.locked"], made)
-        return {"as it was made": made, "private": self.file(name), "locked": self.file(f"{name}.locked"), "public": self.file(f"{name}.pub")}
+        """Makes a key by `lsh-keygen` with these options, and writes it to files called `name`. Returns the octets of each, by what it is: as it was
+        made, its private half as it is and locked by a password, its public half."""
+        key = self.run(["lsh-keygen", *options])
+        self.run(["lsh-writekey", "-c", "none", "-l", "a label", "-o", name], key)
+        self.run(["lsh-writekey", "-c", "aes256-cbc", "-p", "secret", "-l", "a label", "-o", f"{name}.locked"], key)
+        return {"as it was made": key, "private": self.file(name), "locked": self.file(f"{name}.locked"), "public": self.file(f"{name}.pub")}
 
-    def authorized(self, name):
-        """The name of the file that `lsh-authorize` makes of a public key, and what is in it."""
+    def authorize(self, name):
+        """Has `lsh-authorize` put the public key of `name` on its list. Returns the name of the file that it makes there, and what is in it."""
         folder = os.path.join(".lsh", "authorized_keys_sha1")
-        place = os.path.join(self.folder, folder)
-        before = set(os.listdir(place)) if os.path.exists(place) else set()
+        path = os.path.join(self.folder, folder)
+        before = set(os.listdir(path)) if os.path.exists(path) else set()
         self.run(["lsh-authorize", f"{name}.pub"])
-        (listed,) = set(os.listdir(place)) - before
-        return listed, self.file(os.path.join(folder, listed))
+        (new,) = set(os.listdir(path)) - before
+        return new, self.file(os.path.join(folder, new))
 
 
 def spki(command, text):
-    """The answer of a command of `spki` to a text."""
+    """The answer of a command of `spki` to a text, as octets. The status is not looked at."""
     return run(PROGRAM, command, text)[1]
 
 
 def check(access_list, key, request=b"login", policy=b""):
-    """The answer of `spki check` on a case without certificates, as a line. The parts are texts in any form but transport form."""
+    """The answer of `spki check` on a case without certificates, as a line. The parts are octets of texts in any form but transport form."""
     case = b"(case %s (accepted) (sequence) (key %s) (request %s) (at \"2026-03-01_12:00:00\") %s)"
     return spki("check", case % (access_list, key, request, policy)).decode().strip()
 
 
 def list_of_hash(algorithm, digest):
-    """An access list of one key, by its hash."""
+    """An access list of one key, by its hash: an algorithm, and a digest in hexadecimal digits."""
     return f"(acl (entry (hash {algorithm} #{digest}#) (tag login)))".encode()
 
 
@@ -85,21 +86,21 @@ def tries_of_keys(home):
         for kind, text in files.items():
             yield f"{name}, {kind}: read as sexp-conv reads it", spki("canonical", text), home.run(["sexp-conv", "-s", "canonical"], text)
         key = spki("canonical", files["public"])
-        listed, in_list = home.authorized(name)
+        sha1, in_list = home.authorize(name)
         yield f"{name}: what lsh-authorize keeps is the public key in canonical form", in_list, key
-        yield f"{name}: its name there is the SHA-1 hash that names the key", check(list_of_hash("sha1", listed), key), "yes entry 1"
-        yield f"{name}: but not under the strict policy", check(list_of_hash("sha1", listed), key, policy=b"(policy strict)"), "no"
-        digest = home.run(["sexp-conv", "--hash=sha256"], files["public"]).decode().strip()
-        named = check(list_of_hash("sha256", digest), key, policy=b"(policy strict)")
-        yield f"{name}: sexp-conv --hash=sha256 gives a hash that names it", named, "yes entry 1"
+        yield f"{name}: its name there is the SHA-1 hash that names the key", check(list_of_hash("sha1", sha1), key), "yes entry 1"
+        yield f"{name}: but not under the strict policy", check(list_of_hash("sha1", sha1), key, policy=b"(policy strict)"), "no"
+        sha256 = home.run(["sexp-conv", "--hash=sha256"], files["public"]).decode().strip()
+        answer = check(list_of_hash("sha256", sha256), key, policy=b"(policy strict)")
+        yield f"{name}: sexp-conv --hash=sha256 gives a hash that names it", answer, "yes entry 1"
         yield f"{name}: the private half is no key", check(b"(acl)", spki("canonical", files["private"])), "refused key Shape"
     exported = home.run(["lsh-export-key", "--openssh"], home.file("RSA.pub"))
     public = spki("canonical", home.file("RSA.pub"))
     yield "RSA: by way of OpenSSH's form it is the same key", spki("canonical", home.run(["ssh-conv"], exported)), public
     _, (algorithm, modulus, exponent) = read(public)
     yield "RSA: the modulus stands first", (algorithm, modulus[0], exponent[0]), (b"rsa-pkcs1-sha1", b"n", b"e")
-    turned = canonical([b"public-key", [algorithm, exponent, modulus]])
-    yield "RSA: with the exponent first it is another key", check(b"(acl (entry %s (tag login)))" % turned, public), "no"
+    exponent_first = canonical([b"public-key", [algorithm, exponent, modulus]])
+    yield "RSA: with the exponent first it is another key", check(b"(acl (entry %s (tag login)))" % exponent_first, public), "no"
 
 
 def tries_of_captured_list(home):
@@ -123,11 +124,12 @@ def main():
     passed = failed = 0
     with tempfile.TemporaryDirectory() as folder:
         home = Home(folder)
-        for tried in (tries_of_keys, tries_of_captured_list):
-            for remark, met, wanted in tried(home):
-                good = met == wanted and bool(met)
-                print(f"{'as wanted' if good else 'OTHERWISE':<10} {remark}{'' if good else f': {met!r}, and not {wanted!r}'}")
-                passed, failed = passed + good, failed + (not good)
+        for tries in (tries_of_keys, tries_of_captured_list):
+            for remark, actual, wanted in tries(home):
+                # (that two tools write nothing is no agreement)
+                is_good = actual == wanted and bool(actual)
+                print(f"{'as wanted' if is_good else 'OTHERWISE':<10} {remark}{'' if is_good else f': {actual!r}, and not {wanted!r}'}")
+                passed, failed = passed + is_good, failed + (not is_good)
     print(f"{passed} passed, {failed} failed")
     return 1 if failed else 0
 

@@ -68,48 +68,47 @@ def by_peer(syntax, text):
     return done.stdout if done.returncode == 0 else None
 
 
-def there_and_back(written, read, forms, text):
+def there_and_back(write, read, forms, text):
     """A list of truth values, one for each of `forms` that one program writes of a text: whether the other one reads it as the same canonical form.
 
-    `written` and `read` are `by_spki` and `by_peer`, or the reverse.
+    `write` and `read` are `by_spki` and `by_peer`, or the reverse. `write` must not refuse the text.
     """
-    canonical = written("canonical", text)
-    marks = []
+    canonical = write("canonical", text)
+    results = []
     for form in forms:
-        passed_on = written(form, text)
-        marks.append(passed_on is not None and read("canonical", passed_on) == canonical)
-    return marks
+        passed_on = write(form, text)
+        results.append(passed_on is not None and read("canonical", passed_on) == canonical)
+    return results
 
 
-def shown(octets):
-    """A canonical form as it is printed. None is a text that was refused."""
+def printed(octets):
+    """A canonical form as it is printed: its octets, or their number from 24 on. None is a text that was refused."""
     if octets is None:
         return "refused"
     return repr(octets)[2:-1] if len(octets) < 24 else f"{len(octets)} octets"
 
 
 def compare(name, text):
-    """The line that is printed about a text, and whether it is as wanted: both programs read it alike, or differ as KNOWN says, and each reads what
-    the other one writes."""
+    """The line that is printed about a text, and whether it is as wanted: both programs read it alike, and each reads what the other one writes; or
+    they differ as KNOWN says, and `sexp-conv` reads what `spki` writes."""
     ours, theirs = by_spki("canonical", text), by_peer("canonical", text)
-    marks = there_and_back(by_spki, by_peer, FORMS, text) if ours is not None else []
+    results = there_and_back(by_spki, by_peer, FORMS, text) if ours is not None else []
     if name in KNOWN:
         verdict = "known" if (ours, theirs) == KNOWN[name] else "OTHER THAN KNOWN"
     else:
         verdict = "same" if ours is not None and ours == theirs else "DIFFERS"
-        marks += there_and_back(by_peer, by_spki, SYNTAXES, text) if theirs is not None else []
-    if not all(marks):
+        results += there_and_back(by_peer, by_spki, SYNTAXES, text) if theirs is not None else []
+    if not all(results):
         verdict += ", LOST ON THE WAY"
-    values = shown(ours) if ours == theirs else f"spki: {shown(ours)}; sexp-conv: {shown(theirs)}"
-    return f"{name:<38}{len(text):>6}  {verdict:<10}{sum(marks)}/{len(marks)}  {values}", verdict in ("same", "known")
+    values = printed(ours) if ours == theirs else f"spki: {printed(ours)}; sexp-conv: {printed(theirs)}"
+    return f"{name:<38}{len(text):>6}  {verdict:<10}{sum(results)}/{len(results)}  {values}", verdict in ("same", "known")
 
 
 def main():
-    missing = [program for program in (PEER,) if shutil.which(program) is None]
-    missing += [] if os.path.isdir(FOLDER) else [FOLDER]
-    if missing:
-        print(f"{missing[0]} is not there", file=sys.stderr)
-        sys.exit(2)
+    for name, is_there in ((PEER, shutil.which(PEER) is not None), (FOLDER, os.path.isdir(FOLDER))):
+        if not is_there:
+            print(f"{name} is not there", file=sys.stderr)
+            sys.exit(2)
     names = sorted(name for name in os.listdir(FOLDER) if not name.startswith(".") and os.path.isfile(os.path.join(FOLDER, name)))
     print(f"{'text':<38}{'octets':>6}  {'result':<10}way  canonical form")
     agreed = 0

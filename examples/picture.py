@@ -19,6 +19,7 @@ sys.path.append(os.path.join(os.path.dirname(os.path.abspath(__file__)), "..", "
 from shared import given_program, read, run  # noqa: E402
 from spki_cert_tool.drawing import WIDTH, drawing_of_case  # noqa: E402
 
+# A line of `explain`: the numbers of the entry and of the item, each from 1 or None, and the word that says why.
 REASON = re.compile(r"^(?:entry (\d+) )?(?:item (\d+) )?(\w+)$", re.MULTILINE)
 Reason = collections.namedtuple("Reason", "entry item word")
 
@@ -28,7 +29,7 @@ class NotDrawn(Exception):
 
 
 def answer(program, command, text):
-    """What the program writes for a command and a text. Raises `NotDrawn` if it refuses the text, fails or writes nothing."""
+    """The octets that the program, a path, writes for a command and a text. Raises `NotDrawn` if it refuses the text, fails or writes nothing."""
     status, lines = run(program, command, text)
     if status not in (0, 1) or not lines:
         raise NotDrawn(lines.decode(errors="replace").strip() or f"{program} {command} ended with status {status} and no answer")
@@ -44,7 +45,7 @@ def drawn(program, path, width=WIDTH):
     lines = answer(program, "explain", text)
 
     def reduced(entry):
-        """What `spki reduce` writes of an entry, by its number from 1."""
+        """The value that `spki reduce` writes of an entry, by its number from 1: what right is left of it."""
         line = answer(program, "reduce", text).split(b"\n")[entry - 1]
         return read(answer(program, "canonical", line.split(b" ", 2)[2]))
 
@@ -64,8 +65,8 @@ def dot_of(drawing):
     yield from ("digraph chain {", "  rankdir=LR;", "  node [shape=ellipse, fontsize=11];", "  edge [fontsize=10];")
     for identity, shape in drawing.shapes.items():
         yield f"  {names[identity]} [label={quoted(shape.lines)}{f', shape=box, color={shape.colour}' if shape.colour else ''}];"
-    for it in drawing.arrows:
-        yield f"  {names[it.begin]} -> {names[it.end]} [label={quoted(it.lines)}, color={it.colour}, fontcolor={it.colour}];"
+    for arrow in drawing.arrows:
+        yield f"  {names[arrow.begin]} -> {names[arrow.end]} [label={quoted(arrow.lines)}, color={arrow.colour}, fontcolor={arrow.colour}];"
     yield "}"
 
 

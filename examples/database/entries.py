@@ -15,8 +15,8 @@ ALGORITHMS = ("sha1", "sha256", "sha512")
 
 
 def places_of(key):
-    """The digests by which the store finds the principals that can name a key. `key` is its text in canonical form. If the store finds other
-    principals too, that does no harm."""
+    """The digests by which the store finds the principals that can name a key, as octets. `key` is its text in canonical form. If the store finds
+    other principals too, that does no harm."""
     return [hashlib.new(algorithm, key).digest() for algorithm in ALGORITHMS]
 
 
@@ -26,18 +26,20 @@ def string(octets):
 
 
 def entry(principal, *fields, names=()):
-    """The text of an entry for a principal, or for names that begin with one. `fields` are `(tag ..)`, `(propagate)` and so on.
+    """The canonical text of an entry for a principal, or for a name of this principal with the strings `names`. `fields` are `(tag ..)`,
+    `(propagate)` and so on.
 
-    Principal and fields are texts of one value each, in any of the three forms. Each is read by itself, and none can run into another.
+    Principal and fields are texts of one value each, in any of the three forms, as octets. Each is read by itself, and none can run into another.
     Raises `spki.Refused` or `ValueError` if they make no entry.
     """
     principal = spki.canonical(principal)
     if spki.string_at(principal, 0) not in PRINCIPALS:
         raise ValueError("a principal is a public key or a hash")
     subject = b"(4:name%s%s)" % (principal, b"".join(map(string, names))) if names else principal
-    made = b"(5:entry%s%s)" % (subject, b"".join(map(spki.canonical, fields)))
-    list_of([made]).close()
-    return made
+    text = b"(5:entry%s%s)" % (subject, b"".join(map(spki.canonical, fields)))
+    # (an entry that is none is refused here)
+    list_of([text]).close()
+    return text
 
 
 # The most nodes that an explanation by the entries found may intersect.
@@ -50,14 +52,14 @@ def list_of(texts, policy=spki.Policy.STRICT, limits=LIMITS):
 
 
 class Service:
-    """Answers questions by the entries of a store."""
+    """Answers questions by the entries of a store: an object whose `found` returns the numbers and the texts of entries, by `places_of` a key."""
 
     def __init__(self, store, policy=spki.Policy.STRICT, limits=LIMITS):
         self.store, self.policy, self.limits = store, policy, limits
         self.no_entries = list_of([], policy, limits)
 
     def decide(self, question, verify):
-        """The number of the first entry that grants the request. `None` if no entry does.
+        """The number, in the store, of the first entry that grants the request. `None` if no entry does.
 
         Raises `spki.Refused` if a part of the question cannot be read, or the entries found have over 1 MiB together, and what psycopg raises if
         the database does not answer. `verify(signature)` is called once for each signature, in order, up to the first that is not valid; and
@@ -67,7 +69,7 @@ class Service:
         # stand, and no entry grants whichever are found.
         with self.no_entries.ask(question) as asked:
             first = next(iter(asked), None)
-        found = self.store.found(places_of(first.key if first else spki.canonical(question.key.text)))
-        with list_of([text for _, text in found], self.policy, self.limits) as guard:
+        rows = self.store.found(places_of(first.key if first else spki.canonical(question.key.text)))
+        with list_of([text for _, text in rows], self.policy, self.limits) as guard:
             decision = guard.decide(question, verify)
-        return found[decision.entry - 1][0] if decision else None
+        return rows[decision.entry - 1][0] if decision else None

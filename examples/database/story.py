@@ -35,16 +35,17 @@ RIGHTS = b"(tag (packages (* set read write)))"
 
 
 def answers(store):
-    """Tells the story, and yields of each answer whether it is as wanted."""
+    """Asks one request after the other while the entry of `store` (`Store`) comes and goes, and yields of each answer whether it is as wanted."""
     alice, bob, carol = map(Pair, (RSA, ED25519, ED25519))
     to_bob = f'(cert (issuer {alice.principal}) (subject {bob.principal}) (tag (packages read)) (not-after "9999-12-31_23:59:59"))'
     sequence = f"(sequence {alice.text} {signed(to_bob, alice)})"
     service = entries.Service(store)
-    entry, verifier = entries.entry(alice.principal.encode(), RIGHTS, b"(propagate)"), spki_http.Verifier(NAME)
+    entry_text, verifier = entries.entry(alice.principal.encode(), RIGHTS, b"(propagate)"), spki_http.Verifier(NAME)
 
-    def asks(remark, pair, shown, words, wanted):
-        """Prints the answer to a request that a pair signs. Whether it is as wanted: the number of an entry, or None for a no."""
-        method, target, fields = asked_by(pair, words, shown)
+    def asks(remark, pair, certificates, words, wanted):
+        """Prints the answer to a request of these words that a pair signs, with a sequence of certificates. Returns whether the answer is as
+        wanted: the number of an entry, or None for a no."""
+        method, target, fields = asked_by(pair, words, certificates)
         proof = verifier.prove(method, NAME, target, fields.items(), b"")
         question = spki.Question(proof.sequence, spki.ProvenKey.assume(proof.key), words=[word.encode() for word in words],
                                  moment=datetime.now(timezone.utc))
@@ -53,14 +54,14 @@ def answers(store):
         return number == wanted
 
     yield asks("Alice reads, and no entry is there", alice, "(sequence)", READ, None)
-    first = store.add(entry)
+    first = store.add(entry_text)
     yield asks("Alice writes, and has an entry", alice, "(sequence)", WRITE, first)
     yield asks("Bob reads, by Alice's certificate", bob, sequence, READ, first)
     yield asks("Bob writes", bob, sequence, WRITE, None)
     yield asks("Carol shows Bob's certificate", carol, sequence, READ, None)
     store.remove(first)
     yield asks("Bob reads, and Alice's entry is removed", bob, sequence, READ, None)
-    second = store.add(entry)
+    second = store.add(entry_text)
     yield asks("Bob reads, and Alice has an entry again", bob, sequence, READ, second)
     store.remove(second)
 
