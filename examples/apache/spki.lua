@@ -27,16 +27,18 @@ local function ask_daemon(r)
     return header:match("^HTTP/1%.[01] (%d%d%d) "), header:match("\r\nX%-Spki%-Answer: (%a+)\r\n")
 end
 
--- Two locks: the hook of access, and that of fixups, which is the last before a file is served. `Satisfy Any` and subrequests skip the first one, and
--- another module's script may end the second. What the first has granted is not asked again.
+-- The function of two hooks: that of access, and that of fixups, which is the last before a file is served. `Satisfy Any` and subrequests skip the
+-- first one, and another module's script may end the second. What the first has granted is not asked again. DECLINED lets the request go on; what
+-- else is returned is the status of a denial: 401, 403, or 503 if the daemon does not decide.
 function decide(r)
     if r.notes["spki_answer"] == "yes" then return apache2.DECLINED end
-    local is_there, status, answer = pcall(ask_daemon, r)
-    if is_there and status == "200" and answer == "yes" then
+    -- (where the call fails, `status` is the error)
+    local has_answered, status, answer = pcall(ask_daemon, r)
+    if has_answered and status == "200" and answer == "yes" then
         r.notes["spki_answer"] = "yes"
         return apache2.DECLINED
     end
-    if is_there and status and status:sub(1, 1) == "4" then return status == "401" and 401 or 403 end
+    if has_answered and status and status:sub(1, 1) == "4" then return status == "401" and 401 or 403 end
     r:err("spki-authd: " .. tostring(status))
     return 503
 end

@@ -4,6 +4,7 @@ core.register_action("spki_connection", { "tcp-req" }, function(txn)
     local answer = core.httpclient():get{ url = "http://spki-authd/", dst = "unix@/run/spki-authd/socket", timeout = 5000, headers = {
         ["x-original-method"] = { "GET" }, ["x-original-uri"] = { "/rsync/" }, ["x-original-host"] = { txn.sf:ssl_fc_sni() },
         ["x-real-ip"] = { txn.sf:src() }, ["x-client-cert"] = { txn.sc:base64(txn.sf:ssl_c_der()) } } }
-    local said = answer and answer.headers and answer.headers["x-spki-answer"]
-    if said and answer.status == 200 and said[0] == "yes" and said[1] == nil then txn:set_var("txn.spki_connection", "yes") end
+    local decisions = answer and answer.headers and answer.headers["x-spki-answer"]
+    local is_yes = decisions and answer.status == 200 and decisions[0] == "yes" and decisions[1] == nil
+    if is_yes then txn:set_var("txn.spki_connection", "yes") end
 end, 0)

@@ -5,7 +5,7 @@
 # RSYNC_PORT. Needs rsync (Debian: rsync) and spki-cert in the path.
 set -eu
 
-# by WHO: copies the folder with the key of a person
+# by WHO: copies the folder to tmp/WHO with the key of a person. Fails if that is denied.
 by() {
     RSYNC_SSL_CERT=keys/$1.crt RSYNC_SSL_KEY=keys/$1 RSYNC_SSL_CA_CERT=ca/ca.crt RSYNC_SSL_TYPE=openssl \
         rsync-ssl -a "rsync://localhost:$RSYNC_PORT/web/" "tmp/$1" > /dev/null 2>&1

@@ -1,12 +1,13 @@
--- /etc/haproxy/spki.lua: asks spki-authd about a request, and sets txn.spki_answer to what it says. Where it says nothing, nothing is set.
+-- /etc/haproxy/spki.lua: asks spki-authd about a request, and sets txn.spki_answer to `yes`, `no` or, for its status 401, `unauthenticated`. If it does
+-- not answer within 5 seconds, or by a status from 500 on, nothing is set.
 
--- A table of all values of a header, as the client has sent them. nil if there is none. (HAProxy counts them from 0)
+-- A list of all values of a header, as the client has sent them. nil if there is none. (HAProxy counts them from 0, and a list of Lua from 1)
 local function values(headers, name)
-    local found = {}
+    local list = {}
     for place = 0, #(headers[name] or {}) do
-        if headers[name] and headers[name][place] then found[#found + 1] = headers[name][place] end
+        if headers[name] and headers[name][place] then list[#list + 1] = headers[name][place] end
     end
-    return #found > 0 and found or nil
+    return #list > 0 and list or nil
 end
 
 -- (`sf` and `sc` give an empty text where there is no certificate; `c:base64` of nil would give eight zero octets)
@@ -19,13 +20,13 @@ core.register_action("spki", { "http-req" }, function(txn)
         ["authorization"] = values(headers, "authorization"), ["x-spki-sequence"] = values(headers, "x-spki-sequence"),
         ["signature"] = values(headers, "signature"), ["signature-input"] = values(headers, "signature-input"),
         ["x-spki-public-key"] = values(headers, "x-spki-public-key"), ["content-digest"] = values(headers, "content-digest") } }
-    local said = answer and answer.headers and answer.headers["x-spki-answer"]
-    local is_yes = said and answer.status == 200 and said[0] == "yes" and said[1] == nil
+    local decisions = answer and answer.headers and answer.headers["x-spki-answer"]
+    local is_yes = decisions and answer.status == 200 and decisions[0] == "yes" and decisions[1] == nil
     if is_yes then
         txn:set_var("txn.spki_answer", "yes")
     elseif answer and answer.status == 401 then
         txn:set_var("txn.spki_answer", "unauthenticated")
-    elseif said and answer.status < 500 then
+    elseif decisions and answer.status < 500 then
         txn:set_var("txn.spki_answer", "no")
     end
 end, 0)

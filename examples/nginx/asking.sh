@@ -1,6 +1,6 @@
 # What the example and docs/OPERATING.md ask by, in the folder of the example. PORT is where nginx listens.
 
-# asks WHO METHOD PATH [OPTION OF CURL ..]: prints the status. `nobody` has no key.
+# asks WHO METHOD PATH [OPTION OF CURL ..]: prints the status, and keeps the answer in tmp/answer. `nobody` has no key.
 asks() {
     who=$1 method=$2 path=$3
     shift 3
@@ -15,11 +15,11 @@ shows() {
     echo "Authorization: SPKI $(spki-cert show --braces "$1")"
 }
 
-# reload: has spki-authd read its list and its ended certificates again, waits for the line that says so, and prints what happened. On a
-# real server it is `systemctl reload spki-authd`, and the line is in its journal.
+# reload: has spki-authd read its list and its ended certificates again, waits for the line that says so, and prints the event that it names. Fails if
+# the daemon does not run. On a real server it is `systemctl reload spki-authd`, and the line is in its journal.
 reload() {
     lines=$(wc -l < log/authd-events.log)
-    kill -HUP "$(cat run/authd.pid)"
+    kill -HUP "$(cat run/authd.pid)" || return 1
     until [ "$(wc -l < log/authd-events.log)" -gt "$lines" ]; do sleep 0.1; done
     tail -n 1 log/authd-events.log | sed 's/.*"event":"\([^"]*\)".*/\1/'
 }

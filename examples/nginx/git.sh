@@ -17,7 +17,7 @@ pushes() {
     git --git-dir files/web/site.git update-server-info
 }
 
-# by WHO COMMAND ..: git, with the key of a person
+# by WHO COMMAND ..: runs git with the key of a person, and without its messages. Fails if that is denied.
 by() {
     who=$1
     shift
