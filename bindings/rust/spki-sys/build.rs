@@ -53,7 +53,7 @@ fn variable_for_target(name: &str) -> Option<OsString> {
         .or_else(|| variable(name))
 }
 
-/// The lines that tell Cargo to link the library of a folder. The error says that it has none.
+/// The lines that tell Cargo to link the library of a folder, without `cargo:` in front. The error says that it has none.
 fn link_lines(folder: &Path) -> Result<Vec<String>, String> {
     let (archive, shared) = (folder.join("libspki_c.a"), folder.join("libspki_c.so"));
     let wants_shared = variable("SPKI_SHARED").is_some();
@@ -91,20 +91,21 @@ fn folder_by_pkg_config() -> Result<PathBuf, String> {
         ));
     }
     let program = program.unwrap_or_else(|| OsString::from("pkg-config"));
-    let done = Command::new(&program)
+    // (without ALLOW_SYSTEM_LIBS it would leave out the folders of the system, where an installed library is)
+    let output = Command::new(&program)
         .envs(places.into_iter().chain(permissions))
         .env("PKG_CONFIG_ALLOW_SYSTEM_LIBS", "1")
         .args(["--print-errors", "--libs-only-L"])
         .args([format!("spki >= {FIRST}"), format!("spki < {END}")])
         .output()
         .map_err(|fault| advice(&format!("{}: {fault}", program.to_string_lossy())))?;
-    let said = String::from_utf8_lossy(&done.stdout);
-    let folder = said
+    let words = String::from_utf8_lossy(&output.stdout);
+    let folder = words
         .split_whitespace()
         .find_map(|word| word.strip_prefix("-L"));
     match folder {
-        Some(folder) if done.status.success() => Ok(PathBuf::from(folder)),
-        _ => Err(advice(&String::from_utf8_lossy(&done.stderr))),
+        Some(folder) if output.status.success() => Ok(PathBuf::from(folder)),
+        _ => Err(advice(&String::from_utf8_lossy(&output.stderr))),
     }
 }
 
