@@ -3,11 +3,10 @@
  * first.
  *
  * The library is not instrumented, so libFuzzer is told of each new answer as of a new place in the code. */
+#include "../programs/refusals.h"
 #include "pieces.h"
 
-#include <malloc.h>
 #include <spki.h>
-#include <stdlib.h>
 
 /* Octets before and behind each buffer, and what each of them is; what each octet of a buffer is before a call; places of `marks`; octets of the
  * usual buffer; places of `met`. */
@@ -27,36 +26,8 @@ static void holds(int is_so, const char *what)
     abort();
 }
 
-/* Which request for memory of the next call of `done` is refused, from 1, or 0 for none; how many requests are left until that one in the call that
- * is under way; and whether one was refused. */
-static size_t next_refusal, until_refusal;
-static int is_refused;
-
-void *__real_malloc(size_t size);
-void *__real_realloc(void *block, size_t size);
-void *__wrap_malloc(size_t size);
-void *__wrap_realloc(void *block, size_t size);
-
-/* Counts a request for memory, and returns whether it is refused. The linker puts the __wrap_ functions below in the place of malloc and realloc. */
-static int refuses(void)
-{
-    if (!until_refusal || --until_refusal)
-        return 0;
-    is_refused = 1;
-    return 1;
-}
-
-/* What --wrap calls in place of malloc, and the next function in place of realloc. */
-void *__wrap_malloc(size_t size)
-{
-    return refuses() ? NULL : __real_malloc(size);
-}
-
-void *__wrap_realloc(void *block, size_t size)
-{
-    /* (a block that becomes shorter is not refused: without that it stays as it is) */
-    return (!block || malloc_usable_size(block) < size) && refuses() ? NULL : __real_realloc(block, size);
-}
+/* Which request for memory of the next call of `done` is refused, from 1, or 0 for none. */
+static size_t next_refusal;
 
 /* The answer of a call. With SPKI_TOO_SMALL there is none, and `length` is how many octets it needs. */
 struct answer {

@@ -1,4 +1,4 @@
-/* Asks a guard that is held from C as `spki.h` says: marks of one client and of two, misuse, small buffers, two guards at once, buffers
+/* Asks a guard from C as `spki.h` says: marks of one client and of two, misuse, small buffers, two guards at once, buffers
  * that change once a question is opened, guards that are closed before their questions or beside them, refused memory, and several threads on one
  * guard and on one question. Is linked with --wrap=malloc and --wrap=realloc. Ends with 99 where a call does otherwise, with a line on standard
  * error.
@@ -8,18 +8,18 @@
 
 #include <pthread.h>
 
+/* The octets of a thread's stack, the most threads, and how often each asks. */
 enum { STACK = 256 * 1024, MOST_THREADS = 64, TURNS = 50 };
 
 /* The question must list one signature: that of key a in `examples/delegation.sexp`. */
 static void expect_signature(const spki_asked *asked)
 {
-    struct spki_signed signature, again, none;
-    memset(&none, 0, sizeof none);
+    struct spki_signed signature, again, none = {0};
     expect(spki_asked_count(asked) == 1, "another number of signatures");
     expect(spki_asked_signature(asked, 0, &signature) == SPKI_DONE, "no signature");
-    expect(is(signature.key.octets, signature.key.length, "(10:public-key(4:test1:a))"), "another key");
-    expect(is(signature.value.octets, signature.value.length, "3:sig"), "another value");
-    expect(is(signature.octets.octets, signature.octets.length, "sig"), "other octets of a value");
+    expect(is_text(signature.key.octets, signature.key.length, "(10:public-key(4:test1:a))"), "another key");
+    expect(is_text(signature.value.octets, signature.value.length, "3:sig"), "another value");
+    expect(is_text(signature.octets.octets, signature.octets.length, "sig"), "other octets of a value");
     expect(signature.message.length >= 7 && !memcmp(signature.message.octets, "(4:cert", 7), "another message");
     expect(spki_asked_signature(asked, 0, &again) == SPKI_DONE && !memcmp(&again, &signature, sizeof again), "other addresses");
     expect(spki_asked_signature(asked, 1, &again) == SPKI_NONE && !memcmp(&again, &none, sizeof none), "a signature too many");
@@ -29,17 +29,17 @@ static void expect_signature(const spki_asked *asked)
 /* The question of `examples/delegation.sexp`: key b shows what key a has signed, and asks for `(ftp)`. */
 static void delegation(const char *list, const char *sequence, const char *key)
 {
-    spki_guard *guard = opened(list, SPKI_ALLOW_SHA1);
+    spki_guard *guard = open_guard(list, SPKI_ALLOW_SHA1);
     struct spki_question question = {.size = sizeof question, .sequence = text(sequence), .key = spki_assume_key(text(key)), .request = text("(ftp)"),
                                      .seconds = &moment};
-    spki_asked *asked = asked_of(guard, &question);
+    spki_asked *asked = open_question(guard, &question);
     expect(spki_guard_entries(guard) == 1, "another number of entries");
     expect_signature(asked);
     spki_asked_close(asked);
     expect_decision(guard, &question, 1, SPKI_YES, "yes entry 1\n");
     expect_decision(guard, &question, 0, SPKI_NO, "no\n");
     question.key = spki_assume_key(text("(public-key (test c))"));
-    asked = asked_of(guard, &question);
+    asked = open_question(guard, &question);
     expect(!spki_asked_possible(asked), "a right for another key is possible");
     spki_asked_close(asked);
     expect_decision(guard, &question, 1, SPKI_NO, "no\n");
@@ -54,10 +54,10 @@ static void delegation(const char *list, const char *sequence, const char *key)
 static void wrong_places(const char *list, const char *sequence, const char *key)
 {
     static const size_t none[] = {1, 2, 255, 0x101, (size_t)-1, (size_t)-255, SIZE_MAX / 2 + 1};
-    spki_guard *guard = opened(list, SPKI_ALLOW_SHA1);
+    spki_guard *guard = open_guard(list, SPKI_ALLOW_SHA1);
     struct spki_question question = {.size = sizeof question, .sequence = text(sequence), .key = spki_assume_key(text(key)), .request = text("(ftp)"),
                                      .seconds = &moment};
-    spki_asked *asked = asked_of(guard, &question);
+    spki_asked *asked = open_question(guard, &question);
     for (size_t at = 0; at < sizeof none / sizeof *none; at++) {
         expect(spki_asked_mark(asked, none[at]) == SPKI_MISUSED, "a place that the question does not have is marked");
         expect(!spki_asked_granted(asked) && spki_asked_possible(asked), "a mark that is misuse changes the answer");
@@ -86,7 +86,7 @@ static void *serve(void *given)
 {
     const struct client *client = given;
     for (int turn = 0; turn < TURNS; turn++) {
-        spki_asked *asked = asked_of(client->guard, &client->question);
+        spki_asked *asked = open_question(client->guard, &client->question);
         expect(spki_asked_count(asked) == 1 && spki_asked_possible(asked) && !spki_asked_granted(asked), "a mark of an earlier question counts");
         expect(!client->is_valid || spki_asked_mark(asked, 0) == SPKI_DONE, "no mark");
         expect(spki_asked_granted(asked) == client->is_valid, "a mark for another client counts");
@@ -101,12 +101,13 @@ static void two_clients(const char *list, const char *sequence, const char *key,
 {
     static const char forged[] = "(sequence (cert (issuer (public-key (test a))) (subject (public-key (test c))) (tag (*))) (signature (hash sha256 "
                                  "#b0c7e53153c3b09dad60263b3b4738aa1ae756cc4642305bcf4fdc4114ff0d5d#) (public-key (test a)) forged))";
-    struct client good = {opened(list, SPKI_ALLOW_SHA1), {.size = sizeof good.question, .sequence = text(sequence), .key = spki_assume_key(text(key)),
-                                                    .request = text("(ftp)"), .seconds = &moment}, true}, bad = good;
+    struct client good = {open_guard(list, SPKI_ALLOW_SHA1), {.size = sizeof good.question, .sequence = text(sequence),
+                                                              .key = spki_assume_key(text(key)), .request = text("(ftp)"), .seconds = &moment}, true};
+    struct client bad = good;
     bad.question.sequence = text(forged);
     bad.question.key = spki_assume_key(text("(public-key (test c))"));
     bad.is_valid = false;
-    spki_asked *first = asked_of(good.guard, &good.question), *second = asked_of(bad.guard, &bad.question);
+    spki_asked *first = open_question(good.guard, &good.question), *second = open_question(bad.guard, &bad.question);
     expect(spki_asked_mark(first, 0) == SPKI_DONE, "no mark");
     expect(spki_asked_granted(first) && !spki_asked_granted(second), "a mark counts for another question");
     spki_asked_close(first);
@@ -127,38 +128,37 @@ static void two_clients(const char *list, const char *sequence, const char *key,
 /* Two equal signatures are two places. Only both marks are a yes. */
 static void equal_signatures(const char *list)
 {
-    spki_guard *guard = opened(list, SPKI_ALLOW_SHA1);
+    spki_guard *guard = open_guard(list, SPKI_ALLOW_SHA1);
     struct spki_question question = {.size = sizeof question, .sequence = text("(sequence " OWN " " OWN ")"),
                                      .key = spki_assume_key(text("(public-key (test a))")), .request = text("(ftp)"), .seconds = &moment};
     for (size_t place = 0; place < 2; place++) {
         unsigned char line[64];
         size_t needed;
-        spki_asked *asked = asked_of(guard, &question);
+        spki_asked *asked = open_question(guard, &question);
         expect(spki_asked_count(asked) == 2, "equal signatures are one");
-        expect(spki_asked_mark(asked, place) == SPKI_DONE && decided(asked, line, sizeof line, &needed) == SPKI_NO, "one mark counts for two");
-        expect(spki_asked_mark(asked, 1 - place) == SPKI_DONE && decided(asked, line, sizeof line, &needed) == SPKI_YES, "two marks are a no");
+        expect(spki_asked_mark(asked, place) == SPKI_DONE && decide(asked, line, sizeof line, &needed) == SPKI_NO, "one mark counts for two");
+        expect(spki_asked_mark(asked, 1 - place) == SPKI_DONE && decide(asked, line, sizeof line, &needed) == SPKI_YES, "two marks are a no");
         spki_asked_close(asked);
     }
     spki_guard_close(guard);
 }
 
 /* A text that is copied to `room`, which the caller changes as soon as the question is opened. */
-static struct spki_text copied(const char *octets, char *room)
+static struct spki_text copy_text(const char *octets, char *room)
 {
-    struct spki_text made = {strcpy(room, octets), strlen(octets)};
-    return made;
+    return (struct spki_text){strcpy(room, octets), strlen(octets)};
 }
 
 /* Marks belong to the question that was opened, whatever becomes of its buffers, its guard and other questions. */
 static void one_question(const char *list, const char *sequence, const char *key)
 {
     char rooms[2][4096];
-    spki_guard *guard = opened(list, SPKI_ALLOW_SHA1), *other = opened("(acl)", SPKI_ALLOW_SHA1);
-    struct spki_question question = {.size = sizeof question, .sequence = copied(sequence, rooms[0]), .key = spki_assume_key(copied(key, rooms[1])),
-                                     .request = text("(ftp)"), .seconds = &moment};
+    spki_guard *guard = open_guard(list, SPKI_ALLOW_SHA1), *other = open_guard("(acl)", SPKI_ALLOW_SHA1);
+    struct spki_question question = {.size = sizeof question, .sequence = copy_text(sequence, rooms[0]), .request = text("(ftp)"), .seconds = &moment,
+                                     .key = spki_assume_key(copy_text(key, rooms[1]))};
     struct spki_question empty = {.size = sizeof empty, .sequence = text("(sequence)"), .key = spki_assume_key(text(key)), .request = text("(ftp)"),
                                   .seconds = &moment};
-    spki_asked *asked = asked_of(guard, &question), *none = asked_of(guard, &empty), *elsewhere = asked_of(other, &question);
+    spki_asked *asked = open_question(guard, &question), *none = open_question(guard, &empty), *elsewhere = open_question(other, &question);
     unsigned char line[256];
     size_t needed;
     memset(rooms, 'x', sizeof rooms);
@@ -167,13 +167,13 @@ static void one_question(const char *list, const char *sequence, const char *key
     expect_signature(asked);
     for (int turn = 0; turn < 3; turn++) {
         expect(!turn || spki_asked_mark(asked, 0) == SPKI_DONE, "no mark");
-        expect(decided(asked, line, sizeof line, &needed) == (turn ? SPKI_YES : SPKI_NO), "another decision");
+        expect(decide(asked, line, sizeof line, &needed) == (turn ? SPKI_YES : SPKI_NO), "another decision");
         expect(spki_asked_explain(asked, line, sizeof line, &needed).status == SPKI_DONE
-               && is(line, needed, turn ? "entry 1 grants\n" : "item 1 NotAccepted\n"), "another explanation");
+               && is_text(line, needed, turn ? "entry 1 grants\n" : "item 1 NotAccepted\n"), "another explanation");
         expect(spki_asked_reduce(asked, line, sizeof line, &needed).status == SPKI_DONE && needed > 5, "another reduction");
     }
     expect(!spki_asked_count(none) && spki_asked_mark(none, 0) == SPKI_MISUSED, "a mark of no signature");
-    expect(spki_asked_mark(elsewhere, 0) == SPKI_DONE && decided(elsewhere, line, sizeof line, &needed) == SPKI_NO
+    expect(spki_asked_mark(elsewhere, 0) == SPKI_DONE && decide(elsewhere, line, sizeof line, &needed) == SPKI_NO
            && !spki_asked_possible(elsewhere), "marks of another guard");
     memset(line, 'y', sizeof line);
     const struct spki_decision small = spki_asked_decide(asked, line, 3, &needed);
@@ -183,11 +183,26 @@ static void one_question(const char *list, const char *sequence, const char *key
     spki_asked_close(asked);
 }
 
+/* A question of strings, which is granted, with its moment as a text. A moment or a request that is given both ways is misuse. */
+static void parts_given_twice(const spki_guard *guard, struct spki_question question)
+{
+    question.moment = text("19:2024-01-01_00:00:00");
+    expect_decision(guard, &question, 0, SPKI_MISUSED, "");
+    question.seconds = NULL;
+    expect_decision(guard, &question, 0, SPKI_YES, "yes entry 1\n");
+    question.moment = text("19:2024-13-01_00:00:00");
+    expect_decision(guard, &question, 0, SPKI_REFUSED, "refused at BadDate\n");
+    question.seconds = &moment;
+    question.moment.length = 0;
+    question.request = text("x");
+    expect_decision(guard, &question, 0, SPKI_MISUSED, "");
+}
+
 /* Requests by their strings: no octets of a string become another string. */
 static void requests_by_strings(void)
 {
-    spki_guard *guard = opened("(acl (entry (public-key (test b)) (tag (cache (* prefix /cache/team1/) read))))", SPKI_STRICT);
-    spki_guard *other = opened("(acl (entry (public-key (test c)) (tag (*))))", SPKI_STRICT);
+    spki_guard *guard = open_guard("(acl (entry (public-key (test b)) (tag (cache (* prefix /cache/team1/) read))))", SPKI_STRICT);
+    spki_guard *other = open_guard("(acl (entry (public-key (test c)) (tag (*))))", SPKI_STRICT);
     struct spki_text words[3] = {text("cache"), text("/cache/team1/a.o"), text("read")};
     struct spki_question question = {.size = sizeof question, .sequence = text("(sequence)"), .key = spki_assume_key(text("(public-key (test b))")),
                                      .words = words, .word_count = 3, .seconds = &moment};
@@ -196,19 +211,7 @@ static void requests_by_strings(void)
     size_t needed;
     expect_decision(guard, &question, 0, SPKI_YES, "yes entry 1\n");
     expect_decision(other, &question, 0, SPKI_NO, "no\n");
-    question.seconds = NULL;
-    question.moment = text("19:2024-01-01_00:00:00");
-    expect_decision(guard, &question, 0, SPKI_YES, "yes entry 1\n");
-    question.seconds = &moment;
-    expect_decision(guard, &question, 0, SPKI_MISUSED, "");
-    question.seconds = NULL;
-    question.moment = text("19:2024-13-01_00:00:00");
-    expect_decision(guard, &question, 0, SPKI_REFUSED, "refused at BadDate\n");
-    question.seconds = &moment;
-    question.moment.length = 0;
-    question.request = text("x");
-    expect_decision(guard, &question, 0, SPKI_MISUSED, "");
-    question.request.length = 0;
+    parts_given_twice(guard, question);
     words[1] = text("/cache/team1/a.o read");
     words[2] = text("write");
     expect_decision(guard, &question, 0, SPKI_NO, "no\n");
@@ -228,8 +231,8 @@ static void requests_by_strings(void)
     words[2] = text("read");
     expect_decision(guard, &question, 0, SPKI_REFUSED, "refused question TooLong\n");
     words[1] = text("/cache/team1/a.o");
-    asked = asked_of(guard, &question);
-    expect(spki_asked_explain(asked, buffer, sizeof buffer, &needed).status == SPKI_DONE && is(buffer, needed, "entry 1 grants\n"),
+    asked = open_question(guard, &question);
+    expect(spki_asked_explain(asked, buffer, sizeof buffer, &needed).status == SPKI_DONE && is_text(buffer, needed, "entry 1 grants\n"),
            "another explanation");
     expect(spki_asked_reduce(asked, buffer, sizeof buffer, &needed).status == SPKI_DONE
            && needed > 15 && !memcmp(buffer, "entry 1 (five (", 15), "another reduction");
@@ -238,7 +241,7 @@ static void requests_by_strings(void)
     spki_guard_close(guard);
 }
 
-/* Lists, policies, limits and pointers by which no guard is opened. */
+/* Lists, policies, limits and pointers by which no guard is opened, beside some by which one is. */
 static void refused_lists(void)
 {
     spki_guard *guard = (spki_guard *)&until_refusal;
@@ -246,10 +249,10 @@ static void refused_lists(void)
     unsigned char buffer[64];
     size_t needed = 12345;
     expect(spki_guard_open("(acl x)", 7, SPKI_ALLOW_SHA1, NULL, &guard, buffer, sizeof buffer, &needed) == SPKI_REFUSED && !guard
-           && is(buffer, needed, "refused acl 1 Shape\n"), "a list that is none");
+           && is_text(buffer, needed, "refused acl 1 Shape\n"), "a list that is none");
     expect(spki_guard_open("(acl x)", 7, SPKI_ALLOW_SHA1, NULL, &guard, buffer, 3, &needed) == SPKI_TOO_SMALL && needed == 20, "a small buffer");
     expect(spki_guard_open(NULL, 0, SPKI_ALLOW_SHA1, NULL, &guard, buffer, sizeof buffer, &needed) == SPKI_REFUSED
-           && is(buffer, needed, "refused form Short\n"), "no list");
+           && is_text(buffer, needed, "refused form Short\n"), "no list");
     expect(spki_guard_open("(acl)", 5, (enum spki_policy)2, NULL, &guard, NULL, 0, &needed) == SPKI_MISUSED && !needed, "no such policy");
     expect(spki_guard_open("(acl)", 5, SPKI_ALLOW_SHA1, NULL, NULL, NULL, 0, NULL) == SPKI_MISUSED, "no place for a guard");
     expect(spki_guard_open(NULL, 5, SPKI_ALLOW_SHA1, NULL, &guard, NULL, 0, NULL) == SPKI_MISUSED && !guard, "a null list with a length");
@@ -308,7 +311,7 @@ static void usual_limits(void)
     struct spki_text words[65];
     struct spki_question question = {.size = sizeof question, .sequence = text("(sequence)"), .key = spki_assume_key(text("(public-key (test b))")),
                                      .words = words, .word_count = 64, .seconds = &moment};
-    spki_guard *guard = opened("(acl (entry (public-key (test b)) (tag (*))))", SPKI_STRICT);
+    spki_guard *guard = open_guard("(acl (entry (public-key (test b)) (tag (*))))", SPKI_STRICT);
     for (size_t place = 0; place < 65; place++)
         words[place] = text("x");
     expect_decision(guard, &question, 0, SPKI_YES, "yes entry 1\n");
@@ -328,13 +331,13 @@ static void octets_of_strings(void)
     const size_t modulus[] = {1, 2, 1}, past[] = {1, 3}, through[] = {0, 0}, longer[] = {1, 2, 1, 0};
     const void *octets = good;
     size_t length = 12345;
-    expect(spki_string(good, sizeof good - 1, modulus, 3, &octets, &length) == SPKI_DONE && is(octets, length, "ok")
+    expect(spki_string(good, sizeof good - 1, modulus, 3, &octets, &length) == SPKI_DONE && is_text(octets, length, "ok")
            && (const char *)octets > good && (const char *)octets < good + sizeof good, "another modulus");
     expect(spki_string(good, sizeof good - 1, modulus, 2, &octets, &length) == SPKI_NONE && !octets && !length, "a list is no string");
     expect(spki_string(good, sizeof good - 1, past, 2, &octets, &length) == SPKI_NONE, "no such member");
     expect(spki_string(good, sizeof good - 1, through, 2, &octets, &length) == SPKI_NONE, "a string has no members");
     expect(spki_string(good, sizeof good - 1, longer, 4, &octets, &length) == SPKI_NONE, "a longer path");
-    expect(spki_string("3:abc", 5, NULL, 0, &octets, &length) == SPKI_DONE && is(octets, length, "abc"), "a string alone");
+    expect(spki_string("3:abc", 5, NULL, 0, &octets, &length) == SPKI_DONE && is_text(octets, length, "abc"), "a string alone");
     expect(spki_string("0:", 2, NULL, 0, &octets, &length) == SPKI_DONE && octets && !length, "an empty string");
     expect(spki_string("abc", 3, NULL, 0, &octets, &length) == SPKI_REFUSED && !octets, "no canonical form");
     expect(spki_string(good, sizeof good - 2, NULL, 0, &octets, &length) == SPKI_REFUSED, "a text that is cut off");
@@ -343,7 +346,7 @@ static void octets_of_strings(void)
     expect(spki_string("3:abc", 5, NULL, 0, NULL, &length) == SPKI_MISUSED && !length, "no place for octets");
 }
 
-/* Each of the first requests for memory is refused in turn while a string is looked for. */
+/* Each of the first `most` requests for memory is refused in turn while a string is looked for. */
 static void strings_without_memory(size_t most)
 {
     static const char good[] = "(10:public-key(4:test1:a))";
@@ -356,14 +359,14 @@ static void strings_without_memory(size_t most)
         until_refusal = request;
         status = spki_string(good, sizeof good - 1, path, 2, &octets, &length);
         until_refusal = 0;
-        expect(is_refused ? status == SPKI_NO_MEMORY && !octets && !length : status == SPKI_DONE && is(octets, length, "a"),
+        expect(is_refused ? status == SPKI_NO_MEMORY && !octets && !length : status == SPKI_DONE && is_text(octets, length, "a"),
                "a string and no memory");
         expect(is_refused || request > 1, "a string is found without memory");
     }
 }
 
 /* Answers an opened question: by a decision if `call` is 0, an explanation if it is 1, otherwise a reduction. */
-static enum spki_status answered_by(int call, const spki_asked *asked, unsigned char *line, size_t length, size_t *needed)
+static enum spki_status answer_by(int call, const spki_asked *asked, unsigned char *line, size_t length, size_t *needed)
 {
     switch (call) {
     case 0: return spki_asked_decide(asked, line, length, needed).status;
@@ -372,8 +375,8 @@ static enum spki_status answered_by(int call, const spki_asked *asked, unsigned 
     }
 }
 
-/* In each call about a question the request for memory with this number is refused. After that the call must answer as it should. */
-static void refused_in_calls(const spki_guard *guard, const struct spki_question *question, size_t request)
+/* In each call about a question the request for memory with this number, from 1, is refused. After that the call must answer as it should. */
+static void refuse_in_calls(const spki_guard *guard, const struct spki_question *question, size_t request)
 {
     unsigned char line[256];
     spki_asked *asked;
@@ -383,24 +386,24 @@ static void refused_in_calls(const spki_guard *guard, const struct spki_question
     until_refusal = request;
     status = spki_guard_ask(guard, question, &asked, line, sizeof line, &needed);
     until_refusal = 0;
-    expect(is_refused ? status == SPKI_REFUSED && !asked && is(line, needed, "refused Memory\n") : status == SPKI_DONE && asked,
+    expect(is_refused ? status == SPKI_REFUSED && !asked && is_text(line, needed, "refused Memory\n") : status == SPKI_DONE && asked,
            "a question and no memory");
     if (!asked)
-        asked = asked_of(guard, question);
+        asked = open_question(guard, question);
     for (int call = 0; call < 3; call++) {
         enum spki_status whole = call ? SPKI_DONE : SPKI_YES;
         is_refused = 0;
         until_refusal = request;
-        status = answered_by(call, asked, line, sizeof line, &needed);
+        status = answer_by(call, asked, line, sizeof line, &needed);
         until_refusal = 0;
-        expect(is_refused ? status == SPKI_REFUSED && is(line, needed, "refused Memory\n") : status == whole, "an answer and no memory");
-        expect(answered_by(call, asked, line, sizeof line, &needed) == whole, "another answer once there is memory again");
+        expect(is_refused ? status == SPKI_REFUSED && is_text(line, needed, "refused Memory\n") : status == whole, "an answer and no memory");
+        expect(answer_by(call, asked, line, sizeof line, &needed) == whole, "another answer once there is memory again");
     }
     spki_asked_close(asked);
 }
 
-/* Each of the first requests for memory is refused in turn. */
-static void refused_memory(size_t most)
+/* Each of the first `most` requests for memory is refused in turn while a guard is opened, and in the calls about a question. */
+static void refuse_memory(size_t most)
 {
     static const char list[] = "(acl (entry (public-key (test b)) (tag (*))))";
     struct spki_text words[1] = {text("x")};
@@ -415,22 +418,22 @@ static void refused_memory(size_t most)
         until_refusal = request;
         status = spki_guard_open(list, sizeof list - 1, SPKI_ALLOW_SHA1, NULL, &guard, line, sizeof line, &needed);
         until_refusal = 0;
-        expect(is_refused ? status == SPKI_REFUSED && !guard && is(line, needed, "refused Memory\n") : status == SPKI_DONE && guard,
+        expect(is_refused ? status == SPKI_REFUSED && !guard && is_text(line, needed, "refused Memory\n") : status == SPKI_DONE && guard,
                "a list and no memory");
         if (guard)
-            refused_in_calls(guard, &question, request);
+            refuse_in_calls(guard, &question, request);
         spki_guard_close(guard);
     }
 }
 
-/* A guard, and a question that was opened with it, which several threads use. */
+/* A guard, and a question that was opened with it, which several threads use at once. */
 struct shared {
     spki_guard *guard;
     spki_asked *asked;
 };
 
 /* Asks a guard, and decides a question that other threads decide too. */
-static void *ask_shared(void *given)
+static void *ask_at_once(void *given)
 {
     const struct shared *shared = given;
     struct spki_text words[2] = {text("cache"), text("x")};
@@ -440,7 +443,7 @@ static void *ask_shared(void *given)
     size_t needed;
     for (int turn = 0; turn < TURNS; turn++) {
         expect_decision(shared->guard, &question, 0, SPKI_YES, "yes entry 2\n");
-        expect(decided(shared->asked, line, sizeof line, &needed) == SPKI_YES && is(line, needed, "yes entry 2\n"),
+        expect(decide(shared->asked, line, sizeof line, &needed) == SPKI_YES && is_text(line, needed, "yes entry 2\n"),
                "another answer to a shared question");
     }
     return NULL;
@@ -451,13 +454,13 @@ static void threads(size_t count)
 {
     struct spki_question question = {.size = sizeof question, .sequence = text("(sequence)"), .key = spki_assume_key(text("(public-key (test b))")),
                                      .request = text("x"), .seconds = &moment};
-    struct shared shared = {opened("(acl (entry (public-key (test c)) (tag (*))) (entry (public-key (test b)) (tag (*))))", SPKI_STRICT), NULL};
+    struct shared shared = {open_guard("(acl (entry (public-key (test c)) (tag (*))) (entry (public-key (test b)) (tag (*))))", SPKI_STRICT), NULL};
     pthread_t each[MOST_THREADS];
     pthread_attr_t small;
-    shared.asked = asked_of(shared.guard, &question);
+    shared.asked = open_question(shared.guard, &question);
     expect(count <= MOST_THREADS && !pthread_attr_init(&small) && !pthread_attr_setstacksize(&small, STACK), "no threads of this kind");
     for (size_t i = 0; i < count; i++)
-        expect(!pthread_create(&each[i], &small, ask_shared, &shared), "no thread");
+        expect(!pthread_create(&each[i], &small, ask_at_once, &shared), "no thread");
     for (size_t i = 0; i < count; i++)
         pthread_join(each[i], NULL);
     pthread_attr_destroy(&small);
@@ -472,21 +475,21 @@ static void *decide_and_close(void *given)
     unsigned char line[64];
     size_t needed;
     for (int turn = 0; turn < TURNS; turn++)
-        expect(decided(asked, line, sizeof line, &needed) == SPKI_YES && is(line, needed, "yes entry 1\n"),
+        expect(decide(asked, line, sizeof line, &needed) == SPKI_YES && is_text(line, needed, "yes entry 1\n"),
                "another answer beside the end of the guard");
     spki_asked_close(asked);
     return NULL;
 }
 
 /* A guard is closed while other threads decide the questions that were opened with it, and close them. */
-static void closed_beside(size_t count)
+static void close_guard_beside(size_t count)
 {
     struct spki_question question = {.size = sizeof question, .sequence = text("(sequence)"), .key = spki_assume_key(text("(public-key (test b))")),
                                      .request = text("x"), .seconds = &moment};
-    spki_guard *guard = opened("(acl (entry (public-key (test b)) (tag (*))))", SPKI_STRICT);
+    spki_guard *guard = open_guard("(acl (entry (public-key (test b)) (tag (*))))", SPKI_STRICT);
     pthread_t each[MOST_THREADS];
     for (size_t i = 0; i < count; i++)
-        expect(!pthread_create(&each[i], NULL, decide_and_close, asked_of(guard, &question)), "no thread");
+        expect(!pthread_create(&each[i], NULL, decide_and_close, open_question(guard, &question)), "no thread");
     spki_guard_close(guard);
     for (size_t i = 0; i < count; i++)
         pthread_join(each[i], NULL);
@@ -500,18 +503,18 @@ static void kept_decisions(void)
         {"(acl (entry (public-key (test b)) (tag (*)) (not-after \"2026-06-30_23:59:59\")))", 1782863999},
         {"(acl (entry (public-key (test b)) (tag (*)) (not-after \"9999-12-31_23:59:59\")))", 253402300799}};
     for (size_t row = 0; row < sizeof rows / sizeof *rows; row++) {
-        spki_guard *guard = opened(rows[row].list, SPKI_STRICT);
+        spki_guard *guard = open_guard(rows[row].list, SPKI_STRICT);
         int64_t now = moment;
         struct spki_question question = {.size = sizeof question, .sequence = text("(sequence)"), .request = text("(ftp)"), .seconds = &now,
                                          .key = spki_assume_key(text("(public-key (test b))"))};
-        spki_asked *asked = asked_of(guard, &question);
+        spki_asked *asked = open_question(guard, &question);
         unsigned char line[64];
         const struct spki_decision kept = spki_asked_decide(asked, line, sizeof line, NULL);
         spki_asked_close(asked);
         expect(kept.status == SPKI_YES && kept.until == rows[row].until, "another last second");
         for (int later = 0; later < 2 && rows[row].until < 253402300799; later++) {
             now = rows[row].until + later;
-            asked = asked_of(guard, &question);
+            asked = open_question(guard, &question);
             expect(spki_holds_at(kept, now) == !later && spki_asked_granted(asked) == !later, "a yes ends before its last second, or after it");
             spki_asked_close(asked);
         }
@@ -537,8 +540,8 @@ int main(int count, char **words)
     usual_limits();
     octets_of_strings();
     strings_without_memory(strtoul(words[2], NULL, 10));
-    refused_memory(strtoul(words[2], NULL, 10));
+    refuse_memory(strtoul(words[2], NULL, 10));
     threads(strtoul(words[1], NULL, 10));
-    closed_beside(strtoul(words[1], NULL, 10));
+    close_guard_beside(strtoul(words[1], NULL, 10));
     return 0;
 }

@@ -7,16 +7,18 @@
  * octets. An answer is a line with the status and the length, and then its octets. Of each question the first requests for memory,
  * as many as REFUSALS says, are refused in turn. Ends with 99 where a call does otherwise than `spki.h` says, with a line on
  * standard error. */
-#include <malloc.h>
+#include "refusals.h"
+
 #include <pthread.h>
 #include <spki.h>
 #include <stdio.h>
-#include <stdlib.h>
 #include <string.h>
 
+/* The most questions; the command of spki_check_accepted; how many octets stand before and behind each buffer, and what each is; what each octet of a
+ * buffer is before a call; the octets of a thread's stack; the exit status where a call does otherwise. */
 enum { MOST = 10000, CHECK_ACCEPTED = 7, CANARIES = 16, CANARY = 0xa5, UNTOUCHED = 0x5a, STACK = 256 * 1024, BROKEN = 99 };
 
-/* A question, as it was read, and the status and the `length` octets of its answer. */
+/* A question: its command and its two texts, and the status and the `length` octets of its answer. */
 struct question {
     unsigned command;
     size_t lengths[2];
@@ -29,34 +31,7 @@ struct question {
 static struct question *questions;
 static size_t question_count;
 
-/* Which request for memory from now on is refused, counted down; none at 0. Whether one was. */
-static size_t until_refusal;
-static int is_refused;
-
-void *__real_malloc(size_t size);
-void *__real_realloc(void *block, size_t size);
-
-/* Counts a request for memory, and returns whether it is refused. */
-static int refuses(void)
-{
-    if (!until_refusal || --until_refusal)
-        return 0;
-    is_refused = 1;
-    return 1;
-}
-
-/* What --wrap calls in place of malloc, and the next function in place of realloc. */
-void *__wrap_malloc(size_t size)
-{
-    return refuses() ? NULL : __real_malloc(size);
-}
-
-void *__wrap_realloc(void *block, size_t size)
-{
-    /* (a block that becomes shorter is not refused: without that it stays as it is) */
-    return (!block || malloc_usable_size(block) < size) && refuses() ? NULL : __real_realloc(block, size);
-}
-
+/* Ends the program with a line about what is wrong. */
 static void fail(const char *what)
 {
     fprintf(stderr, "%s\n", what);
@@ -72,12 +47,12 @@ static void *allocate(size_t length)
     return block;
 }
 
-/* Makes the call of a question. */
-static enum spki_status ask(const struct question *it, void *buffer, size_t size, size_t *needed)
+/* Makes the call of a question, with a buffer of `size` octets. */
+static enum spki_status ask(const struct question *asked, void *buffer, size_t size, size_t *needed)
 {
-    if (it->command == CHECK_ACCEPTED)
-        return spki_check_accepted(it->texts[0], it->lengths[0], it->texts[1], it->lengths[1], buffer, size, needed).status;
-    return spki_answer((enum spki_command)it->command, it->texts[0], it->lengths[0], buffer, size, needed).status;
+    if (asked->command == CHECK_ACCEPTED)
+        return spki_check_accepted(asked->texts[0], asked->lengths[0], asked->texts[1], asked->lengths[1], buffer, size, needed).status;
+    return spki_answer((enum spki_command)asked->command, asked->texts[0], asked->lengths[0], buffer, size, needed).status;
 }
 
 /* Whether each of these octets is the wanted one. */
@@ -90,18 +65,18 @@ static int are_all(const unsigned char *octets, size_t length, unsigned char wan
 
 /* Asks with a buffer of this size between canaries. The answer must be the known one if it fits. If not, only the first octet may be written: it must
  * be 0. */
-static void ask_with(const struct question *it, size_t size)
+static void ask_with(const struct question *asked, size_t size)
 {
-    size_t needed = 12345, written = it->length <= size ? it->length : 0;
+    size_t needed = 12345, written = asked->length <= size ? asked->length : 0;
     unsigned char *block = allocate(size + 2 * CANARIES), *buffer = block + CANARIES;
     memset(block, CANARY, size + 2 * CANARIES);
     memset(buffer, UNTOUCHED, size);
-    enum spki_status status = ask(it, buffer, size, &needed);
-    if (needed != it->length)
+    enum spki_status status = ask(asked, buffer, size, &needed);
+    if (needed != asked->length)
         fail("another length is needed");
-    if (status != (it->length <= size ? it->status : SPKI_TOO_SMALL))
+    if (status != (asked->length <= size ? asked->status : SPKI_TOO_SMALL))
         fail("another status");
-    if (written && memcmp(buffer, it->answer, written))
+    if (written && memcmp(buffer, asked->answer, written))
         fail("another answer");
     if (!written && size && *buffer)
         fail("a line of an earlier call is left where no answer is written");
@@ -115,15 +90,15 @@ static void ask_with(const struct question *it, size_t size)
 }
 
 /* Asks once for each of the first `most` requests for memory, with that one refused, until the call makes no more. */
-static void ask_refused(const struct question *it, size_t most)
+static void ask_refused(const struct question *asked, size_t most)
 {
     static const char refused[] = "refused Memory\n";
-    size_t size = it->length + sizeof refused, needed;
+    size_t size = asked->length + sizeof refused, needed;
     unsigned char *buffer = allocate(size);
     for (size_t request = 1; request <= most; request++) {
         is_refused = 0;
         until_refusal = request;
-        enum spki_status status = ask(it, buffer, size, &needed);
+        enum spki_status status = ask(asked, buffer, size, &needed);
         until_refusal = 0;
         if (!is_refused)
             break;
@@ -134,16 +109,16 @@ static void ask_refused(const struct question *it, size_t most)
 }
 
 /* Asks without a buffer, then with one that is large enough, whose answer is kept, then with others. */
-static void answer(struct question *it)
+static void answer(struct question *asked)
 {
-    if (ask(it, NULL, 0, &it->length) != SPKI_TOO_SMALL || !it->length)
+    if (ask(asked, NULL, 0, &asked->length) != SPKI_TOO_SMALL || !asked->length)
         fail("an answer without octets");
-    it->answer = allocate(it->length);
-    it->status = ask(it, it->answer, it->length, NULL);
-    ask_with(it, 0);
-    ask_with(it, it->length - 1);
-    ask_with(it, it->length);
-    ask_with(it, it->length + 40);
+    asked->answer = allocate(asked->length);
+    asked->status = ask(asked, asked->answer, asked->length, NULL);
+    ask_with(asked, 0);
+    ask_with(asked, asked->length - 1);
+    ask_with(asked, asked->length);
+    ask_with(asked, asked->length + 40);
 }
 
 /* Asks all questions, from the one at a place on. */
@@ -151,8 +126,8 @@ static void *ask_all(void *place)
 {
     size_t first = *(size_t *)place;
     for (size_t i = 0; i < question_count; i++) {
-        const struct question *it = &questions[(first + i) % question_count];
-        ask_with(it, it->length + i % 2);
+        const struct question *asked = &questions[(first + i) % question_count];
+        ask_with(asked, asked->length + i % 2);
     }
     return NULL;
 }
@@ -209,14 +184,14 @@ static void misuse(void)
 }
 
 /* Reads the next question, and returns whether there was one. A text without octets is a null pointer. */
-static int read_question(struct question *it)
+static int read_question(struct question *asked)
 {
-    memset(it, 0, sizeof *it);
-    if (scanf("%u %zu %zu", &it->command, &it->lengths[0], &it->lengths[1]) != 3 || getchar() != '\n')
+    memset(asked, 0, sizeof *asked);
+    if (scanf("%u %zu %zu", &asked->command, &asked->lengths[0], &asked->lengths[1]) != 3 || getchar() != '\n')
         return 0;
     for (int i = 0; i < 2; i++) {
-        it->texts[i] = it->lengths[i] ? allocate(it->lengths[i]) : NULL;
-        if (it->lengths[i] && fread(it->texts[i], 1, it->lengths[i], stdin) != it->lengths[i])
+        asked->texts[i] = asked->lengths[i] ? allocate(asked->lengths[i]) : NULL;
+        if (asked->lengths[i] && fread(asked->texts[i], 1, asked->lengths[i], stdin) != asked->lengths[i])
             fail("a question is cut off");
     }
     return 1;
@@ -234,12 +209,12 @@ int main(int count, char **words)
     }
     ask_side_by_side((size_t)atoi(words[1]));
     for (size_t i = 0; i < question_count; i++) {
-        struct question *it = &questions[i];
-        printf("%d %zu\n", (int)it->status, it->length);
-        fwrite(it->answer, 1, it->length, stdout);
-        free(it->answer);
-        free(it->texts[0]);
-        free(it->texts[1]);
+        struct question *asked = &questions[i];
+        printf("%d %zu\n", (int)asked->status, asked->length);
+        fwrite(asked->answer, 1, asked->length, stdout);
+        free(asked->answer);
+        free(asked->texts[0]);
+        free(asked->texts[1]);
     }
     free(questions);
     return 0;

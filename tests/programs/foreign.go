@@ -9,7 +9,7 @@ import (
 	"os"
 )
 
-// certificate returns the octets in DER of a file in PEM.
+// certificate returns the octets in DER of a file in PEM. It panics if there is none.
 func certificate(path string) []byte {
 	text, _ := os.ReadFile(path)
 	block, _ := pem.Decode(text)

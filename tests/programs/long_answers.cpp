@@ -7,6 +7,7 @@
 #include <iterator>
 #include <string>
 
+// The octets of a file, none if it cannot be read.
 static std::string text_in(const char *path)
 {
     std::ifstream file(path, std::ios::binary);

@@ -8,6 +8,7 @@ enum { UNTOUCHED = 0x5a };
 #define TOO_LONG ((size_t)PTRDIFF_MAX + 1)
 #define BUFFER buffer, sizeof buffer, &needed
 
+/* Texts that are not lent whole: null with a length, or more octets than memory has. */
 static const struct spki_text wrong[] = {{NULL, 1}, {NULL, TOO_LONG}, {"x", TOO_LONG}, {"x", SIZE_MAX}};
 enum { WRONG = sizeof wrong / sizeof *wrong };
 
@@ -67,27 +68,27 @@ static struct spki_question good_question(void)
     return question;
 }
 
-/* Each call with a wrong text. */
-static void wrong_texts(struct spki_text it)
+/* Each call with a text that is not lent whole. */
+static void wrong_texts(struct spki_text invalid)
 {
-    const void *octets = &it;
-    expect_no_guard(spki_guard_open(it.octets, it.length, SPKI_STRICT, NULL, &no_guard, BUFFER), "spki_guard_open: list");
-    expect_misused(spki_answer(SPKI_CHECK, it.octets, it.length, BUFFER).status, "spki_answer: text");
-    expect_misused(spki_check_accepted(it.octets, it.length, "x", 1, BUFFER).status, "spki_check_accepted: text");
-    expect_misused(spki_check_accepted("x", 1, it.octets, it.length, BUFFER).status, "spki_check_accepted: rows");
-    expect_misused_unwritten(spki_string(it.octets, it.length, NULL, 0, &octets, &needed), "spki_string: text");
+    const void *octets = &invalid;
+    expect_no_guard(spki_guard_open(invalid.octets, invalid.length, SPKI_STRICT, NULL, &no_guard, BUFFER), "spki_guard_open: list");
+    expect_misused(spki_answer(SPKI_CHECK, invalid.octets, invalid.length, BUFFER).status, "spki_answer: text");
+    expect_misused(spki_check_accepted(invalid.octets, invalid.length, "x", 1, BUFFER).status, "spki_check_accepted: text");
+    expect_misused(spki_check_accepted("x", 1, invalid.octets, invalid.length, BUFFER).status, "spki_check_accepted: rows");
+    expect_misused_unwritten(spki_string(invalid.octets, invalid.length, NULL, 0, &octets, &needed), "spki_string: text");
     expect(!octets, "spki_string: text");
 }
 
-/* Questions with a wrong text, and with a wrong list of strings. */
-static void wrong_parts(struct spki_text it)
+/* Questions with such a text, and with such a list of strings. */
+static void wrong_parts(struct spki_text invalid)
 {
     struct spki_question question = good_question();
-    struct spki_text words[2] = {text("x"), it}, *const parts[] = {&question.sequence, &question.key.text, &question.request, &question.moment};
+    struct spki_text words[2] = {text("x"), invalid}, *const parts[] = {&question.sequence, &question.key.text, &question.request, &question.moment};
     for (size_t place = 0; place < sizeof parts / sizeof *parts; place++) {
         question = good_question();
         question.seconds = parts[place] == &question.moment ? NULL : &moment;
-        *parts[place] = it;
+        *parts[place] = invalid;
         expect_misused_question(&question, "spki_guard_ask: a part");
     }
     question = good_question();
@@ -95,26 +96,26 @@ static void wrong_parts(struct spki_text it)
     question.words = words;
     question.word_count = 2;
     expect_misused_question(&question, "spki_guard_ask: a string");
-    question.words = it.octets ? words : NULL;
-    question.word_count = it.length;
+    question.words = invalid.octets ? words : NULL;
+    question.word_count = invalid.length;
     expect_misused_question(&question, "spki_guard_ask: strings");
 }
 
-/* Each call with a wrong buffer: null or the right one, with the length of a wrong text. */
-static void wrong_buffers(struct spki_text it)
+/* Each call with a wrong buffer: null or the right one, with the length of such a text. */
+static void wrong_buffers(struct spki_text invalid)
 {
     struct spki_question question = good_question();
-    void *to = it.octets ? buffer : NULL;
-    expect_misused_unwritten(spki_guard_open("(acl)", 5, SPKI_STRICT, NULL, &no_guard, to, it.length, &needed), "spki_guard_open: buffer");
-    expect_misused_unwritten(spki_guard_ask(guard, &question, &no_asked, to, it.length, &needed), "spki_guard_ask: buffer");
+    void *to = invalid.octets ? buffer : NULL;
+    expect_misused_unwritten(spki_guard_open("(acl)", 5, SPKI_STRICT, NULL, &no_guard, to, invalid.length, &needed), "spki_guard_open: buffer");
+    expect_misused_unwritten(spki_guard_ask(guard, &question, &no_asked, to, invalid.length, &needed), "spki_guard_ask: buffer");
     expect(!no_guard && !no_asked, "a handle of a call that has no buffer");
     no_guard = guard;
     no_asked = asked;
-    expect_misused_unwritten(spki_answer(SPKI_CHECK, "x", 1, to, it.length, &needed).status, "spki_answer: buffer");
-    expect_misused_unwritten(spki_check_accepted("x", 1, "x", 1, to, it.length, &needed).status, "spki_check_accepted: buffer");
-    expect_misused_unwritten(spki_asked_decide(asked, to, it.length, &needed).status, "spki_asked_decide: buffer");
-    expect_misused_unwritten(spki_asked_explain(asked, to, it.length, &needed).status, "spki_asked_explain: buffer");
-    expect_misused_unwritten(spki_asked_reduce(asked, to, it.length, &needed).status, "spki_asked_reduce: buffer");
+    expect_misused_unwritten(spki_answer(SPKI_CHECK, "x", 1, to, invalid.length, &needed).status, "spki_answer: buffer");
+    expect_misused_unwritten(spki_check_accepted("x", 1, "x", 1, to, invalid.length, &needed).status, "spki_check_accepted: buffer");
+    expect_misused_unwritten(spki_asked_decide(asked, to, invalid.length, &needed).status, "spki_asked_decide: buffer");
+    expect_misused_unwritten(spki_asked_explain(asked, to, invalid.length, &needed).status, "spki_asked_explain: buffer");
+    expect_misused_unwritten(spki_asked_reduce(asked, to, invalid.length, &needed).status, "spki_asked_reduce: buffer");
 }
 
 /* Limits and questions with a wrong size, and limits that are too high. */
@@ -232,8 +233,8 @@ static void allowed(void)
 int main(void)
 {
     struct spki_question question = good_question();
-    guard = opened("(acl (entry (public-key (test b)) (tag (*))))", SPKI_STRICT);
-    asked = asked_of(guard, &question);
+    guard = open_guard("(acl (entry (public-key (test b)) (tag (*))))", SPKI_STRICT);
+    asked = open_question(guard, &question);
     memset(buffer, UNTOUCHED, sizeof buffer);
     no_guard = guard;
     no_asked = asked;

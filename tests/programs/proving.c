@@ -11,7 +11,7 @@ enum { MOST_FIELDS = 64 };
 /* The strings of a request before its fields. */
 enum { METHOD, AUTHORITY, TARGET, TIME, BEFORE, BODY, FIELD_COUNT, HEAD };
 
-/* Reads LENGTH:OCTETS. An octet 00 that does not count is behind the octets. False at the end of the input, and if memory ran out. */
+/* Reads LENGTH:OCTETS. An octet 00 that does not count is behind the octets, for atoll. False at the end of the input, and if memory ran out. */
 static bool read_string(struct spki_text *string)
 {
     size_t length;
@@ -34,13 +34,15 @@ static bool read_strings(struct spki_text *strings, size_t count)
     return true;
 }
 
+/* Frees what read_strings has read. */
 static void free_strings(struct spki_text *strings, size_t count)
 {
     while (count > 0)
         free((void *)strings[--count].octets);
 }
 
-/* Answers a request of `count` fields: `of_fields` has the name and the value of each. A read past `fields` is seen: its block ends there. */
+/* Writes the line for a request of `count` fields: `head` has its strings before them, and `of_fields` the name and the value of each. A read past
+ * `fields` is seen by a sanitizer: its block ends with one more. */
 static void answer(const struct spki_text *head, struct spki_text *of_fields, size_t count)
 {
     const struct spki_text names[] = {SPKI_LITERAL("example.com")};

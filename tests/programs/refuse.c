@@ -46,6 +46,7 @@ static int is_refused(struct calls *calls) {
     return 1;
 }
 
+/* Fails as malloc does. */
 static void *no_memory(void) {
     errno = ENOMEM;
     return NULL;

@@ -11,15 +11,16 @@
 
 enum { MOST = 4096, ARGUMENTS = 8, BROKEN = 99 };
 
+/* A call as it is made: the machine passes whole numbers and pointers alike. `any` is a type in which the table below can hold each. */
 typedef uint64_t call(uint64_t, uint64_t, uint64_t, uint64_t, uint64_t, uint64_t, uint64_t, uint64_t);
 typedef void (*any)(void);
 
 /* Decides, and writes the last second to `until`: spki_asked_decide returns a structure, and `call` only a number. */
 static enum spki_status decide_to(const spki_asked *asked, void *buffer, size_t length, size_t *needed, int64_t *until)
 {
-    const struct spki_decision said = spki_asked_decide(asked, buffer, length, needed);
-    *until = said.until;
-    return said.status;
+    const struct spki_decision decision = spki_asked_decide(asked, buffer, length, needed);
+    *until = decision.until;
+    return decision.status;
 }
 
 /* In the order of CALLS in relayed.py. */
@@ -35,46 +36,48 @@ static void read_octets(void *octets, size_t length)
         exit(BROKEN);
 }
 
+/* Reads a number of 8 octets. The program ends if there are fewer. */
 static uint64_t read_number(void)
 {
-    uint64_t taken;
-    read_octets(&taken, sizeof taken);
-    return taken;
+    uint64_t number;
+    read_octets(&number, sizeof number);
+    return number;
 }
 
-/* Reads a number, which must be below `most`. */
-static uint64_t read_number_below(uint64_t most)
+/* Reads a number. The program ends unless it is below `limit`. */
+static uint64_t read_number_below(uint64_t limit)
 {
-    uint64_t taken = read_number();
-    if (taken >= most)
+    uint64_t number = read_number();
+    if (number >= limit)
         exit(BROKEN);
-    return taken;
+    return number;
 }
 
+/* Writes octets. The program ends if that fails. */
 static void write_octets(const void *octets, size_t length)
 {
     if (length && fwrite(octets, 1, length, stdout) != length)
         exit(BROKEN);
 }
 
-/* Reads a block, which ends where its octets do, so that a read past the end is seen. */
+/* Reads a block and sets its length. It ends where its octets do, so that a read past the end is seen by a sanitizer. The caller frees it. */
 static unsigned char *read_block(uint64_t *length)
 {
-    unsigned char *made;
     *length = read_number();
-    made = malloc(*length ? *length : 1);
-    if (!made)
+    unsigned char *block = malloc(*length ? *length : 1);
+    if (!block)
         exit(BROKEN);
-    read_octets(made, *length);
-    return made;
+    read_octets(block, *length);
+    return block;
 }
 
-/* Does the call with this number by its eight arguments, or copies octets into block 0. */
-static uint64_t do_call(uint64_t which, const uint64_t *it, unsigned char *const *blocks)
+/* Does the call with this number by its eight arguments, and returns what it returns. Number 0 copies octets into block 0: the first two arguments
+ * are their address and their count. */
+static uint64_t do_call(uint64_t number, const uint64_t *args, unsigned char *const *blocks)
 {
-    if (which)
-        return ((call *)calls[which])(it[0], it[1], it[2], it[3], it[4], it[5], it[6], it[7]);
-    memcpy(blocks[0], (const void *)(uintptr_t)it[0], it[1]);
+    if (number)
+        return ((call *)calls[number])(args[0], args[1], args[2], args[3], args[4], args[5], args[6], args[7]);
+    memcpy(blocks[0], (const void *)(uintptr_t)args[0], args[1]);
     return 0;
 }
 
@@ -83,17 +86,17 @@ static void answer(void)
 {
     static unsigned char *blocks[MOST];
     static uint64_t lengths[MOST];
-    uint64_t count = read_number_below(MOST), links, which, given[ARGUMENTS], returned;
+    uint64_t count = read_number_below(MOST), args[ARGUMENTS];
     for (uint64_t i = 0; i < count; i++)
         blocks[i] = read_block(&lengths[i]);
-    for (links = read_number(); links; links--) {
+    for (uint64_t addresses = read_number(); addresses; addresses--) {
         uint64_t in = read_number_below(count), place = read_number_below(lengths[in]), to = read_number_below(count);
         memcpy(blocks[in] + place, &blocks[to], sizeof blocks[to]);
     }
-    which = read_number_below(sizeof calls / sizeof *calls);
+    const uint64_t number = read_number_below(sizeof calls / sizeof *calls);
     for (size_t i = 0; i < ARGUMENTS; i++)
-        given[i] = read_number() ? (uint64_t)(uintptr_t)blocks[read_number_below(count)] : read_number();
-    returned = do_call(which, given, blocks);
+        args[i] = read_number() ? (uint64_t)(uintptr_t)blocks[read_number_below(count)] : read_number();
+    const uint64_t returned = do_call(number, args, blocks);
     write_octets(&returned, sizeof returned);
     for (uint64_t i = 0; i < count; i++) {
         write_octets(&blocks[i], sizeof blocks[i]);

@@ -7,12 +7,12 @@
 static gcry_sexp_t value_in(const char *path)
 {
     static char octets[65536];
-    gcry_sexp_t made = NULL;
+    gcry_sexp_t value = NULL;
     FILE *file = fopen(path, "rb");
     size_t length = file ? fread(octets, 1, sizeof octets, file) : 0;
     if (file)
         fclose(file);
-    return gcry_sexp_new(&made, octets, length, 0) ? NULL : made;
+    return gcry_sexp_new(&value, octets, length, 0) ? NULL : value;
 }
 
 int main(int count, char **words)

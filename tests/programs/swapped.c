@@ -20,13 +20,13 @@ enum { THREADS = 4, TURNS = 40 };
 static pthread_rwlock_t lock = PTHREAD_RWLOCK_INITIALIZER;
 static spki_guard *guard;
 
-/* A guard that grants Bob all, or nothing. */
-static spki_guard *opened(bool grants)
+/* Opens a guard that grants Bob all, or nothing. */
+static spki_guard *open_guard(bool grants)
 {
     static const char all[] = "(acl (entry (public-key (test b)) (tag (*))))", none[] = "(acl)";
-    spki_guard *made;
-    CHECK(spki_guard_open(grants ? all : none, grants ? sizeof all - 1 : sizeof none - 1, SPKI_STRICT, NULL, &made, NULL, 0, NULL) == SPKI_DONE);
-    return made;
+    spki_guard *opened;
+    CHECK(spki_guard_open(grants ? all : none, grants ? sizeof all - 1 : sizeof none - 1, SPKI_STRICT, NULL, &opened, NULL, 0, NULL) == SPKI_DONE);
+    return opened;
 }
 
 /* Asks under the lock. The answer must be that of the guard which was the current one then. */
@@ -52,13 +52,13 @@ static void *ask(void *unused)
 int main(void)
 {
     pthread_t threads[THREADS];
-    guard = opened(true);
+    guard = open_guard(true);
     for (size_t place = 0; place < THREADS; place++)
         CHECK(pthread_create(&threads[place], NULL, ask, NULL) == 0);
     for (int turn = 0; turn < TURNS; turn++) {
-        spki_guard *next = opened(turn % 2), *last;
+        spki_guard *next = open_guard(turn % 2);
         pthread_rwlock_wrlock(&lock);
-        last = guard;
+        spki_guard *last = guard;
         guard = next;
         pthread_rwlock_unlock(&lock);
         spki_guard_close(last);

@@ -1,19 +1,21 @@
 /* Asks until when a question is a yes, and whether it is one then and a second later: `until.py`.
  *
- * Usage: until LIST SEQUENCE KEY MOMENT. Prints the last second of the decision, and 1 or 0 for each of the two seconds if they can be asked. */
+ * Usage: until LIST SEQUENCE KEY MOMENT. Prints the status and the last second of the decision, and 1 or 0 for each of the two seconds if they can be
+ * asked. */
 #include <inttypes.h>
 #include <spki.h>
 #include <stdio.h>
 #include <stdlib.h>
 #include <string.h>
 
+/* A C string as a text. */
 static struct spki_text text(const char *words)
 {
     return (struct spki_text){words, strlen(words)};
 }
 
-/* Decides a question, whose signatures are all valid. */
-static struct spki_decision decided(const spki_guard *guard, const struct spki_question *question)
+/* Decides a question, whose signatures are all valid. Ends the program if it is refused, or its decision differs from its truth value. */
+static struct spki_decision decide(const spki_guard *guard, const struct spki_question *question)
 {
     unsigned char line[64];
     spki_asked *asked;
@@ -21,11 +23,11 @@ static struct spki_decision decided(const spki_guard *guard, const struct spki_q
         exit(2);
     for (size_t place = 0; spki_asked_mark(asked, place) == SPKI_DONE; place++)
         continue;
-    const struct spki_decision said = spki_asked_decide(asked, line, sizeof line, NULL);
-    if (spki_asked_granted(asked) != (said.status == SPKI_YES))
+    const struct spki_decision decision = spki_asked_decide(asked, line, sizeof line, NULL);
+    if (spki_asked_granted(asked) != (decision.status == SPKI_YES))
         exit(3);
     spki_asked_close(asked);
-    return said;
+    return decision;
 }
 
 int main(int count, char **words)
@@ -39,13 +41,14 @@ int main(int count, char **words)
     question.key = spki_assume_key(text(words[3]));
     snprintf(moment, sizeof moment, "19:%s", words[4]);
     question.moment = text(moment);
-    const struct spki_decision said = decided(guard, &question);
-    printf("%d %" PRId64, said.status, said.until);
+    const struct spki_decision decision = decide(guard, &question);
+    printf("%d %" PRId64, decision.status, decision.until);
     question.moment = (struct spki_text){0};
-    for (int64_t later = 0; later < 2 && said.until >= 0 && said.until < 253402300799; later++) {
-        const int64_t seconds = said.until + later;
+    /* (seconds cannot be asked before 1970, nor from the last second of the year 9999 on) */
+    for (int64_t later = 0; later < 2 && decision.until >= 0 && decision.until < 253402300799; later++) {
+        const int64_t seconds = decision.until + later;
         question.seconds = &seconds;
-        printf(" %d", decided(guard, &question).status == SPKI_YES);
+        printf(" %d", decide(guard, &question).status == SPKI_YES);
     }
     puts("");
     spki_guard_close(guard);

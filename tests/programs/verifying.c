@@ -10,6 +10,7 @@
 #include <sys/wait.h>
 #include <unistd.h>
 
+/* The most signatures. */
 enum { MOST = 65536 };
 
 static struct spki_text strings[3 * MOST];
@@ -35,8 +36,8 @@ static size_t verify_from(size_t place, size_t count, char *answers)
     pid_t child = fork();
     if (child == 0) {
         for (; place < count; place++) {
-            struct spki_text *it = strings + 3 * place;
-            answers[place] = verifies(&(struct spki_signed){.key = it[0], .message = it[1], .value = it[2]}) ? '1' : '0';
+            struct spki_text *texts = strings + 3 * place;
+            answers[place] = verifies(&(struct spki_signed){.key = texts[0], .message = texts[1], .value = texts[2]}) ? '1' : '0';
         }
         exit(0);
     }
