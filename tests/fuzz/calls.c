@@ -9,24 +9,24 @@
 #include <spki.h>
 
 /* Octets before and behind each buffer, and what each of them is; what each octet of a buffer is before a call; places of `marks`; octets of the
- * usual buffer; places of `met`. */
+ * usual buffer; places of `seen`. */
 enum { CANARIES = 16, CANARY = 0xa5, UNTOUCHED = 0x5a, MOST_MARKS = 64, ROOM = 256, COUNTERS = 4096 };
 
-/* The answers that were met, by their `count`. libFuzzer reads this section. */
-__attribute__((section("__libfuzzer_extra_counters"))) static uint8_t met[COUNTERS];
+/* The answers that were seen, by their `count`. libFuzzer reads this section. */
+__attribute__((section("__libfuzzer_extra_counters"))) static uint8_t seen[COUNTERS];
 
 int LLVMFuzzerTestOneInput(const uint8_t *data, size_t size);
 
-/* Ends the process with a line about what is wrong, unless this is so. */
-static void holds(int is_so, const char *what)
+/* Ends the process with the line `what`, which says what is wrong, unless a condition holds. */
+static void expect(int holds, const char *what)
 {
-    if (is_so)
+    if (holds)
         return;
     fprintf(stderr, "%s\n", what);
     abort();
 }
 
-/* Which request for memory of the next call of `done` is refused, from 1, or 0 for none. */
+/* Which request for memory of the next `do_call` is refused, from 1, or 0 for none. */
 static size_t next_refusal;
 
 /* The answer of a call. With SPKI_TOO_SMALL there is none, and `length` is how many octets it needs. */
@@ -43,7 +43,7 @@ static void count(const struct answer *answer)
     for (size_t place = 0; place < answer->length && answer->octets[place] != '\n' && place < 64; place++)
         if (answer->octets[place] > '9')
             sum = sum * 31 + answer->octets[place];
-    met[sum % COUNTERS] = 1;
+    seen[sum % COUNTERS] = 1;
 }
 
 /* A call whose answer goes to a buffer, and what it is called with. */
@@ -51,31 +51,31 @@ typedef enum spki_status call(const void *with, void *buffer, size_t length, siz
 
 /* Does a call with a buffer of this size between canaries, with the request for memory `next_refusal` refused. Nothing but the answer may be written,
  * and the first octet must be 0 if there is none. Returns the answer, whose octets the caller frees. */
-static struct answer done(call *calls, const void *with, size_t size)
+static struct answer do_call(call *calls, const void *with, size_t size)
 {
     struct answer answer = {0};
     unsigned char *block = malloc(size + 2 * CANARIES), *buffer = block + CANARIES;
     size_t written;
-    holds(block != NULL, "no memory");
+    expect(block != NULL, "no memory");
     memset(block, CANARY, size + 2 * CANARIES);
     memset(buffer, UNTOUCHED, size);
     until_refusal = next_refusal;
     answer.status = calls(with, buffer, size, &answer.length);
     until_refusal = next_refusal = 0;
     written = answer.status == SPKI_TOO_SMALL ? 0 : answer.length;
-    holds(answer.status == SPKI_TOO_SMALL ? answer.length > size : answer.length <= size, "another length is needed");
-    holds(written || !size || !buffer[0], "a line of an earlier call is left where no answer is written");
+    expect(answer.status == SPKI_TOO_SMALL ? answer.length > size : answer.length <= size, "another length is needed");
+    expect(written || !size || !buffer[0], "a line of an earlier call is left where no answer is written");
     for (size_t place = written ? written : 1; place < size; place++)
-        holds(buffer[place] == UNTOUCHED, "the buffer is written where no answer stands");
+        expect(buffer[place] == UNTOUCHED, "the buffer is written where no answer stands");
     for (size_t place = 0; place < CANARIES; place++)
-        holds(block[place] == CANARY && buffer[size + place] == CANARY, "the call writes past the buffer");
+        expect(block[place] == CANARY && buffer[size + place] == CANARY, "the call writes past the buffer");
     memmove(block, buffer, written);
     answer.octets = block;
     return answer;
 }
 
 /* Whether an answer is this line, which is a C string. */
-static int is(const struct answer *answer, const char *wanted)
+static int is_line(const struct answer *answer, const char *wanted)
 {
     return answer->length == strlen(wanted) && !memcmp(answer->octets, wanted, answer->length);
 }
@@ -89,22 +89,22 @@ static void refuse(struct input *in, call *calls, const void *with)
         return;
     is_refused = 0;
     next_refusal = 1 + below(in, 64);
-    answer = done(calls, with, ROOM);
-    holds(!is_refused || (answer.status == SPKI_REFUSED && is(&answer, "refused Memory\n")), "another answer where memory is refused");
+    answer = do_call(calls, with, ROOM);
+    expect(!is_refused || (answer.status == SPKI_REFUSED && is_line(&answer, "refused Memory\n")), "another answer where memory is refused");
     free(answer.octets);
 }
 
 /* Does a call with a buffer of some size, and once more if it is too small. The caller frees the octets. */
-static struct answer answered(struct input *in, call *calls, const void *with)
+static struct answer answer_of(struct input *in, call *calls, const void *with)
 {
     static const size_t sizes[] = {ROOM, 0, 1, 11};
     struct answer answer;
     refuse(in, calls, with);
-    answer = done(calls, with, sizes[below(in, 4)]);
+    answer = do_call(calls, with, sizes[below(in, 4)]);
     if (answer.status == SPKI_TOO_SMALL) {
         free(answer.octets);
-        answer = done(calls, with, answer.length);
-        holds(answer.status != SPKI_TOO_SMALL, "the length that was needed is not enough");
+        answer = do_call(calls, with, answer.length);
+        expect(answer.status != SPKI_TOO_SMALL, "the length that was needed is not enough");
     }
     count(&answer);
     return answer;
@@ -124,18 +124,18 @@ struct of_text {
     struct spki_text text, rows;
 };
 
-/* The call of spki_answer, with a struct of_text. */
+/* The call of spki_answer: `with` is a struct of_text. The calls below take other structures in the same way. */
 static enum spki_status answers_text(const void *with, void *buffer, size_t length, size_t *needed)
 {
-    const struct of_text *it = with;
-    return spki_answer(it->command, it->text.octets, it->text.length, buffer, length, needed).status;
+    const struct of_text *args = with;
+    return spki_answer(args->command, args->text.octets, args->text.length, buffer, length, needed).status;
 }
 
 /* The call of spki_check_accepted, with a struct of_text. */
 static enum spki_status answers_rows(const void *with, void *buffer, size_t length, size_t *needed)
 {
-    const struct of_text *it = with;
-    return spki_check_accepted(it->text.octets, it->text.length, it->rows.octets, it->rows.length, buffer, length, needed).status;
+    const struct of_text *args = with;
+    return spki_check_accepted(args->text.octets, args->text.length, args->rows.octets, args->rows.length, buffer, length, needed).status;
 }
 
 /* Whether two texts have the same octets. */
@@ -147,21 +147,20 @@ static int equals(struct spki_text one, struct spki_text other)
 /* A text as the library takes it. Its octets stay those of `text`. */
 static struct spki_text lent(const struct text *text)
 {
-    struct spki_text given = {text->octets, text->length};
-    return given;
+    return (struct spki_text){text->octets, text->length};
 }
 
 /* Writes a text in one of the three forms, where it is one value. Its canonical form must stay the same. Otherwise the text stays. */
 static void convert(struct input *in, struct text *text)
 {
     struct of_text with = {SPKI_CANONICAL, lent(text), {0}}, again = with;
-    struct answer own = answered(in, answers_text, &with), other, back;
+    struct answer own = answer_of(in, answers_text, &with), other, back;
     with.command = (enum spki_command)below(in, 3);
-    other = answered(in, answers_text, &with);
-    holds(own.status == other.status, "a text is read as one form only");
+    other = answer_of(in, answers_text, &with);
+    expect(own.status == other.status, "a text is read as one form only");
     again.text = (struct spki_text){other.octets, other.length};
-    back = answered(in, answers_text, &again);
-    holds(own.status != SPKI_DONE || are_same(&own, &back), "a text becomes another one in another form");
+    back = answer_of(in, answers_text, &again);
+    expect(own.status != SPKI_DONE || are_same(&own, &back), "a text becomes another one in another form");
     if (own.status == SPKI_DONE && other.length < MOST_OCTETS) {
         text->length = 0;
         put(text, other.octets, other.length);
@@ -180,9 +179,9 @@ static void find(struct input *in, struct spki_text text)
     for (size_t place = 0; place < depth; place++)
         path[place] = below(in, 5);
     status = spki_string(text.octets, text.length, path, depth, &octets, &length);
-    holds(status == SPKI_DONE || status == SPKI_NONE, "a text in canonical form is refused");
-    holds(status == SPKI_DONE || (!octets && !length), "a string where there is none");
-    holds(status != SPKI_DONE || ((const char *)octets >= (const char *)text.octets
+    expect(status == SPKI_DONE || status == SPKI_NONE, "a text in canonical form is refused");
+    expect(status == SPKI_DONE || (!octets && !length), "a string where there is none");
+    expect(status != SPKI_DONE || ((const char *)octets >= (const char *)text.octets
                                   && (const char *)octets + length <= (const char *)text.octets + text.length), "a string outside its text");
 }
 
@@ -199,9 +198,9 @@ struct of_guard {
 /* The call of spki_guard_open, with a struct of_guard. */
 static enum spki_status opens(const void *with, void *buffer, size_t length, size_t *needed)
 {
-    const struct of_guard *it = with;
-    enum spki_status status = spki_guard_open(it->list.octets, it->list.length, it->policy, it->limits, it->guard, buffer, length, needed);
-    holds((status == SPKI_DONE) == (*it->guard != NULL), "a list without a guard, or a guard without a list");
+    const struct of_guard *args = with;
+    enum spki_status status = spki_guard_open(args->list.octets, args->list.length, args->policy, args->limits, args->guard, buffer, length, needed);
+    expect((status == SPKI_DONE) == (*args->guard != NULL), "a list without a guard, or a guard without a list");
     return status;
 }
 
@@ -215,9 +214,9 @@ struct of_question {
 /* The call of spki_guard_ask, with a struct of_question. */
 static enum spki_status asks(const void *with, void *buffer, size_t length, size_t *needed)
 {
-    const struct of_question *it = with;
-    enum spki_status status = spki_guard_ask(it->guard, it->question, it->asked, buffer, length, needed);
-    holds((status == SPKI_DONE) == (*it->asked != NULL), "a question without a handle, or a handle without a question");
+    const struct of_question *args = with;
+    enum spki_status status = spki_guard_ask(args->guard, args->question, args->asked, buffer, length, needed);
+    expect((status == SPKI_DONE) == (*args->asked != NULL), "a question without a handle, or a handle without a question");
     return status;
 }
 
@@ -230,8 +229,8 @@ struct of_asked {
 /* The call that a struct of_asked names: explains, reduces or decision_of. */
 static enum spki_status answers_asked(const void *with, void *buffer, size_t length, size_t *needed)
 {
-    const struct of_asked *it = with;
-    return it->answers(it->asked, buffer, length, needed);
+    const struct of_asked *args = with;
+    return args->answers(args->asked, buffer, length, needed);
 }
 
 /* Each of the next two is a call for `answers` of struct of_asked: it returns the status alone. */
@@ -250,7 +249,7 @@ static size_t first_equal(const spki_asked *asked, size_t place)
 {
     struct spki_signed own, other;
     size_t first = 0;
-    holds(spki_asked_signature(asked, place, &own) == SPKI_DONE, "no signature");
+    expect(spki_asked_signature(asked, place, &own) == SPKI_DONE, "no signature");
     while (spki_asked_signature(asked, first, &other) == SPKI_DONE && !(equals(own.key, other.key) && equals(own.message, other.message)
                                                                         && equals(own.value, other.value)))
         first++;
@@ -263,33 +262,33 @@ static size_t mark(struct input *in, spki_asked *asked, struct text *rows)
 {
     static int marks[MOST_MARKS];
     const size_t count = spki_asked_count(asked);
-    struct spki_signed it;
+    struct spki_signed signature;
     size_t unmarked = 0;
     begin(rows, "accepted");
-    holds(count <= MOST_MARKS, "more signatures than certificates");
+    expect(count <= MOST_MARKS, "more signatures than certificates");
     for (size_t place = 0; place < count; place++) {
         struct text message = {0};
-        holds(spki_asked_signature(asked, place, &it) == SPKI_DONE, "no signature");
-        find(in, it.key);
-        find(in, it.message);
-        find(in, it.value);
+        expect(spki_asked_signature(asked, place, &signature) == SPKI_DONE, "no signature");
+        find(in, signature.key);
+        find(in, signature.message);
+        find(in, signature.value);
         marks[place] = mostly(in, 1, 3) == 1;
         marks[place] = marks[first_equal(asked, place)];
         if (!marks[place]) {
             unmarked++;
             continue;
         }
-        holds(spki_asked_mark(asked, place) == SPKI_DONE, "a signature that cannot be marked");
+        expect(spki_asked_mark(asked, place) == SPKI_DONE, "a signature that cannot be marked");
         begin(rows, "by");
-        put(rows, it.key.octets, it.key.length);
-        put(&message, it.message.octets, it.message.length);
+        put(rows, signature.key.octets, signature.key.length);
+        put(&message, signature.message.octets, signature.message.length);
         put_hash(rows, &message, 0);
-        put(rows, it.value.octets, it.value.length);
+        put(rows, signature.value.octets, signature.value.length);
         end(rows);
     }
     end(rows);
-    holds(spki_asked_signature(asked, count, &it) == SPKI_NONE && !it.key.octets, "a signature too many");
-    holds(spki_asked_mark(asked, count) == SPKI_MISUSED, "a mark too many");
+    expect(spki_asked_signature(asked, count, &signature) == SPKI_NONE && !signature.key.octets, "a signature too many");
+    expect(spki_asked_mark(asked, count) == SPKI_MISUSED, "a mark too many");
     return unmarked;
 }
 
@@ -299,19 +298,19 @@ static void explain(struct input *in, struct of_asked *with, const struct answer
     struct answer lines;
     char wanted[64] = "grants\n";
     with->answers = explains;
-    lines = answered(in, answers_asked, with);
-    holds(lines.status == SPKI_DONE || is(&lines, "refused TooLarge\n"), "no explanation");
+    lines = answer_of(in, answers_asked, with);
+    expect(lines.status == SPKI_DONE || is_line(&lines, "refused TooLarge\n"), "no explanation");
     if (lines.status == SPKI_DONE) {
         const unsigned char *found;
         if (decision->status == SPKI_YES)
             snprintf(wanted, sizeof wanted, "%.*s grants\n", (int)decision->length - 5, (const char *)decision->octets + 4);
         found = memmem(lines.octets, lines.length, wanted, strlen(wanted));
-        holds((decision->status == SPKI_YES) == (found != NULL), "the explanation says otherwise than the decision");
+        expect((decision->status == SPKI_YES) == (found != NULL), "the explanation says otherwise than the decision");
     }
     free(lines.octets);
     with->answers = reduces;
-    lines = answered(in, answers_asked, with);
-    holds(lines.status == SPKI_DONE || is(&lines, "refused TooLarge\n"), "no reduction");
+    lines = answer_of(in, answers_asked, with);
+    expect(lines.status == SPKI_DONE || is_line(&lines, "refused TooLarge\n"), "no reduction");
     free(lines.octets);
 }
 
@@ -319,8 +318,8 @@ static void explain(struct input *in, struct of_asked *with, const struct answer
 static void add(struct input *in, struct text *whole, const char *head, const struct text *part)
 {
     struct of_text with = {SPKI_CANONICAL, lent(part), {0}};
-    struct answer canonical = answered(in, answers_text, &with);
-    holds(canonical.status == SPKI_DONE, "a part that was read is no value");
+    struct answer canonical = answer_of(in, answers_text, &with);
+    expect(canonical.status == SPKI_DONE, "a part that was read is no value");
     if (head)
         begin(whole, head);
     put(whole, canonical.octets, canonical.length);
@@ -336,7 +335,7 @@ static void compare(struct input *in, const struct parts *parts, const struct te
     static struct text whole[2];
     struct of_text with = {SPKI_CHECK, {0}, lent(rows)};
     for (int own = 0; own < 2; own++) {
-        struct answer said;
+        struct answer answer;
         whole[own].length = 0;
         begin(&whole[own], "case");
         add(in, &whole[own], NULL, &parts->list);
@@ -349,19 +348,20 @@ static void compare(struct input *in, const struct parts *parts, const struct te
             put(&whole[own], "(6:policy6:strict)", 18);
         end(&whole[own]);
         with.text = lent(&whole[own]);
-        said = answered(in, own ? answers_text : answers_rows, &with);
-        holds(are_same(&said, decision) || is(&said, "refused TooLarge\n") || whole[own].length > MOST_OCTETS - 64,
-              "the guard decides otherwise than the case");
-        free(said.octets);
+        answer = answer_of(in, own ? answers_text : answers_rows, &with);
+        /* (what has no room is left out of `whole`, so it is another case then) */
+        expect(are_same(&answer, decision) || is_line(&answer, "refused TooLarge\n") || whole[own].length > MOST_OCTETS - 64,
+               "the guard decides otherwise than the case");
+        free(answer.octets);
     }
 }
 
 /* Decides an opened question, for a struct of_asked. Only a yes has an end, `until`: otherwise it is INT64_MIN. */
 static enum spki_status decision_of(const spki_asked *asked, void *buffer, size_t length, size_t *needed)
 {
-    const struct spki_decision said = spki_asked_decide(asked, buffer, length, needed);
-    holds((said.status == SPKI_YES) == (said.until != INT64_MIN), "a yes without an end, or the end of none");
-    return said.status;
+    const struct spki_decision decision = spki_asked_decide(asked, buffer, length, needed);
+    expect((decision.status == SPKI_YES) == (decision.until != INT64_MIN), "a yes without an end, or the end of none");
+    return decision.status;
 }
 
 /* Marks some signatures of an opened question and decides it. Compares the decision with what was possible, the case and the explanation. */
@@ -374,19 +374,19 @@ static void decide(struct input *in, const struct parts *parts, spki_asked *aske
     const bool is_possible = spki_asked_possible(asked);
     size_t unmarked;
     rows.length = 0;
-    holds(!count || !spki_asked_granted(asked), "a grant without a valid signature");
+    expect(!count || !spki_asked_granted(asked), "a grant without a valid signature");
     unmarked = mark(in, asked, &rows);
-    decision = answered(in, answers_asked, &with);
-    holds(decision.status == SPKI_YES || is(&decision, "no\n"), "no decision");
-    holds(spki_asked_granted(asked) == (decision.status == SPKI_YES), "a yes that is none, or none that is one");
-    holds(decision.status == SPKI_NO || !unmarked, "a grant with a signature that is not valid");
-    holds(unmarked || is_possible == (decision.status == SPKI_YES), "all signatures are valid, and the answer is not the one that was possible");
-    holds(spki_asked_possible(asked) == is_possible, "a mark changes what is possible");
+    decision = answer_of(in, answers_asked, &with);
+    expect(decision.status == SPKI_YES || is_line(&decision, "no\n"), "no decision");
+    expect(spki_asked_granted(asked) == (decision.status == SPKI_YES), "a yes that is none, or none that is one");
+    expect(decision.status == SPKI_NO || !unmarked, "a grant with a signature that is not valid");
+    expect(unmarked || is_possible == (decision.status == SPKI_YES), "all signatures are valid, and the answer is not the one that was possible");
+    expect(spki_asked_possible(asked) == is_possible, "a mark changes what is possible");
     compare(in, parts, &rows, policy, &decision);
     explain(in, &with, &decision);
     with.answers = decision_of;
-    again = answered(in, answers_asked, &with);
-    holds(are_same(&decision, &again), "another decision by the same marks");
+    again = answer_of(in, answers_asked, &with);
+    expect(are_same(&decision, &again), "another decision by the same marks");
     free(again.octets);
     free(decision.octets);
 }
@@ -418,8 +418,8 @@ static void ask(struct input *in, const struct parts *parts, spki_guard *guard, 
         question.moment = lent(&copy.moment);
     refuse(in, asks, &with);
     spki_asked_close(asked);
-    answer = done(asks, &with, ROOM);
-    holds(answer.status == SPKI_DONE || answer.status == SPKI_REFUSED, "a question is misuse");
+    answer = do_call(asks, &with, ROOM);
+    expect(answer.status == SPKI_DONE || answer.status == SPKI_REFUSED, "a question is misuse");
     count(&answer);
     free(answer.octets);
     memset(&copy, 0xff, sizeof copy);
@@ -444,7 +444,7 @@ int LLVMFuzzerTestOneInput(const uint8_t *data, size_t size)
     limits.nodes = mostly(&in, 200, 20) * 50;
     limits.work = mostly(&in, 200, 20) * 50;
     limits.answer = mostly(&in, 200, 20) * 50;
-    make(&in, &parts);
+    make_parts(&in, &parts);
     for (size_t place = 0; place < sizeof texts / sizeof *texts; place++) {
         if (!others[place] || !*others[place])
             spoil(&in, texts[place]);
@@ -453,8 +453,8 @@ int LLVMFuzzerTestOneInput(const uint8_t *data, size_t size)
     with.list = lent(&parts.list);
     refuse(&in, opens, &with);
     spki_guard_close(guard);
-    answer = done(opens, &with, ROOM);
-    holds(answer.status == SPKI_DONE || answer.status == SPKI_REFUSED, "a list is misuse");
+    answer = do_call(opens, &with, ROOM);
+    expect(answer.status == SPKI_DONE || answer.status == SPKI_REFUSED, "a list is misuse");
     count(&answer);
     free(answer.octets);
     if (guard)

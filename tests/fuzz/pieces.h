@@ -32,10 +32,10 @@ struct parts {
     unsigned is_worded, is_in_seconds;
 };
 
-/* The question whose parts are made. put_requested makes tags of its request. */
-static const struct parts *made;
+/* The parts of the question that is made now. put_requested makes tags of its request. */
+static const struct parts *question_parts;
 
-/* Returns a number below `count` by the next octet of the input, and takes this; 0 behind the end of the input. */
+/* Takes the next octet of the input, and returns a number below `count` by it; 0 behind the end of the input. */
 static unsigned below(struct input *in, unsigned count)
 {
     if (!in->left)
@@ -68,8 +68,8 @@ static void put_string(struct text *to, const void *octets, size_t length)
     put(to, octets, length);
 }
 
-/* Adds a string in canonical form: the octets up to the first 00. */
-static void word(struct text *to, const char *octets)
+/* Adds a C string as a string in canonical form. */
+static void put_word(struct text *to, const char *octets)
 {
     put_string(to, octets, strlen(octets));
 }
@@ -78,7 +78,7 @@ static void word(struct text *to, const char *octets)
 static void begin(struct text *to, const char *head)
 {
     put(to, "(", 1);
-    word(to, head);
+    put_word(to, head);
 }
 
 /* Ends the list that was begun last. */
@@ -93,19 +93,19 @@ static void put_key(struct text *to, unsigned which)
     const char name[] = {(char)('a' + which), 0};
     begin(to, "public-key");
     begin(to, "test");
-    word(to, name);
+    put_word(to, name);
     end(to);
     end(to);
 }
 
-/* Adds the hash of a text by the algorithm with this place in `names`. */
+/* Adds the hash of a text, `(hash ..)`, by an algorithm: 0 is SHA-256, 1 SHA-512 and 2 SHA-1. */
 static void put_hash(struct text *to, const struct text *of, unsigned algorithm)
 {
     static const char *const names[] = {"sha256", "sha512", "sha1"};
     static const size_t lengths[] = {32, 64, 20};
     unsigned char digest[64];
     begin(to, "hash");
-    word(to, names[algorithm]);
+    put_word(to, names[algorithm]);
     if (algorithm == 0)
         SHA256(of->octets, of->length, digest);
     else if (algorithm == 1)
@@ -142,7 +142,7 @@ static void put_subject(struct input *in, struct text *to, unsigned which)
         begin(to, "name");
     put_principal(in, to, which);
     for (unsigned name = 1; name < names; name++)
-        word(to, strings[below(in, 4)]);
+        put_word(to, strings[below(in, 4)]);
     if (names)
         end(to);
     end(to);
@@ -155,11 +155,11 @@ static void put_range(struct input *in, struct text *to)
     static const char *const bounds[] = {"g", "ge", "l", "le"};
     unsigned limits = below(in, 3);
     begin(to, "*");
-    word(to, "range");
-    word(to, orders[below(in, 5)]);
+    put_word(to, "range");
+    put_word(to, orders[below(in, 5)]);
     for (unsigned limit = 0; limit < limits; limit++) {
-        word(to, bounds[limit * 2 + below(in, 2)]);
-        word(to, strings[below(in, STRINGS)]);
+        put_word(to, bounds[limit * 2 + below(in, 2)]);
+        put_word(to, strings[below(in, STRINGS)]);
     }
     end(to);
 }
@@ -168,20 +168,20 @@ static void put_range(struct input *in, struct text *to)
 static void put_prefix(struct input *in, struct text *to)
 {
     begin(to, "*");
-    word(to, "prefix");
-    word(to, strings[below(in, STRINGS)]);
+    put_word(to, "prefix");
+    put_word(to, strings[below(in, STRINGS)]);
     end(to);
 }
 
 /* Adds a tag that contains the request: the list of some of its strings, from the first on, or its one string. */
 static void put_requested(struct input *in, struct text *to)
 {
-    size_t count = made->word_count > 1 ? 1 + below(in, 64) % made->word_count : made->word_count;
-    if (made->word_count != 1)
+    size_t count = question_parts->word_count > 1 ? 1 + below(in, 64) % question_parts->word_count : question_parts->word_count;
+    if (question_parts->word_count != 1)
         put(to, "(", 1);
     for (size_t place = 0; place < count; place++)
-        put_string(to, made->words[place].octets, made->words[place].length);
-    if (made->word_count != 1)
+        put_string(to, question_parts->words[place].octets, question_parts->words[place].length);
+    if (question_parts->word_count != 1)
         end(to);
 }
 
@@ -195,11 +195,11 @@ static void put_tag(struct input *in, struct text *to, unsigned depth)
     } else if (kind == 3) {
         put(to, "(1:*)", 5);
     } else if (kind == 4) {
-        word(to, strings[below(in, STRINGS)]);
+        put_word(to, strings[below(in, STRINGS)]);
     } else {
         begin(to, kind == 5 ? "*" : strings[below(in, 3)]);
         if (kind == 5)
-            word(to, "set");
+            put_word(to, "set");
         while (members--)
             put_tag(in, to, depth - 1);
         end(to);
@@ -218,7 +218,7 @@ enum { MOMENTS = sizeof moments / sizeof *moments };
 static void put_limit(struct input *in, struct text *to, const char *head, unsigned usual)
 {
     begin(to, head);
-    word(to, moments[mostly(in, usual, MOMENTS)].date);
+    put_word(to, moments[mostly(in, usual, MOMENTS)].date);
     end(to);
 }
 
@@ -257,7 +257,7 @@ static void put_certificate(struct input *in, struct text *to, unsigned place)
     put_hash(to, &message, mostly(in, 0, 2));
     put_principal(in, to, mostly(in, issuer, KEYS));
     if (below(in, 4) < 3)
-        word(to, "sig");
+        put_word(to, "sig");
     else
         put(to, "(3:sig1:x)", 10);
     end(to);
@@ -272,7 +272,7 @@ static void put_entry(struct input *in, struct text *to)
     } else {
         begin(to, "name");
         put_principal(in, to, mostly(in, 0, KEYS));
-        word(to, strings[below(in, 4)]);
+        put_word(to, strings[below(in, 4)]);
         end(to);
     }
     put_fields(in, to);
@@ -316,10 +316,10 @@ static void make_request(struct input *in, struct parts *parts)
 
 /* Makes all parts of a question from the input. There are mostly up to 3 certificates, and at most 17, from key 0 on. The client's key is
  * mostly the subject of the last one. */
-static void make(struct input *in, struct parts *parts)
+static void make_parts(struct input *in, struct parts *parts)
 {
     unsigned certificates = mostly(in, below(in, 4), 18), entries = 1 + below(in, 4), moment = mostly(in, 0, MOMENTS);
-    made = parts;
+    question_parts = parts;
     make_request(in, parts);
     parts->list.length = parts->sequence.length = parts->key.length = parts->moment.length = 0;
     begin(&parts->list, "acl");
@@ -333,7 +333,7 @@ static void make(struct input *in, struct parts *parts)
         put_certificate(in, &parts->sequence, place);
     end(&parts->sequence);
     put_key(&parts->key, mostly(in, certificates, KEYS));
-    word(&parts->moment, moments[moment].date);
+    put_word(&parts->moment, moments[moment].date);
     parts->seconds = moments[moment].seconds;
     parts->is_in_seconds = below(in, 2);
 }
