@@ -182,7 +182,7 @@ static void find(struct input *in, struct spki_text text)
     expect(status == SPKI_DONE || status == SPKI_NONE, "a text in canonical form is refused");
     expect(status == SPKI_DONE || (!octets && !length), "a string where there is none");
     expect(status != SPKI_DONE || ((const char *)octets >= (const char *)text.octets
-                                  && (const char *)octets + length <= (const char *)text.octets + text.length), "a string outside its text");
+                                   && (const char *)octets + length <= (const char *)text.octets + text.length), "a string outside its text");
 }
 
 /* ---- guards and questions */
