@@ -72,5 +72,5 @@ int main(int count, char **given)
             answer(*action == 'w', given[2], path, content ? content : "");
     }
     spki_guard_close(guard);
-    return 0;
+    return !feof(stdin);
 }
