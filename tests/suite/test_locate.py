@@ -9,6 +9,7 @@ import io
 import os
 import random
 import re
+import subprocess
 import sys
 import tempfile
 import unittest
@@ -185,6 +186,11 @@ class Refusals(unittest.TestCase):
             with self.subTest(text):
                 status, output = locate(text, given)
                 self.assertTrue(status == wanted and words in output, f"{text!r}, given {given!r}: status {status}, wanted {wanted}: {output}")
+
+    def test_lines_that_cannot_be_written(self) -> None:
+        """A full disk is status 2, and no place that is shown."""
+        with open("/dev/full", "wb") as full:
+            self.assertEqual(subprocess.run([PATH, PATH], stdout=full, stderr=subprocess.DEVNULL, timeout=60).returncode, 2)
 
     def test_generated_texts(self) -> None:
         for number in range(GENERATED):
