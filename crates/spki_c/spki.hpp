@@ -97,14 +97,14 @@ struct question {
             strings.push_back(text_of(word));
         // (one that does not count, so that the address is not null where there is no string: null would mean that the request is a text)
         strings.push_back({nullptr, 0});
-        asked.sequence = text_of(sequence);
-        asked.key = spki_assume_key(text_of(this->key.text()));
+        parts.sequence = text_of(sequence);
+        parts.key = spki_assume_key(text_of(this->key.text()));
     }
 
     /* The question as spki_guard_ask takes it. It lasts as long as this object. */
     spki_question lent() const noexcept
     {
-        spki_question lent = asked;
+        spki_question lent = parts;
         lent.size = sizeof lent;
         lent.words = strings.data();
         lent.word_count = strings.size() - 1;
@@ -113,7 +113,8 @@ struct question {
     }
 
 private:
-    spki_question asked{};
+    /* The sequence and the key alone. */
+    spki_question parts{};
     proven_key key;
     std::vector<spki_text> strings;
     std::int64_t seconds;
