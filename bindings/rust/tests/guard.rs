@@ -593,7 +593,15 @@ fn questions_have_limits() -> Outcome {
         &question_showing(&many),
     ));
     assert_eq!(line, "refused question TooManyCertificates");
-    // (by a tag of three nodes)
+    let list: Result<Guard, Refusal> = Guard::read(b"(acl (entry))", Policy::AllowSha1, usual);
+    assert_eq!(list.expect_err("a refusal").line(), "refused acl 1 Shape");
+    Ok(())
+}
+
+/// The limits of explanations: the entry has a tag of three nodes.
+#[test]
+fn explanations_have_limits() -> Outcome {
+    let (one, usual) = (sequence_of(1), Limits::default());
     let narrow = b"(acl (entry (public-key (test a)) (propagate) (tag (ftp host))))";
     for limits in [usual.work(1), usual.nodes(1), usual.answer(5)] {
         let guard = Guard::read(narrow, Policy::AllowSha1, limits)?;
@@ -603,8 +611,6 @@ fn questions_have_limits() -> Outcome {
         let refusal = asked.explain().expect_err("a refusal");
         assert_eq!(refusal.line(), "refused TooLarge");
     }
-    let list: Result<Guard, Refusal> = Guard::read(b"(acl (entry))", Policy::AllowSha1, usual);
-    assert_eq!(list.expect_err("a refusal").line(), "refused acl 1 Shape");
     Ok(())
 }
 

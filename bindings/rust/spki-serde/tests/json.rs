@@ -3,7 +3,7 @@
 use serde::de::value::{Error, MapDeserializer};
 use serde_json::value::Serializer;
 use serde_json::{json, Value};
-use spki::{Denied, Guard, Limits, Moment, Policy, ProvenKey, Question, Request};
+use spki::{Denied, Grant, Guard, Limits, Moment, Policy, ProvenKey, Question, Request};
 use spki_serde::{decision, explanation, limits, policy, refusal};
 use std::time::{Duration, UNIX_EPOCH};
 
@@ -62,24 +62,66 @@ fn policies_are_written_and_read() {
     }
 }
 
+/// A guard of a list, by the library's own limits.
+fn guard_of(list: &[u8]) -> Guard {
+    Guard::read(list, Policy::Strict, Limits::default()).expect("a list")
+}
+
+/// A key that is taken as proved.
+fn client() -> ProvenKey<'static> {
+    ProvenKey::assume(&b"(public-key (test b))"[..])
+}
+
+/// A decision as it is written.
+fn json_of(decided: &Result<Grant, Denied>) -> Value {
+    decision(decided, Serializer).expect("a map")
+}
+
 #[test]
-fn decisions_are_written() {
-    let guard = Guard::read(LIST, Policy::Strict, Limits::default()).expect("a list");
-    let key = ProvenKey::assume(&b"(public-key (test b))"[..]);
+fn grants_are_written() {
+    let (guard, client) = (guard_of(LIST), client());
     let now = UNIX_EPOCH + Duration::from_secs(1_704_067_200);
-    let decide = |word: &'static [u8], sequence: &'static [u8]| {
-        let words = [word];
-        guard.decide(
-            &Question::new(sequence, &key, Request::Words(&words), now),
-            |_| false,
-        )
-    };
-    let json_of = |decided: &_| decision(decided, Serializer).expect("a map");
+    let question = Question::new(b"(sequence)", &client, Request::Text(b"(ftp)"), now);
     assert_eq!(
-        json_of(&decide(b"http", b"(sequence)")),
+        json_of(&guard.decide(&question, |_| false)),
+        json!({"granted": true, "entry": 2, "until": 1_782_863_999})
+    );
+    let explained = guard
+        .ask(&question)
+        .expect("a question")
+        .explain()
+        .expect("lines");
+    assert_eq!(
+        explanation(&explained, Serializer).expect("lines"),
+        json!(["entry 1 NotTheKey", "entry 2 grants"])
+    );
+}
+
+/// A window that ends before 1970 ends all the same.
+#[test]
+fn an_end_before_1970_is_written() {
+    let list =
+        b"(acl (entry (public-key (test b)) (tag (ftp)) (not-after \"1969-12-31_23:59:58\")))";
+    let (guard, client) = (guard_of(list), client());
+    let moment = Moment::Text(b"\"1969-01-01_00:00:00\"");
+    let question = Question::new(b"(sequence)", &client, Request::Text(b"(ftp)"), moment);
+    assert_eq!(
+        json_of(&guard.decide(&question, |_| false)),
+        json!({"granted": true, "entry": 1, "until": -2})
+    );
+}
+
+#[test]
+fn denials_are_written() {
+    let (guard, client) = (guard_of(LIST), client());
+    let now = UNIX_EPOCH + Duration::from_secs(1_704_067_200);
+    let other = Question::new(b"(sequence)", &client, Request::Words(&[b"http"]), now);
+    assert_eq!(
+        json_of(&guard.decide(&other, |_| false)),
         json!({"granted": false})
     );
-    let refused = decide(b"ftp", b"(sequence");
+    let cut = Question::new(b"(sequence", &client, Request::Words(&[b"ftp"]), now);
+    let refused = guard.decide(&cut, |_| false);
     assert_eq!(
         json_of(&refused),
         json!({"granted": false, "refused": "refused sequence Short"})
@@ -97,29 +139,5 @@ fn decisions_are_written() {
     assert_eq!(
         decision(&failed, Serializer).expect("a map"),
         json!({"granted": false, "failed": "a signature could not be verified: no answer"})
-    );
-    let question = Question::new(b"(sequence)", &key, Request::Text(b"(ftp)"), now);
-    assert_eq!(
-        json_of(&guard.decide(&question, |_| false)),
-        json!({"granted": true, "entry": 2, "until": 1_782_863_999})
-    );
-    let explained = guard
-        .ask(&question)
-        .expect("a question")
-        .explain()
-        .expect("lines");
-    assert_eq!(
-        explanation(&explained, Serializer).expect("lines"),
-        json!(["entry 1 NotTheKey", "entry 2 grants"])
-    );
-    // (a window that ends before 1970 ends all the same)
-    let list =
-        b"(acl (entry (public-key (test b)) (tag (ftp)) (not-after \"1969-12-31_23:59:58\")))";
-    let guard = Guard::read(list, Policy::Strict, Limits::default()).expect("a list");
-    let moment = Moment::Text(b"\"1969-01-01_00:00:00\"");
-    let question = Question::new(b"(sequence)", &key, Request::Text(b"(ftp)"), moment);
-    assert_eq!(
-        json_of(&guard.decide(&question, |_| false)),
-        json!({"granted": true, "entry": 1, "until": -2})
     );
 }
