@@ -99,14 +99,24 @@ fn folder_by_pkg_config() -> Result<PathBuf, String> {
         .args([format!("spki >= {FIRST}"), format!("spki < {END}")])
         .output()
         .map_err(|fault| advice(&format!("{}: {fault}", program.to_string_lossy())))?;
-    let words = String::from_utf8_lossy(&output.stdout);
-    let folder = words
-        .split_whitespace()
-        .find_map(|word| word.strip_prefix("-L"));
-    match folder {
+    match first_folder(&String::from_utf8_lossy(&output.stdout)) {
         Some(folder) if output.status.success() => Ok(PathBuf::from(folder)),
         _ => Err(advice(&String::from_utf8_lossy(&output.stderr))),
     }
+}
+
+/// The folder that the first `-L` of the words of `pkg-config` names, up to a space without a backslash before it. `None` if there is no `-L`.
+fn first_folder(words: &str) -> Option<String> {
+    let (_, rest) = words.split_once("-L")?;
+    let (mut letters, mut folder) = (rest.chars(), String::new());
+    while let Some(letter) = letters.next().filter(|letter| !letter.is_whitespace()) {
+        folder.push(if letter == '\\' {
+            letters.next()?
+        } else {
+            letter
+        });
+    }
+    Some(folder)
 }
 
 /// The text of an error: what to do, and the fault that `pkg-config` or the system has named.
