@@ -366,7 +366,7 @@ void spki_asked_close(spki_asked *asked);
  *
  * SPKI_DONE: `*octets` and `*length` are set. `length` may be null. With every other status they are null and 0. SPKI_NONE: no string is there.
  * SPKI_REFUSED: the text is no value in canonical form of at most 1,048,576 octets and 64 open lists. SPKI_NO_MEMORY: an allocation
- * failed, so it is not known whether there is a string. SPKI_MISUSED: `octets` is null, or a text or a path that has a length. */
+ * failed, so it is not known whether there is a string. SPKI_MISUSED: `octets` is null, or the text or the path is null with a length. */
 SPKI_RESULT enum spki_status spki_string(const void *text, size_t text_length, const size_t *path, size_t depth, const void **octets,
                              size_t *length);
 

@@ -22,6 +22,7 @@ sys.path[1:1] = [os.path.join(HERE, "..", "signed"), os.path.join(TOP, "bindings
 # (where another Python than Debian's is the first in the path, it does not look for Debian's modules)
 sys.path.append("/usr/lib/python3/dist-packages")
 import entries  # noqa: E402
+import psycopg  # noqa: E402
 import spki  # noqa: E402
 import spki_http  # noqa: E402
 from run import Pair, asked_by, signed  # noqa: E402
@@ -69,8 +70,11 @@ def answers(store):
 def main():
     if len(sys.argv) != 2:
         sys.exit("Usage: examples/database/story.py SETTINGS")
-    store = Store(sys.argv[1], SCHEMA)
-    store.make()
+    try:
+        store = Store(sys.argv[1], SCHEMA)
+        store.make()
+    except psycopg.Error as why:
+        sys.exit(f"no store can be made: {why}")
     try:
         results = list(answers(store))
     finally:

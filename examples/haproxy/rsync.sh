@@ -14,7 +14,11 @@ by() {
 spki-cert entry --to keys/ann.pub --propagate --tag '(files read /rsync/)' --comment 'ann, rsync' --acl etc/acl.sexp > /dev/null
 kill -HUP "$(cat run/authd.pid)"
 spki-cert sign --by keys/ann --to keys/ben.pub --tag '(files read /rsync/)' --days 30 -o rsync-to-ben > /dev/null
-until by ann; do sleep 0.1; done
+# (the daemon takes a moment to read its list again)
+until by ann; do
+    kill -0 "$(cat run/authd.pid)"
+    sleep 0.1
+done
 echo 'Ann copies'
 by ben || echo 'Ben copies: denied'
 spki-cert request --by keys/ben --body rsync-to-ben --curl "https://localhost:$PORT/.well-known/spki-chain" -- --silent --fail --cacert ca/ca.crt
