@@ -105,7 +105,7 @@ impl Asked {
             _ => return Err(Refusal::of(status, b"")),
         }
         let octets_of = |text: sys::Text| {
-            // SAFETY: the texts last and do not change until the handle is closed, which `self` outlives.
+            // SAFETY: the texts last and do not change until the handle is closed, which only dropping `self` does.
             unsafe { slice::from_raw_parts(text.octets.cast::<u8>(), text.length) }
         };
         Ok(Signature {
