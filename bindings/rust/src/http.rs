@@ -57,7 +57,7 @@ pub struct Proof {
     pub key: ProvenKey<'static>,
     /// The certificates that the request shows, as a question has them.
     pub sequence: Vec<u8>,
-    /// The digest of the body, if one is covered. Whoever reads the body compares it: without a digest there is none.
+    /// The digest of the body, if one is covered: whoever reads the body compares it. With `None` the request must have no body.
     pub digest: Option<ContentDigest>,
     nonce: String,
 }
