@@ -61,7 +61,7 @@ func (c *config) names(principal []byte, key guard.ProvenKey, now time.Time) (bo
 		return false, err
 	}
 	defer list.Close()
-	decision, err := list.Decide(guard.Question{Sequence: nothingShown.text, Key: key, Words: anyWords, Time: now}, nil)
+	decision, err := list.Decide(guard.Question{Sequence: noCertificates, Key: key, Words: anyWords, Time: now}, nil)
 	return decision.Granted(), err
 }
 

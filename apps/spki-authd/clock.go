@@ -11,7 +11,7 @@ type clock struct {
 	last, times atomic.Int64
 }
 
-// By how much the time of one request may be before that of another that was noted earlier.
+// By how much a moment may be before one that another goroutine noted earlier: each reads the clock, and may be interrupted before it notes.
 const backAtLeast = time.Second
 
 // note notes a moment, and says whether it is more than backAtLeast before the one that was noted last.

@@ -72,6 +72,8 @@ const (
 	// The most octets of the configuration, of the secret and of the digests: what is longer is none of them. A list has at most those that the
 	// library reads.
 	mostConfig, mostSecret, mostEnded, mostList = 1 << 20, 4096, 1 << 24, 1 << 20
+	// The most seconds of a request: a time.Duration has room for them.
+	mostSeconds = 86_400
 )
 
 // usualLimits are taken for limits of zero. 40 workers of nginx that keep 16 connections each have 640, and there is room for others.
@@ -169,6 +171,9 @@ func (c *config) check() error {
 		if *limit < 0 {
 			return fmt.Errorf("a limit is %d, and must not be negative", *limit)
 		}
+	}
+	if c.Limits.Seconds > mostSeconds {
+		return fmt.Errorf(`"seconds" is %d, and must be at most %d`, c.Limits.Seconds, mostSeconds)
 	}
 	for _, err := range []error{
 		c.checkEntrance(), c.checkControl(), c.checkLog(), c.Headers.check(c.CertificateForm), checkRules(c.Requests), c.checkLists(),

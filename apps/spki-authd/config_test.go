@@ -39,7 +39,7 @@ func TestWrongConfigs(t *testing.T) {
 		with(`"policy": "open"`), with(`"refused_status": 200`), with(`"refused_status": 404`), with(`"cache": -1`), with(`"limits": {"seconds": -1}`),
 		with(`"certificate_form": "pem"`), with(`"headers": {"method": "authorization"}`), with(`"headers": {"method": "a", "uri": "A"}`),
 		with(`"headers": {"method": "a b"}`), strings.Replace(least, `{"GET": "read"}`, `{}`, 1), with(`"cache": "1"`),
-		with(`"path_prefix": "/auth"`),
+		with(`"path_prefix": "/auth"`), with(`"limits": {"seconds": 86401}`), with(`"limits": {"seconds": 9300000000}`),
 	} {
 		if _, err := parseConfig([]byte(text)); err == nil {
 			t.Errorf("accepted: %s", text)

@@ -281,7 +281,8 @@ func (d *door) answerOne(connection net.Conn, reader *heads) bool {
 		made = d.decider.endAs(answerRefused, errOther)
 	} else {
 		isPut := d.decider.config.isPut(request)
-		isLast = isPut || request.Close || !request.ProtoAtLeast(1, 1) || skipBody(request)
+		hasOtherBody := !isPut && skipBody(request)
+		isLast = isPut || hasOtherBody || request.Close || !request.ProtoAtLeast(1, 1)
 		made = d.decider.answerTo(request)
 		if isPut {
 			passOver(request)

@@ -18,7 +18,7 @@ const (
 	isDone        = "done"
 	isNotDone     = "failed: "
 	mostOrder     = 64
-	mostText      = 1 << 20
+	mostText      = 1 << 24
 	timeToObey    = time.Minute
 )
 
@@ -129,7 +129,10 @@ func give(path, what string) (string, error) {
 	if _, err := fmt.Fprintln(connection, what); err != nil {
 		return "", err
 	}
-	octets, err := io.ReadAll(io.LimitReader(connection, mostText))
+	octets, err := io.ReadAll(io.LimitReader(connection, mostText+1))
+	if err == nil && len(octets) > mostText {
+		err = fmt.Errorf("%s: the answer has %w: %d", path, errLong, mostText)
+	}
 	if err != nil {
 		return "", err
 	}

@@ -171,7 +171,7 @@ func (d *decider) withList(question *guard.Question, host, path string, use func
 // signatures only if the request is granted where all of them are valid. So whoever gets no right by them, valid or not, costs no verification. If
 // all of them are valid, the sequence is kept for decideKnown.
 func (d *decider) decideAnew(made *record, question guard.Question, path, sequence string) (guard.Decision, error) {
-	question.Sequence = nothingShown.text
+	question.Sequence = noCertificates
 	if sequence != "" {
 		question.Sequence = []byte(sequence)
 	}

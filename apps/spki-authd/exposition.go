@@ -69,7 +69,7 @@ func (d *daemon) exposition() string {
 	made.single("clock_back_total", "counter", "How often the time of day went back.", d.clock.times.Load())
 	made.stores(present)
 	made.single("log_lines_total", "counter", "Lines in the log of grants.", d.granted.written.Load())
-	made.single("log_failures_total", "counter", "Grants that became 503, since their lines could not be written.", d.granted.failed.Load())
+	made.single("log_failures_total", "counter", "Lines of grants that could not be written. The answers were 503.", d.granted.failed.Load())
 	made.single("lines_lost_total", "counter", "Other lines that were dropped.", d.other.failed.Load()+d.other.dropped.Load())
 	return made.String()
 }

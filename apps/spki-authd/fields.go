@@ -10,7 +10,7 @@ import (
 )
 
 // checkFields returns an error if an object of a configuration has a field twice. encoding/json would take the last one, whichever a reader sees
-// first. Upper and lower case are the same to it.
+// first. Names that it takes for the same, such as those in upper and lower case, count as one.
 func checkFields(octets []byte) error {
 	decoder := json.NewDecoder(bytes.NewReader(octets))
 	var open []*object
@@ -53,7 +53,8 @@ func (o *object) take(token json.Token) error {
 	if !o.isValue {
 		return nil
 	}
-	name := strings.ToLower(fmt.Sprint(token))
+	// (encoding/json also takes the long s for s, and the sign of kelvin for k: in large letters the first is S, in small ones the second is k)
+	name := strings.ToLower(strings.ToUpper(fmt.Sprint(token)))
 	if o.seen[name] {
 		return fmt.Errorf("%q is there twice", token)
 	}

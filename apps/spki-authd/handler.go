@@ -16,8 +16,9 @@ func (d *decider) answerTo(request *http.Request) record {
 	took := d.now().Sub(begun)
 	made.Time, made.Microseconds = stamp(begun), took.Microseconds()
 	d.logAnswer(&made)
-	d.clock.note(begun)
-	d.counts.note(&made, d.now().Sub(begun))
+	end := d.now()
+	d.clock.note(end)
+	d.counts.note(&made, end.Sub(begun))
 	return made
 }
 

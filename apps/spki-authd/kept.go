@@ -130,19 +130,26 @@ func openKept(c *chains, now time.Time, mayRemove bool) (*kept, error) {
 	if !about.IsDir() || about.Mode().Perm()&0o022 != 0 {
 		return nil, fmt.Errorf("%s: this is no folder that only the daemon may write", c.Folder)
 	}
-	paths, err := filepath.Glob(filepath.Join(c.Folder, "*", "*"))
-	for _, path := range paths {
-		if isOver := made.read(path, now); isOver && mayRemove {
-			made.remove(filepath.Base(filepath.Dir(path)), filepath.Base(path))
+	folders, err := os.ReadDir(c.Folder)
+	if err != nil {
+		return nil, err
+	}
+	for _, folder := range folders {
+		// (what is no folder, or cannot be read, is not the daemon's)
+		files, _ := os.ReadDir(filepath.Join(c.Folder, folder.Name()))
+		for _, file := range files {
+			if isOver := made.read(folder.Name(), file.Name(), now); isOver && mayRemove {
+				made.remove(folder.Name(), file.Name())
+			}
 		}
 	}
-	return made, err
+	return made, nil
 }
 
-// read reads the file of a sequence, and says whether it can be removed: the sequence has ended, or was not written whole. Without room for it, or if
-// the daemon has not written it, it is left out.
-func (k *kept) read(path string, now time.Time) (isOver bool) {
-	key, name := filepath.Base(filepath.Dir(path)), filepath.Base(path)
+// read reads the file of a sequence into memory, and says whether it can be removed: the sequence has ended, or was not written whole. `key` is the
+// name of the file's folder. Without room for it, or if the daemon has not written it, the file is left out and stays.
+func (k *kept) read(key, name string, now time.Time) (isOver bool) {
+	path := filepath.Join(k.Folder, key, name)
 	about, err := os.Stat(path)
 	if err != nil {
 		return false
@@ -293,7 +300,7 @@ func (k *kept) write(key string, chain keptChain) error {
 }
 
 // judgeAll sets the answer of a record by the certificates that the request shows. Where it shows none and the list alone grants nothing, each
-// sequence that is kept for its key is tried, until one grants the request.
+// sequence that is kept for its key is tried, until one grants the request. If none does, and one could not be decided by, the answer is `failed`.
 func (d *decider) judgeAll(made *record, key guard.ProvenKey, path string, asked *asked, now time.Time) {
 	// (each sequence is tried with the record as it is before the first decision)
 	begun := *made
@@ -313,6 +320,9 @@ func (d *decider) judgeAll(made *record, key guard.ProvenKey, path string, asked
 			next.Kept = "used"
 			*made = next
 			return
+		}
+		if next.Answer == answerFailed {
+			*made = next
 		}
 	}
 }

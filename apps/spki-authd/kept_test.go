@@ -121,6 +121,12 @@ func TestKeptChains(t *testing.T) {
 			t.Errorf("%s: %d %q, wanted %d %q: %+v", row.name, status, met, row.status, row.answer, s.lastLine(t))
 		}
 	}
+	// (a folder whose name is no pattern that it fits)
+	folder := s.config.Chains.Folder
+	if err := os.Rename(folder, folder+"[x"); err != nil {
+		t.Fatal(err)
+	}
+	s.config.Chains.Folder = folder + "[x"
 	s.reopenChains(t)
 	if status := s.statusFor(s.bob, "/web/docs/b", ""); status != 200 || s.lastLine(t).Kept != "used" {
 		t.Error("after a start: ", status, s.lastLine(t))

@@ -82,15 +82,20 @@ func checkLedgerPath(path string) error {
 	return err
 }
 
-// checkWritable returns an error unless this user may write a file, or its folder where the file does not exist. -test asks this, which makes no
-// file.
-func checkWritable(path string) error {
-	const toWrite = 2
+// checkOpenable returns an error unless this user may do with a path what open does: read and write the file, or make it in its folder where it does
+// not exist, and read the folder. -test asks this, which makes no file.
+func checkOpenable(path string) error {
+	// (the sums of 4 to read, 2 to write, and 1 to reach what is in a folder, as access(2) has them)
+	const toRead, toReadAndWrite, toMake = 4, 6, 7
+	folder := filepath.Dir(path)
+	rights := map[string]uint32{path: toReadAndWrite, folder: toRead}
 	if _, err := os.Stat(path); errors.Is(err, fs.ErrNotExist) {
-		path = filepath.Dir(path)
+		rights = map[string]uint32{folder: toMake}
 	}
-	if err := syscall.Access(path, toWrite); err != nil {
-		return fmt.Errorf("%s: %w", path, err)
+	for place, needed := range rights {
+		if err := syscall.Access(place, needed); err != nil {
+			return fmt.Errorf("%s: %w", place, err)
+		}
 	}
 	return nil
 }

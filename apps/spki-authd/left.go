@@ -85,7 +85,7 @@ func bodyOf(request *http.Request) ([]byte, error) {
 func shownIn(body []byte) (string, error) {
 	canonical, err := guard.Canonical(body)
 	made := "{" + base64.StdEncoding.EncodeToString(canonical) + "}"
-	if err != nil || bytes.Equal(canonical, nothingShown.text) || len(made) > mostShownOctets {
+	if err != nil || bytes.Equal(canonical, noCertificates) || len(made) > mostShownOctets {
 		return "", errChain
 	}
 	return made, nil

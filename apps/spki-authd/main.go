@@ -53,7 +53,22 @@ func main() {
 	os.Exit(run(os.Args[1:], os.Stdout, os.Stderr))
 }
 
-// run does what the words of the command line say, and returns the exit status.
+// A printer prints on standard output, and keeps the first error of that: who reads the output of a command must know that it is whole.
+type printer struct {
+	to    io.Writer
+	fault error
+}
+
+// Write prints octets. After an error it prints nothing more.
+func (p *printer) Write(octets []byte) (count int, err error) {
+	if p.fault == nil {
+		count, p.fault = p.to.Write(octets)
+	}
+	return count, p.fault
+}
+
+// run does what the words of the command line say, and returns the exit status. What starts the daemon gets `out` itself, since a daemon goes on
+// where nobody reads its lines.
 func run(given []string, out, messages io.Writer) int {
 	words, err := wordsOf(given, messages)
 	if errors.Is(err, flag.ErrHelp) {
@@ -62,21 +77,25 @@ func run(given []string, out, messages io.Writer) int {
 	if err != nil {
 		return statusWords
 	}
-	if words.isVersion {
-		fmt.Fprintln(out, "spki-authd", guard.Version)
-		return statusDone
-	}
+	printed := &printer{to: out}
 	switch {
+	case words.isVersion:
+		fmt.Fprintln(printed, "spki-authd", guard.Version)
 	case words.list != "":
-		err = checkList(words.list, out)
+		err = checkList(words.list, printed)
 	case len(words.controls) > 0:
-		err = checkStates(words.controls, out)
+		err = checkStates(words.controls, printed)
 	case words.probe != "":
-		err = probeSite(words.probe, words.isStopped, out)
+		err = probeSite(words.probe, words.isStopped, printed)
 	case words.isHealth || words.order() != "":
-		err = askDaemon(words, out)
+		err = askDaemon(words, printed)
+	case words.isTest:
+		err = start(words, printed, messages)
 	default:
 		err = start(words, out, messages)
+	}
+	if err == nil {
+		err = printed.fault
 	}
 	if err != nil {
 		fmt.Fprintln(messages, "spki-authd:", err)
@@ -108,7 +127,16 @@ func wordsOf(given []string, messages io.Writer) (words, error) {
 	if err != nil {
 		return made, err
 	}
-	if err = made.check(flags.Args()); err != nil {
+	// (`-check "$LIST"` must not start the daemon where LIST is not set)
+	flags.Visit(func(each *flag.Flag) {
+		if each.Value.String() == "" {
+			err = fmt.Errorf("-%s is empty", each.Name)
+		}
+	})
+	if err == nil {
+		err = made.check(flags.Args())
+	}
+	if err != nil {
 		fmt.Fprintln(messages, "spki-authd:", err)
 	}
 	return made, err

@@ -9,6 +9,7 @@ import (
 	"strconv"
 	"strings"
 	"syscall"
+	"time"
 )
 
 // What systemd sets for a program that it starts, and the number of the first socket that it hands over.
@@ -19,7 +20,11 @@ const (
 	firstFile  = 3
 )
 
-// notify tells the service manager something, if there is one: READY=1, RELOADING=1, STOPPING=1 or STATUS=TEXT, one a line.
+// For how long a message to the service manager may wait for room in its queue. The main loop does nothing else meanwhile.
+const timeToNotify = time.Second
+
+// notify tells the service manager something, if there is one: READY=1, RELOADING=1, STOPPING=1 or STATUS=TEXT, one a line. It fails if the manager
+// takes no message in timeToNotify.
 func notify(what string) error {
 	path := os.Getenv(envNotify)
 	if path == "" {
@@ -30,6 +35,9 @@ func notify(what string) error {
 		return err
 	}
 	defer connection.Close()
+	if err := connection.SetDeadline(time.Now().Add(timeToNotify)); err != nil {
+		return err
+	}
 	_, err = connection.Write([]byte(what))
 	return err
 }

@@ -97,7 +97,7 @@ func baseOf(address string) (*url.URL, error) {
 // fails with errShown if the first answer is 5xx, or if most requests have 5xx or no answer.
 func (p *probe) sendAll(by asker) error {
 	first, err := by.send(p.base, tries[0])
-	if err != nil && by.mayFail {
+	if err != nil && by.mayFail && !errors.Is(err, errShown) {
 		fmt.Fprintf(p.out, "%s: left out, the server gives no answer: %v\n", by.name, err)
 		return nil
 	}

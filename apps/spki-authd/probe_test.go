@@ -97,6 +97,7 @@ func TestProbe(t *testing.T) {
 		"the daemon's own header":   {isAnswered, 404, statusRefused, "", "granted"},
 		"a password":                {func(it *http.Request) bool { return it.Header.Get("Authorization") != "" }, 200, statusRefused, "", "granted"},
 		"too many for ever":         {isMethod("PUT"), 429, statusRefused, "", "each answer to PUT is 429"},
+		"too many for any key":      {hasKey, 429, statusRefused, "", "each answer to GET is 429"},
 	} {
 		t.Run(name, func(t *testing.T) {
 			status, said, paths := probeHandler(t, denies(each.isHole, each.answer), strings.Fields(each.words)...)

@@ -101,6 +101,22 @@ func TestClock(t *testing.T) {
 	}
 }
 
+// TestSlowRequests has a grant's line take three seconds, while the main loop notes the time. The clock has not gone back.
+func TestSlowRequests(t *testing.T) {
+	s := newSite(t, "")
+	at := time.Now()
+	s.now = func() time.Time { return at }
+	s.grants = func([]byte) error {
+		at = at.Add(3 * time.Second)
+		s.clock.note(s.now())
+		return nil
+	}
+	s.by(s.alice, "GET", "/web/x", "")
+	if backs := s.clock.times.Load(); backs != 0 {
+		t.Errorf("the clock went back %d times", backs)
+	}
+}
+
 // TestClockIsWatched sets the clock back under a daemon, which says so once.
 func TestClockIsWatched(t *testing.T) {
 	s := newSite(t, "")

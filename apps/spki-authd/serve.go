@@ -94,7 +94,10 @@ func (d *daemon) withLedger(call func() error) error {
 func (d *daemon) serve(listener net.Listener) error {
 	door := newDoor(d.decider)
 	go door.serve(listener)
-	d.tell("started", notify(d.statusLine()+"\nREADY=1"))
+	d.tell("started", nil)
+	if err := notify(d.statusLine() + "\nREADY=1"); err != nil {
+		d.tell("announced", err)
+	}
 	seconds := time.NewTicker(time.Second)
 	defer seconds.Stop()
 	for {

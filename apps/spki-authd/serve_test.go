@@ -4,6 +4,7 @@ import (
 	"bufio"
 	"bytes"
 	"context"
+	"errors"
 	"io"
 	"net"
 	"net/http"
@@ -50,7 +51,7 @@ func serveHere(t *testing.T, fields string) *served {
 	t.Cleanup(func() {
 		made.client.CloseIdleConnections()
 		signals.end <- syscall.SIGTERM
-		if err := <-ended; err != nil || !strings.Contains(messages.String(), `"ended"`) {
+		if err := <-ended; err != nil || !strings.Contains(messages.String(), `"started"`) || !strings.Contains(messages.String(), `"ended"`) {
 			t.Errorf("%v, %s", err, messages.String())
 		}
 		for _, connection := range made.open {
@@ -397,6 +398,55 @@ func TestSockets(t *testing.T) {
 	listener.Close()
 }
 
+// TestBusySocket finds a socket whose queue is full: that is no socket of an ended daemon, so it stays.
+func TestBusySocket(t *testing.T) {
+	path := filepath.Join(t.TempDir(), "busy")
+	listener, err := net.ListenUnix("unix", &net.UnixAddr{Name: path, Net: "unix"})
+	if err != nil {
+		t.Fatal(err)
+	}
+	defer listener.Close()
+	raw, err := listener.SyscallConn()
+	if err != nil {
+		t.Fatal(err)
+	}
+	if err := raw.Control(func(number uintptr) { _ = syscall.Listen(int(number), 0) }); err != nil {
+		t.Fatal(err)
+	}
+	for {
+		connection, err := net.Dial("unix", path)
+		if err != nil {
+			break
+		}
+		defer connection.Close()
+	}
+	if err := removeStale(path); err == nil {
+		t.Error("the socket of a busy daemon is taken for stale")
+	}
+	if _, err := os.Lstat(path); err != nil {
+		t.Error(err)
+	}
+}
+
+// TestManagerThatIsGone starts a daemon whose service manager is not there, and then fills the queue of one that reads nothing. The daemon has
+// started all the same, and nothing waits for the manager for long.
+func TestManagerThatIsGone(t *testing.T) {
+	path := filepath.Join(t.TempDir(), "manager")
+	t.Setenv(envNotify, path)
+	serveHere(t, "")
+	manager, err := net.ListenUnixgram("unixgram", &net.UnixAddr{Name: path, Net: "unixgram"})
+	if err != nil {
+		t.Fatal(err)
+	}
+	defer manager.Close()
+	for err == nil {
+		err = notify("STATUS=x")
+	}
+	if !errors.Is(err, os.ErrDeadlineExceeded) {
+		t.Error(err)
+	}
+}
+
 // TestWords runs the program with several command lines, and compares the status and what is printed.
 func TestWords(t *testing.T) {
 	list, bad := writeFile(t, "acl", "(acl (entry (public-key (test a)) (tag (*))))"), writeFile(t, "bad", "(acl (entry))")
@@ -409,12 +459,19 @@ func TestWords(t *testing.T) {
 		"-check " + bad: {1, "", "refused acl 1 Shape; `spki-cert check " + bad + "` says where"},
 		"-version":      {0, "spki-authd 0.2.0", ""}, "-help": {0, "", "-config"}, "-x": {2, "", "-x"}, "x": {2, "", "no flag"},
 		"-test -config " + config: {0, "1 entries", ""}, "-test -config " + list: {1, "", "invalid"}, "-config /none": {1, "", "no such file"},
+		"-check=": {2, "", "-check is empty"}, "-probe= -stopped": {2, "", "-probe is empty"}, "-of= -state": {2, "", "-of is empty"},
 		"-fewer": {2, "", "-reload"}, "-of x": {2, "", "-state"}, "-reload -state": {2, "", "-reload and -state"}, "-reload -config " + config: {1, "", "no such file"},
 	} {
 		var out, said bytes.Buffer
 		status := run(strings.Fields(line), &out, &said)
 		if status != wanted.status || !strings.Contains(out.String(), wanted.out) || !strings.Contains(said.String(), wanted.said) {
 			t.Errorf("%s: %d, %q, %q", line, status, out.String(), said.String())
+		}
+	}
+	for _, words := range [][]string{{"-check", list}, {"-test", "-config", config}, {"-version"}} {
+		var said bytes.Buffer
+		if status := run(words, &filling{}, &said); status != 1 || !strings.Contains(said.String(), errFull.Error()) {
+			t.Errorf("%q to a full disk: %d, %q", words, status, said.String())
 		}
 	}
 }

@@ -27,8 +27,11 @@ const (
 	mostShownOctets = 8192
 )
 
-// nothingShown is the sequence of a client that shows no certificates.
-var nothingShown = &shown{text: guard.Verified{}.Sequence()}
+// noCertificates is the text of a sequence without certificates, in canonical form. nothingShown is the sequence of a client that shows none.
+var (
+	noCertificates = guard.Verified{}.Sequence()
+	nothingShown   = &shown{text: noCertificates}
+)
 
 // A sequences keeps the sequences that were shown most recently, by their texts.
 type sequences struct {

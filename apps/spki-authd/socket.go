@@ -45,7 +45,8 @@ func widen(listener net.Listener) error {
 	return err
 }
 
-// removeStale removes a socket that an ended daemon has left. It removes nothing else.
+// removeStale removes a socket that an ended daemon has left: one that refuses connections. Nothing else is removed: it fails if another daemon answers
+// there, and also if that cannot be told, as where the queue of the other one is full. Without a file at the path it does nothing.
 func removeStale(path string) error {
 	about, err := os.Lstat(path)
 	if errors.Is(err, fs.ErrNotExist) {
@@ -57,9 +58,13 @@ func removeStale(path string) error {
 	if about.Mode().Type() != fs.ModeSocket {
 		return fmt.Errorf("%s is there and is no socket", path)
 	}
-	if connection, err := net.Dial("unix", path); err == nil {
+	connection, err := net.Dial("unix", path)
+	if err == nil {
 		connection.Close()
 		return fmt.Errorf("%s: another daemon answers there", path)
+	}
+	if !errors.Is(err, syscall.ECONNREFUSED) {
+		return err
 	}
 	return os.Remove(path)
 }

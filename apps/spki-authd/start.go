@@ -78,7 +78,7 @@ func (d *decider) test(out io.Writer) error {
 	if err := checkLedgerPath(d.config.Log); err != nil {
 		return err
 	}
-	if err := checkWritable(d.config.Log); err != nil {
+	if err := checkOpenable(d.config.Log); err != nil {
 		return err
 	}
 	if d.config.SocketGroup != "" {

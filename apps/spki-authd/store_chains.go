@@ -57,9 +57,13 @@ func (s *storedChains) whyNotAdded(key string, chain keptChain, now time.Time) (
 	return s.whyNotBeside(others, chain.text), err
 }
 
-// add has the store keep a sequence for a key, and returns its answer: `failed` with an error. What was known of the key is forgotten.
+// add has the store keep a sequence for a key, and returns its answer: `kept`, `known` or `full`, or `failed` with an error, also where the store
+// answers anything else. What was known of the key is forgotten.
 func (s *storedChains) add(key string, chain keptChain, _ time.Time) (answer, error) {
 	became, err := s.reader.keep(digestIn(key), chain, s.chains)
+	if err == nil && became != answerKept && became != answerKnown && became != answerFull {
+		err = fmt.Errorf("the store answers %q", became)
+	}
 	if err != nil {
 		return answerFailed, fmt.Errorf("kept certificates: %w", err)
 	}

@@ -26,7 +26,9 @@ type table struct {
 	meanwhile func()
 	// How often rows or sequences were read.
 	reads int
-	kept  map[digest][]keptChain
+	// The sequences by the digests of their keys, and the answer to one more: `kept` if it is empty.
+	kept   map[digest][]keptChain
+	became answer
 }
 
 // A change is the digest of the key whose entry has changed, or an ended certificate, with the time of the change.
@@ -99,10 +101,13 @@ func (t *table) chains(key digest) ([]keptChain, error) {
 	return t.kept[key], t.fault
 }
 
-// keep keeps each sequence, whatever the limits are, unless the table fails.
+// keep keeps each sequence, whatever the limits are and whatever it answers, unless the table fails.
 func (t *table) keep(key digest, chain keptChain, limits *chains) (answer, error) {
 	if t.fault == nil {
 		t.kept[key] = append(t.kept[key], chain)
+	}
+	if t.became != "" {
+		return t.became, t.fault
 	}
 	return answerKept, t.fault
 }
@@ -305,6 +310,10 @@ func TestStoredChains(t *testing.T) {
 	if s.table.reads != reads {
 		t.Errorf("read %d times", s.table.reads-reads)
 	}
+	s.store.kept.drop(digestsOf([]byte(s.alice.key))[1])
+	s.table.fault = errors.New("the server is gone")
+	is("without the entries for the issuer", 503, "")
+	s.table.fault = nil
 	other := newStoredChains(limits, s.table)
 	if found, err := other.of(hexDigest([]byte(s.bob.key)), s.now()); err != nil || len(found) != 1 || found[0].text != bobs {
 		t.Errorf("%v %v", found, err)
@@ -313,7 +322,8 @@ func TestStoredChains(t *testing.T) {
 	s.chains = newStoredChains(limits, s.table)
 	is("neither yes nor no", 503, "")
 	leaves("shown, and not kept", answerFailed)
-	s.table.fault = nil
+	s.table.fault, s.table.became, s.table.kept = nil, answerYes, map[digest][]keptChain{}
+	leaves("an answer that is none", answerFailed)
 	if found, err := other.of(hexDigest([]byte(s.bob.key)), s.now().AddDate(1, 0, 0)); err != nil || found != nil {
 		t.Errorf("a year later: %v %v", found, err)
 	}
