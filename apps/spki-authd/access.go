@@ -8,52 +8,54 @@ import (
 	"time"
 )
 
-// An access is the access lists, and the certificates that no longer count. It is read as a whole, and does not change.
+// An access is the access lists, and the certificates that have ended early. All files are read at once, and then it does not change. What is in a store
+// changes: a goroutine of the store polls that.
 type access struct {
 	lists []*list
-	ended *ended
+	// What the file of ended certificates has.
+	ended *endedCertificates
 	// What digestOfLists has returned, and when the files were read.
 	digest string
 	read   time.Time
 }
 
-// A keeper has the present access, and what became of the last reload.
-type keeper struct {
+// An accessKeeper has the access that is in force, and the outcome of the last reload. Both are nil until the first one.
+type accessKeeper struct {
 	present atomic.Pointer[access]
-	last    atomic.Pointer[reloaded]
+	last    atomic.Pointer[reloadOutcome]
 	// The reloads since the start, and those that were refused.
 	all, refused atomic.Uint64
 }
 
-// A reloaded is how a reload ended.
-type reloaded struct {
+// A reloadOutcome is when a reload ended, and why it was refused, or nil.
+type reloadOutcome struct {
 	at    time.Time
 	fault error
 }
 
-// readAccess reads the access lists of a configuration and its file of ended certificates. After an error no list in a file stays open. A store is
-// opened by the first call alone, and stays open.
+// readAccess reads the access lists of a configuration and its file of ended certificates. `now` is noted as the time of that. After an error no list in
+// a file stays open. A store is opened by the first call alone, and stays open.
 func readAccess(c *config, now time.Time) (*access, error) {
 	policy, err := policyOf(c.Policy)
 	if err != nil {
 		return nil, err
 	}
-	made := &access{ended: nothingEnded, read: now}
-	for _, at := range c.places() {
-		read, err := at.read(policy, c)
+	present := &access{ended: noneEnded, read: now}
+	for _, where := range c.scopes() {
+		opened, err := where.read(policy, c)
 		if err != nil {
-			made.close()
+			present.close()
 			return nil, err
 		}
-		read.place = at
-		made.lists = append(made.lists, read)
+		opened.scope = where
+		present.lists = append(present.lists, opened)
 	}
-	made.digest = made.digestOfLists()
-	if err := made.readEnded(c.Ended); err != nil {
-		made.close()
+	present.digest = present.digestOfLists()
+	if err := present.readEnded(c.Ended); err != nil {
+		present.close()
 		return nil, err
 	}
-	return made, nil
+	return present, nil
 }
 
 // readEnded reads the digests of ended certificates. With an empty path, which is that of a configuration without such a file, none has ended.
@@ -65,7 +67,7 @@ func (a *access) readEnded(path string) error {
 	if err != nil {
 		return err
 	}
-	if a.ended, err = endedOf(octets); err != nil {
+	if a.ended, err = parseEnded(octets); err != nil {
 		err = fmt.Errorf("%s: %w", path, err)
 	}
 	return err
@@ -135,11 +137,10 @@ func (a *access) checkStoresFresh() error {
 	return nil
 }
 
-// reload reads the files of a configuration again, and records the outcome and counts it. It keeps the old files if one is refused, or if an ended
-// certificate is no longer listed and allowFewerEnded is false. Questions under way end with those they began with.
-func (k *keeper) reload(c *config, allowFewerEnded bool, now time.Time) error {
+// reload calls replace, and records and counts the outcome. Questions under way end with the files that they began with.
+func (k *accessKeeper) reload(c *config, allowFewerEnded bool, now time.Time) error {
 	err := k.replace(c, allowFewerEnded, now)
-	k.last.Store(&reloaded{now, err})
+	k.last.Store(&reloadOutcome{now, err})
 	k.all.Add(1)
 	if err != nil {
 		k.refused.Add(1)
@@ -147,37 +148,37 @@ func (k *keeper) reload(c *config, allowFewerEnded bool, now time.Time) error {
 	return err
 }
 
-// replace reads the files, and puts them in the place of those that were read before. It fails if a file is refused, or if an ended certificate is no
-// longer listed and allowFewerEnded is false: then nothing is replaced.
-func (k *keeper) replace(c *config, allowFewerEnded bool, now time.Time) error {
+// replace reads the files of a configuration, also those for TLS, and puts them in the place of those that were read before. It fails if a file is
+// refused, or if an ended certificate is no longer listed and allowFewerEnded is false: then nothing is replaced.
+func (k *accessKeeper) replace(c *config, allowFewerEnded bool, now time.Time) error {
 	certificate, err := c.TLS.read()
 	if err != nil {
 		return err
 	}
-	made, err := readAccess(c, now)
+	next, err := readAccess(c, now)
 	if err != nil {
 		return err
 	}
 	old := k.present.Load()
 	if old != nil && !allowFewerEnded {
-		if lost := made.ended.lost(old.ended); lost > 0 {
-			made.close()
+		if lost := next.ended.lost(old.ended); lost > 0 {
+			next.close()
 			return fmt.Errorf("%s: %d digests that are in force are missing: `spki-authd -reload -fewer` has these certificates count again", c.Ended, lost)
 		}
 	}
 	c.TLS.use(certificate)
-	k.present.Store(made)
+	k.present.Store(next)
 	if old != nil {
 		old.close()
 	}
 	return nil
 }
 
-// at returns the present access, and the list in it that decides for a host and a path, or errNoList if none does.
-func (k *keeper) at(host, path string) (*access, *list, error) {
+// listFor returns the present access, and the list in it that decides for a host and a path. It fails with errNoList if none does.
+func (k *accessKeeper) listFor(host, path string) (*access, *list, error) {
 	present := k.present.Load()
-	if at := present.listOf(host, path); at != nil {
-		return present, at, nil
+	if list := present.listOf(host, path); list != nil {
+		return present, list, nil
 	}
 	return nil, nil, errNoList
 }

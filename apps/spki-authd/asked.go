@@ -13,20 +13,20 @@ const scheme = "SPKI "
 // The most octets of a request's number, or of an address, in the log: what is longer is cut.
 const mostID = 64
 
-// An asked is what the web server asks: what its headers say.
-type asked struct {
-	// What the client asks the web server for, and its TLS certificate: the header's value, which keys.of reads, or empty.
+// An inquiry is what the web server asks the daemon about its client's request, as the headers of its own request say it.
+type inquiry struct {
+	// The method and the target of the client's request, and the header's value with the client's TLS certificate, which keys.of reads, or empty.
 	method, target, certificate string
-	// The client's certificates in transport form, or empty.
+	// The client's SPKI certificates in transport form, or empty.
 	sequence string
 	// The number that the web server has given the request, for the log, or empty.
 	id string
 	// The host that the client asks for, or empty if it is not known, and the client's address, if the web server says it.
 	host, address string
-	// The headers, in which a signature is.
+	// All headers, since those of a signed request have the signature.
 	header http.Header
 	// The body of a request that leaves certificates, or nil.
-	left []byte
+	body []byte
 }
 
 var (
@@ -37,46 +37,46 @@ var (
 	errTooLong  = errors.New("the headers have more octets than header_octets")
 )
 
-// askedOf reads what the web server asks from the headers of its request. With an error it returns what it has read until then, for the log.
-func (c *config) askedOf(request *http.Request) (made asked, err error) {
+// inquiryOf reads what the web server asks from the headers of its request. With an error it returns what it has read until then, for the log.
+func (c *config) inquiryOf(request *http.Request) (inquiry inquiry, err error) {
 	if err := c.checkServer(request); err != nil {
-		return made, err
+		return inquiry, err
 	}
 	if octetsOf(request.Header) > c.Limits.HeaderOctets {
-		return made, errTooLong
+		return inquiry, errTooLong
 	}
-	if made.id, err = only(request, c.Headers.ID); err != nil {
-		return made, err
+	if inquiry.id, err = headerValue(request, c.Headers.ID); err != nil {
+		return inquiry, err
 	}
-	made.id = cut(made.id, mostID)
-	made.header = request.Header
-	if made.host, err = c.hostOf(request); err != nil {
-		return made, err
+	inquiry.id = cut(inquiry.id, mostID)
+	inquiry.header = request.Header
+	if inquiry.host, err = c.hostOf(request); err != nil {
+		return inquiry, err
 	}
-	if made.address, err = c.addressOf(request); err != nil {
-		return made, err
+	if inquiry.address, err = c.addressOf(request); err != nil {
+		return inquiry, err
 	}
-	made.method, made.target = request.Method, request.RequestURI
+	inquiry.method, inquiry.target = request.Method, request.RequestURI
 	if c.Headers.Method != "" {
-		if made.method, err = required(request, c.Headers.Method); err != nil {
-			return made, err
+		if inquiry.method, err = requiredHeader(request, c.Headers.Method); err != nil {
+			return inquiry, err
 		}
 	}
-	if made.target, err = c.targetOf(request); err != nil {
-		return made, err
+	if inquiry.target, err = c.targetOf(request); err != nil {
+		return inquiry, err
 	}
-	if made.certificate, err = only(request, c.Headers.Certificate); err != nil {
-		return made, err
+	if inquiry.certificate, err = headerValue(request, c.Headers.Certificate); err != nil {
+		return inquiry, err
 	}
-	made.sequence, err = c.sequenceOf(request)
-	return made, err
+	inquiry.sequence, err = c.sequenceOf(request)
+	return inquiry, err
 }
 
-// targetOf returns the target that the client asks for: from a header, or that of the request itself behind path_prefix. Without that prefix it fails
-// with errPrefix, and returns the whole target for the log.
+// targetOf returns the target of the client's request: from a header, or that of the web server's own request behind path_prefix. Without that prefix
+// it fails with errPrefix, and returns the whole target for the log.
 func (c *config) targetOf(request *http.Request) (string, error) {
 	if c.Headers.URI != "" {
-		return required(request, c.Headers.URI)
+		return requiredHeader(request, c.Headers.URI)
 	}
 	if !strings.HasPrefix(request.RequestURI, c.PathPrefix) {
 		return request.RequestURI, errPrefix
@@ -90,7 +90,7 @@ func (c *config) hostOf(request *http.Request) (string, error) {
 	text := request.Host
 	if c.Headers.Host != "" {
 		var err error
-		if text, err = only(request, c.Headers.Host); err != nil {
+		if text, err = headerValue(request, c.Headers.Host); err != nil {
 			return "", err
 		}
 	}
@@ -104,17 +104,17 @@ func (c *config) hostOf(request *http.Request) (string, error) {
 // addressOf returns the client's address, or an empty text if the web server does not say it. It must be there where addresses have a rate.
 func (c *config) addressOf(request *http.Request) (string, error) {
 	if c.Limits.AddressRate > 0 {
-		return required(request, c.Headers.Address)
+		return requiredHeader(request, c.Headers.Address)
 	}
-	return only(request, c.Headers.Address)
+	return headerValue(request, c.Headers.Address)
 }
 
-// checkServer returns errSecret unless a request comes from the web server: it has the secret, if the configuration has one.
+// checkServer returns errSecret if the configuration has a secret and a request does not: then the request is not the web server's.
 func (c *config) checkServer(request *http.Request) error {
 	if len(c.secret) == 0 {
 		return nil
 	}
-	given, err := only(request, c.Headers.Secret)
+	given, err := headerValue(request, c.Headers.Secret)
 	if err != nil || subtle.ConstantTimeCompare([]byte(given), c.secret) != 1 {
 		return errSecret
 	}
@@ -125,11 +125,11 @@ func (c *config) checkServer(request *http.Request) error {
 // their own. It fails with errSequence for both, for `SPKI` alone, and for a text that does not begin with `{`. Other credentials in `Authorization`
 // are passed over.
 func (c *config) sequenceOf(request *http.Request) (string, error) {
-	own, err := only(request, c.Headers.Sequence)
+	own, err := headerValue(request, c.Headers.Sequence)
 	if err != nil {
 		return "", err
 	}
-	credentials, err := only(request, authorization)
+	credentials, err := headerValue(request, authorization)
 	if err != nil {
 		return "", err
 	}
@@ -148,18 +148,18 @@ func (c *config) sequenceOf(request *http.Request) (string, error) {
 	return "", errSequence
 }
 
-// required returns the value of a header, which must be there once and not be empty: otherwise it fails with errHeader.
-func required(request *http.Request, name string) (string, error) {
-	value, err := only(request, name)
+// requiredHeader returns the value of a header, which must be there once and not be empty: otherwise it fails with errHeader.
+func requiredHeader(request *http.Request, name string) (string, error) {
+	value, err := headerValue(request, name)
 	if err == nil && value == "" {
 		err = errHeader
 	}
 	return value, err
 }
 
-// only returns the value of a header, or an empty text if it is not there. If it is there twice, a client could have sent one of them: then it fails
-// with errHeader, as for a value with CR, LF or NUL.
-func only(request *http.Request, name string) (string, error) {
+// headerValue returns the value of a header, or an empty text if it is not there. `name` is in canonical form, as net/http writes it. If the header is
+// there twice, a client could have sent one of them: then it fails with errHeader, as for a value with CR, LF or NUL.
+func headerValue(request *http.Request, name string) (string, error) {
 	values := request.Header[name]
 	if len(values) == 0 {
 		return "", nil

@@ -10,7 +10,7 @@ import (
 // BenchmarkHandler measures a request by two certificates whose signatures were verified before.
 func BenchmarkHandler(b *testing.B) {
 	s := newSite(b, "")
-	s.grants = func([]byte) error { return nil }
+	s.logGrant = func([]byte) error { return nil }
 	_, carols := s.sequencesShown()
 	request := httptest.NewRequest(http.MethodGet, "/auth", nil)
 	for name, value := range map[string]string{

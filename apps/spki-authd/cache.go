@@ -17,25 +17,25 @@ func hexDigest(octets []byte) string {
 	return hex.EncodeToString(digest[:])
 }
 
-// A cache keeps which signatures were verified, by the digest of key, message and value. Only valid signatures are kept. A signature stays
-// valid, so nothing in it can become wrong.
+// A cache keeps which signatures are valid, each by its digestOf. A signature that is not valid is not kept. A valid one stays valid, so nothing in the
+// cache can become wrong.
 type cache struct {
-	valid *recent[digest, struct{}]
+	valid *recentMap[digest, struct{}]
 }
 
-// newCache returns a cache of at most so many signatures. With 0 it keeps none.
+// newCache returns a cache of at most so many signatures. With 0 or 1 it keeps none.
 func newCache(most int) *cache {
-	return &cache{newRecent[digest, struct{}](most)}
+	return &cache{newRecentMap[digest, struct{}](most)}
 }
 
-// verifies says whether a signature is valid, and whether that was known before: only what is not known is verified, by `verify`. `message` is the
-// digest of signed.Message, which callers have.
-func (c *cache) verifies(signed guard.Signature, message digest, verify guard.Verify) (isValid, wasKnown bool) {
-	name := digestOf(signed, message)
+// verifies says whether a signature is valid, and whether that was known before. What is not known is verified by `verify`, and kept if it is valid.
+// `message` is the digest of signature.Message, which callers have.
+func (c *cache) verifies(signature guard.Signature, message digest, verify guard.Verify) (isValid, wasKnown bool) {
+	name := digestOf(signature, message)
 	if _, wasKnown := c.valid.get(name); wasKnown {
 		return true, true
 	}
-	if !verify(signed) {
+	if !verify(signature) {
 		return false, false
 	}
 	c.valid.add(name, struct{}{})
@@ -45,14 +45,14 @@ func (c *cache) verifies(signed guard.Signature, message digest, verify guard.Ve
 // The octets that the key, the digest and the value of most signatures have together. For longer ones digestOf takes more memory.
 const roomForSignature = 512
 
-// digestOf returns the digest of a signature's key, its message's digest and its value. The length of the key goes in front, so that no two
-// signatures have the same octets.
-func digestOf(signed guard.Signature, message digest) digest {
+// digestOf returns the digest of a signature: of its key, of `message`, which is the digest of its message, and of its value. The length of the key is
+// hashed in front of them, so that no two signatures have the same octets.
+func digestOf(signature guard.Signature, message digest) digest {
 	var room [roomForSignature]byte
-	binary.BigEndian.PutUint64(room[:], uint64(len(signed.Key)))
-	made := room[:8]
-	for _, part := range [][]byte{signed.Key, message[:], signed.Value} {
-		made = append(made, part...)
+	binary.BigEndian.PutUint64(room[:], uint64(len(signature.Key)))
+	text := room[:8]
+	for _, part := range [][]byte{signature.Key, message[:], signature.Value} {
+		text = append(text, part...)
 	}
-	return sha256.Sum256(made)
+	return sha256.Sum256(text)
 }

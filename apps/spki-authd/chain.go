@@ -9,7 +9,8 @@ import (
 	"conguraki/spki/guard"
 )
 
-// open opens an access list with the policy and the limits of all lists. `entries` are in canonical form, one behind the other, or nil for none.
+// open opens an access list of these entries with the policy and the limits of all lists. The entries are in canonical form, one behind the other, or
+// nil for none. The caller closes the guard.
 func (c *config) open(entries []byte) (*guard.Guard, error) {
 	policy, err := policyOf(c.Policy)
 	if err != nil {
@@ -20,24 +21,27 @@ func (c *config) open(entries []byte) (*guard.Guard, error) {
 
 // signaturesOf returns the signatures of the certificates that a client leaves, at least one, whatever access list is in force. It verifies none. It
 // fails with errUnkept if there is none, or if a certificate would not count even if all signatures were valid: so it marks them all as valid, and
-// asks the library for a reason. `key` and `now` only complete the question.
+// asks the library for a reason. It also fails with the library's refusal of the sequence. `key` and `now` only complete the question.
 func (c *config) signaturesOf(sequence string, key guard.ProvenKey, now time.Time) ([]guard.Signature, error) {
 	empty, err := c.open(nil)
 	if err != nil {
 		return nil, err
 	}
 	defer empty.Close()
-	asked, err := empty.Ask(guard.Question{Sequence: []byte(sequence), Key: key, Words: anyWords, Time: now})
+	question, err := empty.Ask(guard.Question{Sequence: []byte(sequence), Key: key, Words: anyWords, Time: now})
 	if err != nil {
 		return nil, err
 	}
-	defer asked.Close()
-	signatures := asked.Signatures()
-	if err := markFirst(asked, len(signatures)); err != nil {
+	defer question.Close()
+	signatures, err := signaturesIn(question)
+	if err != nil {
+		return nil, err
+	}
+	if err := markFirst(question, len(signatures)); err != nil {
 		return nil, err
 	}
 	// (with a list without entries the only reason can be a certificate that does not count)
-	explanation, err := asked.Explain()
+	explanation, err := question.Explain()
 	if err != nil {
 		return nil, err
 	}
@@ -50,9 +54,9 @@ func (c *config) signaturesOf(sequence string, key guard.ProvenKey, now time.Tim
 	return signatures, nil
 }
 
-// names says whether a principal names a key: by itself or by a hash that the policy allows. It is false for any other principal, such as a name. The
-// library decides, by a list with one entry, which gives this principal everything.
-func (c *config) names(principal []byte, key guard.ProvenKey, now time.Time) (bool, error) {
+// namesKey says whether a principal, in canonical form, names a key: by itself or by a hash that the policy allows. It is false for any other principal,
+// such as a name. The library decides, by a list with one entry, which gives this principal everything. `now` only completes the question.
+func (c *config) namesKey(principal []byte, key guard.ProvenKey, now time.Time) (bool, error) {
 	if !bytes.HasPrefix(principal, []byte("(10:public-key")) && !bytes.HasPrefix(principal, []byte("(4:hash")) {
 		return false, nil
 	}
@@ -68,7 +72,7 @@ func (c *config) names(principal []byte, key guard.ProvenKey, now time.Time) (bo
 // anyWords are a request that only a right to everything contains.
 var anyWords = []string{"any", "request"}
 
-// subjectOf returns the subject of a certificate in canonical form, or nil if it has none. The library must have read the certificate before.
+// subjectOf returns the subject of a certificate, both in canonical form, or nil if it has none. The library must have read the certificate before.
 func subjectOf(certificate []byte) []byte {
 	const begin, field = "(", "(7:subject"
 	for rest := certificate[len(begin):]; len(rest) > 0; rest = rest[lengthOf(rest):] {

@@ -20,55 +20,59 @@ const (
 	xfcc       = "xfcc"
 )
 
-// A form reads the octets of one certificate, in DER.
+// A form reads the value of a header, and returns the X.509 certificate in it, in DER. Each form is the function for one kind of value.
 type form func(text string) ([]byte, error)
 
-var forms = map[string]form{escapedPEM: ofEscapedPEM, base64DER: ofBase64, xfcc: ofForwarded}
+var forms = map[string]form{escapedPEM: fromEscapedPEM, base64DER: fromBase64DER, xfcc: fromXFCC}
 
 var (
 	errCertificate = errors.New("the client's certificate cannot be read")
 	errKey         = errors.New("the client's key is none that is used")
 )
 
-// keys read the keys of certificates, and keep those of the last ones: to read a certificate takes longer than to decide. They are kept by the
-// whole text of the header, on which alone they depend.
+// keys read the keys of certificates, and keep those that were asked for last: to read a certificate takes longer than to decide. They are kept by the
+// whole value of the header, on which alone they depend.
 type keys struct {
-	form form
-	read *recent[string, client]
+	form    form
+	clients *recentMap[string, client]
 }
 
-// A client is a key, which TLS has proved to the web server, and its SHA-256 digest as the log has it.
+// A client is a key that the client holds, as a TLS handshake or a signed request has proved, and the key's SHA-256 digest in hexadecimal digits.
 type client struct {
-	key  spki.ProvenKey
-	name string
+	key       spki.ProvenKey
+	keyDigest string
 }
 
-// The number of keys that are kept, and the most octets of a header whose key is.
+// The number of keys that are kept, and the most octets of a header's value by which one is.
 const (
-	mostKeys   = 1000
-	mostLength = 4096
+	mostKeys      = 1000
+	mostKeyedText = 4096
 )
 
 // newKeys returns keys that read certificates in one of the forms, by its name.
 func newKeys(name string) *keys {
-	return &keys{forms[name], newRecent[string, client](mostKeys)}
+	return &keys{forms[name], newRecentMap[string, client](mostKeys)}
 }
 
-// of returns the client whose certificate a header has, or the error of keyOf. `text` is the header's value.
+// of returns the client whose certificate a header has, or the error of keyOf. `text` is the header's value. The web server has verified that the client
+// holds the certificate's key.
 func (k *keys) of(text string) (client, error) {
-	if kept, isKept := k.read.get(text); isKept {
-		return kept, nil
+	if holder, isKept := k.clients.get(text); isKept {
+		return holder, nil
 	}
 	key, err := keyOf(text, k.form)
-	made := client{spki.AssumeKey(key), hexDigest(key)}
-	if err == nil && len(text) <= mostLength {
-		k.read.add(text, made)
+	if err != nil {
+		return client{}, err
 	}
-	return made, err
+	holder := client{spki.AssumeKey(key), hexDigest(key)}
+	if len(text) <= mostKeyedText {
+		k.clients.add(text, holder)
+	}
+	return holder, nil
 }
 
-// keyOf returns the SPKI key of the client's certificate. It fails with errCertificate if that cannot be read, and with errKey for another kind of
-// key. Only the key counts: who holds it has shown that to the web server.
+// keyOf returns the key of the client's TLS certificate, as an SPKI key in canonical form. `text` is the header's value. It fails with errCertificate if
+// that cannot be read, and with errKey for a kind of key that is not used. Nothing else in the certificate counts.
 func keyOf(text string, form form) ([]byte, error) {
 	octets, err := form(text)
 	if err != nil {
@@ -85,30 +89,31 @@ func keyOf(text string, form form) ([]byte, error) {
 	return key, nil
 }
 
-// ofEscapedPEM reads PEM in which characters are written as %XX: `$ssl_client_escaped_cert` of nginx. A `+` is itself.
-func ofEscapedPEM(text string) ([]byte, error) {
-	written, err := url.PathUnescape(text)
+// fromEscapedPEM reads PEM in which characters are written as %XX: `$ssl_client_escaped_cert` of nginx. A `+` is itself.
+func fromEscapedPEM(text string) ([]byte, error) {
+	unescaped, err := url.PathUnescape(text)
 	if err != nil {
 		return nil, err
 	}
-	block, rest := pem.Decode([]byte(written))
+	block, rest := pem.Decode([]byte(unescaped))
 	if block == nil || block.Type != "CERTIFICATE" || len(block.Headers) > 0 || len(bytes.TrimSpace(rest)) > 0 ||
-		!strings.HasPrefix(written, "-----BEGIN ") {
+		!strings.HasPrefix(unescaped, "-----BEGIN ") {
 		return nil, errCertificate
 	}
 	return block.Bytes, nil
 }
 
-// ofBase64 reads DER in base64, as Caddy and Traefik write it. Traefik writes the client's whole chain, with commas: the first is its own.
-func ofBase64(text string) ([]byte, error) {
+// fromBase64DER reads DER in base64, as Caddy, HAProxy, Apache and Traefik pass it on. Traefik writes the client's whole chain, with commas between the
+// certificates: the first is the client's own.
+func fromBase64DER(text string) ([]byte, error) {
 	first, _, _ := strings.Cut(text, ",")
 	return base64.StdEncoding.Strict().DecodeString(first)
 }
 
-// ofForwarded reads the field Cert of `X-Forwarded-Client-Cert`, as Envoy writes it: one element, with fields NAME=VALUE between semicolons, and
+// fromXFCC reads the field Cert of `X-Forwarded-Client-Cert`, as Envoy writes it: one element, with fields NAME=VALUE between semicolons, and
 // the certificate as escaped PEM in quotes. It fails unless exactly one field is Cert.
-func ofForwarded(text string) ([]byte, error) {
-	var found []string
+func fromXFCC(text string) ([]byte, error) {
+	var certificates []string
 	for text != "" {
 		name, rest, isField := strings.Cut(text, "=")
 		if !isField {
@@ -119,18 +124,18 @@ func ofForwarded(text string) ([]byte, error) {
 			return nil, err
 		}
 		if strings.EqualFold(name, "Cert") {
-			found = append(found, value)
+			certificates = append(certificates, value)
 		}
 		text = rest
 	}
-	if len(found) != 1 {
+	if len(certificates) != 1 {
 		return nil, errCertificate
 	}
-	return ofEscapedPEM(found[0])
+	return fromEscapedPEM(certificates[0])
 }
 
-// fieldOf returns the value that a text begins with, in quotes or not, and what follows its semicolon. A comma is refused: it would begin another
-// element, which another proxy wrote.
+// fieldOf returns the value that a text begins with, in quotes or not, and what follows the semicolon behind the value. It fails with errCertificate for
+// a comma behind or in a value without quotes: it would begin another element, which another proxy wrote.
 func fieldOf(text string) (value, rest string, err error) {
 	if !strings.HasPrefix(text, `"`) {
 		value, rest, _ = strings.Cut(text, ";")
@@ -139,28 +144,28 @@ func fieldOf(text string) (value, rest string, err error) {
 		}
 		return value, rest, nil
 	}
-	value, rest, isQuoted := quoted(text[1:])
+	value, rest, isQuoted := unquote(text[1:])
 	if !isQuoted || rest != "" && rest[0] != ';' {
 		return "", "", errCertificate
 	}
 	return value, strings.TrimPrefix(rest, ";"), nil
 }
 
-// quoted returns the text up to the next quote, without each backslash that precedes another character, and what follows that quote. If there is no
-// such quote, isQuoted is false.
-func quoted(text string) (value, rest string, isQuoted bool) {
-	var made strings.Builder
+// unquote returns the text up to the next quote, in which each backslash is left out and the character behind it stays, and what follows that quote.
+// If there is no such quote, isQuoted is false.
+func unquote(text string) (value, rest string, isQuoted bool) {
+	var octets strings.Builder
 	for place := 0; place < len(text); place++ {
 		switch text[place] {
 		case '"':
-			return made.String(), text[place+1:], true
+			return octets.String(), text[place+1:], true
 		case '\\':
 			place++
 			if place == len(text) {
 				return "", "", false
 			}
 		}
-		made.WriteByte(text[place])
+		octets.WriteByte(text[place])
 	}
 	return "", "", false
 }

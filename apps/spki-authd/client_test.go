@@ -75,7 +75,7 @@ func TestKindsOfKeys(t *testing.T) {
 		"P-256": {selfSigned(t, p256), true}, "P-521": {selfSigned(t, p521), false}, "RSA 2048": {selfSigned(t, strong), true},
 		"RSA 1024": {selfSigned(t, weak), false},
 	} {
-		if _, err := keyOf(base64.StdEncoding.EncodeToString(row.der), ofBase64); (err == nil) != row.isUsed {
+		if _, err := keyOf(base64.StdEncoding.EncodeToString(row.der), fromBase64DER); (err == nil) != row.isUsed {
 			t.Errorf("%s: %v", name, err)
 		}
 	}

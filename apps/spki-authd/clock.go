@@ -5,9 +5,9 @@ import (
 	"time"
 )
 
-// A clock notes whether the time of day goes back: then certificates that have ended count again.
+// A clock notes whether the time of day goes back: then certificates whose window was over count again.
 type clock struct {
-	// The moment that was noted last, in nanoseconds since 1970, and how often one was more than backAtLeast earlier than the one before.
+	// The moment that was noted last, in nanoseconds since 1970, and how often note has returned true.
 	last, times atomic.Int64
 }
 

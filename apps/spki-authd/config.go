@@ -28,7 +28,7 @@ type config struct {
 	// The path of the single list, or what it is called in messages if it is in a store. It is empty if there are several lists.
 	List          string  `json:"-"`
 	Source        source  `json:"list"`
-	Lists         []place `json:"lists"`
+	Lists         []scope `json:"lists"`
 	Ended         string  `json:"ended"`
 	Log           string  `json:"log"`
 	LogSync       string  `json:"log_sync"`
@@ -36,20 +36,20 @@ type config struct {
 	Requests      []rule  `json:"requests"`
 	RefusedStatus int     `json:"refused_status"`
 	Explain       bool    `json:"explain"`
-	// How requests are signed, or nil if they are not.
+	// The settings for signed requests, or nil if signatures are not read.
 	Signatures *signatures `json:"signatures"`
-	// Where the certificates are that clients have left, or nil if they can leave none.
+	// The settings for certificates that clients leave, or nil if they can leave none.
 	Chains *chains `json:"chains"`
 	Cache  *int    `json:"cache"`
 	Limits limits  `json:"limits"`
 
-	// What the file of SecretFile has, or empty.
+	// The secret that SecretFile has, without its line feed; empty without such a file.
 	secret []byte
 	// Whether a rule or a list depends on the host, so that a request must have one.
 	needsHost bool
 }
 
-// The limits of the daemon. Zero is the usual limit: of the first three that of the library.
+// The limits of the daemon, as README.md says them. Zero is the usual limit: of the first three fields that of the library.
 type limits struct {
 	Octets       int `json:"octets"`
 	Certificates int `json:"certificates"`
@@ -66,11 +66,11 @@ type limits struct {
 }
 
 const (
-	// The signatures that are kept, if `cache` is left out, and the octets that a secret must have.
+	// The signatures that are kept if `cache` is left out, and the least octets of a secret.
 	usualCache  = 10_000
 	leastSecret = 32
-	// The most octets of the configuration, of the secret and of the digests: what is longer is none of them. A list has at most those that the
-	// library reads.
+	// The most octets of the file of the configuration, of the secret, of the ended certificates, and of a list: longer files are refused. The library
+	// reads no longer list.
 	mostConfig, mostSecret, mostEnded, mostList = 1 << 20, 4096, 1 << 24, 1 << 20
 	// The most seconds of a request: a time.Duration has room for them.
 	mostSeconds = 86_400
@@ -79,20 +79,20 @@ const (
 // usualLimits are taken for limits of zero. 40 workers of nginx that keep 16 connections each have 640, and there is room for others.
 var usualLimits = limits{HeaderOctets: 131_072, PathOctets: 4096, Connections: 1024, Seconds: 5, ExplainRate: 5}
 
-// readConfig reads and checks a configuration, and reads the secret whose file it names.
+// readConfig reads the file of a configuration and checks it, and reads the secret whose file it names. With an error the configuration is not used.
 func readConfig(path string) (*config, error) {
 	octets, err := readFile(path, mostConfig)
 	if err != nil {
 		return nil, err
 	}
-	made, err := parseConfig(octets)
+	config, err := parseConfig(octets)
 	if err != nil {
 		return nil, fmt.Errorf("%s: %w", path, err)
 	}
-	if made.SecretFile != "" {
-		made.secret, err = readSecret(made.SecretFile)
+	if config.SecretFile != "" {
+		config.secret, err = readSecret(config.SecretFile)
 	}
-	return made, err
+	return config, err
 }
 
 // parseConfig reads the text of a configuration: one object, of known fields, each once. It sets the fields that were left out, and checks all.
@@ -102,18 +102,18 @@ func parseConfig(octets []byte) (*config, error) {
 	}
 	decoder := json.NewDecoder(bytes.NewReader(octets))
 	decoder.DisallowUnknownFields()
-	made := new(config)
-	if err := decoder.Decode(made); err != nil {
+	config := new(config)
+	if err := decoder.Decode(config); err != nil {
 		return nil, err
 	}
 	if _, err := decoder.Token(); !errors.Is(err, io.EOF) {
 		return nil, errors.New("something follows the configuration")
 	}
-	made.setUsual()
-	return made, made.check()
+	config.setUsual()
+	return config, config.check()
 }
 
-// setUsual sets each field that was left out to its usual value.
+// setUsual sets each field that was left out to its usual value, but those that the checks of lists and chains set.
 func (c *config) setUsual() {
 	c.nameLists()
 	setText(&c.SocketMode, "0660")
@@ -135,13 +135,13 @@ func (c *config) setUsual() {
 			*limit = *usual[place]
 		}
 	}
-	if usual, known := servers[c.Server]; known {
+	if usual, isServer := servers[c.Server]; isServer {
 		c.Headers.setUsual(usual.headers)
 		setText(&c.CertificateForm, usual.form)
 	}
 }
 
-// all returns pointers to the limits, always in this order: so those of two values can be paired by their places.
+// all returns pointers to the limits, always in this order: so setUsual pairs those of two values by their places.
 func (l *limits) all() []*int {
 	return []*int{&l.Octets, &l.Certificates, &l.Words, &l.HeaderOctets, &l.PathOctets, &l.Connections, &l.Seconds, &l.KeyRate, &l.AddressRate, &l.ExplainRate}
 }
@@ -155,7 +155,7 @@ func setText(text *string, usual string) {
 
 // check returns an error that says what is wrong in a configuration, or nil. The checks of lists and chains also set fields that were left out.
 func (c *config) check() error {
-	if _, known := servers[c.Server]; !known {
+	if _, isServer := servers[c.Server]; !isServer {
 		return fmt.Errorf(`"server" is %q, and must be nginx, caddy, haproxy, apache, traefik or envoy`, c.Server)
 	}
 	if c.PathPrefix != "" && c.Headers.URI != "" {
@@ -197,7 +197,7 @@ func (c *config) checkLog() error {
 	return nil
 }
 
-// policyOf returns the policy that a word of the configuration means.
+// policyOf returns the policy that a word of the configuration means, or an error.
 func policyOf(word string) (guard.Policy, error) {
 	switch word {
 	case "strict":
@@ -218,7 +218,8 @@ func (l limits) time() time.Duration {
 	return time.Duration(l.Seconds) * time.Second
 }
 
-// readSecret reads the secret that the web server and the daemon share.
+// readSecret reads the secret that the web server and the daemon share, without the line feed at its end. It fails if others than the file's owner and
+// group may use the file, or if it is not one line of at least leastSecret visible characters.
 func readSecret(path string) ([]byte, error) {
 	about, err := os.Stat(path)
 	if err != nil {

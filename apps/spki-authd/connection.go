@@ -13,27 +13,28 @@ import (
 	"time"
 )
 
-// A door answers the requests of a web server, on each connection one after the other. It writes the decider's answers and nothing else: the
-// server of net/http answers some requests by itself, such as `OPTIONS *` with 200.
-type door struct {
+// A connectionServer answers the requests of a web server, on each connection one after the other. It writes the decider's answers and nothing else. So
+// it stands in for the server of net/http, which answers some requests by itself, such as `OPTIONS *` with 200.
+type connectionServer struct {
 	decider *decider
 	// Has an element for each open connection, and room for as many as there may be.
 	places chan struct{}
-	// Closed when no further connection is taken.
+	// Closed when no further connection is accepted.
 	isShut chan struct{}
 	mutex  sync.Mutex
-	// The open connections, and what each does. The mutex guards the map alone: a visit has a mutex of its own.
-	open map[net.Conn]*visit
-	// Whether the daemon ends. It is set before the open connections get their deadlines, so that no later note leaves one without.
+	// The open connections, and what each does. The mutex guards the map alone: a connectionState has a mutex of its own.
+	open map[net.Conn]*connectionState
+	// Whether the daemon ends. It is set before `end` gives the open connections their deadlines, so that each later setStage sets one too.
 	isEnding atomic.Bool
 	// Counts the open connections.
 	all sync.WaitGroup
-	// Closed when the last connection is, after isShut.
+	// Closed after isShut, when the last connection is closed.
 	isEmpty chan struct{}
 }
 
-// A visit is what a connection does, until when it may, and whether that was ever set as a deadline.
-type visit struct {
+// A connectionState is what an open connection does, until when that may last, and whether the connection ever got a deadline: from then on each change
+// of the stage must set a new one.
+type connectionState struct {
 	connection  net.Conn
 	mutex       sync.Mutex
 	stage       stage
@@ -45,21 +46,22 @@ type visit struct {
 type stage int
 
 const (
-	// There was no request yet.
+	// The connection is open, and no request has begun.
 	isFresh stage = iota
-	// A request is read or answered.
+	// A request is being read or answered.
 	isBusy
 	// A request was answered, and the next one has not begun.
 	isIdle
 )
 
-// The most octets of a body that are passed over. A web server that asks sends no body.
+// The most octets of a body that are read and dropped. A web server that asks sends no body.
 const mostBody = 65_536
 
-// How often in the time of a request it is looked which connections have had theirs. To set a deadline for each request takes a microsecond.
+// How often, in the time that a request may take, the connections are looked through for those whose time is over. To set a deadline for each request
+// would take a microsecond each.
 const looksInTime = 20
 
-// How long a connection may still send a request when the daemon ends: one that was just opened, and one that was idle.
+// How long a connection may still begin a request when the daemon ends: one that had none yet, and one that is idle between two.
 const (
 	graceFresh = time.Second
 	graceIdle  = 100 * time.Millisecond
@@ -70,42 +72,44 @@ var (
 	errSlow  = errors.New("the request did not end in time")
 )
 
-// newDoor returns a door for the answers of a decider, with at most as many connections as its configuration has.
-func newDoor(decider *decider) *door {
+// newConnectionServer returns a server for the answers of a decider, with at most as many connections at once as its configuration allows.
+func newConnectionServer(decider *decider) *connectionServer {
 	places := make(chan struct{}, decider.config.Limits.Connections)
-	return &door{decider: decider, places: places, isShut: make(chan struct{}), open: map[net.Conn]*visit{}, isEmpty: make(chan struct{})}
+	return &connectionServer{decider: decider, places: places, isShut: make(chan struct{}), open: map[net.Conn]*connectionState{}, isEmpty: make(chan struct{})}
 }
 
-// serve takes connections until the listener is closed. Where there are as many as may be, an idle one is closed, or others wait.
-func (d *door) serve(listener net.Listener) {
-	defer close(d.isShut)
-	go d.watch()
+// serve accepts connections until the listener is closed, and answers each in a goroutine of its own. Where as many are open as may be, an idle one is
+// closed for the next one, or the next one waits until any is closed.
+func (s *connectionServer) serve(listener net.Listener) {
+	defer close(s.isShut)
+	go s.watch()
 	for {
 		connection, err := listener.Accept()
 		if errors.Is(err, net.ErrClosed) {
 			return
 		}
 		if err != nil {
-			// (no file is left to open, or the client went away)
+			// (no file descriptor is free, or the client went away)
 			time.Sleep(timeToRetry)
 			continue
 		}
-		d.takePlace()
-		go d.answerAll(d.enter(connection))
+		s.takePlace()
+		go s.answerAll(s.add(connection))
 	}
 }
 
-// takePlace waits for a place. A web server keeps connections for later, so one of those may go: it opens another one when it needs it.
-func (d *door) takePlace() {
+// takePlace puts an element into `places`, and waits for room there if need be. A web server keeps idle connections open for later requests, so takePlace
+// closes one of those: the web server opens another one when it needs it.
+func (s *connectionServer) takePlace() {
 	for {
 		select {
-		case d.places <- struct{}{}:
+		case s.places <- struct{}{}:
 			return
 		default:
-			d.closeIdle()
+			s.closeIdle()
 		}
 		select {
-		case d.places <- struct{}{}:
+		case s.places <- struct{}{}:
 			return
 		case <-time.After(timeToRetry):
 		}
@@ -113,63 +117,65 @@ func (d *door) takePlace() {
 }
 
 // closeIdle ends one idle connection, if there is one.
-func (d *door) closeIdle() {
-	d.mutex.Lock()
-	defer d.mutex.Unlock()
-	for _, visit := range d.open {
-		if visit.endIdle() {
+func (s *connectionServer) closeIdle() {
+	s.mutex.Lock()
+	defer s.mutex.Unlock()
+	for _, state := range s.open {
+		if state.endIdle() {
 			return
 		}
 	}
 }
 
-// endIdle ends a connection if it is idle, and says whether it was.
-func (v *visit) endIdle() bool {
-	v.mutex.Lock()
-	defer v.mutex.Unlock()
-	if v.stage != isIdle {
+// endIdle ends a connection if it is idle, and says whether it was: its read fails by a deadline that is over. A request that is read at that moment is
+// still answered.
+func (c *connectionState) endIdle() bool {
+	c.mutex.Lock()
+	defer c.mutex.Unlock()
+	if c.stage != isIdle {
 		return false
 	}
-	v.hasDeadline = true
-	_ = v.connection.SetReadDeadline(time.Now())
+	c.hasDeadline = true
+	_ = c.connection.SetReadDeadline(time.Now())
 	return true
 }
 
-// enter adds a connection, which has taken its place, to those that are open.
-func (d *door) enter(connection net.Conn) *visit {
-	made := &visit{connection: connection}
-	d.mutex.Lock()
-	defer d.mutex.Unlock()
-	d.open[connection] = made
-	d.all.Add(1)
-	return made
+// add adds a connection, for which takePlace was called, to those that are open, and returns its new state.
+func (s *connectionServer) add(connection net.Conn) *connectionState {
+	state := &connectionState{connection: connection}
+	s.mutex.Lock()
+	defer s.mutex.Unlock()
+	s.open[connection] = state
+	s.all.Add(1)
+	return state
 }
 
-// leave closes a connection, and gives its place back.
-func (d *door) leave(connection net.Conn) {
+// remove closes a connection, and gives the place back that takePlace took.
+func (s *connectionServer) remove(connection net.Conn) {
 	connection.Close()
-	d.mutex.Lock()
-	defer d.mutex.Unlock()
-	delete(d.open, connection)
-	d.all.Done()
-	<-d.places
+	s.mutex.Lock()
+	defer s.mutex.Unlock()
+	delete(s.open, connection)
+	s.all.Done()
+	<-s.places
 }
 
-// note sets the stage of a connection, and until when that may last. Where a deadline was set, a later one replaces it: a request may have come at
-// that moment. It fails if the deadline cannot be set, as when the connection is closed.
-func (d *door) note(visit *visit, stage stage) error {
-	visit.mutex.Lock()
-	defer visit.mutex.Unlock()
-	visit.stage, visit.until = stage, time.Now().Add(d.patience(stage))
-	if d.isEnding.Load() || visit.hasDeadline {
-		return visit.connection.SetDeadline(visit.until)
+// setStage sets the stage of a connection, and until when that may last. If the connection has a deadline, it gets a new one: it was to end, and a request
+// came at that moment. It fails if the deadline cannot be set, as when the connection is closed.
+func (s *connectionServer) setStage(state *connectionState, stage stage) error {
+	state.mutex.Lock()
+	defer state.mutex.Unlock()
+	state.stage, state.until = stage, time.Now().Add(s.patience(stage))
+	if s.isEnding.Load() || state.hasDeadline {
+		return state.connection.SetDeadline(state.until)
 	}
 	return nil
 }
 
-// patience returns how long a connection may stay in a stage. A request has its time in any case, and so has the first one unless the daemon ends.
-func (d *door) patience(stage stage) time.Duration {
-	isEnding := d.isEnding.Load()
+// patience returns how long a connection may stay in a stage. A request that has begun has the time of a request, and so has a new connection for its
+// first one, unless the daemon ends.
+func (s *connectionServer) patience(stage stage) time.Duration {
+	isEnding := s.isEnding.Load()
 	switch {
 	case isEnding && stage == isFresh:
 		return graceFresh
@@ -178,126 +184,127 @@ func (d *door) patience(stage stage) time.Duration {
 	case stage == isIdle:
 		return timeIdle
 	}
-	return d.decider.config.Limits.time()
+	return s.decider.config.Limits.time()
 }
 
-// watch ends connections whose time is over, until the daemon ends and the last one is closed.
-func (d *door) watch() {
-	looks := time.NewTicker(d.decider.config.Limits.time() / looksInTime)
+// watch ends connections whose time is over, looksInTime times in the time of a request, until isEmpty is closed.
+func (s *connectionServer) watch() {
+	looks := time.NewTicker(s.decider.config.Limits.time() / looksInTime)
 	defer looks.Stop()
 	for {
 		select {
 		case now := <-looks.C:
-			d.endLate(now)
-		case <-d.isEmpty:
+			s.endLate(now)
+		case <-s.isEmpty:
 			return
 		}
 	}
 }
 
 // endLate ends each connection whose time is over.
-func (d *door) endLate(now time.Time) {
-	d.mutex.Lock()
-	defer d.mutex.Unlock()
-	for _, visit := range d.open {
-		visit.endLate(now)
+func (s *connectionServer) endLate(now time.Time) {
+	s.mutex.Lock()
+	defer s.mutex.Unlock()
+	for _, state := range s.open {
+		state.endLate(now)
 	}
 }
 
 // endLate ends a connection if its time is over: by a deadline that has passed, its reads and writes fail.
-func (v *visit) endLate(now time.Time) {
-	v.mutex.Lock()
-	defer v.mutex.Unlock()
-	if !v.until.IsZero() && now.After(v.until) {
-		v.hasDeadline = true
-		_ = v.connection.SetDeadline(now)
+func (c *connectionState) endLate(now time.Time) {
+	c.mutex.Lock()
+	defer c.mutex.Unlock()
+	if !c.until.IsZero() && now.After(c.until) {
+		c.hasDeadline = true
+		_ = c.connection.SetDeadline(now)
 	}
 }
 
-// end waits until each request is answered that was sent before the listener was closed, which the caller does first. It fails if the context ends
-// before that.
-func (d *door) end(until context.Context) error {
-	d.isEnding.Store(true)
-	d.mutex.Lock()
-	for _, visit := range d.open {
-		d.endSoon(visit)
+// end waits until each request is answered that was sent before the listener was closed, which the caller does first, and until all connections are
+// closed. It fails if the context `limit` ends before that.
+func (s *connectionServer) end(limit context.Context) error {
+	s.isEnding.Store(true)
+	s.mutex.Lock()
+	for _, state := range s.open {
+		s.endSoon(state)
 	}
-	d.mutex.Unlock()
-	go func() { <-d.isShut; d.all.Wait(); close(d.isEmpty) }()
+	s.mutex.Unlock()
+	go func() { <-s.isShut; s.all.Wait(); close(s.isEmpty) }()
 	select {
-	case <-d.isEmpty:
+	case <-s.isEmpty:
 		return nil
-	case <-until.Done():
-		return until.Err()
+	case <-limit.Done():
+		return limit.Err()
 	}
 }
 
-// endSoon gives a connection that has no request little time to send another one.
-func (d *door) endSoon(visit *visit) {
-	visit.mutex.Lock()
-	defer visit.mutex.Unlock()
-	if visit.stage != isBusy {
-		_ = visit.connection.SetDeadline(time.Now().Add(d.patience(visit.stage)))
+// endSoon gives a connection without a request under way a little time to begin one: graceFresh or graceIdle.
+func (s *connectionServer) endSoon(state *connectionState) {
+	state.mutex.Lock()
+	defer state.mutex.Unlock()
+	if state.stage != isBusy {
+		_ = state.connection.SetDeadline(time.Now().Add(s.patience(state.stage)))
 	}
 }
 
-// answerAll answers the requests of a connection, and closes it then.
-func (d *door) answerAll(visit *visit) {
-	connection := visit.connection
-	defer d.leave(connection)
-	defer d.survive()
+// answerAll answers the requests of a connection one after the other, until the last one or until the connection's time is over, and closes it.
+func (s *connectionServer) answerAll(state *connectionState) {
+	connection := state.connection
+	defer s.remove(connection)
+	defer s.recoverPanic()
 	limited := &io.LimitedReader{R: connection}
-	reader := newHeads(limited)
+	reader := newRequestReader(limited)
 	stage := isFresh
 	for isOpen := true; isOpen; stage = isIdle {
-		// (so many octets are read from the connection for one request; whether its headers are too long is checked later)
-		limited.N = int64(2 * d.decider.config.Limits.HeaderOctets)
-		if d.note(visit, stage) != nil {
+		// (the most octets that are read for one request, so that none fills the memory; inquiryOf checks the length of its headers)
+		limited.N = int64(2 * s.decider.config.Limits.HeaderOctets)
+		if s.setStage(state, stage) != nil {
 			return
 		}
-		if _, err := reader.all.Peek(1); err != nil || d.note(visit, isBusy) != nil {
+		if _, err := reader.all.Peek(1); err != nil || s.setStage(state, isBusy) != nil {
 			return
 		}
-		isOpen = d.answerOne(connection, reader)
+		isOpen = s.answerOne(connection, reader)
 	}
 }
 
-// survive is deferred by answerAll: it stops a panic, and logs it. Then the connection is closed without an answer.
-func (d *door) survive() {
+// recoverPanic is deferred by answerAll: it stops a panic, and logs it. Then the connection is closed without an answer.
+func (s *connectionServer) recoverPanic() {
 	if fault := recover(); fault != nil {
-		d.decider.endAs(answerFailed, fmt.Errorf("panic: %v", fault))
+		s.decider.endAs(answerFailed, fmt.Errorf("panic: %v", fault))
 	}
 }
 
-// answerOne reads and answers one request, and says whether another one may follow. To a request that does not end in time there is no answer.
-func (d *door) answerOne(connection net.Conn, reader *heads) bool {
+// answerOne reads and answers one request, and says whether another one may follow on the connection. A request that does not end in time is logged and
+// gets no answer. What is no request is answered by `refused`.
+func (s *connectionServer) answerOne(connection net.Conn, reader *requestReader) bool {
 	request, err := reader.next()
 	if err != nil && errors.Is(err, os.ErrDeadlineExceeded) {
-		d.decider.endAs(answerRefused, errSlow)
+		s.decider.endAs(answerRefused, errSlow)
 		return false
 	}
-	isLast, made := true, record{}
+	isLast, decision := true, record{}
 	if err != nil || request.ProtoMajor != 1 {
-		made = d.decider.endAs(answerRefused, errOther)
+		decision = s.decider.endAs(answerRefused, errOther)
 	} else {
-		isPut := d.decider.config.isPut(request)
+		isPut := s.decider.config.isPut(request)
 		hasOtherBody := !isPut && skipBody(request)
 		isLast = isPut || hasOtherBody || request.Close || !request.ProtoAtLeast(1, 1)
-		made = d.decider.answerTo(request)
+		decision = s.decider.answerTo(request)
 		if isPut {
 			passOver(request)
 		}
 	}
-	isLast = isLast || d.isEnding.Load()
-	room := rooms.Get().(*[]byte)
-	*room = made.response(*room, time.Now(), isLast)
-	_, err = connection.Write(*room)
-	rooms.Put(room)
+	isLast = isLast || s.isEnding.Load()
+	buffer := rooms.Get().(*[]byte)
+	*buffer = decision.response(*buffer, time.Now(), isLast)
+	_, err = connection.Write(*buffer)
+	rooms.Put(buffer)
 	return err == nil && !isLast
 }
 
-// skipBody passes over the body of a request, and says whether it has one. Behind a body no other request is read: what a web server takes for a body
-// can then be no request.
+// skipBody drops the body of a request, and says whether it has one. Its caller reads no other request behind a body: so no part of what a web server
+// takes for a body can be read as a request.
 func skipBody(request *http.Request) (hasBody bool) {
 	if request.ContentLength == 0 {
 		return false
@@ -306,8 +313,8 @@ func skipBody(request *http.Request) (hasBody bool) {
 	return true
 }
 
-// passOver reads what is left of a body, unless its client waits to be asked for it (`Expect`). Where octets are left unread, the end of the
-// connection may reach the web server before the answer.
+// passOver reads and drops up to mostBody octets of a body, unless the client waits to be asked for it (`Expect`). Where octets are left unread when the
+// connection is closed, the system may report that to the web server before it has read the answer.
 func passOver(request *http.Request) {
 	if request.Header.Get("Expect") == "" {
 		// (what is longer, or ends early, is left)

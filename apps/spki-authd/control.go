@@ -10,19 +10,19 @@ import (
 	"time"
 )
 
-// The control socket is for the operator alone: its mode is 0600. A client writes one line, an order, and reads one line that says whether it is
-// done or why not, and a text behind it. This is no HTTP, so that a web server that asks here by mistake reads no 200. mostOrder and mostText are the
-// most octets that are read of an order and of an answer.
+// The control socket is for the operator alone: its mode is 0600. A client writes one line, an order, and reads the answer: orderDone in one line, or
+// orderFailed with the reason, and a text behind that line. This is no HTTP, so that a web server that asks here by mistake reads no 200. mostOrder and
+// mostText are the most octets of an order and of an answer.
 const (
 	controlSuffix = ".control"
-	isDone        = "done"
-	isNotDone     = "failed: "
+	orderDone     = "done"
+	orderFailed   = "failed: "
 	mostOrder     = 64
 	mostText      = 1 << 24
-	timeToObey    = time.Minute
+	timeForOrder  = time.Minute
 )
 
-// The orders.
+// The orders: what the flags of the same names ask for.
 const (
 	orderReload      = "reload"
 	orderReloadFewer = "reload fewer"
@@ -32,15 +32,16 @@ const (
 	orderState       = "state"
 )
 
-// An order is a function that the daemon's main loop calls between two events, and the channel for its error. Only the main loop reads lists.
+// An order is a function that the daemon's main loop calls between two events, and the channel for its error. So only one goroutine, the main loop, reads
+// lists and opens logs.
 type order struct {
-	what func(*daemon) error
+	call func(*daemon) error
 	done chan error
 }
 
 var errOrder = errors.New("this is no order")
 
-// checkControl says what is wrong in the path of the control socket.
+// checkControl returns an error unless `control` is unix:/PATH and differs from `listen`.
 func (c *config) checkControl() error {
 	if c.Control == c.Listen || !strings.HasPrefix(c.controlPath(), "/") || c.controlPath() == c.Control {
 		return fmt.Errorf(`"control" is %q, and must be unix:/PATH, another one than "listen"`, c.Control)
@@ -53,7 +54,7 @@ func (c *config) controlPath() string {
 	return strings.TrimPrefix(c.Control, unixScheme)
 }
 
-// serveControl does the orders of all clients of the control socket, until its listener is closed.
+// serveControl answers the orders of all clients of the control socket, until its listener is closed.
 func (d *daemon) serveControl(listener net.Listener) {
 	for {
 		connection, err := listener.Accept()
@@ -64,14 +65,15 @@ func (d *daemon) serveControl(listener net.Listener) {
 			time.Sleep(timeToRetry)
 			continue
 		}
-		go d.obey(connection)
+		go d.answerOrder(connection)
 	}
 }
 
-// obey reads an order from a connection, does it, and writes the answer. A line that is too long, or does not end, gets none.
-func (d *daemon) obey(connection net.Conn) {
+// answerOrder reads an order from a connection, does it, writes the answer, and closes the connection. A line of over mostOrder octets, or one that does
+// not end, gets no answer.
+func (d *daemon) answerOrder(connection net.Conn) {
 	defer connection.Close()
-	if connection.SetDeadline(time.Now().Add(timeToObey)) != nil {
+	if connection.SetDeadline(time.Now().Add(timeForOrder)) != nil {
 		return
 	}
 	line, err := bufio.NewReader(io.LimitReader(connection, mostOrder)).ReadString('\n')
@@ -79,16 +81,16 @@ func (d *daemon) obey(connection net.Conn) {
 		return
 	}
 	text, err := d.doOrder(strings.TrimSuffix(line, "\n"))
-	first := isDone
+	first := orderDone
 	if err != nil {
-		first = isNotDone + strings.ReplaceAll(err.Error(), "\n", ", ")
+		first = orderFailed + strings.ReplaceAll(err.Error(), "\n", ", ")
 	}
 	fmt.Fprintf(connection, "%s\n%s", first, text)
 }
 
-// doOrder does one of the orders above, and returns the text of its answer.
-func (d *daemon) doOrder(what string) (string, error) {
-	switch what {
+// doOrder does an order, and returns the text of its answer. It fails with errOrder for what is none of the orders above.
+func (d *daemon) doOrder(order string) (string, error) {
+	switch order {
 	case orderHealth:
 		return d.health()
 	case orderMetrics:
@@ -96,7 +98,7 @@ func (d *daemon) doOrder(what string) (string, error) {
 	case orderState:
 		return d.state(), nil
 	case orderReload, orderReloadFewer:
-		err := d.inMain(func(d *daemon) error { return d.reload(what == orderReloadFewer) })
+		err := d.inMain(func(d *daemon) error { return d.reload(order == orderReloadFewer) })
 		return d.state(), err
 	case orderReopen:
 		return "", d.inMain((*daemon).reopen)
@@ -104,29 +106,29 @@ func (d *daemon) doOrder(what string) (string, error) {
 	return "", errOrder
 }
 
-// inMain has the main loop call a function, and returns its error, or another one if the main loop is busy.
-func (d *daemon) inMain(what func(*daemon) error) error {
-	asked := order{what, make(chan error, 1)}
+// inMain has the main loop call a function, and returns its error, or another one if the main loop does not come to it in timeForOrder.
+func (d *daemon) inMain(call func(*daemon) error) error {
+	sent := order{call, make(chan error, 1)}
 	select {
 	case d.orders <- asked:
-		return <-asked.done
-	case <-time.After(timeToObey):
+		return <-sent.done
+	case <-time.After(timeForOrder):
 		return errors.New("the daemon is busy")
 	}
 }
 
-// give sends an order to the daemon of a control socket, and returns the text of its answer. The error says why the order was not done: the daemon
-// may send a text then too.
-func give(path, what string) (string, error) {
-	connection, err := net.DialTimeout("unix", path, timeToObey)
+// sendOrder sends an order to the daemon whose control socket has a path, and returns the text of the answer. The error says why the order was not done:
+// the daemon may send a text then too.
+func sendOrder(path, order string) (string, error) {
+	connection, err := net.DialTimeout("unix", path, timeForOrder)
 	if err != nil {
 		return "", err
 	}
 	defer connection.Close()
-	if err := connection.SetDeadline(time.Now().Add(timeToObey)); err != nil {
+	if err := connection.SetDeadline(time.Now().Add(timeForOrder)); err != nil {
 		return "", err
 	}
-	if _, err := fmt.Fprintln(connection, what); err != nil {
+	if _, err := fmt.Fprintln(connection, order); err != nil {
 		return "", err
 	}
 	octets, err := io.ReadAll(io.LimitReader(connection, mostText+1))
@@ -137,10 +139,10 @@ func give(path, what string) (string, error) {
 		return "", err
 	}
 	answer, text, _ := strings.Cut(string(octets), "\n")
-	if answer == isDone {
+	if answer == orderDone {
 		return text, nil
 	}
-	if reason := strings.TrimPrefix(answer, isNotDone); reason != answer {
+	if reason := strings.TrimPrefix(answer, orderFailed); reason != answer {
 		return text, errors.New(reason)
 	}
 	return "", fmt.Errorf("%s: no daemon answers there", path)

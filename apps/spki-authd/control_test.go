@@ -67,7 +67,7 @@ func TestReloadsThatAreRefused(t *testing.T) {
 // TestHealth asks how a daemon is, while it is well, while it grants nothing, and where there is none.
 func TestHealth(t *testing.T) {
 	s := serveHere(t, "")
-	s.grants = s.daemon.granted.write
+	s.logGrant = s.daemon.granted.write
 	status, out, messages := s.runProgram(t, "-health")
 	for _, wanted := range []string{
 		s.socket + ": answers\n", "\nlast reload: ", ", done\n", "\nreloads: 0, refused 0\n", "\nlists: 1, entries 1, read ", "\nended: 0, " + ofNothing + "\n",
@@ -110,7 +110,7 @@ func TestControlSocket(t *testing.T) {
 		_ = connection.(*net.UnixConn).CloseWrite()
 		octets, _ := io.ReadAll(connection)
 		connection.Close()
-		if strings.Contains(string(octets), "200") || strings.HasPrefix(string(octets), isDone) {
+		if strings.Contains(string(octets), "200") || strings.HasPrefix(string(octets), orderDone) {
 			t.Errorf("%q: %q", text, octets)
 		}
 	}
@@ -123,7 +123,7 @@ func TestControlSocket(t *testing.T) {
 // TestReopenedByOrder renames the log of grants under a daemon that goes on.
 func TestReopenedByOrder(t *testing.T) {
 	s := serveHere(t, "")
-	s.grants = s.daemon.granted.write
+	s.logGrant = s.daemon.granted.write
 	for turn, wanted := range []string{"-reopen", "signal"} {
 		s.get(t, "/web/x")
 		old := s.config.Log + strconv.Itoa(turn)
@@ -184,7 +184,7 @@ var metric = regexp.MustCompile(`^(# (HELP|TYPE) [a-z_]+ .+|[a-z_]+(\{[a-z]+="[^
 // TestMetrics sends six requests, and compares what -metrics prints with what became of them.
 func TestMetrics(t *testing.T) {
 	s := serveHere(t, "")
-	s.grants = s.daemon.granted.write
+	s.logGrant = s.daemon.granted.write
 	bobs, _ := s.sequencesShown()
 	s.by(s.bob, "GET", "/web/docs/b", bobs)
 	s.by(s.bob, "GET", "/web/docs/b", bobs)

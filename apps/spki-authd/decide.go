@@ -8,27 +8,31 @@ import (
 	"conguraki/spki/guard"
 )
 
-// A decider answers what the web server asks. Each yes is one of a guard: the library's checker of requests by an access list.
+// A decider answers what the web server asks. Each yes is the decision of a guard, which is the library's checker of requests by an access list.
 type decider struct {
-	config    *config
-	keys      *keys
-	keeper    keeper
+	config *config
+	// What reads the keys of TLS certificates.
+	keys *keys
+	// The access lists and ended certificates that are in force.
+	keeper accessKeeper
+	// The signatures, and the whole sequences of certificates, that are known to be valid.
 	cache     *cache
 	sequences *sequences
 	// What verifies signed requests, and what keeps certificates that clients have left: each is nil if the configuration has none.
-	signed *signed
-	chains chainKeeper
-	counts *counts
-	clock  clock
-	// The rates of keys and of addresses.
-	byKey, byAddress *rates
+	requests *requestVerifier
+	chains   chainKeeper
+	counts   *counts
+	clock    clock
+	// How often each key and each address may ask.
+	byKey, byAddress *rateLimiter
 	// How often denials are explained, of all keys together.
-	explaining *rates
-	now        func() time.Time
-	verify     guard.Verify
-	// What writes the line of a grant, and what writes every other line. When they return they use it no longer.
-	grants func(line []byte) error
-	rest   func(line []byte)
+	explanations *rateLimiter
+	// The clock, and what verifies a signature of a certificate. Tests set others.
+	now    func() time.Time
+	verify guard.Verify
+	// What writes the line of a grant, and what writes every other line. When they return they use the line's octets no longer.
+	logGrant func(line []byte) error
+	logOther func(line []byte)
 }
 
 // The most octets of reasons, and of a target that is not clear, in the log.
@@ -37,7 +41,7 @@ const (
 	mostTarget  = 256
 )
 
-// notExplained is what the log has of a denial that is not explained.
+// notExplained is what the log has in place of reasons for a denial beyond explain_rate.
 const notExplained = "not explained: too many denials"
 
 var (
@@ -48,204 +52,210 @@ var (
 	errOftenKey      = errors.New("the key asks more often than key_rate")
 )
 
-// decide returns the record of what is asked at a moment. Its answer is yes only if the guard has granted the request.
-func (d *decider) decide(asked *asked, now time.Time) record {
-	made := record{Answer: answerNo, ID: asked.id, Host: asked.host}
-	if !d.byAddress.allows(asked.address, now) {
-		made.Address = cut(asked.address, mostID)
-		return made.ended(answerLimited, errOftenAddress)
+// decide returns the record of an inquiry at a moment, with its answer, which is yes only if a guard has granted the request. The record has neither a
+// time nor a status yet.
+func (d *decider) decide(inquiry *inquiry, now time.Time) record {
+	result := record{Answer: answerNo, ID: inquiry.id, Host: inquiry.host}
+	if !d.byAddress.allows(inquiry.address, now) {
+		result.Address = cut(inquiry.address, mostID)
+		return result.withReason(answerLimited, errOftenAddress)
 	}
-	client, proof, err := d.clientOf(asked)
+	client, proof, err := d.clientOf(inquiry)
 	if err != nil && errors.Is(err, errNoCertificate) {
-		return made.ended(answerUnknown, err)
+		return result.withReason(answerUnknown, err)
 	}
 	if err != nil {
-		return made.ended(answerRefused, err)
+		return result.withReason(answerRefused, err)
 	}
-	made.Key = client.name
+	result.Key = client.keyDigest
 	if proof != nil {
-		made.Proof = bySignature
+		result.Proof = bySignature
 	}
-	if !d.byKey.allows(client.name, now) {
-		return made.ended(answerLimited, errOftenKey)
+	if !d.byKey.allows(client.keyDigest, now) {
+		return result.withReason(answerLimited, errOftenKey)
 	}
-	if asked.left != nil {
-		return d.leave(made, client.key, proof, asked)
+	if inquiry.body != nil {
+		return d.keepCertificates(result, client.key, proof, inquiry)
 	}
-	path, err := pathOf(asked.target, d.config.Limits.PathOctets)
+	path, err := pathOf(inquiry.target, d.config.Limits.PathOctets)
 	if err != nil {
-		made.Target = shownTarget(asked.target)
-		return made.ended(answerRefused, err)
+		result.Target = targetForLog(inquiry.target)
+		return result.withReason(answerRefused, err)
 	}
-	made.Request, made.rule = requestOf(d.config.Requests, asked.host, asked.method, path)
-	if made.Request == nil {
-		made.Target = cut(asked.method+" "+path, mostTarget)
-		return made.ended(answerNo, errNoRule)
+	result.Request, result.rule = requestOf(d.config.Requests, inquiry.host, inquiry.method, path)
+	if result.Request == nil {
+		result.Target = cut(inquiry.method+" "+path, mostTarget)
+		return result.withReason(answerNo, errNoRule)
 	}
-	d.judgeAll(&made, client.key, path, asked, now)
-	return d.takeNonce(made, proof)
+	d.judgeAll(&result, client.key, path, inquiry, now)
+	return d.takeNonce(result, proof)
 }
 
-// shownTarget returns what the log has of a target that is refused. A query may have a password or a token, and is left out.
-func shownTarget(target string) string {
+// targetForLog returns what the log has of a target that is refused. A query may have a password or a token, and is left out.
+func targetForLog(target string) string {
 	path, _, _ := strings.Cut(target, "?")
 	return cut(path, mostTarget)
 }
 
-// judge asks the guard whether a key may make the request in a record, and sets the record's answer, which is `no` before. `sequence` is in transport
-// form, or empty if no certificate is shown: then a denial is `unauthenticated`, since certificates may help.
-func (d *decider) judge(made *record, key guard.ProvenKey, path, sequence string, now time.Time) {
-	question := guard.Question{Key: key, Words: made.Request, Time: now}
+// judge asks the guard of a host and a path whether a key may make the request in a record, and sets the record's answer, which is `no` before. `path` is
+// decoded. `sequence` is in transport form, or empty if no certificate is shown: then a denial is `unauthenticated`, since certificates may help.
+func (d *decider) judge(result *record, key guard.ProvenKey, path, sequence string, now time.Time) {
+	question := guard.Question{Key: key, Words: result.Request, Time: now}
 	var decision guard.Decision
 	var err error
-	if known := d.sequences.of(sequence); known != nil && !d.config.Explain {
-		decision, err = d.decideKnown(made, question, path, known)
+	if verified := d.sequences.of(sequence); verified != nil && !d.config.Explain {
+		decision, err = d.decideKnown(result, question, path, verified)
 	} else {
-		decision, err = d.decideAnew(made, question, path, sequence)
+		decision, err = d.decideAnew(result, question, path, sequence)
 	}
 	switch {
 	case err != nil && errors.Is(err, errNoList):
-		*made = made.ended(answerNo, err)
+		*result = result.withReason(answerNo, err)
 	case err != nil:
-		*made = made.ended(answerOf(err), err)
+		*result = result.withReason(answerOf(err), err)
 	case decision.Granted():
-		made.Answer, made.Entry = answerYes, made.number(decision.Entry())
+		result.Answer, result.Entry = answerYes, result.number(decision.Entry())
 	case sequence == "":
-		made.Answer = answerUnknown
+		result.Answer = answerUnknown
 	}
 }
 
-// decideKnown decides a question whose signatures are known to be valid. A certificate that has ended early counts as not verified, and so do those
-// behind it. `question` has no sequence, since `known` has it.
-func (d *decider) decideKnown(made *record, question guard.Question, path string, known *shown) (guard.Decision, error) {
-	verified, text := known.canonical()
+// decideKnown decides a question by a sequence whose signatures are known to be valid, and notes it in a record. A certificate that has ended early
+// counts as not verified, and so do those behind it. `question` has no sequence of its own.
+func (d *decider) decideKnown(result *record, question guard.Question, path string, sequence *shownSequence) (guard.Decision, error) {
+	signatures, text := sequence.canonical()
 	valid := 0
 	var decision guard.Decision
-	// (a store reads the sequence in this one, to find the entries that are needed)
-	shows := question
-	shows.Sequence = text
-	_, at, err := d.withList(&shows, made.Host, path, func(present *access, at *list) (err error) {
-		if valid, err = known.notEnded(present); err == nil {
-			decision, err = at.guard.DecideVerified(question, verified.First(valid))
+	// (DecideVerified requires a question without a sequence, and a store needs the sequence, to find the entries that can matter)
+	whole := question
+	whole.Sequence = text
+	_, list, err := d.withList(&whole, result.Host, path, func(present *access, list *list) (err error) {
+		if valid, err = sequence.notEnded(present); err == nil {
+			decision, err = list.guard.DecideVerified(question, signatures.First(valid))
 		}
 		return err
 	})
 	if err == nil {
-		made.setKnown(at, known, valid)
+		result.noteSequence(list, sequence, valid)
 	}
 	return decision, err
 }
 
-// ask opens a question at the list that is in force for a host and a path, and returns it with the access and the list. The caller closes it.
+// ask opens a question to the list that is in force for a host and a path, and returns it with the access and the list. The caller closes it.
 func (d *decider) ask(question guard.Question, host, path string) (*access, *list, *guard.Asked, error) {
 	var opened *guard.Asked
-	present, at, err := d.withList(&question, host, path, func(_ *access, at *list) (err error) {
-		opened, err = at.guard.Ask(question)
+	present, list, err := d.withList(&question, host, path, func(_ *access, list *list) (err error) {
+		opened, err = list.guard.Ask(question)
 		return err
 	})
-	return present, at, opened, err
+	return present, list, opened, err
 }
 
-// withList calls `use` with the access and the list that are in force for a host and a path, and returns both. A list in a store has only what the
-// question needs. If the list is closed at that moment, as by a reload, `use` is called again, with the one in its place.
-func (d *decider) withList(question *guard.Question, host, path string, use func(present *access, at *list) error) (*access, *list, error) {
+// withList calls `use` with the access and the list that are in force for a host and a path, and returns both and the error of `use`. Of a list in a store
+// it takes only the entries that the question needs. If the list is closed at that moment, as by a reload, `use` is called again, with the new list. It
+// fails with errNoList if no list is for the host and the path, and if a store cannot be read.
+func (d *decider) withList(question *guard.Question, host, path string, use func(present *access, list *list) error) (*access, *list, error) {
 	for {
-		present, at, err := d.keeper.at(host, path)
-		if err == nil && at.store != nil {
-			at, err = at.store.list(question)
+		present, list, err := d.keeper.listFor(host, path)
+		if err == nil && list.store != nil {
+			list, err = list.store.list(question)
 		}
 		if err != nil {
 			return nil, nil, err
 		}
-		err = use(present, at)
-		if at.isPassing {
-			at.guard.Close()
+		err = use(present, list)
+		if list.isPassing {
+			list.guard.Close()
 		}
 		if err == nil || !errors.Is(err, guard.ErrClosed) {
-			return present, at, err
+			return present, list, err
 		}
 	}
 }
 
-// decideAnew decides a question by certificates whose signatures are not all known to be valid, and each one where denials are explained. It verifies
-// signatures only if the request is granted where all of them are valid. So whoever gets no right by them, valid or not, costs no verification. If
-// all of them are valid, the sequence is kept for decideKnown.
-func (d *decider) decideAnew(made *record, question guard.Question, path, sequence string) (guard.Decision, error) {
+// decideAnew decides a question by certificates whose signatures are not all known to be valid, and notes it in a record. Where denials are explained, it
+// decides each question. It verifies signatures only if the request would be granted if all of them were valid: so a client that gets no right by them
+// costs no verification. If all of them are valid, the sequence is kept for decideKnown.
+func (d *decider) decideAnew(result *record, question guard.Question, path, sequence string) (guard.Decision, error) {
 	question.Sequence = noCertificates
 	if sequence != "" {
 		question.Sequence = []byte(sequence)
 	}
-	access, at, opened, err := d.ask(question, made.Host, path)
+	present, list, opened, err := d.ask(question, result.Host, path)
 	if err != nil {
 		return guard.Decision{}, err
 	}
 	defer opened.Close()
-	signatures := opened.Signatures()
-	found := shownBy(signatures)
-	notEnded, err := found.notEnded(access)
+	signatures, err := signaturesIn(opened)
 	if err != nil {
 		return guard.Decision{}, err
 	}
-	made.List, made.numbers, made.Certificates = at.digest, at.numbers, found.names
+	shown := newShownSequence(signatures)
+	notEnded, err := shown.notEnded(present)
+	if err != nil {
+		return guard.Decision{}, err
+	}
+	result.List, result.numbers, result.Certificates = list.digest, list.numbers, shown.names
 	if notEnded < len(signatures) {
-		made.Certificates = found.names[:notEnded+1]
-		made.setEnded(found.names[notEnded])
+		result.Certificates = shown.names[:notEnded+1]
+		result.noteEnded(shown.names[notEnded])
 	}
 	valid, canHelp := 0, notEnded == len(signatures) && opened.Possible()
 	if canHelp {
-		valid = d.countValid(made, found, signatures)
+		valid = d.countValid(result, shown, signatures)
 	} else {
-		made.Unverified = notEnded
+		result.Unverified = notEnded
 	}
 	if err := markFirst(opened, valid); err != nil {
 		return guard.Decision{}, err
 	}
 	decision, err := opened.Decide()
 	if err == nil && canHelp && valid == len(signatures) {
-		found.verified = opened.Verified()
-		d.sequences.add(sequence, found)
+		shown.verified = opened.Verified()
+		d.sequences.add(sequence, shown)
 	}
 	if err == nil && !decision.Granted() && d.config.Explain {
-		made.Reasons = d.explained(made, opened)
+		result.Reasons = d.explain(result, opened)
 	}
 	return decision, err
 }
 
-// explained returns why a request that was decided is denied, or notExplained if that was asked more often than explain_rate allows. Signatures that
-// were not verified, since they could not help, count as valid: so the reasons are what else is missing. These marks come after the decision, and
-// change only the reasons.
-func (d *decider) explained(r *record, opened *guard.Asked) string {
-	if !d.explaining.allows("", d.now()) {
+// explain returns why a request that was decided is denied, or notExplained if that was asked more often than explain_rate allows, or the text of an
+// error. Signatures that were not verified, since they could not help, are marked as valid: so the reasons are what else is missing. These marks come
+// after the decision, and change only the reasons.
+func (d *decider) explain(result *record, opened *guard.Asked) string {
+	if !d.explanations.allows("", d.now()) {
 		return notExplained
 	}
-	if err := markFirst(opened, r.Unverified); err != nil {
+	if err := markFirst(opened, result.Unverified); err != nil {
 		return err.Error()
 	}
 	explanation, err := opened.Explain()
-	return reasonsOf(explanation, err, r.number)
+	return reasonsOf(explanation, err, result.number)
 }
 
-// countValid verifies signatures up to the first that is not valid, and returns how many are. The record gets the number of those that were known,
-// and the certificate whose signature is not valid.
-func (d *decider) countValid(made *record, found *shown, signatures []guard.Signature) int {
-	for place, signed := range signatures {
-		isValid, wasKnown := d.cache.verifies(signed, found.digests[place], d.verify)
+// countValid verifies signatures up to the first that is not valid, and returns how many precede that one, or the number of all. `shown` has the digests
+// of their certificates. The record gets the number of signatures that were known, and the first certificate whose signature is not valid.
+func (d *decider) countValid(result *record, shown *shownSequence, signatures []guard.Signature) int {
+	for place, signature := range signatures {
+		isValid, wasKnown := d.cache.verifies(signature, shown.digests[place], d.verify)
 		if !wasKnown {
 			d.counts.verified.Add(1)
 		}
 		if !isValid {
-			made.Certificates = found.names[:place+1]
-			made.Reason = "certificate " + found.names[place] + " has no valid signature"
+			result.Certificates = shown.names[:place+1]
+			result.Reason = "certificate " + shown.names[place] + " has no valid signature"
 			return place
 		}
 		if wasKnown {
-			made.Cached++
+			result.Cached++
 		}
 	}
 	return len(signatures)
 }
 
-// answerOf returns the answer to a request whose decision failed: `refused` for what the client has sent, and `failed` for a fault of the daemon.
+// answerOf returns the answer to a request whose decision failed with an error: `refused` if it is the fault of what the client has sent, and otherwise
+// `failed`.
 func answerOf(err error) answer {
 	if errors.Is(err, guard.ErrRefused) && !errors.Is(err, guard.ErrMemory) || errors.Is(err, errUnkept) {
 		return answerRefused
@@ -253,8 +263,8 @@ func answerOf(err error) answer {
 	return answerFailed
 }
 
-// reasonsOf returns why a request is denied, without the entries for other keys, or the text of `err`, the error of the explanation. `number` returns
-// the number of an entry by its place in the guard.
+// reasonsOf returns the reasons of an explanation in one text, without the entries for other keys, or the text of `err`, the error of the explanation.
+// `number` returns the number that the log has for an entry, by its place in the guard, from 1.
 func reasonsOf(explanation guard.Explanation, err error, number func(place int) int) string {
 	if err != nil {
 		return err.Error()
@@ -272,7 +282,7 @@ func reasonsOf(explanation guard.Explanation, err error, number func(place int) 
 	return cut(strings.Join(lines, ", "), mostReasons)
 }
 
-// cut returns a text, or so many octets of it and `..` if it is longer.
+// cut returns a text, or its first octets, as many as `most`, and `..` if it is longer.
 func cut(text string, most int) string {
 	if len(text) <= most {
 		return text

@@ -10,37 +10,38 @@ import (
 	"strings"
 )
 
-// An ended has the certificates that no longer count, by the digests of their octets.
-type ended struct {
+// endedCertificates are certificates that have ended early, and no longer count. They are known by the SHA-256 digests of their canonical octets.
+type endedCertificates struct {
 	digests map[digest]struct{}
-	// The number of lines with a digest, and the SHA-256 digest of the octets of all lines but the last one. The last line has both too.
+	// The number of lines with a digest, and the SHA-256 digest, in hexadecimal digits, of the octets of all lines but the last one. The last line of the
+	// file has both too.
 	count  int
 	digest string
 }
 
-// nothingEnded is what a daemon without such a file has.
-var nothingEnded = &ended{digest: hexDigest(nil)}
+// noneEnded is what a daemon without a file of ended certificates has.
+var noneEnded = &endedCertificates{digest: hexDigest(nil)}
 
 var errLastLine = errors.New("its last line is not `end COUNT SHA256` for the lines before it: `spki-cert end --ended FILE` writes it")
 
-// endedOf reads a file of ended certificates. Each line is empty, begins with `#`, or is a digest of 64 hexadecimal digits in small letters, behind
+// parseEnded reads the text of a file of ended certificates. Each line is empty, begins with `#`, or is a digest of 64 hexadecimal digits in small letters, behind
 // which ` # ` and a comment may be. The last line has the number of digests and the digest of all octets before it: a file that was cut, or that
 // somebody has added a line to, is refused.
-func endedOf(text []byte) (*ended, error) {
+func parseEnded(text []byte) (*endedCertificates, error) {
 	body, last, isWhole := lastLineOf(text)
 	if !isWhole {
 		return nil, errLastLine
 	}
-	made := &ended{digests: map[digest]struct{}{}, digest: hexDigest(body)}
+	read := &endedCertificates{digests: map[digest]struct{}{}, digest: hexDigest(body)}
 	for number, line := range strings.SplitAfter(string(body), "\n") {
-		if err := made.add(strings.TrimSuffix(line, "\n")); err != nil {
+		if err := read.add(strings.TrimSuffix(line, "\n")); err != nil {
 			return nil, fmt.Errorf("line %d: %w", number+1, err)
 		}
 	}
-	if last != "end "+strconv.Itoa(made.count)+" "+made.digest {
+	if last != "end "+strconv.Itoa(read.count)+" "+read.digest {
 		return nil, errLastLine
 	}
-	return made, nil
+	return read, nil
 }
 
 // lastLineOf returns the lines before the last one, and the last one without its line feed. If that has none, isWhole is false.
@@ -52,8 +53,8 @@ func lastLineOf(text []byte) (body []byte, last string, isWhole bool) {
 	return text[:begin], string(text[begin : len(text)-1]), true
 }
 
-// add adds the digest of a line, if it is not empty and no comment.
-func (e *ended) add(line string) error {
+// add adds the digest of a line, which has no line feed. An empty line and a comment add nothing. It fails for any other line without a digest.
+func (e *endedCertificates) add(line string) error {
 	if line == "" || line[0] == '#' {
 		return nil
 	}
@@ -68,8 +69,8 @@ func (e *ended) add(line string) error {
 	return nil
 }
 
-// lost returns how many digests of an older file this one lacks.
-func (e *ended) lost(older *ended) int {
+// lost returns how many digests of an older file are not in this one.
+func (e *endedCertificates) lost(older *endedCertificates) int {
 	lost := 0
 	for each := range older.digests {
 		if _, isThere := e.digests[each]; !isThere {

@@ -20,7 +20,7 @@ func TestEnded(t *testing.T) {
 		"end 0 " + ofNothing + "\n": 0, oneDigest + "\nend 1 " + ofOneLine + "\n": 1, withLastLine("# ended early\n\n" + oneDigest + "\n" + otherDigest + " # Carol's, stolen\n" + oneDigest + "\n"): 3,
 		withLastLine(oneDigest + " # # see sha256 of the release\n"): 1, withLastLine("#\n"): 0, withLastLine("\n\n"): 0,
 	} {
-		if ended, err := endedOf([]byte(text)); err != nil || ended.count != wanted {
+		if ended, err := parseEnded([]byte(text)); err != nil || ended.count != wanted {
 			t.Errorf("%q: %v, %v", text, ended, err)
 		}
 	}
@@ -38,11 +38,11 @@ func TestWrongEnded(t *testing.T) {
 		"a text": withLastLine("sha256 of the release\n"), "behind a text": withLastLine("sha256 " + oneDigest + "\n"), "a space before": withLastLine(" " + oneDigest + "\n"),
 		"no space": withLastLine(oneDigest + "# x\n"), "a carriage return": withLastLine(oneDigest + "\r\n"), "spaces": withLastLine("  \n"), "half": withLastLine(oneDigest + " #x\n"),
 	} {
-		if _, err := endedOf([]byte(text)); err == nil {
+		if _, err := parseEnded([]byte(text)); err == nil {
 			t.Errorf("%s: %.200q is read", name, text)
 		}
 	}
-	if _, err := endedOf(nil); err == nil || !strings.Contains(err.Error(), "spki-cert end --ended") {
+	if _, err := parseEnded(nil); err == nil || !strings.Contains(err.Error(), "spki-cert end --ended") {
 		t.Error(err)
 	}
 }

@@ -9,8 +9,8 @@ import (
 	"strings"
 )
 
-// checkFields returns an error if an object of a configuration has a field twice. encoding/json would take the last one, whichever a reader sees
-// first. Names that it takes for the same, such as those in upper and lower case, count as one.
+// checkFields returns an error if the text of a configuration is no JSON, or if an object in it has a field twice. encoding/json would take the last one,
+// and a reader may see the first. Names that it takes for the same, such as those in upper and lower case, count as one.
 func checkFields(octets []byte) error {
 	decoder := json.NewDecoder(bytes.NewReader(octets))
 	var open []*object
@@ -37,14 +37,15 @@ func checkFields(octets []byte) error {
 	}
 }
 
-// An object is what was read of an object or an array of JSON that is still open. isNamed is true for an object, which alone has names. isValue is
-// true where a value comes next, and seen has the names so far, in small letters.
+// An object is what was read of an object or an array of JSON that is still open. isNamed is true for an object, and false for an array, which has no
+// names. isValue is true where a value comes next, and seen has the names so far, in small letters.
 type object struct {
 	isNamed, isValue bool
 	seen             map[string]bool
 }
 
-// take notes the next token of an object or an array, and fails if it is a name that the object has already. Of a nested one it gets the first token.
+// take notes the next token of an object or an array, and fails if it is a name that the object has already. Of a nested object or array, its caller
+// passes the first token alone.
 func (o *object) take(token json.Token) error {
 	if !o.isNamed {
 		return nil

@@ -14,7 +14,7 @@ var (
 	errLong   = errors.New("more octets than may be")
 )
 
-// mustBeFile returns errNoFile if what Stat has returned is no ordinary file, and the error of Stat if that failed.
+// mustBeFile takes both results of Stat. It returns errNoFile if they are of no ordinary file, and the error of Stat if that failed.
 func mustBeFile(about fs.FileInfo, err error) error {
 	if err == nil && !about.Mode().IsRegular() {
 		err = errNoFile
@@ -22,8 +22,8 @@ func mustBeFile(about fs.FileInfo, err error) error {
 	return err
 }
 
-// readFile reads a file of at most so many octets. What is no ordinary file is refused before it is opened: to open a FIFO would wait for
-// somebody who writes, and to open a device may do something.
+// readFile reads a file of at most `most` octets. It fails with errLong for a longer one, and with errNoFile for what is no ordinary file. That is tested
+// before it is opened: to open a FIFO would wait for a writer, and to open a device may have an effect.
 func readFile(path string, most int) ([]byte, error) {
 	if err := mustBeFile(os.Stat(path)); err != nil {
 		return nil, fmt.Errorf("%s: %w", path, err)
@@ -33,7 +33,7 @@ func readFile(path string, most int) ([]byte, error) {
 		return nil, err
 	}
 	defer file.Close()
-	// (another one may have come to the path since)
+	// (another file may have been moved to the path since)
 	if err := mustBeFile(file.Stat()); err != nil {
 		return nil, fmt.Errorf("%s: %w", path, err)
 	}

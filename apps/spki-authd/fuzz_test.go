@@ -76,7 +76,7 @@ func FuzzLeft(f *testing.F) {
 	}
 	f.Fuzz(func(t *testing.T, octets []byte) {
 		defer s.log.Reset()
-		s.chains = &kept{chains: *s.config.Chains, byKey: map[string][]keptChain{}}
+		s.chains = &folderChains{chains: *s.config.Chains, byKey: map[string][]keptChain{}}
 		status, met := s.leaves(t, s.bob, string(octets))
 		if (status == 201) != (met == answerKept) || status != 201 && status != 400 || s.keeps(t, s.bob) != (status == 201) {
 			t.Errorf("%d: %+v", status, s.lastLine(t))
@@ -108,7 +108,7 @@ func (p *played) SetReadDeadline(time.Time) error  { return nil }
 // FuzzConnection sends octets that may be requests. Each answer has a line in the log that says the same, and 200 is said where it is granted.
 func FuzzConnection(f *testing.F) {
 	s := newSite(f, "")
-	door := newDoor(s.decider)
+	door := newConnectionServer(s.decider)
 	header := " / HTTP/1.1\r\nHost: x\r\nX-Original-Method: GET\r\nX-Original-URI: /web/x\r\nX-Client-Cert: " + s.alice.escaped() + "\r\n"
 	for _, text := range []string{
 		"GET" + header + "\r\n", "GET" + header + "\r\nHEAD" + header + "Connection: close\r\n\r\n", "OPTIONS * HTTP/1.1\r\n\r\n", "x\r\n\r\n",

@@ -9,62 +9,63 @@ import (
 
 var errNotLogged = errors.New("the log of grants takes no line")
 
-// answerTo answers one request of the web server, and logs that. Whatever goes wrong is not 200, also if a grant cannot be logged.
+// answerTo decides one request of the web server, and logs and counts the answer, which the caller sends. Whatever goes wrong is not 200, also if a grant
+// cannot be logged.
 func (d *decider) answerTo(request *http.Request) record {
 	begun := d.now()
-	made := d.answer(request, begun)
+	result := d.answer(request, begun)
 	took := d.now().Sub(begun)
-	made.Time, made.Microseconds = stamp(begun), took.Microseconds()
-	d.logAnswer(&made)
+	result.Time, result.Microseconds = stamp(begun), took.Microseconds()
+	d.logAnswer(&result)
 	end := d.now()
 	d.clock.note(end)
-	d.counts.note(&made, end.Sub(begun))
-	return made
+	d.counts.note(&result, end.Sub(begun))
+	return result
 }
 
-// endAs logs and counts the answer to a request that cannot be read or decided, and returns its record.
+// endAs logs and counts the answer to a request that cannot be read, or whose connection fails, and returns its record. `fault` is the reason.
 func (d *decider) endAs(answer answer, fault error) record {
-	made := record{Time: stamp(d.now())}.ended(answer, fault)
-	d.logAnswer(&made)
-	d.counts.note(&made, 0)
-	return made
+	result := record{Time: stamp(d.now())}.withReason(answer, fault)
+	d.logAnswer(&result)
+	d.counts.note(&result, 0)
+	return result
 }
 
-// logAnswer sets the status of an answer, and logs it. A grant that cannot be logged becomes a failure. Other lines may be lost.
-func (d *decider) logAnswer(made *record) {
-	room := rooms.Get().(*[]byte)
-	defer rooms.Put(room)
-	made.Status = made.Answer.status(d.config.RefusedStatus)
-	if made.Answer == answerYes {
-		*room = made.line(*room)
-		err := d.grants(*room)
+// logAnswer sets the status of a record by its answer, and logs the record. A grant that cannot be logged becomes `failed`. Other lines may be lost.
+func (d *decider) logAnswer(result *record) {
+	buffer := rooms.Get().(*[]byte)
+	defer rooms.Put(buffer)
+	result.Status = result.Answer.status(d.config.RefusedStatus)
+	if result.Answer == answerYes {
+		*buffer = result.line(*buffer)
+		err := d.logGrant(*buffer)
 		if err == nil {
 			return
 		}
-		made.Answer, made.Entry, made.Reason = answerFailed, 0, errNotLogged.Error()+": "+err.Error()
-		made.Status = made.Answer.status(d.config.RefusedStatus)
+		result.Answer, result.Entry, result.Reason = answerFailed, 0, errNotLogged.Error()+": "+err.Error()
+		result.Status = result.Answer.status(d.config.RefusedStatus)
 	}
-	*room = made.line(*room)
-	d.rest(*room)
+	*buffer = result.line(*buffer)
+	d.logOther(*buffer)
 }
 
-// answer reads a request and decides it at a moment, without logging. A panic is a failure.
-func (d *decider) answer(request *http.Request, now time.Time) (made record) {
+// answer reads a request and decides it at a moment, without logging. After a panic the answer is `failed`.
+func (d *decider) answer(request *http.Request, now time.Time) (result record) {
 	defer func() {
 		if fault := recover(); fault != nil {
-			made = record{}.ended(answerFailed, fmt.Errorf("panic: %v", fault))
+			result = record{}.withReason(answerFailed, fmt.Errorf("panic: %v", fault))
 		}
 	}()
-	read := d.config.askedOf
+	read := d.config.inquiryOf
 	if d.config.isPut(request) {
-		read = d.config.leftOf
+		read = d.config.leavingOf
 	}
-	asked, err := read(request)
+	inquiry, err := read(request)
 	if errors.Is(err, errSecret) {
-		return record{}.ended(answerNo, err)
+		return record{}.withReason(answerNo, err)
 	}
 	if err != nil {
-		return record{ID: asked.id, Host: asked.host, Target: shownTarget(asked.target)}.ended(answerRefused, err)
+		return record{ID: inquiry.id, Host: inquiry.host, Target: targetForLog(inquiry.target)}.withReason(answerRefused, err)
 	}
-	return d.decide(&asked, now)
+	return d.decide(&inquiry, now)
 }

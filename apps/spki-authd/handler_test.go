@@ -37,7 +37,7 @@ func newSite(t testing.TB, fields string) *site {
 		t.Fatal(err)
 	}
 	made.decider = newDecider(config)
-	made.grants, made.rest = made.log.grant, made.log.other
+	made.logGrant, made.logOther = made.log.grant, made.log.other
 	if err := made.keeper.reload(config, false, made.now()); err != nil {
 		t.Fatal(err)
 	}
@@ -307,7 +307,7 @@ func TestExplanationsAreBounded(t *testing.T) {
 	shows := sequence(s.alice.sign(s.alice.certificate(s.bob, set, "")))
 	for place := 0; place < 8; place++ {
 		wanted := "refused TooLarge"
-		if place >= saved*3 {
+		if place >= savedSeconds*3 {
 			wanted = notExplained
 		}
 		met := s.by(s.bob, "GET", "/web/x", shows)

@@ -11,7 +11,7 @@ import (
 // readAll reads requests that come one after the other. It returns the method, the header X-Last, the body and the error of the body of each, and at
 // last the error after them.
 func readAll(from io.Reader) (read []string) {
-	reader := newHeads(from)
+	reader := newRequestReader(from)
 	for {
 		request, err := reader.next()
 		if err != nil {

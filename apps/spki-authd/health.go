@@ -14,7 +14,7 @@ import (
 	"time"
 )
 
-// healthID is the number of the request by which a daemon is asked whether it answers.
+// healthID is the number, in the log, of the request by which -health tests whether a daemon answers.
 const healthID = "spki-authd-health"
 
 // checkHealth tests that the daemon of a configuration answers, and prints what its order `health` returns. The error says why it does not answer, or
@@ -25,7 +25,7 @@ func checkHealth(config *config, out io.Writer) error {
 		return err
 	}
 	fmt.Fprintf(out, "%s: answers\n", config.Listen)
-	text, err := give(config.controlPath(), orderHealth)
+	text, err := sendOrder(config.controlPath(), orderHealth)
 	fmt.Fprint(out, text)
 	return err
 }
@@ -51,13 +51,13 @@ func (c *config) checkAnswers() error {
 		return err
 	}
 	defer response.Body.Close()
-	if said := response.Header.Get("X-Spki-Answer"); said != string(answerRefused) && said != string(answerUnknown) {
-		return fmt.Errorf("%s: the answer is %d, %q", c.Listen, response.StatusCode, said)
+	if given := answer(response.Header.Get("X-Spki-Answer")); given != answerRefused && given != answerUnknown {
+		return fmt.Errorf("%s: the answer is %d, %q", c.Listen, response.StatusCode, given)
 	}
 	return nil
 }
 
-// scheme returns the scheme by which the daemon of a configuration is asked.
+// scheme returns the scheme of the URL by which the daemon of a configuration is asked: https or http.
 func (c *config) scheme() string {
 	if c.TLS != nil {
 		return "https"
@@ -65,7 +65,8 @@ func (c *config) scheme() string {
 	return "http"
 }
 
-// client returns a client that asks the daemon of a configuration once. By TLS it asks the holder of the configured certificate alone.
+// client returns a client that asks the daemon of a configuration at its socket or port, whatever the URL. By TLS it sends nothing unless the other side
+// shows the configured certificate. The error is that of reading the certificate.
 func (c *config) client() (*http.Client, error) {
 	network, address := "tcp", strings.TrimPrefix(c.Listen, tlsScheme)
 	if path := strings.TrimPrefix(c.Listen, unixScheme); path != c.Listen {
@@ -77,7 +78,7 @@ func (c *config) client() (*http.Client, error) {
 	transport := &http.Transport{DialContext: dial, DisableKeepAlives: true}
 	certificate, err := c.TLS.read()
 	if certificate != nil {
-		// (the names in the certificate do not count, since it must be this one)
+		// (Go's own test, of names and authorities, is off: the certificate must be this one)
 		transport.TLSClientConfig = &tls.Config{InsecureSkipVerify: true, VerifyPeerCertificate: func(shown [][]byte, _ [][]*x509.Certificate) error {
 			if len(shown) == 0 || !bytes.Equal(shown[0], certificate.Certificate[0]) {
 				return errors.New("another certificate than that of the configuration is shown")
@@ -88,7 +89,7 @@ func (c *config) client() (*http.Client, error) {
 	return &http.Client{Timeout: c.Limits.time(), Transport: transport}, err
 }
 
-// health returns the state of the daemon, for people. The error says what an operator must look after, and is nil if all is well.
+// health returns the state of the daemon in lines for people. The error says what an operator must look after, and is nil if all is well.
 func (d *daemon) health() (string, error) {
 	d.clock.note(d.now())
 	var text strings.Builder

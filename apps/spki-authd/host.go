@@ -6,14 +6,15 @@ import (
 	"strings"
 )
 
-// errHost is the fault of each host that two servers could read in two ways.
+// errHost is the error for each host that two servers could read in two ways.
 var errHost = errors.New("the host is missing or not clear")
 
 // The most octets of a host, as DNS has them.
 const mostHost = 253
 
-// hostOf returns the host of a request in small letters, without its port, or errHost. It has letters, digits, dots, hyphens and underscores, or is
-// an address of IPv6 in brackets. A dot at the end, which some servers drop, is refused.
+// hostOf returns the host that a text such as `Files.example.org:443` has, in small letters without its port. It fails with errHost unless that is a name
+// or an IPv4 address of letters, digits, single dots, hyphens and underscores, or an IPv6 address in brackets. A dot at the end, which some servers drop,
+// is refused.
 func hostOf(text string) (string, error) {
 	host := text
 	if at := strings.LastIndexByte(text, ':'); at >= 0 && !strings.HasSuffix(text, "]") {
@@ -50,7 +51,7 @@ func isPort(text string) bool {
 	return len(text) <= 5
 }
 
-// isHost says whether a text of the configuration is a host as hostOf returns it.
+// isHost says whether a text of the configuration is a host in the form that hostOf returns, so that the two can be equal.
 func isHost(text string) bool {
 	host, err := hostOf(text)
 	return err == nil && host == text

@@ -15,12 +15,13 @@ import (
 	"conguraki/spki/guard"
 )
 
-// A chains says that clients may leave their certificates with the daemon.
+// chains are the settings of the configuration by which clients may leave their certificates with the daemon. A chain here is a sequence of certificates
+// that a client has left.
 type chains struct {
 	// The folder that has them: a folder for each key, and in it a file for each sequence. Or the store, at the server that is written to.
 	Folder   string   `json:"folder"`
 	Postgres *storeOf `json:"postgres"`
-	// How many days each is kept at most, how many sequences a key may have, and how many keys have some.
+	// For how many days each is kept at most, how many a key may have, and how many keys may have some.
 	Days int `json:"days"`
 	Each int `json:"each"`
 	Keys int `json:"keys"`
@@ -34,24 +35,25 @@ const (
 	usualPath                       = "/.well-known/spki-chain"
 )
 
-// A chainKeeper has the sequences of certificates that clients have left. They give nothing by themselves: each request is decided by them as if it
-// had shown them.
+// A chainKeeper has the sequences of certificates that clients have left, in a folder or in a store. They give nothing by themselves: a request is decided
+// by them as if it showed them.
 type chainKeeper interface {
-	// of returns the sequences of a key that have not ended. Here and below, `key` is the SHA-256 digest of a key in hexadecimal digits.
+	// of returns the sequences of a key that have not ended, by their ends. Here and below, `key` is the SHA-256 digest of a key in hexadecimal digits.
 	of(key string, now time.Time) ([]keptChain, error)
-	// whyNotAdded returns the answer to a sequence that add would not keep, or an empty one if it would.
+	// whyNotAdded returns the answer to a sequence that add would not keep, or an empty one if add may keep it. It is asked before a signature is verified.
 	whyNotAdded(key string, chain keptChain, now time.Time) (answer, error)
-	// add keeps a sequence for a key, if it can, and returns the answer to that: `failed` with an error. None is replaced.
+	// add keeps a sequence for a key, if there is room, and returns the answer to the client: `kept`, `known` or `full`, or `failed` with an error. No
+	// other sequence is replaced.
 	add(key string, chain keptChain, now time.Time) (answer, error)
 }
 
-// A kept is the chainKeeper of a folder. It has all sequences of the folder in memory too.
-type kept struct {
+// folderChains is the chainKeeper of a folder. It has all sequences of the folder in memory too. storedChains is that of a store.
+type folderChains struct {
 	// The configuration, with the folder and the limits.
 	chains
 	// Guards what follows.
 	mutex sync.Mutex
-	// The sequences by the digest of their key, in the order of their ends, and the octets of all of them.
+	// The sequences by the digest of their key, in the order of their ends, and how many octets all of them have.
 	byKey  map[string][]keptChain
 	octets int
 }
@@ -59,25 +61,25 @@ type kept struct {
 // The most octets of all sequences in a folder.
 const mostLeft = 32 << 20
 
-// What the name of a sequence's file ends with until it is whole, and after how long nobody writes it any more: a daemon that is started by mistake
-// beside another one takes nothing from it.
+// What the name of a sequence's file ends with until the file is whole, and the age from which such a file is removed. A younger one may be that of
+// another daemon, if two are started by mistake.
 const (
-	ofBegun  = ".new"
-	begunFor = time.Minute
+	partSuffix = ".new"
+	mostPart   = time.Minute
 )
 
-// begunName is the name of a file that is not whole.
-var begunName = regexp.MustCompile(`^[0-9a-f]{64}\.new$`)
+// partName matches the name of a file that is not whole.
+var partName = regexp.MustCompile(`^[0-9a-f]{64}\.new$`)
 
-// A keptChain is a sequence in transport form, the name of its file, which is the SHA-256 digest of the text, and when it is forgotten. One that was
-// read from a store has no name.
+// A keptChain is a sequence in transport form, the name of its file, which is the SHA-256 digest of the text in hexadecimal digits, and the moment from
+// which on it does not count. One that was read from a store has no name.
 type keptChain struct {
 	text, name string
 	until      time.Time
 }
 
-// check sets what was left out, and says what is wrong. isSigned says whether requests can be signed, without which nothing can be left. `c` may be
-// nil: then nothing is wrong.
+// check sets the settings that were left out, and returns an error if one is wrong. isSigned says whether requests can be signed, without which nothing
+// can be left. `c` is nil for a configuration without `chains`: then nothing is wrong.
 func (c *chains) check(isSigned bool) error {
 	if c == nil {
 		return nil
@@ -103,14 +105,14 @@ func (c *chains) check(isSigned bool) error {
 	return nil
 }
 
-// openChains opens the folder or the store of the sequences that clients have left, or returns nil if they can leave none. `mayRemove` is false for
-// -test, which changes no file.
+// openChains opens the folder or the store of the sequences that clients have left, or returns nil if the configuration has none. `now` and `mayRemove`
+// are those of openFolderChains.
 func openChains(c *config, now time.Time, mayRemove bool) (chainKeeper, error) {
 	switch {
 	case c.Chains == nil:
 		return nil, nil
 	case c.Chains.Postgres == nil:
-		return openKept(c.Chains, now, mayRemove)
+		return openFolderChains(c.Chains, now, mayRemove)
 	}
 	reader, err := openReader(c.Chains.Postgres, c.Limits.time()/partOfGrant)
 	if err != nil {
@@ -119,10 +121,11 @@ func openChains(c *config, now time.Time, mayRemove bool) (chainKeeper, error) {
 	return newStoredChains(c.Chains, reader), nil
 }
 
-// openKept reads the sequences of a folder. If it may, it removes those that have ended, and what was begun and not written whole. What the daemon
-// has not written is left out.
-func openKept(c *chains, now time.Time, mayRemove bool) (*kept, error) {
-	made := &kept{chains: *c, byKey: map[string][]keptChain{}}
+// openFolderChains reads the sequences of a folder. If mayRemove, it removes the files of those that have ended at `now`, and files that were not written
+// whole. mayRemove is false for -test, which changes no file. A file that the daemon has not written is left out. It fails if the folder cannot be read,
+// or if others than its owner may write it.
+func openFolderChains(c *chains, now time.Time, mayRemove bool) (*folderChains, error) {
+	opened := &folderChains{chains: *c, byKey: map[string][]keptChain{}}
 	about, err := os.Stat(c.Folder)
 	if err != nil {
 		return nil, err
@@ -138,61 +141,62 @@ func openKept(c *chains, now time.Time, mayRemove bool) (*kept, error) {
 		// (what is no folder, or cannot be read, is not the daemon's)
 		files, _ := os.ReadDir(filepath.Join(c.Folder, folder.Name()))
 		for _, file := range files {
-			if isOver := made.read(folder.Name(), file.Name(), now); isOver && mayRemove {
-				made.remove(folder.Name(), file.Name())
+			if isOver := opened.read(folder.Name(), file.Name(), now); isOver && mayRemove {
+				opened.remove(folder.Name(), file.Name())
 			}
 		}
 	}
-	return made, nil
+	return opened, nil
 }
 
 // read reads the file of a sequence into memory, and says whether it can be removed: the sequence has ended, or was not written whole. `key` is the
 // name of the file's folder. Without room for it, or if the daemon has not written it, the file is left out and stays.
-func (k *kept) read(key, name string, now time.Time) (isOver bool) {
-	path := filepath.Join(k.Folder, key, name)
+func (f *folderChains) read(key, name string, now time.Time) (isOver bool) {
+	path := filepath.Join(f.Folder, key, name)
 	about, err := os.Stat(path)
 	if err != nil {
 		return false
 	}
-	if begunName.MatchString(name) {
-		return now.Sub(about.ModTime()) > begunFor
+	if partName.MatchString(name) {
+		return now.Sub(about.ModTime()) > mostPart
 	}
 	octets, err := readFile(path, mostShownOctets)
 	if err != nil || name != hexDigest(octets) {
 		return false
 	}
-	made := k.chainOf(string(octets), about.ModTime())
-	if !now.Before(made.until) {
+	chain := f.chainOf(string(octets), about.ModTime())
+	if !now.Before(chain.until) {
 		return true
 	}
-	if k.hasRoom(key, len(octets)) {
-		k.put(key, made)
+	if f.hasRoom(key, len(octets)) {
+		f.put(key, chain)
 	}
 	return false
 }
 
-// put keeps a sequence in memory, behind those of the key that end before it. The mutex is held, or no other goroutine has `k` yet.
-func (k *kept) put(key string, chain keptChain) {
-	// (readers still have the old ones)
-	all := append(append([]keptChain(nil), k.byKey[key]...), chain)
+// put keeps a sequence in memory, behind those of the key that end before it. The mutex is held, or no other goroutine has `f` yet.
+func (f *folderChains) put(key string, chain keptChain) {
+	// (a copy: goroutines that have called `of` still read the old slice)
+	all := append(append([]keptChain(nil), f.byKey[key]...), chain)
 	sort.SliceStable(all, func(first, second int) bool { return all[first].until.Before(all[second].until) })
-	k.byKey[key] = all
-	k.octets += len(chain.text)
+	f.byKey[key] = all
+	f.octets += len(chain.text)
 }
 
-// remove removes the file of a sequence, and the folder of its key if that is empty then. A file that stays is found too old at the next start.
-func (k *kept) remove(key, name string) {
-	os.Remove(filepath.Join(k.Folder, key, name))
-	os.Remove(filepath.Join(k.Folder, key))
+// remove removes the file of a sequence, and the folder of its key if that is empty then. Errors do not matter: the next start removes what has ended.
+func (f *folderChains) remove(key, name string) {
+	os.Remove(filepath.Join(f.Folder, key, name))
+	os.Remove(filepath.Join(f.Folder, key))
 }
 
-// hasRoom says whether a key may have one more sequence, of so many octets. The mutex is held, or no other goroutine has `k` yet.
-func (k *kept) hasRoom(key string, octets int) bool {
-	_, isKnown := k.byKey[key]
-	return len(k.byKey[key]) < k.Each && (isKnown || len(k.byKey) < k.Keys) && k.octets+octets <= mostLeft
+// hasRoom says whether the limits let a key have one more sequence, of so many octets. The mutex is held, or no other goroutine has `f` yet.
+func (f *folderChains) hasRoom(key string, octets int) bool {
+	_, isKnown := f.byKey[key]
+	return len(f.byKey[key]) < f.Each && (isKnown || len(f.byKey) < f.Keys) && f.octets+octets <= mostLeft
 }
 
-// whyNotBeside returns `known` if a sequence is among those of its key, `full` if these are as many as may be, and otherwise an empty answer.
+// whyNotBeside returns `known` if a sequence in transport form is among the others of its key, `full` if these are as many as may be, and otherwise an
+// empty answer.
 func (c *chains) whyNotBeside(others []keptChain, text string) answer {
 	for _, other := range others {
 		if other.text == text {
@@ -205,7 +209,7 @@ func (c *chains) whyNotBeside(others []keptChain, text string) answer {
 	return ""
 }
 
-// chainOf returns a sequence in transport form as it is kept from a time on: for so many days, or until the first of its certificates ends.
+// chainOf returns a sequence in transport form as it is kept from a moment on: for c.Days days, or until the first of its certificates ends.
 func (c *chains) chainOf(text string, from time.Time) keptChain {
 	until := from.AddDate(0, 0, c.Days)
 	if end, hasEnd := endOf(text); hasEnd && end.Before(until) {
@@ -214,115 +218,120 @@ func (c *chains) chainOf(text string, from time.Time) keptChain {
 	return keptChain{text, hexDigest([]byte(text)), until}
 }
 
+// notAfter matches the field of a certificate, in canonical form, that says when its window ends.
 var notAfter = regexp.MustCompile(`\(9:not-after19:(\d{4}-\d\d-\d\d_\d\d:\d\d:\d\d)\)`)
 
-// endOf returns the earliest end of the certificates of a sequence in transport form, if one has an end. A text in a tag that looks so counts as an
-// end too, which does no harm.
+// endOf returns the earliest end of the certificates of a sequence in transport form, if one has an end: the moment from which on it is not valid. Octets
+// in a tag that look like an end count too: then the sequence is forgotten early, and the client can leave it again.
 func endOf(text string) (end time.Time, hasEnd bool) {
 	// (what is no base64 is refused before)
 	octets, _ := base64.StdEncoding.DecodeString(strings.Trim(strings.Join(strings.Fields(text), ""), "{}"))
-	for _, found := range notAfter.FindAllSubmatch(octets, -1) {
-		if each, err := time.Parse("2006-01-02_15:04:05", string(found[1])); err == nil && (!hasEnd || each.Before(end)) {
-			end, hasEnd = each, true
+	for _, match := range notAfter.FindAllSubmatch(octets, -1) {
+		limit, err := time.Parse("2006-01-02_15:04:05", string(match[1]))
+		// (a window contains the second with which it ends)
+		limit = limit.Add(time.Second)
+		if err == nil && (!hasEnd || limit.Before(end)) {
+			end, hasEnd = limit, true
 		}
 	}
 	return end, hasEnd
 }
 
-// of returns the sequences of a key that have not ended, and removes the files of the others. It never fails.
-func (k *kept) of(key string, now time.Time) ([]keptChain, error) {
-	k.mutex.Lock()
-	defer k.mutex.Unlock()
-	return k.current(key, now), nil
+// of returns the sequences of a key that have not ended, and removes the others with their files. It never fails.
+func (f *folderChains) of(key string, now time.Time) ([]keptChain, error) {
+	f.mutex.Lock()
+	defer f.mutex.Unlock()
+	return f.current(key, now), nil
 }
 
-// current returns the sequences of a key that have not ended, and forgets those that have, with their files. The mutex is held.
-func (k *kept) current(key string, now time.Time) []keptChain {
-	var left []keptChain
-	for _, each := range k.byKey[key] {
+// current is `of` where the mutex is held.
+func (f *folderChains) current(key string, now time.Time) []keptChain {
+	var current []keptChain
+	for _, each := range f.byKey[key] {
 		if now.Before(each.until) {
-			left = append(left, each)
+			current = append(current, each)
 		} else {
-			k.remove(key, each.name)
-			k.octets -= len(each.text)
+			f.remove(key, each.name)
+			f.octets -= len(each.text)
 		}
 	}
-	k.byKey[key] = left
-	if len(left) == 0 {
-		delete(k.byKey, key)
+	f.byKey[key] = current
+	if len(current) == 0 {
+		delete(f.byKey, key)
 	}
-	return left
+	return current
 }
 
-// whyNotAdded returns the answer to a sequence that add would not keep, or an empty one if it would.
-func (k *kept) whyNotAdded(key string, chain keptChain, now time.Time) (answer, error) {
-	k.mutex.Lock()
-	defer k.mutex.Unlock()
-	return k.whyNotAddedLocked(key, chain, now), nil
+// whyNotAdded returns the answer to a sequence that add would not keep, or an empty one if add would keep it. It never fails.
+func (f *folderChains) whyNotAdded(key string, chain keptChain, now time.Time) (answer, error) {
+	f.mutex.Lock()
+	defer f.mutex.Unlock()
+	return f.whyNotAddedLocked(key, chain, now), nil
 }
 
 // whyNotAddedLocked is whyNotAdded where the mutex is held.
-func (k *kept) whyNotAddedLocked(key string, chain keptChain, now time.Time) answer {
-	became := k.whyNotBeside(k.current(key, now), chain.text)
-	if became == "" && !k.hasRoom(key, len(chain.text)) {
+func (f *folderChains) whyNotAddedLocked(key string, chain keptChain, now time.Time) answer {
+	refusal := f.whyNotBeside(f.current(key, now), chain.text)
+	if refusal == "" && !f.hasRoom(key, len(chain.text)) {
 		return answerFull
 	}
-	return became
+	return refusal
 }
 
-// add keeps a sequence for a key, if it can, and returns the answer to that: `failed` with an error. None is replaced.
-func (k *kept) add(key string, chain keptChain, now time.Time) (answer, error) {
-	k.mutex.Lock()
-	defer k.mutex.Unlock()
-	if became := k.whyNotAddedLocked(key, chain, now); became != "" {
-		return became, nil
+// add keeps a sequence for a key in a file and in memory, if there is room, and returns the answer to the client: `failed` with an error, if the file
+// cannot be written.
+func (f *folderChains) add(key string, chain keptChain, now time.Time) (answer, error) {
+	f.mutex.Lock()
+	defer f.mutex.Unlock()
+	if refusal := f.whyNotAddedLocked(key, chain, now); refusal != "" {
+		return refusal, nil
 	}
-	if err := k.write(key, chain); err != nil {
-		k.remove(key, chain.name+ofBegun)
+	if err := f.write(key, chain); err != nil {
+		f.remove(key, chain.name+partSuffix)
 		return answerFailed, err
 	}
-	k.put(key, chain)
+	f.put(key, chain)
 	return answerKept, nil
 }
 
-// write writes the file of a sequence, whole or not at all: under a name with ofBegun at its end, which is changed at last. After an error that file
-// may be left.
-func (k *kept) write(key string, chain keptChain) error {
-	folder := filepath.Join(k.Folder, key)
+// write writes the file of a sequence, whole or not at all: under a name with partSuffix at its end, from which it is renamed. After an error the file
+// with that suffix may be left.
+func (f *folderChains) write(key string, chain keptChain) error {
+	folder := filepath.Join(f.Folder, key)
 	if err := os.MkdirAll(folder, 0o700); err != nil {
 		return err
 	}
 	path := filepath.Join(folder, chain.name)
-	if err := os.WriteFile(path+ofBegun, []byte(chain.text), 0o600); err != nil {
+	if err := os.WriteFile(path+partSuffix, []byte(chain.text), 0o600); err != nil {
 		return err
 	}
-	return os.Rename(path+ofBegun, path)
+	return os.Rename(path+partSuffix, path)
 }
 
-// judgeAll sets the answer of a record by the certificates that the request shows. Where it shows none and the list alone grants nothing, each
+// judgeAll sets the answer of a record by the certificates that its request shows. Where it shows none and the list alone grants nothing, each
 // sequence that is kept for its key is tried, until one grants the request. If none does, and one could not be decided by, the answer is `failed`.
-func (d *decider) judgeAll(made *record, key guard.ProvenKey, path string, asked *asked, now time.Time) {
+func (d *decider) judgeAll(result *record, key guard.ProvenKey, path string, inquiry *inquiry, now time.Time) {
 	// (each sequence is tried with the record as it is before the first decision)
-	begun := *made
-	d.judge(made, key, path, asked.sequence, now)
-	if asked.sequence != "" || made.Answer != answerUnknown || d.chains == nil {
+	before := *result
+	d.judge(result, key, path, inquiry.sequence, now)
+	if inquiry.sequence != "" || result.Answer != answerUnknown || d.chains == nil {
 		return
 	}
-	shown, err := d.chains.of(made.Key, now)
+	chains, err := d.chains.of(result.Key, now)
 	if err != nil {
-		*made = begun.ended(answerFailed, err)
+		*result = before.withReason(answerFailed, err)
 		return
 	}
-	for _, each := range shown {
-		next := begun
-		d.judge(&next, key, path, each.text, now)
-		if next.Answer == answerYes {
-			next.Kept = "used"
-			*made = next
+	for _, chain := range chains {
+		tried := before
+		d.judge(&tried, key, path, chain.text, now)
+		if tried.Answer == answerYes {
+			tried.Kept = "used"
+			*result = tried
 			return
 		}
-		if next.Answer == answerFailed {
-			*made = next
+		if tried.Answer == answerFailed {
+			*result = tried
 		}
 	}
 }

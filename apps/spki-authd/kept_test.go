@@ -26,7 +26,7 @@ func newKeeping(t *testing.T) *site {
 // reopenChains reads the folder of kept certificates, as the daemon does at its start.
 func (s *site) reopenChains(t *testing.T) {
 	t.Helper()
-	made, err := openKept(s.config.Chains, s.now(), true)
+	made, err := openFolderChains(s.config.Chains, s.now(), true)
 	if err != nil {
 		t.Fatal(err)
 	}
@@ -197,7 +197,7 @@ func TestWhatIsKept(t *testing.T) {
 		{"what is past its end", "past its end", []string{s.alice.sign(s.alice.certificateUntil(s.bob, tag, "2020-01-01_00:00:00"))}},
 		{"no signature", "refused sequence 1 UnsignedCert", []string{s.toBob}},
 	} {
-		s.chains = &kept{chains: chains{Folder: t.TempDir(), Each: 2, Keys: 2, Days: 9}, byKey: map[string][]keptChain{}}
+		s.chains = &folderChains{chains: chains{Folder: t.TempDir(), Each: 2, Keys: 2, Days: 9}, byKey: map[string][]keptChain{}}
 		status, met := s.leaves(t, s.bob, sequence(row.shown...))
 		line, isKept := s.lastLine(t), s.keeps(t, s.bob)
 		if row.reason == "" && (status != 201 || met != answerKept || !isKept) {
@@ -245,7 +245,7 @@ func TestStrangersLeave(t *testing.T) {
 	if s.statusFor(s.bob, "/web/docs/b", bobs) != 200 {
 		t.Error("what a request brings itself does not count")
 	}
-	full := &kept{chains: *s.config.Chains, byKey: map[string][]keptChain{}, octets: mostLeft - 9}
+	full := &folderChains{chains: *s.config.Chains, byKey: map[string][]keptChain{}, octets: mostLeft - 9}
 	if met, _ := full.add("key", keptChain{text: "ten octets"}, s.now()); met != answerFull {
 		t.Error(met)
 	}
@@ -354,7 +354,7 @@ func TestKeptChainsEnd(t *testing.T) {
 	}
 	for _, row := range [][2]int{{9, 2}, {11, 1}, {89, 1}, {91, 0}} {
 		now := begun.AddDate(0, 0, row[0])
-		made, err := openKept(s.config.Chains, now, false)
+		made, err := openFolderChains(s.config.Chains, now, false)
 		if err != nil {
 			t.Fatal(err)
 		}
@@ -366,7 +366,7 @@ func TestKeptChainsEnd(t *testing.T) {
 	if files := s.filesOfChains(); len(files) != 2 {
 		t.Error(files)
 	}
-	if _, err := openKept(s.config.Chains, begun.AddDate(0, 0, 11), true); err != nil || len(s.filesOfChains()) != 1 {
+	if _, err := openFolderChains(s.config.Chains, begun.AddDate(0, 0, 11), true); err != nil || len(s.filesOfChains()) != 1 {
 		t.Error(err, s.filesOfChains())
 	}
 	if left, _ := s.chains.of(hexDigest([]byte(s.bob.key)), begun.AddDate(1, 0, 0)); left != nil {
@@ -444,7 +444,7 @@ func TestKeptFiles(t *testing.T) {
 	if err := os.Chmod(s.config.Chains.Folder, 0o777); err != nil {
 		t.Fatal(err)
 	}
-	if _, err := openKept(s.config.Chains, s.now(), false); err == nil {
+	if _, err := openFolderChains(s.config.Chains, s.now(), false); err == nil {
 		t.Error("others may write the folder")
 	}
 }

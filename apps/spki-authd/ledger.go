@@ -9,22 +9,22 @@ import (
 	"syscall"
 )
 
-// When a ledger is written to its disk, beyond what the system does by itself.
+// When a ledger calls fsync, so that its lines are on the disk: never, each second, or before each grant. They are the values of `log_sync`.
 const (
 	syncNever   = "never"
 	syncSeconds = "seconds"
 	syncEach    = "each"
 )
 
-// A ledger is the file with a line for each grant. Only one daemon writes it. A line in it is whole or absent.
+// A ledger is the log of grants: a file with a line for each. Only one daemon writes it. A line in it is whole or absent.
 type ledger struct {
 	// Its path, and syncNever, syncSeconds or syncEach.
 	path, syncs string
 	file        file
-	// The octets of the file before the lines that are written now, and whether its last line was cut and could not be removed.
+	// The octets of the file before the lines that are written now, and whether the file ends with a part of a line that could not be removed.
 	whole int64
 	isCut bool
-	// Whether something is written and not yet on the disk, and what was wrong the last time that it should have been.
+	// Whether lines are written since the last fsync by `beat`, and the error of that, or nil.
 	isDirty bool
 	fault   error
 }
@@ -38,17 +38,17 @@ type file interface {
 	Close() error
 }
 
-// Who may read a new ledger, beyond what the daemon's umask takes away.
+// The mode of a new ledger, from which the daemon's umask takes rights away: its owner may write and its group may read.
 const modeOfLedger = 0o640
 
-// openLedger opens or makes a ledger. `syncs` is syncNever, syncSeconds or syncEach.
+// openLedger opens the ledger at a path, or makes it. `syncs` is syncNever, syncSeconds or syncEach. The errors are those of open.
 func openLedger(path, syncs string) (*ledger, error) {
-	made := &ledger{path: path, syncs: syncs}
-	return made, made.open()
+	opened := &ledger{path: path, syncs: syncs}
+	return opened, opened.open()
 }
 
-// open opens or makes the file, which must be an ordinary one that no other daemon writes. If its last line was cut, the next line begins behind a
-// line feed.
+// open opens or makes the file. It fails if that is no ordinary file or another daemon writes it, and then changes nothing in `l`. If the last line of the
+// file is cut, isCut has the next one begin behind a line feed.
 func (l *ledger) open() error {
 	if err := checkLedgerPath(l.path); err != nil {
 		return err
@@ -69,7 +69,7 @@ func (l *ledger) open() error {
 	return nil
 }
 
-// checkLedgerPath says what is wrong in a path at which a ledger is or will be.
+// checkLedgerPath returns an error if there is something else than an ordinary file at a path, or if its folder does not exist.
 func checkLedgerPath(path string) error {
 	about, err := os.Stat(path)
 	if errors.Is(err, fs.ErrNotExist) {
@@ -100,8 +100,8 @@ func checkOpenable(path string) error {
 	return nil
 }
 
-// lockLedger locks a file for this daemon alone, and returns whether its last line is cut, and how many octets it has. It fails if another daemon has
-// locked it.
+// lockLedger locks a file for this daemon alone, until it is closed, and returns whether its last line is cut, and how many octets it has. It fails if it
+// is no ordinary file, and if another daemon has locked it.
 func lockLedger(opened *os.File) (isCut bool, size int64, err error) {
 	about, err := opened.Stat()
 	if err == nil && !about.Mode().IsRegular() {
@@ -118,7 +118,7 @@ func lockLedger(opened *os.File) (isCut bool, size int64, err error) {
 	return last[0] != '\n', about.Size(), err
 }
 
-// syncFolder writes a folder to its disk, so that a new file in it stays.
+// syncFolder calls fsync for a folder, so that a new file in it is not lost if the machine stops.
 func syncFolder(path string) error {
 	folder, err := os.Open(path)
 	if err != nil {
@@ -128,7 +128,8 @@ func syncFolder(path string) error {
 	return folder.Sync()
 }
 
-// write writes lines. After an error they are cut off again. If that fails too, isCut has the next lines begin behind a line feed.
+// write writes lines, each with its line feed. After an error none of them counts: what was written of them is cut off again. If that fails too, isCut has
+// the next lines begin behind a line feed.
 func (l *ledger) write(lines []byte) error {
 	if err := l.prepare(); err != nil {
 		return err
@@ -150,8 +151,8 @@ func (l *ledger) write(lines []byte) error {
 	return nil
 }
 
-// prepare is called before lines are written. It notes the file's size, makes the file again if it was removed, and fails if lines that should be on
-// the disk by now are still not there.
+// prepare is called before lines are written. It notes the file's size, and makes the file again if it was removed. It fails if the last `beat` has failed
+// and one more fails too: then earlier lines may not be on the disk.
 func (l *ledger) prepare() error {
 	about, err := l.file.Stat()
 	if err != nil {
@@ -167,8 +168,7 @@ func (l *ledger) prepare() error {
 	return l.fault
 }
 
-// beat writes to the disk what was written since the last time, if the ledger has syncSeconds. The writer calls it each second. An error is noted for
-// the next write.
+// beat calls fsync if the ledger has syncSeconds and lines were written since the last time. The writer calls it each second. prepare reports its error.
 func (l *ledger) beat() {
 	if l.syncs == syncSeconds && (l.isDirty || l.fault != nil) {
 		l.fault = l.file.Sync()
@@ -176,8 +176,8 @@ func (l *ledger) beat() {
 	}
 }
 
-// reopen opens the path again, at which another file may be since. If it cannot be opened, the old one stays. Another error says that the new file is
-// open, and that the last lines of the old one may not be on the disk.
+// reopen opens the path again, unless the open file is still there. If it cannot be opened, the old file stays open. Another error says that the new file
+// is open, and that the last lines of the old one may not be on the disk.
 func (l *ledger) reopen() error {
 	present, err := l.file.Stat()
 	if err != nil {
@@ -189,7 +189,7 @@ func (l *ledger) reopen() error {
 	return l.replace()
 }
 
-// replace opens the path, and closes the old file.
+// replace opens the path, and closes the old file. Its errors are those of reopen.
 func (l *ledger) replace() error {
 	old := *l
 	if err := l.open(); err != nil {
@@ -201,8 +201,8 @@ func (l *ledger) replace() error {
 	return nil
 }
 
-// close writes the file to its disk, unless the ledger has syncNever, and closes it. The error says that its last lines may not be on the disk: also
-// if that was already so before, since a system may say of an error only once.
+// close calls fsync, unless the ledger has syncNever, and closes the file. The error says that the last lines may not be on the disk. It is also the error
+// of the last `beat`: a system may report that lines are lost only once.
 func (l *ledger) close() error {
 	fault := l.fault
 	if l.syncs != syncNever {

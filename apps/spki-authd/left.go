@@ -13,10 +13,10 @@ import (
 )
 
 // A client leaves certificates by `PUT PATH`, with a sequence as its body. They are kept for the key that has signed the request, if each of them is
-// signed, and the subject of the last one is this key. What they give is not looked at: each request is decided by them.
+// signed, and the subject of the last one is this key. What right they give is not tested: later requests are decided by them.
 //
-// It is the only request that the web server passes on as it came, with its body. What its headers say but for the signature is not believed.
-// Any other PUT is refused where a web server asks by GET: its headers may be the client's own.
+// It is the only request that the web server passes on as it came, with its body. So of its headers only the signature counts. Where a web server asks by
+// GET, any other PUT is refused: its headers may be the client's own.
 
 var (
 	errPlace   = errors.New("certificates are not left here")
@@ -28,8 +28,8 @@ var (
 	errSubject = fmt.Errorf("%w: the subject of the last one is not the key that has signed the request", errUnkept)
 )
 
-// isPut says whether leftOf is to read a request, and not askedOf. A web server that names the client's method in a header asks by GET, so there each
-// PUT leaves certificates. Envoy asks by the client's method, so there only a PUT to the path of certificates does.
+// isPut says whether leavingOf is to read a request, and not inquiryOf. A web server that names the client's method in a header asks by GET: from it each
+// PUT is read by leavingOf. Envoy asks by the client's method: from it only a PUT to the path of certificates is.
 func (c *config) isPut(request *http.Request) bool {
 	return request.Method == http.MethodPut && (c.Headers.Method != "" || c.isPlace(request))
 }
@@ -39,37 +39,37 @@ func (c *config) isPlace(request *http.Request) bool {
 	return c.Chains != nil && request.RequestURI == c.Chains.Path
 }
 
-// leftOf reads a request that leaves certificates. Its body is read last, and only if it is short enough. With an error it returns what it has read
-// until then, for the log.
-func (c *config) leftOf(request *http.Request) (made asked, err error) {
+// leavingOf reads a request that leaves certificates, with its body. With an error it returns what it has read until then, for the log: errPlace if the
+// target is not the path for certificates, or that of inquiryOf, bodyOf or sequenceInBody.
+func (c *config) leavingOf(request *http.Request) (inquiry inquiry, err error) {
 	if err := c.checkServer(request); err != nil {
-		return made, err
+		return inquiry, err
 	}
 	if !c.isPlace(request) {
-		return made, errPlace
+		return inquiry, errPlace
 	}
 	if octetsOf(request.Header) > c.Limits.HeaderOctets {
-		return made, errTooLong
+		return inquiry, errTooLong
 	}
-	if made.id, err = only(request, c.Headers.ID); err != nil {
-		return made, err
+	if inquiry.id, err = headerValue(request, c.Headers.ID); err != nil {
+		return inquiry, err
 	}
-	made.id, made.header = cut(made.id, mostID), request.Header
-	if made.host, err = hostOf(request.Host); err != nil {
-		return made, err
+	inquiry.id, inquiry.header = cut(inquiry.id, mostID), request.Header
+	if inquiry.host, err = hostOf(request.Host); err != nil {
+		return inquiry, err
 	}
-	if made.address, err = c.addressOf(request); err != nil {
-		return made, err
+	if inquiry.address, err = c.addressOf(request); err != nil {
+		return inquiry, err
 	}
-	made.method, made.target = request.Method, request.RequestURI
-	if made.left, err = bodyOf(request); err != nil {
-		return made, err
+	inquiry.method, inquiry.target = request.Method, request.RequestURI
+	if inquiry.body, err = bodyOf(request); err != nil {
+		return inquiry, err
 	}
-	made.sequence, err = shownIn(made.left)
-	return made, err
+	inquiry.sequence, err = sequenceInBody(inquiry.body)
+	return inquiry, err
 }
 
-// bodyOf reads a body, or fails with errLength if its length is not given, is too long or is wrong.
+// bodyOf reads the body of a request. It fails with errLength if Content-Length is missing, 0 or over mostShownOctets, or if the body is shorter.
 func bodyOf(request *http.Request) ([]byte, error) {
 	if request.ContentLength < 1 || request.ContentLength > mostShownOctets {
 		return nil, errLength
@@ -81,69 +81,72 @@ func bodyOf(request *http.Request) ([]byte, error) {
 	return body, nil
 }
 
-// shownIn returns the sequence of a body in transport form, whatever form the body has. It fails with errChain.
-func shownIn(body []byte) (string, error) {
+// sequenceInBody returns the value of a body in transport form, whatever form the body has. It fails with errChain if the body is no S-expression, is a
+// sequence of nothing, or is over mostShownOctets in transport form. Whether it is a sequence is tested later.
+func sequenceInBody(body []byte) (string, error) {
 	canonical, err := guard.Canonical(body)
-	made := "{" + base64.StdEncoding.EncodeToString(canonical) + "}"
-	if err != nil || bytes.Equal(canonical, noCertificates) || len(made) > mostShownOctets {
+	sequence := "{" + base64.StdEncoding.EncodeToString(canonical) + "}"
+	if err != nil || bytes.Equal(canonical, noCertificates) || len(sequence) > mostShownOctets {
 		return "", errChain
 	}
-	return made, nil
+	return sequence, nil
 }
 
-// leave keeps the certificates that a client leaves, and returns the record with the answer to that. Strangers can leave some too, of keys that they
-// made. So these requests have nonces of their own, and what is known or finds no room is not verified.
-func (d *decider) leave(made record, key guard.ProvenKey, proof *httpsig.Proof, asked *asked) record {
-	made.Target = asked.target
-	if err := d.signed.leaving.Take(proof); err != nil {
-		return made.ended(answerRefused, err)
+// keepCertificates keeps the certificates that a client leaves, and returns the record with the answer. `key` is the one that has signed the request, by
+// `proof`. Strangers can leave certificates too, of keys that they made. So these requests have nonces of their own, and no signature is verified where
+// the sequence is known or has no room.
+func (d *decider) keepCertificates(result record, key guard.ProvenKey, proof *httpsig.Proof, inquiry *inquiry) record {
+	result.Target = inquiry.target
+	if err := d.requests.leaving.Take(proof); err != nil {
+		return result.withReason(answerRefused, err)
 	}
-	chain := d.config.Chains.chainOf(asked.sequence, d.now())
+	chain := d.config.Chains.chainOf(inquiry.sequence, d.now())
 	if !d.now().Before(chain.until) {
-		return made.ended(answerRefused, errPast)
+		return result.withReason(answerRefused, errPast)
 	}
 	var err error
-	if made.Answer, err = d.chains.whyNotAdded(made.Key, chain, d.now()); err != nil {
-		return made.ended(answerFailed, err)
+	if result.Answer, err = d.chains.whyNotAdded(result.Key, chain, d.now()); err != nil {
+		return result.withReason(answerFailed, err)
 	}
-	if made.Answer != "" {
-		return made
+	if result.Answer != "" {
+		return result
 	}
-	if err := d.checkLeft(&made, key, asked.sequence); err != nil {
-		return made.ended(answerOf(err), err)
+	if err := d.checkCertificates(&result, key, inquiry.sequence); err != nil {
+		return result.withReason(answerOf(err), err)
 	}
-	if made.Answer, err = d.chains.add(made.Key, chain, d.now()); err != nil {
-		return made.ended(answerFailed, err)
+	if result.Answer, err = d.chains.add(result.Key, chain, d.now()); err != nil {
+		return result.withReason(answerFailed, err)
 	}
-	return made
+	return result
 }
 
-// checkLeft says why certificates are not kept: one is not signed or has ended early, or the subject of the last one is not the key.
-func (d *decider) checkLeft(made *record, key guard.ProvenKey, sequence string) error {
+// checkCertificates returns why a sequence is not kept for a key, or nil: a certificate is not signed or has ended early, or the subject of the last one
+// is not the key. The record gets the digests of the certificates.
+func (d *decider) checkCertificates(result *record, key guard.ProvenKey, sequence string) error {
 	signatures, err := d.config.signaturesOf(sequence, key, d.now())
 	if err != nil {
 		return err
 	}
-	found := shownBy(signatures)
-	made.Certificates = found.names
-	notEnded, err := found.notEnded(d.keeper.present.Load())
+	shown := newShownSequence(signatures)
+	result.Certificates = shown.names
+	notEnded, err := shown.notEnded(d.keeper.present.Load())
 	if err != nil {
 		return err
 	}
 	if notEnded < len(signatures) {
-		return fmt.Errorf("%w: certificate %s has ended", errUnkept, found.names[notEnded])
+		return fmt.Errorf("%w: certificate %s has ended", errUnkept, shown.names[notEnded])
 	}
-	isSubject, err := d.config.names(subjectOf(signatures[notEnded-1].Message), key, d.now())
+	isSubject, err := d.config.namesKey(subjectOf(signatures[len(signatures)-1].Message), key, d.now())
 	if err != nil {
 		return err
 	}
 	if !isSubject {
 		return errSubject
 	}
-	for place, signed := range signatures {
+	for place, signature := range signatures {
 		d.counts.verified.Add(1)
-		if !d.verify(signed) {
-			return fmt.Errorf("%w: certificate %s has no valid signature", errUnkept, found.names[place])
+		if !d.verify(signature) {
+			return fmt.Errorf("%w: certificate %s has no valid signature", errUnkept, shown.names[place])
 		}
 	}
 	return nil

@@ -15,8 +15,8 @@ const (
 	tlsScheme  = "tls:"
 )
 
-// checkEntrance says what is wrong in `listen` and the fields for it. Only the web server may be able to ask, and it must know that this daemon
-// answers: by the folder of a socket, or by a certificate.
+// checkEntrance returns an error if `listen` or a field for it is wrong. Only the web server may be able to ask, and it must know that this daemon
+// answers: by the folder of a Unix socket, or by a certificate for TLS.
 func (c *config) checkEntrance() error {
 	if path := strings.TrimPrefix(c.Listen, unixScheme); path != c.Listen {
 		return c.checkSocket(path)
@@ -40,7 +40,7 @@ func (c *config) checkEntrance() error {
 	return nil
 }
 
-// checkSocket says what is wrong in the fields for a Unix socket at a path.
+// checkSocket returns an error if a field for a Unix socket at a path is wrong.
 func (c *config) checkSocket(path string) error {
 	mode, err := modeOf(c.SocketMode)
 	if err != nil || !strings.HasPrefix(path, "/") {
@@ -60,7 +60,7 @@ func (c *config) checkMode(mode fs.FileMode) error {
 	return nil
 }
 
-// modeOf reads the mode of a socket, such as 0660. It fails if the mode has more than the rights to read and to write.
+// modeOf reads the mode of a socket in octal digits, such as 0660. It fails if the mode has other rights than to read and to write.
 func modeOf(text string) (fs.FileMode, error) {
 	mode, err := strconv.ParseUint(text, 8, 12)
 	if err == nil && mode&^0o666 != 0 {
@@ -69,9 +69,9 @@ func modeOf(text string) (fs.FileMode, error) {
 	return fs.FileMode(mode), err
 }
 
-// listen takes the socket or the port from the service manager, or opens it.
+// listen takes the socket or the port from the service manager, if that has opened it, or opens it. With `tls` the listener speaks TLS.
 func (c *config) listen() (net.Listener, error) {
-	listener, err := inherited()
+	listener, err := inheritedSocket()
 	if err == nil && listener != nil {
 		err = c.checkInherited(listener)
 	} else if err == nil {

@@ -8,19 +8,19 @@ import (
 	"conguraki/spki/guard"
 )
 
-// A place says which access list decides: that of the first place whose host is the request's and whose prefix the path begins with. A place
-// without a host is for each host. List is the path of the file, or what a store is called in messages: nameLists sets it.
-type place struct {
+// A scope says which requests an access list decides: those for its host, or for each host without one, whose path begins with its prefix. The list of
+// the first scope that fits decides. List is the path of the file, or what a store is called in messages: nameLists sets it.
+type scope struct {
 	Host   string `json:"host"`
 	Prefix string `json:"prefix"`
 	List   string `json:"-"`
 	Source source `json:"list"`
 }
 
-// A list is an access list that was read, and its place. There are three kinds: a list in a file; a list in a store, which has no guard; and the part
-// of that which one question needs, which store.list returns.
+// A list is an access list that was read, and its scope. There are three kinds: a list in a file; a list in a store, which has no guard; and the part of
+// a list in a store that one question needs, which store.list returns. The part has no scope.
 type list struct {
-	place
+	scope
 	// The library's checker with the entries, or nil for a list in a store.
 	guard *guard.Guard
 	// The digest of the file's octets, for the log. A part has the number of the store's last change, and a list in a store the digest of its name.
@@ -29,24 +29,24 @@ type list struct {
 	store *store
 	// Of a part, the numbers of its entries in the store, in their order.
 	numbers []int
-	// Whether it is a part that is not kept: whoever asked for it closes it after one question.
+	// Whether it is a part that the store does not keep: whoever has called store.list closes the guard after one question.
 	isPassing bool
 }
 
 var errLists = errors.New(`either "list" is the file of the access list, or "lists" has the files of several`)
 
-// checkLists says what is wrong in the places of access lists, and notes whether a request must have a host.
+// checkLists returns an error if there is no access list, or a wrong scope. It sets the prefixes that were left out, and needsHost.
 func (c *config) checkLists() error {
 	if (c.List == "") == (len(c.Lists) == 0) {
 		return errLists
 	}
 	for number := range c.Lists {
-		at := &c.Lists[number]
-		setText(&at.Prefix, "/")
-		if err := at.check(c.Lists[:number]); err != nil {
+		scope := &c.Lists[number]
+		setText(&scope.Prefix, "/")
+		if err := scope.check(c.Lists[:number]); err != nil {
 			return fmt.Errorf(`"lists", place %d: %w`, number+1, err)
 		}
-		c.needsHost = c.needsHost || at.Host != ""
+		c.needsHost = c.needsHost || scope.Host != ""
 	}
 	for _, rule := range c.Requests {
 		c.needsHost = c.needsHost || rule.needsHost()
@@ -54,36 +54,37 @@ func (c *config) checkLists() error {
 	return nil
 }
 
-// check says what is wrong in a place. It is also wrong if one of the places before it takes all its requests, so that it is never reached.
-func (p *place) check(before []place) error {
-	if p.List == "" || p.Host != "" && !isHost(p.Host) {
+// check returns an error if a scope is wrong. It is also wrong if one of the scopes before it fits all its requests, so that it is never reached.
+func (s *scope) check(before []scope) error {
+	if s.List == "" || s.Host != "" && !isHost(s.Host) {
 		return errors.New("a place has a list, and a host in small letters or none")
 	}
-	if err := checkPrefix(p.Prefix); err != nil {
+	if err := checkPrefix(s.Prefix); err != nil {
 		return err
 	}
 	for _, other := range before {
-		if (other.Host == "" || other.Host == p.Host) && strings.HasPrefix(p.Prefix, other.Prefix) {
+		if (other.Host == "" || other.Host == s.Host) && strings.HasPrefix(s.Prefix, other.Prefix) {
 			return fmt.Errorf("it is never asked: the place of %s is before it", other.List)
 		}
 	}
 	return nil
 }
 
-// places returns the places of all lists. A single list has the place of all hosts and paths.
-func (c *config) places() []place {
+// scopes returns the scopes of all lists. A single list has one that fits each host and path.
+func (c *config) scopes() []scope {
 	if c.List != "" {
-		return []place{{Prefix: "/", List: c.List, Source: c.Source}}
+		return []scope{{Prefix: "/", List: c.List, Source: c.Source}}
 	}
 	return c.Lists
 }
 
-// fits says whether a place is for the host and the path of a request.
-func (p *place) fits(host, path string) bool {
-	return (p.Host == "" || p.Host == host) && strings.HasPrefix(path, p.Prefix)
+// fits says whether a list decides requests for a host and a path, unless an earlier one does. `path` is decoded.
+func (s *scope) fits(host, path string) bool {
+	return (s.Host == "" || s.Host == host) && strings.HasPrefix(path, s.Prefix)
 }
 
-// readList reads the file of an access list, and opens it with a policy and limits. The list has no place yet. The caller closes its guard.
+// readList reads the file of an access list, and opens it with a policy and limits. The list has no scope yet. The caller closes its guard. The errors
+// say what an operator can do.
 func readList(path string, policy guard.Policy, limits limits) (*list, error) {
 	octets, err := readFile(path, mostList)
 	if errors.Is(err, errLong) {

@@ -32,7 +32,7 @@ func twoSites(t *testing.T) *site {
 	list := func(who person) string {
 		return writeFile(t, "acl", "(3:acl(5:entry"+who.key+propagates+"(3:tag"+prefix("read", "/web/")+")))")
 	}
-	s.config.List, s.config.Lists = "", []place{
+	s.config.List, s.config.Lists = "", []scope{
 		{Prefix: "/web/api/", List: list(s.carol)}, {Host: "a.example", List: list(s.alice)}, {Host: "b.example", List: list(s.bob)},
 	}
 	if err := s.config.checkLists(); err != nil {

@@ -7,17 +7,17 @@ import (
 	"sync"
 )
 
-// The octets that most lines have.
+// The octets of a new buffer for a line of the log, which most lines fit in.
 const roomForLine = 1024
 
 // rooms are buffers for lines and answers, which are used again.
 var rooms = sync.Pool{New: func() any {
-	made := make([]byte, 0, roomForLine)
-	return &made
+	buffer := make([]byte, 0, roomForLine)
+	return &buffer
 }}
 
-// line returns the record as a line of JSON, in `room`, which is overwritten. It has the octets that encoding/json would write, which takes four
-// times as long.
+// line returns the record as a line of JSON with its line feed, in `room`, which is overwritten, or in a new buffer if `room` is too small. The line has
+// the octets that encoding/json would write, but encoding/json takes four times as long.
 func (r *record) line(room []byte) []byte {
 	line := fields(room[:0])
 	line.text("time", r.Time, true)
@@ -42,7 +42,7 @@ func (r *record) line(room []byte) []byte {
 	return append(line, "}\n"...)
 }
 
-// A fields is the text of an object of JSON up to some field, without the brace that ends it.
+// fields are the text of an object of JSON up to some field, without the brace that ends it.
 type fields []byte
 
 // name writes the name of the next field.
@@ -85,7 +85,7 @@ func (f *fields) number(name string, value int64, isNeeded bool) {
 	}
 }
 
-// string writes a text. Where a character of it may need an escape, encoding/json writes it.
+// string writes a text as a JSON string. If a character of it may need an escape, encoding/json writes it.
 func (f *fields) string(value string) {
 	if isPlain(value) {
 		*f = append(append(append(*f, '"'), value...), '"')
@@ -96,15 +96,15 @@ func (f *fields) string(value string) {
 	*f = append(*f, escaped...)
 }
 
-// plain has the characters that JSON writes as they are.
-var plain = func() (made [256]bool) {
+// plain has true for each octet that encoding/json writes as it is.
+var plain = func() (isPlain [256]bool) {
 	for octet := ' '; octet <= '~'; octet++ {
-		made[octet] = !strings.ContainsRune("\"\\<>&", octet)
+		isPlain[octet] = !strings.ContainsRune("\"\\<>&", octet)
 	}
-	return made
+	return isPlain
 }()
 
-// isPlain says whether a text has only characters that JSON writes as they are.
+// isPlain says whether a text has only octets that encoding/json writes as they are.
 func isPlain(text string) bool {
 	for place := 0; place < len(text); place++ {
 		if !plain[text[place]] {

@@ -54,7 +54,7 @@ func TestLogThatHangs(t *testing.T) {
 	s := serveHere(t, "")
 	goes := make(chan struct{})
 	defer close(goes)
-	s.grants = newWriter(&hanging{goes: goes}, s.config.Limits.time()/20, nil).write
+	s.logGrant = newWriter(&hanging{goes: goes}, s.config.Limits.time()/20, nil).write
 	for turn := 0; turn < 2; turn++ {
 		if met := s.get(t, "/web/x"); met != 503 {
 			t.Errorf("%d", met)

@@ -13,14 +13,14 @@ import (
 	"conguraki/spki/guard"
 )
 
-// Exit statuses.
+// Exit statuses: all was done, a file was refused or a check or the output failed, and a word of the command line is wrong.
 const (
 	statusDone    = 0
 	statusRefused = 1
 	statusWords   = 2
 )
 
-// The words of the command line.
+// words are what the command line says: a field for each flag. wordsOf says what the flags mean.
 type words struct {
 	config    string
 	list      string
@@ -39,21 +39,21 @@ type words struct {
 	controls controls
 }
 
-// controls are the values of -of, which may be there more than once. They are a flag.Value.
+// controls are the values of -of, which may be given more than once. They implement flag.Value.
 type controls []string
 
-// String returns the values, as flag.Value needs it.
+// String returns the values with spaces between them.
 func (c *controls) String() string { return strings.Join(*c, " ") }
 
-// Set adds the value of one more -of.
+// Set adds the value of one more -of. It never fails.
 func (c *controls) Set(value string) error { *c = append(*c, value); return nil }
 
-// main runs the program, and ends it with the exit status of that.
+// main runs the program, and exits with its status.
 func main() {
 	os.Exit(run(os.Args[1:], os.Stdout, os.Stderr))
 }
 
-// A printer prints on standard output, and keeps the first error of that: who reads the output of a command must know that it is whole.
+// A printer writes the output of a command, and keeps the first error of that, so that the exit status says whether the output is whole.
 type printer struct {
 	to    io.Writer
 	fault error
@@ -67,8 +67,8 @@ func (p *printer) Write(octets []byte) (count int, err error) {
 	return count, p.fault
 }
 
-// run does what the words of the command line say, and returns the exit status. What starts the daemon gets `out` itself, since a daemon goes on
-// where nobody reads its lines.
+// run does what the words of the command line say, and returns the exit status. It writes errors to `messages`. A command fails if `out` does; the daemon
+// does not, so it gets `out` itself.
 func run(given []string, out, messages io.Writer) int {
 	words, err := wordsOf(given, messages)
 	if errors.Is(err, flag.ErrHelp) {
@@ -104,28 +104,29 @@ func run(given []string, out, messages io.Writer) int {
 	return statusDone
 }
 
-// wordsOf reads the words of the command line, and writes to `messages` what is wrong in them.
+// wordsOf reads the words of the command line, without the program's name. What is wrong in them is the error, and is written to `messages` too. For -help
+// it writes the help there, and fails with flag.ErrHelp.
 func wordsOf(given []string, messages io.Writer) (words, error) {
-	var made words
+	var words words
 	flags := flag.NewFlagSet("spki-authd", flag.ContinueOnError)
 	flags.SetOutput(messages)
-	flags.StringVar(&made.config, "config", "/etc/spki-authd/config.json", "the `FILE` of the configuration")
-	flags.StringVar(&made.list, "check", "", "read an access `LIST`, say whether it is one, and end")
-	flags.BoolVar(&made.isTest, "test", false, "read the configuration and its files, and end")
-	flags.BoolVar(&made.isHealth, "health", false, "ask the daemon of the configuration whether it answers and how it is, and end")
-	flags.BoolVar(&made.isReload, "reload", false, "have it read its files again; the status is 1 if one is refused")
-	flags.BoolVar(&made.isFewer, "fewer", false, "with -reload: certificates that have ended may count again")
-	flags.BoolVar(&made.isReopen, "reopen", false, "have it open its log again, after that was renamed")
-	flags.BoolVar(&made.isMetrics, "metrics", false, "print its metrics for Prometheus")
-	flags.BoolVar(&made.isState, "state", false, "print the digests of its lists and of its ended certificates")
-	flags.Var(&made.controls, "of", "with -state: the `CONTROL` socket of a daemon; of several, say whether they have the same state")
-	flags.BoolVar(&made.noCache, "no-cache", false, "verify each signature each time")
-	flags.StringVar(&made.probe, "probe", "", "ask the finished site at this `URL` for what it must deny, say what it grants, and end")
-	flags.BoolVar(&made.isStopped, "stopped", false, "with -probe: the daemon is stopped meanwhile")
-	flags.BoolVar(&made.isVersion, "version", false, "print the version")
+	flags.StringVar(&words.config, "config", "/etc/spki-authd/config.json", "the `FILE` of the configuration")
+	flags.StringVar(&words.list, "check", "", "read an access `LIST`, say whether it is one, and end")
+	flags.BoolVar(&words.isTest, "test", false, "read the configuration and its files, and end")
+	flags.BoolVar(&words.isHealth, "health", false, "ask the daemon of the configuration whether it answers and how it is, and end")
+	flags.BoolVar(&words.isReload, "reload", false, "have it read its files again; the status is 1 if one is refused")
+	flags.BoolVar(&words.isFewer, "fewer", false, "with -reload: certificates that have ended may count again")
+	flags.BoolVar(&words.isReopen, "reopen", false, "have it open its log again, after that was renamed")
+	flags.BoolVar(&words.isMetrics, "metrics", false, "print its metrics for Prometheus")
+	flags.BoolVar(&words.isState, "state", false, "print the digests of its lists and of its ended certificates")
+	flags.Var(&words.controls, "of", "with -state: the `CONTROL` socket of a daemon; of several, say whether they have the same state")
+	flags.BoolVar(&words.noCache, "no-cache", false, "verify each signature each time")
+	flags.StringVar(&words.probe, "probe", "", "ask the finished site at this `URL` for what it must deny, say what it grants, and end")
+	flags.BoolVar(&words.isStopped, "stopped", false, "with -probe: the daemon is stopped meanwhile")
+	flags.BoolVar(&words.isVersion, "version", false, "print the version")
 	err := flags.Parse(given)
 	if err != nil {
-		return made, err
+		return words, err
 	}
 	// (`-check "$LIST"` must not start the daemon where LIST is not set)
 	flags.Visit(func(each *flag.Flag) {
@@ -134,15 +135,16 @@ func wordsOf(given []string, messages io.Writer) (words, error) {
 		}
 	})
 	if err == nil {
-		err = made.check(flags.Args())
+		err = words.check(flags.Args())
 	}
 	if err != nil {
 		fmt.Fprintln(messages, "spki-authd:", err)
 	}
-	return made, err
+	return words, err
 }
 
-// check refuses words beside the flags, which are in `rest`, a flag without the one that it is for, and two flags that each say what to do.
+// check returns an error for words beside the flags, which are in `rest`, for a flag without the one that it is for, and for two flags of which each says
+// what to do.
 func (w *words) check(rest []string) error {
 	switch {
 	case len(rest) > 0:
@@ -160,7 +162,7 @@ func (w *words) check(rest []string) error {
 	return nil
 }
 
-// tasks returns the given flags that each say what to do. Without one, the daemon starts.
+// tasks returns those flags that are given and say what to do. Without one, the daemon starts.
 func (w *words) tasks() []string {
 	var given []string
 	for _, task := range []struct {
@@ -203,12 +205,12 @@ func askDaemon(words words, out io.Writer) error {
 	if words.isHealth {
 		return checkHealth(config, out)
 	}
-	text, err := give(config.controlPath(), words.order())
+	text, err := sendOrder(config.controlPath(), words.order())
 	fmt.Fprint(out, text)
 	return err
 }
 
-// checkList prints how many entries an access list has, or returns why it is refused.
+// checkList prints how many entries the access list at a path has, or returns why it is refused, by the strict policy and the usual limits.
 func checkList(path string, out io.Writer) error {
 	read, err := readList(path, guard.Strict, usualLimits)
 	if err != nil {

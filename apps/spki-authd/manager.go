@@ -12,7 +12,7 @@ import (
 	"time"
 )
 
-// What systemd sets for a program that it starts, and the number of the first socket that it hands over.
+// The variables of the environment that systemd sets for a program that it starts, and the number of the first open file that it hands over.
 const (
 	envNotify  = "NOTIFY_SOCKET"
 	envProcess = "LISTEN_PID"
@@ -23,8 +23,8 @@ const (
 // For how long a message to the service manager may wait for room in its queue. The main loop does nothing else meanwhile.
 const timeToNotify = time.Second
 
-// notify tells the service manager something, if there is one: READY=1, RELOADING=1, STOPPING=1 or STATUS=TEXT, one a line. It fails if the manager
-// takes no message in timeToNotify.
+// notify sends a message to the service manager, if there is one: READY=1, RELOADING=1, STOPPING=1 or STATUS=TEXT, one a line, as sd_notify(3) has them.
+// It fails if the manager takes no message in timeToNotify.
 func notify(what string) error {
 	path := os.Getenv(envNotify)
 	if path == "" {
@@ -42,8 +42,9 @@ func notify(what string) error {
 	return err
 }
 
-// inherited returns the socket that the service manager has opened, or nil if it has not. Then connections wait while the daemon is started again.
-func inherited() (net.Listener, error) {
+// inheritedSocket returns the socket that the service manager has opened, or nil if it has not. In such a socket, connections wait while the daemon is
+// started again.
+func inheritedSocket() (net.Listener, error) {
 	if os.Getenv(envProcess) != strconv.Itoa(os.Getpid()) {
 		return nil, nil
 	}
@@ -55,7 +56,8 @@ func inherited() (net.Listener, error) {
 	return net.FileListener(file)
 }
 
-// checkInherited returns an error if a socket of the service manager is not that of the configuration. The manager has set its mode and its group.
+// checkInherited returns an error if a socket of the service manager is not at the address of the configuration, or, for a Unix socket, if its group is
+// not `socket_group`, or if everyone may write to it and there is no secret.
 func (c *config) checkInherited(listener net.Listener) error {
 	address := listener.Addr()
 	wanted := unixScheme + address.String()
@@ -79,7 +81,7 @@ func (c *config) checkInherited(listener net.Listener) error {
 	return c.checkMode(about.Mode().Perm())
 }
 
-// checkGroup returns an error if a socket has another group than that of the configuration, which may name none.
+// checkGroup returns an error if a socket has another group than `socket_group`. Without that, each group is right. `about` is what Stat says of the socket.
 func (c *config) checkGroup(about fs.FileInfo) error {
 	if c.SocketGroup == "" {
 		return nil

@@ -5,13 +5,13 @@ import (
 	"strings"
 )
 
-// errUnclear is the fault of each path that two servers could read in two ways.
+// errUnclear is the error for each path that two servers could read in two ways.
 var errUnclear = errors.New("the path is not clear")
 
-// pathOf returns the path of a request's target, decoded once. It accepts only what every server reads in the same way, so nothing has to be
-// normalised, and a path that is accepted is the one that is served:
+// pathOf returns the path of a request's target, decoded once, or fails with errUnclear. It accepts only what every server reads in the same way, so
+// nothing has to be normalized, and a path that is accepted is the one that is served:
 //
-//   - It begins with `/`, and has at most so many octets. The query is cut off at the first `?`.
+//   - It begins with `/`, and as it is sent it has at most `most` octets. The query is cut off at the first `?`.
 //   - As it is sent it has visible characters of ASCII alone, with its query. Each `%` is followed by two hexadecimal digits.
 //   - Decoded it has characters of ASCII from the space to `~`, without `%`, `\`, `;`, `?` and `#`. `%2F` is no part of it.
 //   - No segment is `.` or `..`, ends in a dot or a space, or is empty, except the last one.
@@ -22,7 +22,7 @@ func pathOf(target string, most int) (string, error) {
 	if len(sent) > most || !strings.HasPrefix(sent, "/") || !isVisible(target) {
 		return "", errUnclear
 	}
-	path, err := decoded(sent)
+	path, err := decodePath(sent)
 	if err != nil {
 		return "", err
 	}
@@ -36,8 +36,9 @@ func pathOf(target string, most int) (string, error) {
 	return path, nil
 }
 
-// decoded decodes each `%XX` of a sent path, once. It fails with errUnclear for a character that no path has, and for an escaped `/`.
-func decoded(sent string) (string, error) {
+// decodePath decodes each `%XX` of a path, once. It fails with errUnclear for a decoded octet that isOfPath does not have, for an escaped `/`, and for a `%`
+// without two hexadecimal digits.
+func decodePath(sent string) (string, error) {
 	if hasPathOctets(sent) {
 		return sent, nil
 	}
@@ -59,15 +60,15 @@ func decoded(sent string) (string, error) {
 	return string(path), nil
 }
 
-// isOfPath has true for each octet that a path may have.
-var isOfPath = func() (made [256]bool) {
+// isOfPath has true for each octet that a decoded path may have.
+var isOfPath = func() (isAllowed [256]bool) {
 	for octet := ' '; octet <= '~'; octet++ {
-		made[octet] = !strings.ContainsRune(`%\;?#`, octet)
+		isAllowed[octet] = !strings.ContainsRune(`%\;?#`, octet)
 	}
-	return made
+	return isAllowed
 }()
 
-// hasPathOctets says whether each octet of a text is one of isOfPath.
+// hasPathOctets says whether isOfPath has each octet of a text.
 func hasPathOctets(text string) bool {
 	for place := 0; place < len(text); place++ {
 		if !isOfPath[text[place]] {
@@ -82,7 +83,7 @@ func isHexadecimal(octet byte) bool {
 	return '0' <= octet && octet <= '9' || 'a' <= octet|0x20 && octet|0x20 <= 'f'
 }
 
-// digit returns the value of an octet that isHexadecimal.
+// digit returns the value, from 0 to 15, of an octet that isHexadecimal.
 func digit(octet byte) byte {
 	if octet <= '9' {
 		return octet - '0'

@@ -10,14 +10,14 @@ import (
 	"strings"
 )
 
-// A probe asks a finished site for what it must deny. Each request is for a path of its own that is drawn by chance, so a hole shows and no
+// A probe sends a finished site requests that it must deny, and counts the answers. Each request is for a path of its own that is drawn by chance: so no
 // file is read, changed or removed.
 type probe struct {
 	base *url.URL
-	// Whether the operator has stopped the daemon, so that each answer that depends on it is a fault.
+	// Whether the operator has stopped the daemon, so that the web server can grant only by a hole. Then an answer must be 5xx.
 	isStopped bool
 	out       io.Writer
-	// The number of requests that were sent, of answers of 5xx, which show that nothing decided, and of requests that were granted.
+	// The number of requests that were sent, of answers with 5xx, which show that nothing decided, and of requests that were granted.
 	sent, failed, granted int
 }
 
@@ -27,7 +27,7 @@ var (
 	errShown   = errors.New("nothing is shown")
 )
 
-// What is printed in place of a status for a request without an answer.
+// noAnswer is printed in place of a status for a request without an answer.
 const noAnswer = "no answer"
 
 // A verdict is what an answer of the site means.
@@ -35,16 +35,17 @@ type verdict int
 
 const (
 	isDenied verdict = iota
+	// Nobody has decided.
 	isFailed
 	isGranted
 )
 
-// denials are the statuses by which a web server says no, by itself or for the daemon: a malformed request, no key, no right, no such method,
-// another host, too many requests, too long a header, and a method or a version that it does not have.
+// denials are the statuses by which a web server says no, by itself or for the daemon. In this order: a malformed request, no key, no right, no such
+// method, another host, too many requests, too long a header, and a method or a version that the server does not have.
 var denials = map[int]bool{400: true, 401: true, 403: true, 405: true, 421: true, 429: true, 431: true, 501: true, 505: true}
 
-// verdictOf says what a status means. What is neither a denial nor a fault of the server counts as granted, also 301, 304, 404, 409, 412 and 416: a
-// server says these after the decision.
+// verdictOf says what the status of an answer means. What is neither a denial nor 5xx counts as granted, also 301, 304, 404, 409, 412 and 416: a server
+// answers these after a yes.
 func verdictOf(status int) verdict {
 	switch {
 	case denials[status]:
@@ -67,13 +68,13 @@ func probeSite(address string, isStopped bool, out io.Writer) error {
 	if err != nil {
 		return err
 	}
-	made := &probe{base: base, isStopped: isStopped, out: out}
+	probe := &probe{base: base, isStopped: isStopped, out: out}
 	for _, each := range askers {
-		if err := made.sendAll(each); err != nil {
+		if err := probe.sendAll(each); err != nil {
 			return err
 		}
 	}
-	return made.end()
+	return probe.end()
 }
 
 // baseOf reads the address of a folder, or fails with errBase.
@@ -92,9 +93,9 @@ func baseOf(address string) (*url.URL, error) {
 	return base, nil
 }
 
-// sendAll sends all of `tries` by an asker, and prints how often each status was the answer. An asker whose protocol or key the server does not take
-// is left out. It fails with errShown if one request is answered by 429 again and again. Without -stopped it also
-// fails with errShown if the first answer is 5xx, or if most requests have 5xx or no answer.
+// sendAll sends all of `tries` by an asker, and prints how often each status was the answer. It leaves out an asker whose protocol the server lacks, or
+// which may fail and gets no first answer. It fails if any other asker gets none, and with errShown if one request is answered by 429 again and again.
+// Without -stopped it also fails with errShown if the first answer is 5xx, or if most requests have 5xx or no answer.
 func (p *probe) sendAll(by asker) error {
 	first, err := by.send(p.base, tries[0])
 	if err != nil && by.mayFail && !errors.Is(err, errShown) {
@@ -111,7 +112,7 @@ func (p *probe) sendAll(by asker) error {
 	if !p.isStopped && verdictOf(first.status) == isFailed {
 		return fmt.Errorf("%w: %s: %s is %d; does the daemon run?", errShown, by.name, tries[0].method, first.status)
 	}
-	counts, sent, failed := map[string]int{}, p.sent, p.failed
+	counts, sentBefore, failedBefore := map[string]int{}, p.sent, p.failed
 	p.note(by, first, counts)
 	for _, each := range tries[1:] {
 		answer, err := by.send(p.base, each)
@@ -127,15 +128,15 @@ func (p *probe) sendAll(by asker) error {
 		}
 	}
 	fmt.Fprintf(p.out, "%s: %s\n", by.name, countsAsText(counts))
-	sent, failed = p.sent-sent, p.failed-failed+counts[noAnswer]
+	sent, failed := p.sent-sentBefore, p.failed-failedBefore+counts[noAnswer]
 	if !p.isStopped && 2*failed > sent {
 		return fmt.Errorf("%w: %s: %d of %d requests have 5xx or no answer; does the daemon run?", errShown, by.name, failed, sent)
 	}
 	return nil
 }
 
-// note counts an answer, also in `counts` by its status, and prints it if it is a grant.
-func (p *probe) note(by asker, answer answered, counts map[string]int) {
+// note counts an answer, also in `counts` by its status, and prints its request if that was granted.
+func (p *probe) note(by asker, answer probeAnswer, counts map[string]int) {
 	p.sent++
 	counts[fmt.Sprint(answer.status)]++
 	switch verdictOf(answer.status) {
@@ -143,7 +144,7 @@ func (p *probe) note(by asker, answer answered, counts map[string]int) {
 		p.failed++
 	case isGranted:
 		p.granted++
-		fmt.Fprintf(p.out, "granted: %s %s is %d: %s%s\n", answer.try.method, answer.target, answer.status, by.name, answer.left())
+		fmt.Fprintf(p.out, "granted: %s %s is %d: %s%s\n", answer.try.method, answer.target, answer.status, by.name, answer.hintToRemove())
 	}
 }
 
@@ -160,15 +161,15 @@ func (p *probe) end() error {
 	return nil
 }
 
-// left returns what is printed behind a grant that may have made something, or an empty text.
-func (a answered) left() string {
+// hintToRemove returns what is printed behind a grant that may have made a file, or an empty text for any other grant.
+func (a probeAnswer) hintToRemove() string {
 	if a.status/100 != 2 || !a.try.makes {
 		return ""
 	}
 	return "; remove what it has made"
 }
 
-// countsAsText returns how often each status was the answer, as `401 20 times, 405 3 times`.
+// countsAsText returns how often each status was the answer, such as `401 20 times, 405 3 times`.
 func countsAsText(counts map[string]int) string {
 	names := make([]string, 0, len(counts))
 	for name := range counts {
@@ -181,7 +182,8 @@ func countsAsText(counts map[string]int) string {
 	return strings.Join(names, ", ")
 }
 
-// header returns the header of a try. `second` is the name of the second path, for methods that need one: COPY and MOVE, which must not overwrite it.
+// header returns the headers of a try. `second` is the name of the second path, for methods that have one: COPY and MOVE. `Overwrite: F` has them keep what
+// is there.
 func (t try) header(base *url.URL, second string) http.Header {
 	header := http.Header{"User-Agent": {"spki-authd -probe"}}
 	for name, value := range t.more {

@@ -22,7 +22,7 @@ type try struct {
 	method, path, body string
 	// Further headers, by their names.
 	more map[string]string
-	// Whether it would make something if it were granted, whether it names a second path, and whether only HTTP/1.1 has it with a path.
+	// Whether it would make a file if it were granted, whether it names a second path, and whether only HTTP/1.1 can send it for a path: CONNECT.
 	makes, hasSecond, isOld bool
 }
 
@@ -47,37 +47,38 @@ var tries = append([]try{
 }, triesFor("{}/", "{}/{}", "{}/index.html", "{}.html", "{}.css", "{}.js", "{}.png", "{}.php", "{}.json", "{}.txt", ".{}", "{}?{}")...)
 
 // triesFor returns two requests for each of these paths: one that reads it, and one that writes it.
-func triesFor(paths ...string) (made []try) {
+func triesFor(paths ...string) (pairs []try) {
 	for _, path := range paths {
-		made = append(made, try{method: "GET", path: path}, try{method: "PUT", path: path, body: textBody, makes: true})
+		pairs = append(pairs, try{method: "GET", path: path}, try{method: "PUT", path: path, body: textBody, makes: true})
 	}
-	return made
+	return pairs
 }
 
-// How often a request is sent again where the answer is 429, the pause before, and the time for an answer.
+// How often a request is sent again where the answer is 429.
 const mostAgain = 100
 
 var (
+	// The pause before it is sent again, and the time for an answer.
 	timeAgain     = 200 * time.Millisecond
 	timeForAnswer = 30 * time.Second
-	// Who may have signed the site's certificate: nil for those whom the system trusts.
+	// The authorities that may have signed the site's certificate: nil for those that the system trusts. A test sets another.
 	rootsOfSite *x509.CertPool
 )
 
-// errNotSent is the fault of a request that the protocol does not have.
+// errNotSent is the error for a request that an asker's protocol cannot send.
 var errNotSent = errors.New("the protocol has no such request")
 
-// An asker sends requests by one protocol, which is 1 for HTTP/1.1 and 2 for HTTP/2, with a key or without.
+// An asker sends requests by one protocol, which is 1 for HTTP/1.1 and 2 for HTTP/2, with a key for TLS or without.
 type asker struct {
 	name     string
 	protocol int
-	// Whether the server may refuse its key before any answer.
+	// Whether the server may close the connection without an answer: it has a key, which the server may refuse.
 	mayFail bool
 	client  *http.Client
 }
 
-// An answered is a request, its target with the names that were drawn, the status of its answer and the protocol of that: 1 or 2, as an asker has it.
-type answered struct {
+// A probeAnswer is a request, its target with the names that were drawn, the status of its answer, and the protocol of that: 1 or 2, as an asker has it.
+type probeAnswer struct {
 	try              try
 	target           string
 	status, protocol int
@@ -114,7 +115,7 @@ func newAsker(name string, protocol int, own *tls.Certificate) asker {
 	return asker{name, protocol, own != nil, client}
 }
 
-// newStrange makes a new key, and a certificate for TLS that this key has signed.
+// newStrange makes a key that no server knows, and returns a certificate for TLS that this key has signed.
 func newStrange() (*tls.Certificate, error) {
 	private, err := ecdsa.GenerateKey(elliptic.P256(), rand.Reader)
 	if err != nil {
@@ -126,53 +127,55 @@ func newStrange() (*tls.Certificate, error) {
 	return &tls.Certificate{Certificate: [][]byte{octets}, PrivateKey: private}, err
 }
 
-// send sends a request, for a path that nobody has asked for before. While the answer is 429, it waits and sends another one, up to mostAgain times.
-func (a asker) send(base *url.URL, each try) (answered, error) {
+// send sends a request, for a path that nobody has asked for before, and returns the answer. While that is 429, it waits timeAgain and sends the request
+// for another path, up to mostAgain times, and fails with errShown then. It fails with errNotSent for what the protocol cannot send, and where there is no
+// answer.
+func (a asker) send(base *url.URL, each try) (probeAnswer, error) {
 	if each.isOld && a.protocol != 1 {
-		return answered{}, errNotSent
+		return probeAnswer{}, errNotSent
 	}
 	for count := 0; ; count++ {
-		made, err := a.sendOnce(base, each)
-		if err == nil && made.status == http.StatusTooManyRequests && count == mostAgain {
+		answer, err := a.sendOnce(base, each)
+		if err == nil && answer.status == http.StatusTooManyRequests && count == mostAgain {
 			err = fmt.Errorf("%w: each answer to %s is 429", errShown, each.method)
 		}
-		if err != nil || made.status != http.StatusTooManyRequests {
-			return made, err
+		if err != nil || answer.status != http.StatusTooManyRequests {
+			return answer, err
 		}
 		time.Sleep(timeAgain)
 	}
 }
 
-// sendOnce sends a request once, for a new path. What was asked and the status of the answer are returned, but not its body.
-func (a asker) sendOnce(base *url.URL, each try) (made answered, err error) {
+// sendOnce sends a request once, for a new path, and returns the answer without its body.
+func (a asker) sendOnce(base *url.URL, each try) (answer probeAnswer, err error) {
 	path := each.path
 	if path == "" {
 		path = "{}"
 	}
 	target, err := freshAddress(base, path)
 	if err != nil {
-		return made, err
+		return answer, err
 	}
 	second, err := randomName()
 	if err != nil {
-		return made, err
+		return answer, err
 	}
 	request, err := http.NewRequest(each.method, target, strings.NewReader(each.body))
 	if err != nil {
-		return made, err
+		return answer, err
 	}
 	request.Header = each.header(base, second)
 	response, err := a.client.Do(request)
 	if err != nil {
-		return made, err
+		return answer, err
 	}
-	// (what is in the answer does not matter)
+	// (some of the body is read, so that the connection can be used again)
 	_, _ = io.CopyN(io.Discard, response.Body, mostBody)
 	response.Body.Close()
-	return answered{each, request.URL.RequestURI(), response.StatusCode, response.ProtoMajor}, nil
+	return probeAnswer{each, request.URL.RequestURI(), response.StatusCode, response.ProtoMajor}, nil
 }
 
-// freshAddress returns the address of a path, in which each `{}` is replaced by a name that is drawn by chance.
+// freshAddress returns the URL of a path below `base`, in which each `{}` is replaced by a name that is drawn by chance.
 func freshAddress(base *url.URL, path string) (string, error) {
 	for strings.Contains(path, "{}") {
 		name, err := randomName()

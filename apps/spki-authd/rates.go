@@ -5,53 +5,54 @@ import (
 	"time"
 )
 
-// A rates has how often each key, or each address, may ask: so often a second, and at first or after a pause twice as often. What has not asked for
-// long is forgotten, and may then ask as at first.
-type rates struct {
+// A rateLimiter says how often each key, or each address, may ask: perSecond times a second, and at first or after a pause up to savedSeconds times that
+// at once. A key that has not asked for long is forgotten, and may then ask as at first.
+type rateLimiter struct {
 	mutex     sync.Mutex
 	perSecond float64
-	known     *recent[string, *bucket]
+	buckets   *recentMap[string, *bucket]
 }
 
-// A bucket has the requests that are left, as they were at a moment.
+// A bucket has how many requests a key or an address may still make at once, as of a moment.
 type bucket struct {
 	left float64
 	at   time.Time
 }
 
-// The keys or addresses that are known, and for how many seconds the requests of a pause are saved.
+// The most keys or addresses that are remembered, and for how many seconds of a pause the requests may be made later.
 const (
-	mostKnown = 20_000
-	saved     = 2
+	mostBuckets  = 20_000
+	savedSeconds = 2
 )
 
-// newRates returns rates of so many requests a second. With 0 each request is allowed.
-func newRates(perSecond int) *rates {
-	return &rates{perSecond: float64(perSecond), known: newRecent[string, *bucket](mostKnown)}
+// newRateLimiter returns a limiter to so many requests a second. With 0 it allows each request.
+func newRateLimiter(perSecond int) *rateLimiter {
+	return &rateLimiter{perSecond: float64(perSecond), buckets: newRecentMap[string, *bucket](mostBuckets)}
 }
 
-// allows says whether a key or an address may make one more request at a moment, and counts that request if so. A clock that goes back gives nothing.
-func (r *rates) allows(who string, now time.Time) bool {
+// allows says whether a caller, by its key or its address, may make one more request at a moment, and counts that request if so. A clock that goes back
+// allows nothing more.
+func (r *rateLimiter) allows(caller string, now time.Time) bool {
 	if r.perSecond == 0 {
 		return true
 	}
 	r.mutex.Lock()
 	defer r.mutex.Unlock()
-	has, isKnown := r.known.get(who)
+	allowance, isKnown := r.buckets.get(caller)
 	if !isKnown {
-		has = &bucket{left: saved * r.perSecond, at: now}
-		r.known.add(who, has)
+		allowance = &bucket{left: savedSeconds * r.perSecond, at: now}
+		r.buckets.add(caller, allowance)
 	}
-	if since := now.Sub(has.at).Seconds(); since > 0 {
-		has.left += since * r.perSecond
+	if pause := now.Sub(allowance.at).Seconds(); pause > 0 {
+		allowance.left += pause * r.perSecond
 	}
-	has.at = now
-	if has.left > saved*r.perSecond {
-		has.left = saved * r.perSecond
+	allowance.at = now
+	if allowance.left > savedSeconds*r.perSecond {
+		allowance.left = savedSeconds * r.perSecond
 	}
-	if has.left < 1 {
+	if allowance.left < 1 {
 		return false
 	}
-	has.left--
+	allowance.left--
 	return true
 }

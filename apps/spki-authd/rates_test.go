@@ -10,7 +10,7 @@ import (
 // TestRates asks as two clients at several times, and counts how many requests are allowed. A row has the client, the time since the row before, and
 // how many requests are made and allowed.
 func TestRates(t *testing.T) {
-	made, now := newRates(5), time.Unix(1_000_000, 0)
+	made, now := newRateLimiter(5), time.Unix(1_000_000, 0)
 	count := func(who string, times int) (allowed int) {
 		for turn := 0; turn < times; turn++ {
 			if made.allows(who, now) {
@@ -32,7 +32,7 @@ func TestRates(t *testing.T) {
 			t.Errorf("%+v: %d", row, met)
 		}
 	}
-	none := newRates(0)
+	none := newRateLimiter(0)
 	for turn := 0; turn < 1000; turn++ {
 		if !none.allows("a", now) {
 			t.Fatal("no rate is one")
@@ -42,14 +42,14 @@ func TestRates(t *testing.T) {
 
 // TestRatesAreBounded asks from more addresses than are known. One that asks all the time is not forgotten.
 func TestRatesAreBounded(t *testing.T) {
-	made, now, allowed := newRates(1), time.Unix(1_000_000, 0), 0
-	for number := 0; number < 3*mostKnown; number++ {
+	made, now, allowed := newRateLimiter(1), time.Unix(1_000_000, 0), 0
+	for number := 0; number < 3*mostBuckets; number++ {
 		made.allows(fmt.Sprint(number), now)
 		if made.allows("a", now) {
 			allowed++
 		}
 	}
-	if known := len(made.known.old) + len(made.known.young); known > mostKnown || allowed != saved {
+	if known := len(made.buckets.old) + len(made.buckets.young); known > mostBuckets || allowed != savedSeconds {
 		t.Errorf("%d are known, %d are allowed", known, allowed)
 	}
 }
@@ -106,7 +106,7 @@ func TestSlowRequests(t *testing.T) {
 	s := newSite(t, "")
 	at := time.Now()
 	s.now = func() time.Time { return at }
-	s.grants = func([]byte) error {
+	s.logGrant = func([]byte) error {
 		at = at.Add(3 * time.Second)
 		s.clock.note(s.now())
 		return nil

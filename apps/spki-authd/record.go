@@ -8,7 +8,7 @@ import (
 	"time"
 )
 
-// An answer is what is said to the web server.
+// An answer is the answer to the web server, as `X-Spki-Answer` and the log have it.
 type answer string
 
 const (
@@ -18,15 +18,15 @@ const (
 	answerUnknown answer = "unauthenticated"
 	answerLimited answer = "limited"
 	answerFailed  answer = "failed"
-	// To certificates that are left, and never to a question.
+	// To certificates that are left, and never to an inquiry.
 	answerKept  answer = "kept"
 	answerKnown answer = "known"
 	answerFull  answer = "full"
 )
 
-// A record is one decision: a line of the log, and what the web server is told. It has no key and no certificate, but their digests. Cached counts
-// the signatures that were known to be valid, and Unverified those that were not verified. Reason is the fault that the daemon has found, and Reasons
-// are the library's, of a denial that is explained. Kept is `used` where certificates that were left grant the request.
+// A record is one decision: the line of the log, and the answer to the web server. It has no key and no certificate, but their digests. Cached counts
+// the signatures that were known to be valid, and Unverified those that were not verified since they could change nothing. Reason is the fault that the
+// daemon has found, and Reasons are the library's, of a denial that is explained. Kept is `used` where certificates that were left grant the request.
 type record struct {
 	Time         string   `json:"time"`
 	ID           string   `json:"id,omitempty"`
@@ -47,14 +47,14 @@ type record struct {
 	Reasons      string   `json:"reasons,omitempty"`
 	Target       string   `json:"target,omitempty"`
 	Microseconds int64    `json:"microseconds"`
-	// The number of the rule that says which request it is, or 0.
+	// The number of the rule that says which request it is, from 1, or 0.
 	rule int
-	// The numbers of the entries that were asked, where they are in a store.
+	// Where the list is in a store, the numbers there of the entries in the guard, in their order.
 	numbers []int
 }
 
-// number returns the number of an entry as the log has it, by its place in the guard, which counts from 1. Where entries are in a store, it is the
-// number in the store, and otherwise the place itself. 0, which is no entry, stays 0.
+// number returns the number of an entry as the log has it, by its place in the guard, from 1. Where entries are in a store, that is the number in the
+// store, and otherwise the place itself. 0, which is no entry, stays 0.
 func (r *record) number(place int) int {
 	if place > 0 && place <= len(r.numbers) {
 		return r.numbers[place-1]
@@ -62,28 +62,29 @@ func (r *record) number(place int) int {
 	return place
 }
 
-// ended returns the record with an answer, and with the fault that is the reason of it.
-func (r record) ended(answer answer, fault error) record {
+// withReason returns the record with an answer, and with the fault that is the reason of it.
+func (r record) withReason(answer answer, fault error) record {
 	r.Answer, r.Reason = answer, fault.Error()
 	return r
 }
 
-// setKnown notes the list, and the certificates whose signatures are known. `valid` of them precede the first that has ended, which is noted too.
-func (r *record) setKnown(at *list, known *shown, valid int) {
-	r.List, r.numbers, r.Certificates, r.Cached = at.digest, at.numbers, known.names, valid
-	if valid < len(known.names) {
-		r.Certificates = known.names[:valid+1]
-		r.setEnded(known.names[valid])
+// noteSequence notes the list by which a question was decided, and the certificates of a sequence whose signatures are known to be valid. `valid` of them
+// precede the first that has ended early, which is noted too.
+func (r *record) noteSequence(list *list, sequence *shownSequence, valid int) {
+	r.List, r.numbers, r.Certificates, r.Cached = list.digest, list.numbers, sequence.names, valid
+	if valid < len(sequence.names) {
+		r.Certificates = sequence.names[:valid+1]
+		r.noteEnded(sequence.names[valid])
 	}
 }
 
-// setEnded notes as the reason that a certificate has ended early.
-func (r *record) setEnded(certificate string) {
+// noteEnded notes as the reason that a certificate has ended early. `certificate` is its digest in hexadecimal digits.
+func (r *record) noteEnded(certificate string) {
 	r.Reason = "certificate " + certificate + " has ended"
 }
 
-// status returns the HTTP status of an answer, where `refused` is `refused_status`. Only yes is 200: no web server takes certificates that are kept
-// for a grant.
+// status returns the HTTP status of an answer. `refused` is `refused_status` of the configuration. Only `yes` is 200: so no web server takes the answer to
+// certificates that are left for a grant.
 func (a answer) status(refused int) int {
 	switch a {
 	case answerYes:
@@ -107,15 +108,16 @@ func (a answer) status(refused int) int {
 	return http.StatusServiceUnavailable
 }
 
-// response returns what the web server is told, in `room`, which is overwritten. It has no body, so it is the same for HEAD. The headers have digits,
-// words of the daemon and lines of the library alone, and nothing that a client sent. After the last answer the connection is closed.
+// response returns the HTTP response to the web server, in `room`, which is overwritten, or in a new buffer if `room` is too small. `now` is for its date.
+// isLast has it say that the connection is closed. It has no body, so it is the same for HEAD. Its headers have digests, numbers, words of the daemon and
+// lines of the library, and nothing that a client sent.
 func (r *record) response(room []byte, now time.Time, isLast bool) []byte {
-	made := append(room[:0], "HTTP/1.1 "...)
-	made = strconv.AppendInt(made, int64(r.Status), 10)
-	made = append(append(append(made, ' '), http.StatusText(r.Status)...), "\r\nCache-Control: no-store\r\nContent-Length: 0\r\nDate: "...)
-	made = append(made, secondOf(now).date...)
+	text := append(room[:0], "HTTP/1.1 "...)
+	text = strconv.AppendInt(text, int64(r.Status), 10)
+	text = append(append(append(text, ' '), http.StatusText(r.Status)...), "\r\nCache-Control: no-store\r\nContent-Length: 0\r\nDate: "...)
+	text = append(text, secondOf(now).date...)
 	header := func(name, value string) {
-		made = append(append(append(append(made, "\r\n"...), name...), ": "...), value...)
+		text = append(append(append(append(text, "\r\n"...), name...), ": "...), value...)
 	}
 	header("X-Spki-Answer", string(r.Answer))
 	if r.Key != "" {
@@ -123,7 +125,7 @@ func (r *record) response(room []byte, now time.Time, isLast bool) []byte {
 	}
 	if r.Entry > 0 {
 		header("X-Spki-Entry", "")
-		made = strconv.AppendInt(made, int64(r.Entry), 10)
+		text = strconv.AppendInt(text, int64(r.Entry), 10)
 	}
 	if r.Answer == answerRefused {
 		header("X-Spki-Reason", strings.ReplaceAll(r.Reason, "\n", ", "))
@@ -134,10 +136,11 @@ func (r *record) response(room []byte, now time.Time, isLast bool) []byte {
 	if isLast {
 		header("Connection", "close")
 	}
-	return append(made, "\r\n\r\n"...)
+	return append(text, "\r\n\r\n"...)
 }
 
-// An event is a message of the daemon itself.
+// An event is a line on standard error, about the daemon itself. Event is what was done, with ` not` behind it if Detail has a fault. List and EndedDigest
+// are digests of the lists and of the ended certificates, and Entries and Ended the numbers of both.
 type event struct {
 	Time        string `json:"time"`
 	Event       string `json:"event"`
@@ -148,30 +151,30 @@ type event struct {
 	EndedDigest string `json:"ended_digest,omitempty"`
 }
 
-// A second is how the log and answers write a second of the clock.
+// A second is a second of the clock, since 1970, as the log and the date of a response write it.
 type second struct {
 	unix      int64
 	log, date string
 }
 
-// The second that was written last. To write one takes a microsecond.
-var present atomic.Pointer[second]
+// lastSecond is the second that was written last. To write one takes a microsecond.
+var lastSecond atomic.Pointer[second]
 
-// secondOf returns the texts of a moment's second, which are kept until another second is asked for.
+// secondOf returns the second of a moment, in UTC. It is kept until another second is asked for.
 func secondOf(moment time.Time) *second {
-	if known := present.Load(); known != nil && known.unix == moment.Unix() {
-		return known
+	if last := lastSecond.Load(); last != nil && last.unix == moment.Unix() {
+		return last
 	}
 	moment = moment.UTC()
-	made := &second{moment.Unix(), moment.Format("2006-01-02T15:04:05"), moment.Format(http.TimeFormat)}
-	present.Store(made)
-	return made
+	next := &second{moment.Unix(), moment.Format("2006-01-02T15:04:05"), moment.Format(http.TimeFormat)}
+	lastSecond.Store(next)
+	return next
 }
 
-// stamp returns a moment as the log has it, in milliseconds.
+// stamp returns a moment as the log has it, in UTC with milliseconds.
 func stamp(moment time.Time) string {
-	parts := moment.Nanosecond() / int(time.Millisecond)
+	milliseconds := moment.Nanosecond() / int(time.Millisecond)
 	var room [len("2006-01-02T15:04:05.000Z")]byte
-	made := append(room[:0], secondOf(moment).log...)
-	return string(append(made, '.', byte('0'+parts/100), byte('0'+parts/10%10), byte('0'+parts%10), 'Z'))
+	text := append(room[:0], secondOf(moment).log...)
+	return string(append(text, '.', byte('0'+milliseconds/100), byte('0'+milliseconds/10%10), byte('0'+milliseconds%10), 'Z'))
 }

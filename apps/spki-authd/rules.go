@@ -6,9 +6,9 @@ import (
 	"strings"
 )
 
-// A rule says which request a method and a path mean. The first rule is taken whose host is the request's, or none, and whose prefix the path
-// begins with. Methods has the word for each method of HTTP, such as `read` for GET. Request has the strings that a right is needed for: the three
-// below stand in it for the word of the method, the path and the host.
+// A rule says which request, in SPKI's sense, a method and a path of HTTP mean. The first rule is taken whose host is the client's, or none, and whose
+// prefix the path begins with. Methods has the word for each method of HTTP, such as `read` for GET. Request has the strings that a right is needed for.
+// fill replaces the three below in it.
 type rule struct {
 	Host    string            `json:"host"`
 	Prefix  string            `json:"prefix"`
@@ -16,14 +16,14 @@ type rule struct {
 	Request []string          `json:"request"`
 }
 
-// The strings of a rule's Request that `filled` replaces.
+// The strings of a rule's Request that are replaced by the word for the method, by the path and by the host.
 const (
 	placeOfMethod = "{method}"
 	placeOfPath   = "{path}"
 	placeOfHost   = "{host}"
 )
 
-// checkRules says what is wrong in the rules of a configuration, of which there must be one at least.
+// checkRules returns an error if a configuration has no rule or a wrong one.
 func checkRules(rules []rule) error {
 	if len(rules) == 0 {
 		return errors.New(`"requests" is missing: which request a method and a path mean`)
@@ -36,7 +36,7 @@ func checkRules(rules []rule) error {
 	return nil
 }
 
-// check says what is wrong in a rule.
+// check returns an error if a rule is wrong.
 func (r rule) check() error {
 	if err := checkPrefix(r.Prefix); err != nil {
 		return err
@@ -55,7 +55,7 @@ func (r rule) check() error {
 	return nil
 }
 
-// checkPrefix says what is wrong in a prefix of paths.
+// checkPrefix returns an error unless a prefix of paths begins and ends with `/` and is a path as pathOf returns it.
 func checkPrefix(prefix string) error {
 	if !strings.HasPrefix(prefix, "/") || !strings.HasSuffix(prefix, "/") {
 		return errors.New("a prefix begins and ends with `/`")
@@ -66,7 +66,7 @@ func checkPrefix(prefix string) error {
 	return nil
 }
 
-// needsHost says whether a rule depends on the host.
+// needsHost says whether a rule depends on the host, so that a request must have one.
 func (r rule) needsHost() bool {
 	if r.Host != "" {
 		return true
@@ -79,30 +79,29 @@ func (r rule) needsHost() bool {
 	return false
 }
 
-// requestOf returns the strings of the request that a host, a method and a path mean, and the number of the first rule that fits, from 1. With no
-// rule these are nil and 0. A rule that lacks the method gives nil and its number.
+// requestOf returns the strings of the request that a host, a method and a decoded path mean, and the number, from 1, of the rule that says so: the first
+// that fits the host and the path. Without such a rule it returns nil and 0. If that rule lacks the method, it returns nil and the rule's number.
 func requestOf(rules []rule, host, method, path string) (request []string, number int) {
 	for place, rule := range rules {
 		if rule.Host != "" && rule.Host != host || !strings.HasPrefix(path, rule.Prefix) {
 			continue
 		}
-		word, known := rule.Methods[method]
-		if !known {
+		verb, hasMethod := rule.Methods[method]
+		if !hasMethod {
 			return nil, place + 1
 		}
-		return rule.filled(host, word, path), place + 1
+		return rule.fill(host, verb, path), place + 1
 	}
 	return nil, 0
 }
 
-// filled returns the strings of a request, with the host, the method and the path in their places. `method` is the word that the rule has for the
-// method of HTTP.
-func (r rule) filled(host, method, path string) []string {
+// fill returns a copy of the rule's Request, in which the host, the path and `verb`, the word for the method, are in their places.
+func (r rule) fill(host, verb, path string) []string {
 	words := append([]string(nil), r.Request...)
 	for place, word := range words {
 		switch word {
 		case placeOfMethod:
-			words[place] = method
+			words[place] = verb
 		case placeOfPath:
 			words[place] = path
 		case placeOfHost:

@@ -8,35 +8,38 @@ import (
 	"time"
 )
 
-// The time that open questions have to end, that an idle connection is kept, which is longer than nginx keeps it, and after which a connection is
-// taken again where that has failed.
+// How long the daemon waits for open requests when it ends, how long it keeps an idle connection, which is longer than nginx does (60 s), and how long it
+// waits before it accepts a connection again after an error.
 const (
 	timeToEnd   = 10 * time.Second
 	timeIdle    = 75 * time.Second
 	timeToRetry = 50 * time.Millisecond
 )
 
-// For how long an answer waits for its line in the log: a grant for the time of a request divided by partOfGrant, and another answer for that time
-// divided by partOfOther.
+// For how long an answer waits for its line in the log: a grant for the time of a request (`seconds`) divided by partOfGrant, and another answer for that
+// time divided by partOfOther. A store is waited for as long as the line of a grant.
 const (
 	partOfGrant = 2
 	partOfOther = 20
 )
 
-// A daemon is a decider with what is around it.
+// A daemon is a decider with its logs, its signals and its control socket.
 type daemon struct {
 	*decider
+	// The log of grants.
 	ledger *ledger
-	// What writes grants, other answers, and messages.
+	// What writes the lines of grants, of other answers, and of events.
 	granted, other, messages *writer
 	signals                  signals
-	orders                   chan order
-	begun                    time.Time
-	// How often the clock had gone back when that was told last.
+	// What the main loop is to do for clients of the control socket.
+	orders chan order
+	// When the daemon was started.
+	begun time.Time
+	// How often the clock had gone back when that was reported last.
 	backs int64
 }
 
-// open opens the log of grants, and begins to write that log, other answers and messages.
+// open opens the log of grants, and starts the writers of grants, other answers and events. `out` gets other answers, and `messages` events.
 func (d *daemon) open(out, messages io.Writer) error {
 	ledger, err := openLedger(d.config.Log, d.config.LogSync)
 	if err != nil {
@@ -47,11 +50,11 @@ func (d *daemon) open(out, messages io.Writer) error {
 	d.granted = newWriter(ledger, patience/partOfGrant, ledger.beat)
 	d.other = newWriter(&stream{to: out}, patience/partOfOther, nil)
 	d.messages = newWriter(&stream{to: messages}, patience/partOfOther, nil)
-	d.grants, d.rest = d.granted.write, d.other.offer
+	d.logGrant, d.logOther = d.granted.write, d.other.offer
 	return nil
 }
 
-// listenAndServe answers until a signal ends the daemon.
+// listenAndServe opens the sockets, and answers until a signal ends the daemon. The error says why it could not begin, or what was not done at the end.
 func (d *daemon) listenAndServe() error {
 	defer d.flush()
 	listener, err := d.config.listen()
@@ -69,18 +72,18 @@ func (d *daemon) listenAndServe() error {
 	return d.serve(listener)
 }
 
-// flush writes the other answers and the messages that wait.
+// flush writes the other answers and the events that wait.
 func (d *daemon) flush() {
 	d.other.flush()
 	d.messages.flush()
 }
 
-// closeLedger closes the log of grants, between two writes of its writer.
+// closeLedger closes the log of grants. Its errors are those of withLedger.
 func (d *daemon) closeLedger() error {
 	return d.withLedger(d.ledger.close)
 }
 
-// withLedger calls a function between two writes of the log of grants, and returns its error, or errHangs if it does not end in time.
+// withLedger has the writer of grants call a function between two writes, and returns its error, or errHangs if that does not end in time.
 func (d *daemon) withLedger(call func() error) error {
 	done := make(chan error, 1)
 	if !d.granted.do(func() { done <- call() }) {
@@ -89,12 +92,13 @@ func (d *daemon) withLedger(call func() error) error {
 	return <-done
 }
 
-// serve is the main loop: it answers in other goroutines until a signal ends it, and does orders and signals meanwhile. Questions under way are
-// answered.
+// serve is the main loop. Other goroutines answer the requests of a listener, while it does what orders and signals ask for, until a signal ends the
+// daemon. Its error is that of end.
 func (d *daemon) serve(listener net.Listener) error {
-	door := newDoor(d.decider)
-	go door.serve(listener)
+	connections := newConnectionServer(d.decider)
+	go connections.serve(listener)
 	d.tell("started", nil)
+	// (a daemon whose service manager is gone answers all the same)
 	if err := notify(d.statusLine() + "\nREADY=1"); err != nil {
 		d.tell("announced", err)
 	}
@@ -108,15 +112,15 @@ func (d *daemon) serve(listener net.Listener) error {
 			_ = d.reload(false)
 		case <-d.signals.reopen:
 			_ = d.reopen()
-		case asked := <-d.orders:
-			asked.done <- asked.what(d)
+		case order := <-d.orders:
+			order.done <- order.call(d)
 		case <-d.signals.end:
-			return d.end(listener, door)
+			return d.end(listener, connections)
 		}
 	}
 }
 
-// watchClock writes a message if the time of day went back.
+// watchClock writes an event if the time of day went back since the last call.
 func (d *daemon) watchClock() {
 	d.clock.note(d.now())
 	if backs := d.clock.times.Load(); backs > d.backs {
@@ -125,13 +129,14 @@ func (d *daemon) watchClock() {
 	}
 }
 
-// end ends the daemon, once what was asked is answered, and closes the log of grants. A message says how it ended.
-func (d *daemon) end(listener net.Listener, door *door) error {
+// end closes the listener, waits up to timeToEnd until the open requests are answered, and closes the log of grants. An event says how that went. The
+// error says that requests were still open, or that the last grants may not be on the disk.
+func (d *daemon) end(listener net.Listener, connections *connectionServer) error {
 	_ = notify("STOPPING=1")
-	waiting, cancel := context.WithTimeout(context.Background(), timeToEnd)
+	limit, cancel := context.WithTimeout(context.Background(), timeToEnd)
 	defer cancel()
 	listener.Close()
-	err := door.end(waiting)
+	err := connections.end(limit)
 	if fault := d.closeLedger(); err == nil {
 		err = fault
 	} else if fault != nil {
@@ -141,8 +146,8 @@ func (d *daemon) end(listener net.Listener, door *door) error {
 	return err
 }
 
-// reload reads the access lists, the ended certificates and the certificate for TLS again. It keeps the old ones if a file is refused, or if an ended
-// certificate is no longer listed and allowFewerEnded is false. The service manager and a message say how it ended.
+// reload reads the access lists, the ended certificates and the certificate for TLS again: accessKeeper.reload says when it fails. An event and a message
+// to the service manager say how it went.
 func (d *daemon) reload(allowFewerEnded bool) error {
 	_ = notify("RELOADING=1")
 	err := d.keeper.reload(d.config, allowFewerEnded, d.now())
@@ -151,32 +156,32 @@ func (d *daemon) reload(allowFewerEnded bool) error {
 	return err
 }
 
-// reopen opens the file of grants again, as after it was renamed.
+// reopen opens the log of grants again, as after it was renamed, and says how that went by an event.
 func (d *daemon) reopen() error {
 	err := d.withLedger(d.ledger.reopen)
 	d.tell("reopened", err)
 	return err
 }
 
-// statusLine returns what the service manager shows of the daemon.
+// statusLine returns the line for the service manager by which `systemctl status` shows the state of the daemon.
 func (d *daemon) statusLine() string {
 	present := d.keeper.present.Load()
-	made := fmt.Sprintf("STATUS=%d entries, %d ended certificates", present.entries(), present.ended.count)
+	line := fmt.Sprintf("STATUS=%d entries, %d ended certificates", present.entries(), present.ended.count)
 	if d.keeper.last.Load().fault != nil {
-		made += "; the last reload was refused"
+		line += "; the last reload was refused"
 	}
-	return made
+	return line
 }
 
-// tell writes a message on what the daemon did, or did not because of a fault, with the digests of the lists and ended certificates that it has now.
-// The event is `what`, and with a fault `what` followed by `not`.
+// tell writes an event: `what` the daemon did, or did not because of a fault, which may be nil. The event has the digests of the lists and ended
+// certificates that are in force now.
 func (d *daemon) tell(what string, fault error) {
 	present := d.keeper.present.Load()
-	made := event{
+	message := event{
 		Time: stamp(d.now()), Event: what, Entries: present.entries(), List: present.digest, Ended: present.ended.count, EndedDigest: present.ended.digest,
 	}
 	if fault != nil {
-		made.Event, made.Detail = what+" not", fault.Error()
+		message.Event, message.Detail = what+" not", fault.Error()
 	}
-	d.messages.tell(made)
+	d.messages.tell(message)
 }

@@ -41,7 +41,7 @@ func serveHere(t *testing.T, fields string) *served {
 	if err := made.daemon.open(io.Discard, messages.writer()); err != nil {
 		t.Fatal(err)
 	}
-	made.grants, made.rest = made.log.grant, made.log.other
+	made.logGrant, made.logOther = made.log.grant, made.log.other
 	ended := make(chan error, 1)
 	go func() { ended <- made.daemon.listenAndServe() }()
 	made.client = &http.Client{Transport: &http.Transport{MaxIdleConnsPerHost: 16, DialContext: func(ctx context.Context, _, _ string) (net.Conn, error) {
@@ -75,7 +75,7 @@ func TestEndsWithoutDisk(t *testing.T) {
 		t.Fatal(err)
 	}
 	made.granted.do(func() { made.ledger.file = &failing{File: made.ledger.file.(*os.File), room: -1, isNotWritten: true} })
-	err = made.end(listener, newDoor(made.decider))
+	err = made.end(listener, newConnectionServer(made.decider))
 	made.flush()
 	said := messages.String()
 	if err == nil || !strings.Contains(said, `"ended not"`) || !strings.Contains(said, "may not be on the disk") {
@@ -345,10 +345,10 @@ func (d *dated) SetReadDeadline(until time.Time) error { d.until = until; return
 // TestDeadlines has an idle connection ended, to make room for a new one or since it was idle for long, while a request comes on it: that request has
 // its whole time.
 func TestDeadlines(t *testing.T) {
-	for name, ends := range map[string]func(door *door){
-		"for a new one": (*door).closeIdle, "after long": func(door *door) { door.endLate(time.Now().Add(timeIdle + time.Second)) },
+	for name, ends := range map[string]func(door *connectionServer){
+		"for a new one": (*connectionServer).closeIdle, "after long": func(door *connectionServer) { door.endLate(time.Now().Add(timeIdle + time.Second)) },
 	} {
-		door, connection := newDoor(newSite(t, "").decider), &dated{}
+		door, connection := newConnectionServer(newSite(t, "").decider), &dated{}
 		visit := door.enter(connection)
 		if err := door.note(visit, isIdle); err != nil || !connection.until.IsZero() {
 			t.Errorf("%s: %v, %v", name, err, connection.until)

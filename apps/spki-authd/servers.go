@@ -5,7 +5,7 @@ import (
 	"net/textproto"
 )
 
-// The names of the headers that are read. An empty method, URI or host is that of the request itself.
+// headers has the names of the headers that are read. Without a name for the method, the URI or the host, that of the web server's own request is taken.
 type headers struct {
 	Method      string `json:"method"`
 	URI         string `json:"uri"`
@@ -17,12 +17,13 @@ type headers struct {
 	Address     string `json:"address"`
 }
 
-// A server is how a web server asks if the configuration says nothing else: by these headers, with the client's certificate in this form.
+// A server is how a web server asks if the configuration says nothing else: by these headers, with the client's certificate in the form of this name.
 type server struct {
 	headers headers
 	form    string
 }
 
+// servers has each web server by its name in the configuration.
 var servers = map[string]server{
 	"nginx":   {headers{Method: "X-Original-Method", URI: "X-Original-Uri", Host: "X-Original-Host", Certificate: "X-Client-Cert"}, escapedPEM},
 	"caddy":   {headers{Method: "X-Forwarded-Method", URI: "X-Forwarded-Uri", Host: forwardedHost, Certificate: "X-Client-Cert"}, base64DER},
@@ -30,14 +31,14 @@ var servers = map[string]server{
 	"envoy":   {headers{Certificate: "X-Forwarded-Client-Cert"}, xfcc},
 }
 
-// HAProxy and Apache ask by a script of examples/, with the headers of nginx.
+// init adds HAProxy and Apache, which ask by a script of examples/ with the headers of nginx.
 func init() {
 	servers["haproxy"] = server{servers["nginx"].headers, base64DER}
 	servers["apache"] = servers["haproxy"]
 }
 
-// The headers of every server, if no others are set; the host's of Caddy and Traefik; and the one in which a client can send its certificates, which
-// cannot be set.
+// The headers that every server has if no others are set; the one with the host of Caddy and Traefik; and the one in which a client can send its
+// certificates, whose name cannot be set.
 const (
 	usualSequence = "X-Spki-Sequence"
 	usualSecret   = "X-Spki-Secret"
@@ -57,14 +58,14 @@ func (h *headers) setUsual(usual headers) {
 	}
 }
 
-// all returns pointers to the names, always in this order: so those of two values can be paired by their places.
+// all returns pointers to the names, always in this order: so setUsual pairs those of two values by their places.
 func (h *headers) all() []*string {
 	return []*string{&h.Method, &h.URI, &h.Certificate, &h.Sequence, &h.Secret, &h.ID, &h.Host, &h.Address}
 }
 
-// check says what is wrong in the names and in the form of the certificate.
+// check returns an error if two headers have one name, or if a name or the form of the certificate is wrong.
 func (h headers) check(form string) error {
-	if _, known := forms[form]; !known {
+	if _, isForm := forms[form]; !isForm {
 		return fmt.Errorf(`"certificate_form" is %q, and must be %s, %s or %s`, form, escapedPEM, base64DER, xfcc)
 	}
 	seen := map[string]bool{authorization: true}

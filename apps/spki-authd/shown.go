@@ -8,66 +8,66 @@ import (
 	"conguraki/spki/guard"
 )
 
-// A shown is a sequence of certificates whose signatures are all valid. Which signatures a guard lists depends on the sequence and the policy alone,
-// the policy of a daemon does not change, and a signature stays valid. So nothing in it can become wrong. It says nothing of the key, the request,
-// the time, the list and the ended certificates: each question is decided anew.
-type shown struct {
-	// The sequence with its valid signatures, and its octets: as it was shown, and from the second time on in canonical form, which `again` makes once.
+// A shownSequence is a sequence of certificates that a client has shown. Those that are kept have only valid signatures. Which signatures a guard lists
+// depends on the sequence and the policy alone, the policy of a daemon does not change, and a signature stays valid: so nothing in it can become wrong. It
+// says nothing of the key, the request, the time, the list and the ended certificates: each question is decided anew.
+type shownSequence struct {
+	// The sequence with its valid signatures, and its octets: as it was shown, and from the second time on in canonical form, which `once` makes.
 	verified guard.Verified
 	text     []byte
-	again    sync.Once
-	// The SHA-256 digests of the certificates that are signed, in their order, and the same in hexadecimal digits, as the log has them.
+	once     sync.Once
+	// The SHA-256 digests of the certificates, in the order of their signatures, and the same in hexadecimal digits, as the log has them.
 	digests []digest
 	names   []string
 }
 
-// The number of sequences that are kept, and the most octets of one that is.
+// The most sequences that are kept, and the most octets of one that is: of the text that was shown.
 const (
 	mostShown       = 1000
 	mostShownOctets = 8192
 )
 
-// noCertificates is the text of a sequence without certificates, in canonical form. nothingShown is the sequence of a client that shows none.
+// noCertificates is the text of a sequence without certificates, in canonical form. emptySequence is the sequence of a client that shows none.
 var (
 	noCertificates = guard.Verified{}.Sequence()
-	nothingShown   = &shown{text: noCertificates}
+	emptySequence  = &shownSequence{text: noCertificates}
 )
 
-// A sequences keeps the sequences that were shown most recently, by their texts.
+// sequences keeps the sequences that were shown most recently and have only valid signatures, by their texts as they were shown.
 type sequences struct {
-	kept *recent[string, *shown]
+	kept *recentMap[string, *shownSequence]
 }
 
-// newSequences returns what keeps sequences. `cache` is the number of signatures that are kept: with 0 no sequences are kept either.
+// newSequences returns an empty `sequences`. `cache` is the number of signatures that the daemon keeps: with 0 no sequence is kept either.
 func newSequences(cache int) *sequences {
 	if cache == 0 {
-		return &sequences{newRecent[string, *shown](0)}
+		return &sequences{newRecentMap[string, *shownSequence](0)}
 	}
-	return &sequences{newRecent[string, *shown](mostShown)}
+	return &sequences{newRecentMap[string, *shownSequence](mostShown)}
 }
 
-// of returns a sequence whose signatures are known to be valid, by its text as it was shown, or nil. An empty text is nothingShown.
-func (s *sequences) of(text string) *shown {
+// of returns a sequence that is kept, by its text as it was shown, or nil. For an empty text it returns emptySequence.
+func (s *sequences) of(text string) *shownSequence {
 	if text == "" {
-		return nothingShown
+		return emptySequence
 	}
-	known, _ := s.kept.get(text)
-	return known
+	sequence, _ := s.kept.get(text)
+	return sequence
 }
 
-// add keeps a sequence, if it is not too long. Its signatures are all valid, and a guard has decided by it.
-func (s *sequences) add(text string, made *shown) {
+// add keeps a sequence by its text as it was shown, unless that is too long. Its caller has verified all signatures, and marked them in sequence.verified.
+func (s *sequences) add(text string, sequence *shownSequence) {
 	if len(text) > mostShownOctets || s.kept.half == 0 {
 		return
 	}
-	made.text = []byte(text)
-	s.kept.add(text, made)
+	sequence.text = []byte(text)
+	s.kept.add(text, sequence)
 }
 
-// canonical returns the valid signatures of a sequence and its text in canonical form. To make that takes as long as a decision, so it is made when
-// the sequence is shown for the second time.
-func (s *shown) canonical() (guard.Verified, []byte) {
-	s.again.Do(func() {
+// canonical returns the valid signatures of a sequence, with its text in canonical form, and that text. To make that takes as long as a decision, so it is
+// made when the sequence is shown for the second time. If it fails, for want of memory, both are those of the text as it was shown.
+func (s *shownSequence) canonical() (guard.Verified, []byte) {
+	s.once.Do(func() {
 		if canonical, err := s.verified.Canonical(); err == nil {
 			s.verified, s.text = canonical, canonical.Sequence()
 		}
@@ -75,34 +75,42 @@ func (s *shown) canonical() (guard.Verified, []byte) {
 	return s.verified, s.text
 }
 
-// shownBy returns a sequence with the digests of its certificates, by its signatures. It has no text yet, and whether the signatures are valid is not
-// looked at: the caller does that.
-func shownBy(signatures []guard.Signature) *shown {
-	made := &shown{digests: make([]digest, len(signatures)), names: make([]string, len(signatures))}
-	for place, signed := range signatures {
-		made.digests[place] = sha256.Sum256(signed.Message)
-		made.names[place] = hex.EncodeToString(made.digests[place][:])
-	}
-	return made
+// signaturesIn returns copies of all signatures of a question. Unlike Asked.Signatures it returns an error, guard.ErrMemory or guard.ErrClosed, where they
+// cannot be read: so no sequence is taken for one without signatures.
+func signaturesIn(opened *guard.Asked) ([]guard.Signature, error) {
+	signatures := make([]guard.Signature, 0, opened.Count())
+	err := opened.Each(func(_ int, signature guard.Signature) bool { signatures = append(signatures, signature); return true })
+	return signatures, err
 }
 
-// notEnded returns how many certificates precede the first that has ended early, or the number of all. It fails if a store, which can say that one
-// has ended, is stale.
-func (s *shown) notEnded(access *access) (int, error) {
+// newShownSequence returns the sequence that has these signatures, with the digests of its certificates. It has no text yet, and it does not test whether
+// the signatures are valid.
+func newShownSequence(signatures []guard.Signature) *shownSequence {
+	sequence := &shownSequence{digests: make([]digest, len(signatures)), names: make([]string, len(signatures))}
+	for place, signature := range signatures {
+		sequence.digests[place] = sha256.Sum256(signature.Message)
+		sequence.names[place] = hex.EncodeToString(sequence.digests[place][:])
+	}
+	return sequence
+}
+
+// notEnded returns how many certificates precede the first that has ended early, or the number of all. It fails if there are certificates and a store is
+// stale, since the store may know that one has ended.
+func (s *shownSequence) notEnded(present *access) (int, error) {
 	if len(s.digests) > 0 {
-		if err := access.checkStoresFresh(); err != nil {
+		if err := present.checkStoresFresh(); err != nil {
 			return 0, err
 		}
 	}
-	for place, message := range s.digests {
-		if access.hasEnded(message) {
+	for place, certificate := range s.digests {
+		if present.hasEnded(certificate) {
 			return place, nil
 		}
 	}
 	return len(s.digests), nil
 }
 
-// markFirst marks the first signatures of a question as valid. `valid` is the number of these.
+// markFirst marks the first signatures of a question as valid, as many as `valid`.
 func markFirst(opened *guard.Asked, valid int) error {
 	for place := 0; place < valid; place++ {
 		if err := opened.Mark(place); err != nil {

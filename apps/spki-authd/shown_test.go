@@ -153,14 +153,14 @@ func TestOnlyValidSequencesAreKept(t *testing.T) {
 func TestKeptSequencesAreBounded(t *testing.T) {
 	s := newSite(t, "")
 	for number := 0; number < 2*mostShown; number++ {
-		s.sequences.add(sequence(str(fmt.Sprint(number))), &shown{})
+		s.sequences.add(sequence(str(fmt.Sprint(number))), &shownSequence{})
 	}
 	if s.kept() > mostShown || s.kept() < mostShown/2 {
 		t.Errorf("%d sequences are kept", s.kept())
 	}
 	for _, octets := range []int{5000, 7000} {
 		text := sequence(str(strings.Repeat("x", octets)))
-		if s.sequences.add(text, &shown{}); (s.sequences.of(text) != nil) != (len(text) <= mostShownOctets) {
+		if s.sequences.add(text, &shownSequence{}); (s.sequences.of(text) != nil) != (len(text) <= mostShownOctets) {
 			t.Errorf("%d octets", len(text))
 		}
 	}

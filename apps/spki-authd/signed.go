@@ -9,29 +9,30 @@ import (
 	"conguraki/spki/httpsig"
 )
 
-// A signatures says that requests may be signed: docs/SIGNATURES.md.
+// signatures are the settings of the configuration by which requests may be signed: docs/SIGNATURES.md.
 type signatures struct {
 	// The names of the site, with ports that are not that of https. No two have the same host.
 	Names []string `json:"names"`
-	// The most nonces of each of the two sets.
+	// The most nonces in each of the two sets of httpsig.Memory, or 0 for usualNonces.
 	Nonces int `json:"nonces"`
 }
 
+// The nonces of each set if the configuration does not say how many.
 const usualNonces = 1_000_000
 
-// bySignature is what the log says of a request whose key was proved by a signature.
+// bySignature is the log's `proof` of a request whose signature, and not TLS, proves that the client holds its key.
 const bySignature = "signature"
 
-// A signed verifies requests.
-type signed struct {
+// A requestVerifier verifies signed requests: by Verifier those that are decided.
+type requestVerifier struct {
 	*httpsig.Verifier
-	// The same for requests that leave certificates, which strangers can make too: with nonces of their own.
+	// The same for requests that leave certificates, but with nonces of their own: strangers can make such requests, and fill those nonces.
 	leaving *httpsig.Verifier
-	// The names by their hosts, as the web server passes them on.
+	// The names of the site, which may have a port, by their hosts, as the web server passes these on.
 	names map[string]string
 }
 
-// check says what is wrong in the names and the number of nonces. Without signatures, where `s` is nil, nothing is.
+// check returns an error if the names or the number of nonces is wrong. `s` is nil for a configuration without `signatures`: then nothing is wrong.
 func (s *signatures) check() error {
 	if s == nil {
 		return nil
@@ -50,64 +51,63 @@ func (s *signatures) check() error {
 	return nil
 }
 
-// newSigned returns what verifies signed requests, or nil if the configuration has none.
-func newSigned(c *config, now func() time.Time) *signed {
+// newRequestVerifier returns what verifies signed requests by the clock `now`, or nil if the configuration has no signed requests.
+func newRequestVerifier(c *config, now func() time.Time) *requestVerifier {
 	if c.Signatures == nil {
 		return nil
 	}
-	made := &signed{Verifier: httpsig.NewVerifier(c.Signatures.Names...), names: map[string]string{}}
+	verifier := &requestVerifier{Verifier: httpsig.NewVerifier(c.Signatures.Names...), names: map[string]string{}}
 	most := c.Signatures.Nonces
 	if most == 0 {
 		most = usualNonces
 	}
-	made.Nonces, made.Sequence, made.Now, made.Start = httpsig.NewMemory(most), strings.ToLower(c.Headers.Sequence), now, now()
-	leaving := *made.Verifier
+	verifier.Nonces, verifier.Sequence, verifier.Now, verifier.Start = httpsig.NewMemory(most), strings.ToLower(c.Headers.Sequence), now, now()
+	leaving := *verifier.Verifier
 	leaving.Nonces = httpsig.NewMemory(most)
-	made.leaving = &leaving
+	verifier.leaving = &leaving
 	for _, name := range c.Signatures.Names {
 		// (names were checked)
 		host, _ := hostOf(name)
-		made.names[host] = name
+		verifier.names[host] = name
 	}
-	return made
+	return verifier
 }
 
-// isSigned says whether the key of a request is to be proved by its signature: signatures are read, so `s` is not nil, and it has `Signature` or
-// `Signature-Input`.
-func (s *signed) isSigned(asked *asked) bool {
-	return s != nil && len(asked.header["Signature"])+len(asked.header["Signature-Input"]) > 0
+// isSigned says whether a request must prove its key by a signature: the configuration has signed requests, so `v` is not nil, and the request has
+// `Signature` or `Signature-Input`.
+func (v *requestVerifier) isSigned(inquiry *inquiry) bool {
+	return v != nil && len(inquiry.header["Signature"])+len(inquiry.header["Signature-Input"]) > 0
 }
 
-// clientOf returns the client of a request: of its signature, with the proof, or else of its certificate of TLS, without one. A signature that is
-// refused is not passed over, whatever certificate is there: behind another proxy that would be the proxy's. Without either it fails with
-// errNoCertificate.
-func (d *decider) clientOf(asked *asked) (client, *httpsig.Proof, error) {
-	if d.signed.isSigned(asked) {
+// clientOf returns the client of a request: by its signature, with the proof, or else by its TLS certificate, with nil for the proof. If the signature is
+// refused, it fails, whatever certificate is there: behind another proxy that would be the proxy's. Without either it fails with errNoCertificate.
+func (d *decider) clientOf(inquiry *inquiry) (client, *httpsig.Proof, error) {
+	if d.requests.isSigned(inquiry) {
 		message := httpsig.Message{
-			Method: asked.method, Authority: d.signed.names[asked.host], Target: asked.target, Header: asked.header, Body: asked.left,
+			Method: inquiry.method, Authority: d.requests.names[inquiry.host], Target: inquiry.target, Header: inquiry.header, Body: inquiry.body,
 		}
-		proof, err := d.signed.Check(message)
+		proof, err := d.requests.Check(message)
 		if err != nil {
 			return client{}, nil, err
 		}
 		return client{proof.Key, proof.Hash()}, proof, nil
 	}
-	if asked.certificate == "" {
+	if inquiry.certificate == "" {
 		return client{}, nil, errNoCertificate
 	}
-	made, err := d.keys.of(asked.certificate)
-	return made, nil, err
+	holder, err := d.keys.of(inquiry.certificate)
+	return holder, nil, err
 }
 
-// takeNonce uses up the nonce of a signed request that is granted: so only who holds a right fills the store of nonces. One that was used before is
-// refused. Without a proof the record stays as it is.
-func (d *decider) takeNonce(made record, proof *httpsig.Proof) record {
-	if proof == nil || made.Answer != answerYes {
-		return made
+// takeNonce uses up the nonce of a signed request that is granted, and returns the record. So only clients with a right fill the memory of nonces. A
+// request whose nonce was used before, or finds no room, becomes `refused`. `proof` is nil for a request that is not signed: then nothing is done.
+func (d *decider) takeNonce(result record, proof *httpsig.Proof) record {
+	if proof == nil || result.Answer != answerYes {
+		return result
 	}
-	if err := d.signed.Take(proof); err != nil {
-		made.Entry = 0
-		return made.ended(answerRefused, err)
+	if err := d.requests.Take(proof); err != nil {
+		result.Entry = 0
+		return result.withReason(answerRefused, err)
 	}
-	return made
+	return result
 }

@@ -148,8 +148,8 @@ func (forgetful) Take([]byte, string, int64, int64) error { return nil }
 // BenchmarkSigned measures a signed request without certificates: the proof and the decision.
 func BenchmarkSigned(b *testing.B) {
 	s := newSite(b, ofSite)
-	s.grants = func([]byte) error { return nil }
-	s.signed.Nonces = forgetful{}
+	s.logGrant = func([]byte) error { return nil }
+	s.requests.Nonces = forgetful{}
 	request := httptest.NewRequest(http.MethodGet, "/auth", nil)
 	pairs := s.alice.signs(b, "GET", "files.example.org", "/web/x", "", nil)
 	for place := 0; place < len(pairs); place += 2 {

@@ -11,23 +11,23 @@ import (
 	"syscall"
 )
 
-// The connections that wait in the system's queue until they are taken. The system bounds it by net.core.somaxconn.
+// The most connections that wait in the system's queue until they are accepted. The system also bounds that by net.core.somaxconn.
 const mostWaiting = 4096
 
-// openSocket opens a Unix socket that only the daemon's user can write to. The control socket stays so. Of the web server's socket setOwner then sets
-// the group and the mode.
+// openSocket opens a Unix socket at a path. Only the daemon's user and root can write to it: so the control socket stays, and for the web server's socket
+// setOwner sets another group and mode. It removes a socket that an ended daemon has left there.
 func openSocket(path string) (net.Listener, error) {
 	if err := removeStale(path); err != nil {
 		return nil, err
 	}
-	// (nobody else may connect before the mode is set)
+	// (the socket must have this mode from the first moment on)
 	old := syscall.Umask(0o177)
 	defer syscall.Umask(old)
 	return net.Listen("unix", path)
 }
 
-// widen lets mostWaiting connections wait. Go takes the length of the queue from /proc/sys, and where that is hidden 128, at which clients are
-// refused.
+// widen sets the length of a listener's queue to mostWaiting. Go takes the length from /proc/sys, and 128 where that is hidden, as by ProcSubset=pid of the
+// daemon's unit. A client that finds the queue full is refused. A listener without a file descriptor stays as it is.
 func widen(listener net.Listener) error {
 	raw, isSystem := listener.(syscall.Conn)
 	if !isSystem {
@@ -69,7 +69,7 @@ func removeStale(path string) error {
 	return os.Remove(path)
 }
 
-// setOwner sets the group and the mode of the socket.
+// setOwner sets the group and the mode of the web server's socket, as `socket_group` and `socket_mode` say.
 func (c *config) setOwner(path string) error {
 	if c.SocketGroup != "" {
 		number, err := c.groupOfSocket()
@@ -87,7 +87,8 @@ func (c *config) setOwner(path string) error {
 	return os.Chmod(path, mode)
 }
 
-// groupOfSocket returns the number of the socket's group, to which this user must be able to give a file.
+// groupOfSocket returns the number of the group `socket_group`. It fails if there is no such group, or if this user cannot give a file to it: only root and
+// members of the group can.
 func (c *config) groupOfSocket() (int, error) {
 	group, err := user.LookupGroup(c.SocketGroup)
 	if err != nil {

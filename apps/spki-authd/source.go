@@ -13,7 +13,7 @@ import (
 	"conguraki/spki/guard"
 )
 
-// A source says where the entries of an access list are: in a file, or in a store in PostgreSQL.
+// A source says where the entries of an access list are: in the file at a path, or, if `store` is not nil, in a store in PostgreSQL.
 type source struct {
 	file  string
 	store *storeOf
@@ -32,23 +32,25 @@ type storeOf struct {
 	Connections  int    `json:"connections"`
 	CacheMiB     *int   `json:"cache_mib"`
 
-	// What reads it, once it is opened. It stays open while files are read again.
+	// What reads the store, or nil until scope.read opens it. It stays open when files are read again.
 	opened *store
 }
 
 const (
+	// The settings that are taken if they are left out.
 	usualPort, usualSchema, usualStale, usualConnections, usualCacheMiB = 5432, "spki", 10, 8, 64
-	// A beat each second, and what a poll takes: with less a late beat would be a stale store.
+	// The least stale_seconds. A store has a beat each second, and a poll takes time: with less, a beat that is a little late would make the store stale.
 	leastStale = 3
 )
 
 var (
+	// A name that PostgreSQL takes without quotes: it is put into the text of statements.
 	schemaName = regexp.MustCompile(`^[a-z_][a-z0-9_]{0,40}$`)
 
 	errSource = errors.New(`a list is the path of a file, or {"postgres": {..}}`)
 )
 
-// UnmarshalJSON reads the path of a file or `{"postgres": {..}}`.
+// UnmarshalJSON reads the path of a file, or `{"postgres": {..}}`, whose settings it checks. For anything else it fails with errSource.
 func (s *source) UnmarshalJSON(text []byte) error {
 	if json.Unmarshal(text, &s.file) == nil {
 		return nil
@@ -76,7 +78,7 @@ func (s *source) name() string {
 	return "postgres " + s.store.Schema + " at " + s.store.Host
 }
 
-// check sets the settings that were left out, and says what is wrong in them.
+// check sets the settings that were left out, and returns an error if one is wrong.
 func (s *storeOf) check() error {
 	setText(&s.Schema, usualSchema)
 	for field, usual := range map[*int]int{&s.Port: usualPort, &s.StaleSeconds: usualStale, &s.Connections: usualConnections} {
@@ -108,33 +110,33 @@ func (s *storeOf) isSocket() bool {
 	return strings.HasPrefix(s.Host, "/")
 }
 
-// stale returns the age from which on a state of the store is too old to decide by.
+// stale returns the most age of a state of the store by which the daemon decides.
 func (s *storeOf) stale() time.Duration {
 	return time.Duration(s.StaleSeconds) * time.Second
 }
 
-// settings returns what the driver connects by: NAME=VALUE for each setting, with spaces between them. A server that is not at a socket must show a
-// certificate for its host.
+// settings returns the connection string for the driver: NAME=VALUE for each setting, with spaces between them. A server that is not at a Unix socket must
+// show a certificate for its host that `root` has signed.
 func (s *storeOf) settings() string {
-	made := []string{"sslmode=disable"}
+	settings := []string{"sslmode=disable"}
 	if !s.isSocket() {
-		made = []string{"sslmode=verify-full", "sslrootcert=" + quotedSetting(s.Root)}
+		settings = []string{"sslmode=verify-full", "sslrootcert=" + quoteSetting(s.Root)}
 	}
 	for name, value := range map[string]string{"host": s.Host, "dbname": s.Database, "user": s.User, "passfile": s.PassFile} {
 		if value != "" {
-			made = append(made, name+"="+quotedSetting(value))
+			settings = append(settings, name+"="+quoteSetting(value))
 		}
 	}
-	// (a plan that was made while the table was small must not read all of it later)
-	return strings.Join(append(made, fmt.Sprintf("port=%d", s.Port), "application_name=spki-authd", "enable_seqscan=off", "jit=off", "plan_cache_mode=force_generic_plan"), " ")
+	// (the last three: a statement is planned once, and a plan that was made while the table was small must not read the whole table later)
+	return strings.Join(append(settings, fmt.Sprintf("port=%d", s.Port), "application_name=spki-authd", "enable_seqscan=off", "jit=off", "plan_cache_mode=force_generic_plan"), " ")
 }
 
-// quotedSetting returns a value of settings in single quotes, with a backslash before each quote and backslash in it.
-func quotedSetting(value string) string {
+// quoteSetting returns a value for a connection string: in single quotes, with a backslash before each quote and backslash in it.
+func quoteSetting(value string) string {
 	return "'" + strings.NewReplacer(`\`, `\\`, `'`, `\'`).Replace(value) + "'"
 }
 
-// nameLists sets what each list is called in messages, from its source.
+// nameLists sets List of the configuration and of each scope: what the list is called in messages.
 func (c *config) nameLists() {
 	c.List = c.Source.name()
 	for number := range c.Lists {
@@ -142,13 +144,13 @@ func (c *config) nameLists() {
 	}
 }
 
-// read reads a list, or opens its store and begins to poll it. That a store does not answer is no error here: requests are answered with 503 until it
-// does.
-func (p *place) read(policy guard.Policy, c *config) (*list, error) {
-	if p.Source.store == nil {
-		return readList(p.List, policy, c.Limits)
+// read reads the list of a scope from its file. A list in a store is opened by the first call, which begins to poll the store. If the store does not
+// answer, that is no error here: requests are answered with 503 until it does. The list that is returned has no scope yet.
+func (s *scope) read(policy guard.Policy, c *config) (*list, error) {
+	if s.Source.store == nil {
+		return readList(s.List, policy, c.Limits)
 	}
-	options := p.Source.store
+	options := s.Source.store
 	if options.opened == nil {
 		reader, err := openReader(options, c.Limits.time()/partOfGrant)
 		if err != nil {
@@ -159,10 +161,10 @@ func (p *place) read(policy guard.Policy, c *config) (*list, error) {
 		}
 		go options.opened.poll()
 	}
-	return &list{store: options.opened, digest: hexDigest([]byte(p.List))}, nil
+	return &list{store: options.opened, digest: hexDigest([]byte(s.List))}, nil
 }
 
-// test polls a store once and prints how it is, or returns why it cannot be used.
+// test polls a store once and prints its status line. It returns why the store cannot be used, or nil. It is for -test.
 func (s *store) test(out io.Writer) error {
 	if err := s.pollOnce(); err != nil {
 		return err

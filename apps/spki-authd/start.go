@@ -13,29 +13,31 @@ import (
 	"conguraki/spki/verify"
 )
 
-// The heap may grow to five times what is in use before it is collected. Little is in use, so this saves time and costs a few MiB.
+// Go's collector runs when the heap has grown by so many percent, to five times what is in use. Little is in use, so this saves time and costs a few MiB.
 const gcPercent = 400
 
-// The signals of the daemon. Each kind has a channel of its own, so that none is lost while another one waits.
+// signals has the channels by which the daemon gets its signals. Each kind has one of its own, so that none is lost while another one waits.
 type signals struct {
 	reload, reopen, end chan os.Signal
 }
 
-// listenToSignals takes the signals from now on. SIGPIPE is ignored: the daemon goes on where the reader of its lines is gone.
+// listenToSignals returns the channels to which the signals come from now on: SIGHUP, SIGUSR1, and SIGTERM or SIGINT. SIGPIPE is ignored, so that the
+// daemon goes on where the reader of its lines is gone.
 func listenToSignals() signals {
-	made := signals{make(chan os.Signal, 1), make(chan os.Signal, 1), make(chan os.Signal, 1)}
+	signals := signals{make(chan os.Signal, 1), make(chan os.Signal, 1), make(chan os.Signal, 1)}
 	signal.Ignore(syscall.SIGPIPE)
-	signal.Notify(made.reload, syscall.SIGHUP)
-	signal.Notify(made.reopen, syscall.SIGUSR1)
-	signal.Notify(made.end, syscall.SIGTERM, syscall.SIGINT)
-	return made
+	signal.Notify(signals.reload, syscall.SIGHUP)
+	signal.Notify(signals.reopen, syscall.SIGUSR1)
+	signal.Notify(signals.end, syscall.SIGTERM, syscall.SIGINT)
+	return signals
 }
 
-// start reads the configuration and answers until a signal ends the daemon. With -test it only reads and tests the files.
+// start reads the configuration and its files, and runs the daemon until a signal ends it. With -test it only reads and tests the files, and prints the
+// number of entries of each list.
 func start(words words, out, messages io.Writer) error {
 	signals := listenToSignals()
 	debug.SetGCPercent(gcPercent)
-	// (each thread may have a heap of its own in C: where one thread reads all lists, the room of an old list is used again)
+	// (the main loop, which reads all lists, stays in this thread: malloc has a heap for each thread, so the memory of an old list is used again)
 	runtime.LockOSThread()
 	defer runtime.UnlockOSThread()
 	config, err := readConfig(words.config)
@@ -55,25 +57,26 @@ func start(words words, out, messages io.Writer) error {
 	if words.isTest {
 		return decider.test(out)
 	}
-	made := &daemon{decider: decider, signals: signals, orders: make(chan order), begun: decider.now()}
-	if err := made.open(out, messages); err != nil {
+	daemon := &daemon{decider: decider, signals: signals, orders: make(chan order), begun: decider.now()}
+	if err := daemon.open(out, messages); err != nil {
 		return err
 	}
-	return made.listenAndServe()
+	return daemon.listenAndServe()
 }
 
-// newDecider returns a decider without an access list, which is read later. `open` of the daemon sets where it writes its lines.
+// newDecider returns a decider for a configuration. Its caller opens `chains`, and reads the lists by keeper.reload. daemon.open sets logGrant and logOther.
 func newDecider(config *config) *decider {
-	made := &decider{
+	decider := &decider{
 		config: config, keys: newKeys(config.CertificateForm), cache: newCache(*config.Cache), sequences: newSequences(*config.Cache), now: time.Now,
-		counts: newCounts(len(config.Requests)), byKey: newRates(config.Limits.KeyRate), byAddress: newRates(config.Limits.AddressRate),
-		explaining: newRates(config.Limits.ExplainRate), verify: verify.Signature,
+		counts: newCounts(len(config.Requests)), byKey: newRateLimiter(config.Limits.KeyRate), byAddress: newRateLimiter(config.Limits.AddressRate),
+		explanations: newRateLimiter(config.Limits.ExplainRate), verify: verify.Signature,
 	}
-	made.signed = newSigned(config, func() time.Time { return made.now() })
-	return made
+	decider.requests = newRequestVerifier(config, func() time.Time { return decider.now() })
+	return decider
 }
 
-// test prints the number of entries of each list, or returns what is wrong in the log's path, the socket's group or a store.
+// test prints the number of entries of each list, or the status of its store. It returns why the log cannot be written, the socket's group cannot be set,
+// or a store cannot be read, or nil.
 func (d *decider) test(out io.Writer) error {
 	if err := checkLedgerPath(d.config.Log); err != nil {
 		return err
@@ -96,7 +99,7 @@ func (d *decider) test(out io.Writer) error {
 		fmt.Fprintf(out, "%s: %d entries\n", each.List, each.guard.Entries())
 	}
 	if d.chains != nil {
-		// (a store must answer)
+		// (where a store has the chains, it must answer for any key)
 		_, err := d.chains.of(hexDigest(nil), d.now())
 		return err
 	}

@@ -9,17 +9,19 @@ import (
 
 var errStates = errors.New("the daemons have different lists or ended certificates")
 
-// state returns one line with the digests of the lists and of the ended certificates. It is the same for two daemons that have the same of both.
+// state returns one line with the numbers and the digests of the entries and of the ended certificates. Two daemons have the same line if they have the
+// same lists and ended certificates.
 func (d *daemon) state() string {
 	present := d.keeper.present.Load()
 	return fmt.Sprintf("list %s entries %d ended %d %s\n", present.digestNow(), present.entries(), present.ended.count, present.ended.digest)
 }
 
-// checkStates prints the states of daemons by their control sockets, and fails with errStates if they differ.
+// checkStates prints the states of daemons, which it asks at these control sockets: unix:/PATH or /PATH. It fails with errStates if the states differ, and
+// if a daemon does not answer.
 func checkStates(controls []string, out io.Writer) error {
 	seen := map[string]bool{}
 	for _, each := range controls {
-		text, err := give(strings.TrimPrefix(each, unixScheme), orderState)
+		text, err := sendOrder(strings.TrimPrefix(each, unixScheme), orderState)
 		if err != nil {
 			return err
 		}

@@ -23,7 +23,7 @@ type store struct {
 	empty *guard.Guard
 	now   func() time.Time
 	// The key of the first issuer by the text of a sequence, or nothing if no signature is listed.
-	firsts *recent[string, string]
+	firsts *recentMap[string, string]
 
 	// Guards what follows.
 	mutex sync.RWMutex
@@ -40,11 +40,11 @@ type store struct {
 // A reader asks the database. Each call is one statement, and so of one state.
 type reader interface {
 	// rows returns the entries whose principal is one of these digests of a key, which digestsOf has made.
-	rows(digests [][]byte) (found, error)
+	rows(digests [][]byte) (entryRows, error)
 	// since returns the changes after that with this number, the time of that one, and the state.
-	since(number int64) (news, error)
+	since(number int64) (pollResult, error)
 	// whole returns all ended certificates, and the state.
-	whole() (news, error)
+	whole() (pollResult, error)
 	// chains returns the sequences that are kept for a key.
 	chains(key digest) ([]keptChain, error)
 	// keep keeps a sequence for a key, if the limits of a daemon let it, and returns the answer to that.
@@ -60,7 +60,7 @@ type storeState struct {
 }
 
 // A found has entries in the order of their numbers.
-type found struct {
+type entryRows struct {
 	storeState
 	numbers []int
 	texts   [][]byte
@@ -68,7 +68,7 @@ type found struct {
 
 // A news has changes, or all ended certificates. A change is in `changed`, as a digest of the key whose entries it concerns, or in `ended`. isCut
 // says that there were more changes than one poll reads.
-type news struct {
+type pollResult struct {
 	storeState
 	// The time of the change with the number that was asked for, or 0 if there is no such change.
 	first   int64
@@ -78,7 +78,7 @@ type news struct {
 }
 
 // A seen is the state that was polled last. Histories are counted: in another one the same number can be another change.
-type seen struct {
+type polledState struct {
 	storeState
 	history int
 	// When the present beat was seen first, and how old it was then by the time of day.
@@ -113,7 +113,7 @@ func newStore(options *storeOf, reader reader, open func(list []byte) (*guard.Gu
 	if err != nil {
 		return nil, err
 	}
-	return &store{options: options, reader: reader, open: open, empty: empty, now: now, firsts: newRecent[string, string](mostShown),
+	return &store{options: options, reader: reader, open: open, empty: empty, now: now, firsts: newRecentMap[string, string](mostShown),
 		kept: newKeptRows(*options.CacheMiB << 20), ended: map[digest]struct{}{}, fault: errNever}, nil
 }
 
@@ -169,7 +169,7 @@ func (s *store) keyOf(question *guard.Question) ([]byte, error) {
 // read reads the entries of a key, whose digest `name` is, and returns the list of them. It is kept if it is not too large and no later state was
 // polled meanwhile, and otherwise it is closed after one question.
 func (s *store) read(name digest, key []byte) (*list, error) {
-	before := s.seenNow()
+	before := s.lastPolled()
 	places := digestsOf(key)
 	found, err := s.reader.rows(places)
 	if err != nil {
@@ -184,14 +184,14 @@ func (s *store) read(name digest, key []byte) (*list, error) {
 	}
 	s.mutex.Lock()
 	defer s.mutex.Unlock()
-	isPresent := s.seen.history == before.history && found.changes >= s.seen.changes
+	isPresent := s.polled.history == before.history && found.changes >= s.polled.changes
 	made.isPassing = !isPresent || !s.kept.add(name, places, made, size)
 	return made, nil
 }
 
 // listOf returns the list of entries that were found, and how many octets these have. It fails with errHostile if a row is not exactly one entry, and
 // with errMany if they are too many or too long.
-func (s *store) listOf(found found) (*list, int, error) {
+func (s *store) listOf(rows entryRows) (*list, int, error) {
 	size := 0
 	for _, text := range found.texts {
 		if !bytes.HasPrefix(text, []byte("(5:entry")) {
@@ -245,20 +245,20 @@ func (s *store) noteRead(err error) {
 }
 
 // seenNow returns the state that was polled last.
-func (s *store) seenNow() seen {
+func (s *store) lastPolled() polledState {
 	s.mutex.RLock()
 	defer s.mutex.RUnlock()
-	return s.seen
+	return s.polled
 }
 
 // checkFresh returns an error if the state that was polled last is too old to decide by, or if none was polled.
 func (s *store) checkFresh() error {
 	s.mutex.RLock()
 	defer s.mutex.RUnlock()
-	if s.seen.at.IsZero() {
+	if s.polled.at.IsZero() {
 		return fmt.Errorf("store: %w", s.fault)
 	}
-	age, err := s.seen.age(s.now())
+	age, err := s.polled.age(s.now())
 	if err == nil && age > s.options.stale() {
 		err = fmt.Errorf("%w: its last beat is %v old", errStale, age.Round(time.Millisecond))
 	}
@@ -270,7 +270,7 @@ func (s *store) checkFresh() error {
 
 // age returns how old the state is: how old its beat was when it was seen first, by the time of day, and the time since by the monotonic clock. A
 // machine that slept has its monotonic clock stopped meanwhile, so the time of day counts where it says more.
-func (s *seen) age(now time.Time) (time.Duration, error) {
+func (p *polledState) age(now time.Time) (time.Duration, error) {
 	if s.lag < -mostAhead {
 		return 0, fmt.Errorf("%w: its beat is %v ahead of the daemon's clock", errStale, -s.lag)
 	}

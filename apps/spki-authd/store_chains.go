@@ -12,7 +12,7 @@ type storedChains struct {
 	*chains
 	reader reader
 	// What was read for a key not long ago, by the key's digest in hexadecimal digits.
-	known *recent[string, readChains]
+	known *recentMap[string, readChains]
 }
 
 // A readChains is what a store has for a key, and when that was read.
@@ -29,7 +29,7 @@ const (
 
 // newStoredChains returns what keeps sequences in a store.
 func newStoredChains(c *chains, reader reader) *storedChains {
-	return &storedChains{c, reader, newRecent[string, readChains](mostRead)}
+	return &storedChains{c, reader, newRecentMap[string, readChains](mostRead)}
 }
 
 // of returns the sequences of a key that have not ended. What the store has said is used again for knownFor.

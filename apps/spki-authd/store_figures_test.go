@@ -186,7 +186,7 @@ func (f *figures) measureLoad() {
 // BenchmarkStored measures a request by two certificates whose signatures were verified before. The list is a store whose rows are kept.
 func BenchmarkStored(b *testing.B) {
 	s := newStored(b)
-	s.grants = func([]byte) error { return nil }
+	s.logGrant = func([]byte) error { return nil }
 	_, carols := s.sequencesShown()
 	request := httptest.NewRequest(http.MethodGet, "/auth", nil)
 	for name, value := range map[string]string{

@@ -16,8 +16,8 @@ func (s *store) poll() {
 // pollOnce reads what has changed since the last poll. Where that cannot be told, as after a failover to a server that lacks changes, or where too
 // much has changed, nothing is kept, and all ended certificates are read again.
 func (s *store) pollOnce() error {
-	before, begun := s.seenNow(), s.now()
-	var read news
+	before, begun := s.lastPolled(), s.now()
+	var read pollResult
 	var err error
 	follows := false
 	if !before.at.IsZero() {
@@ -42,12 +42,12 @@ func (s *store) pollOnce() error {
 
 // take uses what a poll has read that was begun at a time. `follows` says that these are the changes since the poll before. Otherwise `read` has all
 // ended certificates, and what was known before is forgotten. The mutex is held.
-func (s *store) take(read news, begun time.Time, follows bool) {
+func (s *store) take(read pollResult, begun time.Time, follows bool) {
 	s.fault = nil
 	if !follows {
 		s.kept.clear()
 		s.ended = make(map[digest]struct{}, len(read.ended))
-		s.seen.history++
+		s.polled.history++
 	}
 	for _, each := range read.ended {
 		s.ended[each] = struct{}{}
@@ -55,10 +55,10 @@ func (s *store) take(read news, begun time.Time, follows bool) {
 	for _, each := range read.changed {
 		s.kept.drop(each)
 	}
-	if s.seen.at.IsZero() || read.beat != s.seen.beat || read.beaten != s.seen.beaten {
-		s.seen.at, s.seen.lag = begun, begun.Round(0).Sub(time.UnixMicro(read.beaten))
+	if s.polled.at.IsZero() || read.beat != s.polled.beat || read.beaten != s.polled.beaten {
+		s.polled.at, s.polled.lag = begun, begun.Round(0).Sub(time.UnixMicro(read.beaten))
 	}
-	s.seen.storeState = read.storeState
+	s.polled.storeState = read.storeState
 }
 
 // statusLine returns a line on the state of the store, for people. The error says what an operator must look after.
@@ -69,9 +69,9 @@ func (s *store) statusLine() (string, error) {
 	if err == nil {
 		err = s.fault
 	}
-	age, _ := s.seen.age(s.now())
-	return fmt.Sprintf("store: change %d, beat %d, %.1f s old, ended %d, kept %d keys in %d octets, read %d times, not read %d\n", s.seen.changes,
-		s.seen.beat, age.Seconds(), len(s.ended), s.kept.count(), s.kept.size, s.count.misses, s.count.failures), err
+	age, _ := s.polled.age(s.now())
+	return fmt.Sprintf("store: change %d, beat %d, %.1f s old, ended %d, kept %d keys in %d octets, read %d times, not read %d\n", s.polled.changes,
+		s.polled.beat, age.Seconds(), len(s.ended), s.kept.count(), s.kept.size, s.count.misses, s.count.failures), err
 }
 
 // stamp returns what tells one state of a list from another: the digest of a file, or `change-NUMBER-TIME` of the last change of a store.
@@ -79,7 +79,7 @@ func (l *list) stamp() string {
 	if l.store == nil {
 		return l.digest
 	}
-	seen := l.store.seenNow()
+	seen := l.store.lastPolled()
 	return fmt.Sprintf("change-%d-%d", seen.changes, seen.token)
 }
 
@@ -99,10 +99,10 @@ var storeFamilies = []struct {
 	valueOf          func(s *store) any
 }{
 	{"store_stale", "gauge", "1 if the store is stale, and each decision by it 503.", func(s *store) any { return number(s.checkFresh() != nil) }},
-	{"store_change", "gauge", "The number of the last change that was polled.", func(s *store) any { return s.seenNow().changes }},
-	{"store_rows_kept_total", "counter", "Decisions by rows that were kept.", func(s *store) any { return s.counted().hits }},
-	{"store_rows_read_total", "counter", "Decisions whose rows were read.", func(s *store) any { return s.counted().misses }},
-	{"store_rows_failed_total", "counter", "Decisions that failed since their rows could not be read.", func(s *store) any { return s.counted().failures }},
+	{"store_change", "gauge", "The number of the last change that was polled.", func(s *store) any { return s.lastPolled().changes }},
+	{"store_rows_kept_total", "counter", "Decisions by rows that were kept.", func(s *store) any { return s.countsNow().hits }},
+	{"store_rows_read_total", "counter", "Decisions whose rows were read.", func(s *store) any { return s.countsNow().misses }},
+	{"store_rows_failed_total", "counter", "Decisions that failed since their rows could not be read.", func(s *store) any { return s.countsNow().failures }},
 }
 
 // stores writes the metrics of the stores, by the numbers of their lists, which count from 1. Without a store it writes nothing.
@@ -123,7 +123,7 @@ func (e *exposition) stores(present *access) {
 }
 
 // counted returns a copy of the store's counts.
-func (s *store) counted() storeCounts {
+func (s *store) countsNow() storeCounts {
 	s.mutex.RLock()
 	defer s.mutex.RUnlock()
 	return s.count

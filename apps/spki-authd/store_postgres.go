@@ -213,7 +213,7 @@ func octetsIn(value driver.Value) []byte {
 
 // rows returns the entries whose principal is one of these digests of a key: by SHA-1, SHA-256 and SHA-512, in this order. Behind the state a row has
 // the number and the text.
-func (p *pool) rows(digests [][]byte) (made found, err error) {
+func (p *pool) rows(digests [][]byte) (rows entryRows, err error) {
 	hasState := false
 	err = p.ask(askRows, func(row []driver.Value) (err error) {
 		made.storeState, err = stateIn(row)
@@ -237,7 +237,7 @@ func requireState(hasState bool, err error) error {
 
 // since returns the changes after that with a number, and the time of that one. Behind the state a row has the number, the time, the kind and the
 // digest of a change. The statement also reads the change with that number, and one more than a poll takes, which shows whether there are more.
-func (p *pool) since(number int64) (made news, err error) {
+func (p *pool) since(number int64) (result pollResult, err error) {
 	hasState, count := false, 0
 	err = p.ask(askSince, func(row []driver.Value) (err error) {
 		made.storeState, err = stateIn(row)
@@ -262,7 +262,7 @@ func (p *pool) since(number int64) (made news, err error) {
 
 // note adds a change. `what` is its kind, and `place` its digest: of an ended certificate if the kind is `end`, and otherwise of the key whose
 // entries have changed.
-func (n *news) note(what driver.Value, place []byte) {
+func (r *pollResult) note(what driver.Value, place []byte) {
 	if text, isText := what.(string); isText && text == "end" && len(place) == len(digest{}) {
 		n.ended = append(n.ended, *(*digest)(place))
 		return
@@ -271,7 +271,7 @@ func (n *news) note(what driver.Value, place []byte) {
 }
 
 // whole returns all ended certificates. Behind the state a row has the time of the last change and the digest of one of them.
-func (p *pool) whole() (made news, err error) {
+func (p *pool) whole() (result pollResult, err error) {
 	hasState := false
 	err = p.ask(askWhole, func(row []driver.Value) (err error) {
 		made.storeState, err = stateIn(row)

@@ -270,7 +270,7 @@ func TestQuestionsToStore(t *testing.T) {
 			}
 		}
 		question := r.question(random)
-		first := r.store.seenNow().changes
+		first := r.store.lastPolled().changes
 		answer := r.answer(question)
 		met[answer[:2]]++
 		if !r.wasRightSince(first, question, answer) {

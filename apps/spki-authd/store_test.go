@@ -57,7 +57,7 @@ func (t *table) note(made change) {
 }
 
 // rows returns the entries, by numbers below 100, whose key has one of these digests.
-func (t *table) rows(places [][]byte) (made found, err error) {
+func (t *table) rows(places [][]byte) (rows entryRows, err error) {
 	t.reads++
 	made.storeState = t.state
 	for number := 0; number < 100; number++ {
@@ -75,8 +75,8 @@ func (t *table) rows(places [][]byte) (made found, err error) {
 }
 
 // since returns the changes after that with a number, and the time of that one, or 0 if there is no such change.
-func (t *table) since(number int64) (news, error) {
-	made := news{storeState: t.state}
+func (t *table) since(number int64) (pollResult, error) {
+	made := pollResult{storeState: t.state}
 	if number > 0 && number <= t.state.changes {
 		made.first = t.news[number-1].token
 	}
@@ -91,8 +91,8 @@ func (t *table) since(number int64) (news, error) {
 }
 
 // whole returns the ended certificates of the table, and the state.
-func (t *table) whole() (news, error) {
-	return news{storeState: t.state, ended: t.ended}, t.fault
+func (t *table) whole() (pollResult, error) {
+	return pollResult{storeState: t.state, ended: t.ended}, t.fault
 }
 
 // chains returns the sequences that are kept for a key.
@@ -141,7 +141,7 @@ func newStored(t testing.TB, fields ...string) *stored {
 		t.Fatal(err)
 	}
 	present := made.keeper.present.Load()
-	made.keeper.present.Store(&access{lists: []*list{{place: place{Prefix: "/"}, store: made.store}}, ended: present.ended, digest: "store", read: present.read})
+	made.keeper.present.Store(&access{lists: []*list{{scope: scope{Prefix: "/"}, store: made.store}}, ended: present.ended, digest: "store", read: present.read})
 	made.table.put(7, made.alice.key, made.entryOf(made.alice))
 	made.beat()
 	return made
@@ -243,7 +243,7 @@ func TestListBesideStaleStore(t *testing.T) {
 	if err != nil {
 		t.Fatal(err)
 	}
-	inFile := &list{place: place{Prefix: "/web/"}, guard: opened, digest: "file"}
+	inFile := &list{scope: scope{Prefix: "/web/"}, guard: opened, digest: "file"}
 	s.keeper.present.Store(&access{lists: []*list{inFile, present.lists[0]}, ended: present.ended, digest: "both", read: present.read})
 	bobs, _ := s.sequencesShown()
 	for _, stale := range []bool{false, true, false} {

@@ -104,7 +104,7 @@ func TestCertificatesAreReadAgain(t *testing.T) {
 	if err != nil {
 		t.Fatal(err)
 	}
-	var keeper keeper
+	var keeper accessKeeper
 	shown := func() []byte { return config.TLS.present.Load().Certificate[0] }
 	if err := keeper.reload(config, false, newSite(t, "").now()); err != nil || !bytes.Equal(shown(), alice.der) {
 		t.Fatal(err)
