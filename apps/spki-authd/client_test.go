@@ -85,7 +85,7 @@ func TestKindsOfKeys(t *testing.T) {
 func TestKeysAreKept(t *testing.T) {
 	made, alice := newKeys(escapedPEM), newPerson(t)
 	for turn := 0; turn < 2; turn++ {
-		if met, err := made.of(alice.escaped()); err != nil || met.key.Text() != alice.key || met.name != hexDigest([]byte(alice.key)) {
+		if met, err := made.of(alice.escaped()); err != nil || met.key.Text() != alice.key || met.keyDigest != hexDigest([]byte(alice.key)) {
 			t.Errorf("turn %d: %v, %v", turn, met, err)
 		}
 		if _, err := made.of(alice.escaped() + "x"); err == nil {

@@ -110,7 +110,7 @@ func (d *daemon) doOrder(order string) (string, error) {
 func (d *daemon) inMain(call func(*daemon) error) error {
 	sent := order{call, make(chan error, 1)}
 	select {
-	case d.orders <- asked:
+	case d.orders <- sent:
 		return <-sent.done
 	case <-time.After(timeForOrder):
 		return errors.New("the daemon is busy")

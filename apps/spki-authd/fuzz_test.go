@@ -108,7 +108,7 @@ func (p *played) SetReadDeadline(time.Time) error  { return nil }
 // FuzzConnection sends octets that may be requests. Each answer has a line in the log that says the same, and 200 is said where it is granted.
 func FuzzConnection(f *testing.F) {
 	s := newSite(f, "")
-	door := newConnectionServer(s.decider)
+	server := newConnectionServer(s.decider)
 	header := " / HTTP/1.1\r\nHost: x\r\nX-Original-Method: GET\r\nX-Original-URI: /web/x\r\nX-Client-Cert: " + s.alice.escaped() + "\r\n"
 	for _, text := range []string{
 		"GET" + header + "\r\n", "GET" + header + "\r\nHEAD" + header + "Connection: close\r\n\r\n", "OPTIONS * HTTP/1.1\r\n\r\n", "x\r\n\r\n",
@@ -120,15 +120,15 @@ func FuzzConnection(f *testing.F) {
 	f.Fuzz(func(t *testing.T, octets []byte) {
 		defer s.log.Reset()
 		connection := &played{sent: bytes.NewReader(octets)}
-		door.places <- struct{}{}
-		visit := door.enter(connection)
-		if len(door.open) != 1 {
+		server.places <- struct{}{}
+		state := server.add(connection)
+		if len(server.open) != 1 {
 			t.Fatal("the connection is not open")
 		}
-		door.answerAll(visit)
+		server.answerAll(state)
 		told, lines := connection.told.String(), strings.SplitAfter(s.log.String(), "\n")
 		answers := strings.SplitAfter(told, "\r\n\r\n")
-		if len(answers) != len(lines) || len(door.open) != 0 || len(door.places) != 0 {
+		if len(answers) != len(lines) || len(server.open) != 0 || len(server.places) != 0 {
 			t.Fatalf("%d answers, %d lines: %q", len(answers)-1, len(lines)-1, told)
 		}
 		for place, answer := range answers[:len(answers)-1] {

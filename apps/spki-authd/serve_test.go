@@ -345,19 +345,19 @@ func (d *dated) SetReadDeadline(until time.Time) error { d.until = until; return
 // TestDeadlines has an idle connection ended, to make room for a new one or since it was idle for long, while a request comes on it: that request has
 // its whole time.
 func TestDeadlines(t *testing.T) {
-	for name, ends := range map[string]func(door *connectionServer){
-		"for a new one": (*connectionServer).closeIdle, "after long": func(door *connectionServer) { door.endLate(time.Now().Add(timeIdle + time.Second)) },
+	for name, ends := range map[string]func(server *connectionServer){
+		"for a new one": (*connectionServer).closeIdle, "after long": func(server *connectionServer) { server.endLate(time.Now().Add(timeIdle + time.Second)) },
 	} {
-		door, connection := newConnectionServer(newSite(t, "").decider), &dated{}
-		visit := door.enter(connection)
-		if err := door.note(visit, isIdle); err != nil || !connection.until.IsZero() {
+		server, connection := newConnectionServer(newSite(t, "").decider), &dated{}
+		state := server.add(connection)
+		if err := server.setStage(state, isIdle); err != nil || !connection.until.IsZero() {
 			t.Errorf("%s: %v, %v", name, err, connection.until)
 		}
-		door.endLate(time.Now())
-		if ends(door); connection.until.IsZero() {
+		server.endLate(time.Now())
+		if ends(server); connection.until.IsZero() {
 			t.Errorf("%s: it stays", name)
 		}
-		if err := door.note(visit, isBusy); err != nil || time.Until(connection.until) < time.Second {
+		if err := server.setStage(state, isBusy); err != nil || time.Until(connection.until) < time.Second {
 			t.Errorf("%s: %v, %v", name, err, connection.until)
 		}
 	}

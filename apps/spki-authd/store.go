@@ -13,21 +13,21 @@ import (
 	"conguraki/spki/guard"
 )
 
-// A store decides by the entries that are in a database. A decision needs only those whose principal is the key of the first issuer, or the
-// client's key where no certificate is shown: docs/PROOFS.md, `decided_by_kept`. What was read is kept until a change of these entries is polled.
+// A store has the entries of an access list in a database. A decision needs only those whose principal is the key of the first issuer, or the client's key
+// where no certificate is shown: docs/PROOFS.md, `decided_by_kept`. Entries that were read are kept until a poll reads that they have changed.
 type store struct {
 	options *storeOf
 	reader  reader
 	open    func(list []byte) (*guard.Guard, error)
-	// A guard without entries, which lists the signatures of a question.
+	// A guard without entries. It lists the signatures of a question as the guard of any list does.
 	empty *guard.Guard
 	now   func() time.Time
-	// The key of the first issuer by the text of a sequence, or nothing if no signature is listed.
+	// The key that the first signature of a sequence is by, by the text of the sequence: empty if no signature is listed.
 	firsts *recentMap[string, string]
 
 	// Guards what follows.
-	mutex sync.RWMutex
-	seen  seen
+	mutex  sync.RWMutex
+	polled polledState
 	// The error of the last poll, or nil.
 	fault error
 	// The lists of entries that were read, by key.
@@ -37,19 +37,19 @@ type store struct {
 	count storeCounts
 }
 
-// A reader asks the database. Each call is one statement, and so of one state.
+// A reader asks the database. Each call is one statement, and so reads one state.
 type reader interface {
-	// rows returns the entries whose principal is one of these digests of a key, which digestsOf has made.
+	// rows returns the entries for a key, and the state. `digests` are those that digestsOf returns for the key.
 	rows(digests [][]byte) (entryRows, error)
-	// since returns the changes after that with this number, the time of that one, and the state.
+	// since returns the changes after the one with this number, the time of that one, and the state.
 	since(number int64) (pollResult, error)
 	// whole returns all ended certificates, and the state.
 	whole() (pollResult, error)
-	// chains returns the sequences that are kept for a key.
+	// chains returns the sequences that are kept for the key with this digest.
 	chains(key digest) ([]keptChain, error)
-	// keep keeps a sequence for a key, if the limits of a daemon let it, and returns the answer to that.
+	// keep keeps a sequence for the key with this digest, if the limits let it, and returns the answer to the client.
 	keep(key digest, chain keptChain, limits *chains) (answer, error)
-	// renew closes the connections.
+	// renew has each connection opened anew before it is used again.
 	renew()
 }
 
@@ -59,39 +59,41 @@ type storeState struct {
 	changes, token, beat, beaten int64
 }
 
-// A found has entries in the order of their numbers.
+// entryRows are entries in the order of their numbers: the numbers, and the texts, each that of one entry in canonical form if the database is right.
 type entryRows struct {
 	storeState
 	numbers []int
 	texts   [][]byte
 }
 
-// A news has changes, or all ended certificates. A change is in `changed`, as a digest of the key whose entries it concerns, or in `ended`. isCut
-// says that there were more changes than one poll reads.
+// A pollResult is what `since` or `whole` returns. Of changes, `changed` has the digests of the keys whose entries have changed, and `ended` the certificates
+// that have ended. isCut says that there were more changes than one poll reads.
 type pollResult struct {
 	storeState
-	// The time of the change with the number that was asked for, or 0 if there is no such change.
+	// The time of the change with the number that `since` was given, or 0 if there is no such change.
 	first   int64
 	changed [][]byte
 	ended   []digest
 	isCut   bool
 }
 
-// A seen is the state that was polled last. Histories are counted: in another one the same number can be another change.
+// A polledState is the state that was polled last. `history` is a number for the history of changes that it belongs to, as after a failover: in another
+// history the same number can be another change.
 type polledState struct {
 	storeState
 	history int
-	// When the present beat was seen first, and how old it was then by the time of day.
+	// When a poll first read the present beat, and how old the beat was then by the time of day.
 	at  time.Time
 	lag time.Duration
 }
 
-// storeCounts count how often the entries of a key were kept, were asked of the database, and could not be read from it. misses include failures.
+// storeCounts count the questions whose entries were kept, those whose entries the database was asked for, and those whose entries could not be read from
+// it. misses include failures.
 type storeCounts struct {
 	hits, misses, failures uint64
 }
 
-// The time between two polls, and by how much the writer's clock may be ahead.
+// The time between two polls, and by how much the clock of the database's server may be ahead of the daemon's.
 const (
 	pollEvery = 250 * time.Millisecond
 	mostAhead = time.Second
@@ -107,7 +109,7 @@ var (
 	errHostile = errors.New("a row of the store is not one entry: `spki-store check` says which")
 )
 
-// newStore returns a store that was not read yet. `open` opens a list of entries, which are one behind the other.
+// newStore returns a store that was not polled yet. `open` opens a list of entries in canonical form, one behind the other. `now` is the clock.
 func newStore(options *storeOf, reader reader, open func(list []byte) (*guard.Guard, error), now func() time.Time) (*store, error) {
 	empty, err := open(nil)
 	if err != nil {
@@ -117,8 +119,8 @@ func newStore(options *storeOf, reader reader, open func(list []byte) (*guard.Gu
 		kept: newKeptRows(*options.CacheMiB << 20), ended: map[digest]struct{}{}, fault: errNever}, nil
 }
 
-// list returns the list of the entries that a question can need: one that is kept, or a new one. The caller closes it if it isPassing. It fails where
-// the store is stale or cannot be read, and where the question is refused.
+// list returns a list of the entries that a question can need: one that is kept, or a new one. The caller closes its guard if it isPassing. It fails if
+// the store is stale or cannot be read, and with the library's refusal if the question's sequence is refused.
 func (s *store) list(question *guard.Question) (*list, error) {
 	key, err := s.keyOf(question)
 	if err != nil {
@@ -127,11 +129,11 @@ func (s *store) list(question *guard.Question) (*list, error) {
 	if err := s.checkFresh(); err != nil {
 		return nil, err
 	}
-	name := sha256.Sum256(key)
-	if kept := s.keptOf(name); kept != nil {
+	keyDigest := sha256.Sum256(key)
+	if kept := s.keptOf(keyDigest); kept != nil {
 		return kept, nil
 	}
-	made, err := s.read(name, key)
+	opened, err := s.read(keyDigest, key)
 	if err == nil {
 		err = s.checkFresh()
 	}
@@ -139,20 +141,21 @@ func (s *store) list(question *guard.Question) (*list, error) {
 	if err != nil {
 		return nil, fmt.Errorf("store: %w", err)
 	}
-	return made, nil
+	return opened, nil
 }
 
-// keyOf returns the key whose entries a question needs: that of the first issuer, or the client's key if no signature is listed.
+// keyOf returns the key whose entries a question needs: that of the first listed signature, or the client's key if no signature is listed. It fails with
+// the library's refusal of the question.
 func (s *store) keyOf(question *guard.Question) ([]byte, error) {
 	text := string(question.Sequence)
 	first, isKnown := s.firsts.get(text)
 	if !isKnown {
-		asked, err := s.empty.Ask(*question)
+		opened, err := s.empty.Ask(*question)
 		if err != nil {
 			return nil, err
 		}
-		defer asked.Close()
-		err = asked.Each(func(_ int, signed guard.Signature) bool { first = string(signed.Key); return false })
+		defer opened.Close()
+		err = opened.Each(func(_ int, signature guard.Signature) bool { first = string(signature.Key); return false })
 		if err != nil {
 			return nil, err
 		}
@@ -166,75 +169,75 @@ func (s *store) keyOf(question *guard.Question) ([]byte, error) {
 	return []byte(first), nil
 }
 
-// read reads the entries of a key, whose digest `name` is, and returns the list of them. It is kept if it is not too large and no later state was
-// polled meanwhile, and otherwise it is closed after one question.
-func (s *store) read(name digest, key []byte) (*list, error) {
+// read reads the entries for a key from the database, and returns the list of them. `keyDigest` is the key's digest. The list is kept if it is not too
+// large and no later state was polled meanwhile; otherwise it isPassing. It fails with errOlder if the database's state is older than the last poll's.
+func (s *store) read(keyDigest digest, key []byte) (*list, error) {
 	before := s.lastPolled()
-	places := digestsOf(key)
-	found, err := s.reader.rows(places)
+	digests := digestsOf(key)
+	rows, err := s.reader.rows(digests)
 	if err != nil {
 		return nil, err
 	}
-	if found.changes < before.changes || found.beat < before.beat {
+	if rows.changes < before.changes || rows.beat < before.beat {
 		return nil, errOlder
 	}
-	made, size, err := s.listOf(found)
+	opened, size, err := s.listOf(rows)
 	if err != nil {
 		return nil, err
 	}
 	s.mutex.Lock()
 	defer s.mutex.Unlock()
-	isPresent := s.polled.history == before.history && found.changes >= s.polled.changes
-	made.isPassing = !isPresent || !s.kept.add(name, places, made, size)
-	return made, nil
+	isPresent := s.polled.history == before.history && rows.changes >= s.polled.changes
+	opened.isPassing = !isPresent || !s.kept.add(keyDigest, digests, opened, size)
+	return opened, nil
 }
 
-// listOf returns the list of entries that were found, and how many octets these have. It fails with errHostile if a row is not exactly one entry, and
-// with errMany if they are too many or too long.
+// listOf returns the list of entries that were read, and how many octets these have together. It fails with errHostile if a row is not exactly one entry,
+// and with errMany if they are too many or too long.
 func (s *store) listOf(rows entryRows) (*list, int, error) {
 	size := 0
-	for _, text := range found.texts {
+	for _, text := range rows.texts {
 		if !bytes.HasPrefix(text, []byte("(5:entry")) {
 			return nil, 0, errHostile
 		}
 		size += len(text)
 	}
-	if len(found.texts) > mostRows || size > mostList-len("(3:acl)") {
+	if len(rows.texts) > mostRows || size > mostList-len("(3:acl)") {
 		return nil, 0, errMany
 	}
 	joined := make([]byte, 0, size)
-	for _, text := range found.texts {
+	for _, text := range rows.texts {
 		joined = append(joined, text...)
 	}
 	opened, err := s.open(joined)
 	if err != nil {
 		return nil, 0, fmt.Errorf("%w: %v", errHostile, err)
 	}
-	if opened.Entries() != len(found.numbers) {
+	if opened.Entries() != len(rows.numbers) {
 		opened.Close()
 		return nil, 0, errHostile
 	}
-	return &list{guard: opened, numbers: found.numbers, digest: fmt.Sprintf("change %d", found.changes)}, size, nil
+	return &list{guard: opened, numbers: rows.numbers, digest: fmt.Sprintf("change %d", rows.changes)}, size, nil
 }
 
-// digestsOf returns the digests of a key by SHA-1, SHA-256 and SHA-512, in this order. The entries whose principals name the key are found by them.
+// digestsOf returns the digests of a key by SHA-1, SHA-256 and SHA-512, in this order. The database has one of them as the principal of each entry.
 func digestsOf(key []byte) [][]byte {
 	first, second, third := sha1.Sum(key), sha256.Sum256(key), sha512.Sum512(key)
 	return [][]byte{first[:], second[:], third[:]}
 }
 
-// keptOf returns the list that is kept for a key, by the digest of the key, or nil.
-func (s *store) keptOf(name digest) *list {
+// keptOf returns the list that is kept for a key, by the digest of the key, or nil, and counts the first case.
+func (s *store) keptOf(keyDigest digest) *list {
 	s.mutex.Lock()
 	defer s.mutex.Unlock()
-	kept := s.kept.get(name)
+	kept := s.kept.get(keyDigest)
 	if kept != nil {
 		s.count.hits++
 	}
 	return kept
 }
 
-// noteRead counts that the database was asked for the entries of a key. `err` is why they could not be read, or nil.
+// noteRead counts a question for which the database was asked. `err` is why the entries could not be read, or nil.
 func (s *store) noteRead(err error) {
 	s.mutex.Lock()
 	defer s.mutex.Unlock()
@@ -244,14 +247,14 @@ func (s *store) noteRead(err error) {
 	}
 }
 
-// seenNow returns the state that was polled last.
+// lastPolled returns the state that was polled last.
 func (s *store) lastPolled() polledState {
 	s.mutex.RLock()
 	defer s.mutex.RUnlock()
 	return s.polled
 }
 
-// checkFresh returns an error if the state that was polled last is too old to decide by, or if none was polled.
+// checkFresh returns an error if the state that was polled last is too old to decide by, or if none was polled yet.
 func (s *store) checkFresh() error {
 	s.mutex.RLock()
 	defer s.mutex.RUnlock()
@@ -268,23 +271,23 @@ func (s *store) checkFresh() error {
 	return err
 }
 
-// age returns how old the state is: how old its beat was when it was seen first, by the time of day, and the time since by the monotonic clock. A
-// machine that slept has its monotonic clock stopped meanwhile, so the time of day counts where it says more.
+// age returns how old the state is at `now`: how old its beat was when a poll first read it, by the time of day, and the time since, by the monotonic
+// clock. That clock stops while the machine sleeps, so the time of day counts if it says more. It fails if the beat is over mostAhead in the future.
 func (p *polledState) age(now time.Time) (time.Duration, error) {
-	if s.lag < -mostAhead {
-		return 0, fmt.Errorf("%w: its beat is %v ahead of the daemon's clock", errStale, -s.lag)
+	if p.lag < -mostAhead {
+		return 0, fmt.Errorf("%w: its beat is %v ahead of the daemon's clock", errStale, -p.lag)
 	}
-	age := now.Sub(s.at)
-	if s.lag > 0 {
-		age += s.lag
+	age := now.Sub(p.at)
+	if p.lag > 0 {
+		age += p.lag
 	}
-	if byDay := now.Round(0).Sub(time.UnixMicro(s.beaten)); byDay > age {
+	if byDay := now.Round(0).Sub(time.UnixMicro(p.beaten)); byDay > age {
 		age = byDay
 	}
 	return age, nil
 }
 
-// hasEnded says whether a certificate has ended early.
+// hasEnded says whether the store has the digest of a certificate as ended early.
 func (s *store) hasEnded(certificate digest) bool {
 	s.mutex.RLock()
 	defer s.mutex.RUnlock()

@@ -6,13 +6,13 @@ import (
 	"time"
 )
 
-// A storedChains has the sequences that clients have left in a store, so that each daemon finds them.
+// storedChains is the chainKeeper of a store: so each daemon finds the sequences that clients have left with any. folderChains is that of a folder.
 type storedChains struct {
 	// The configuration, with the limits.
 	*chains
 	reader reader
-	// What was read for a key not long ago, by the key's digest in hexadecimal digits.
-	known *recentMap[string, readChains]
+	// What was read for a key in the last cachedFor, by the key's digest in hexadecimal digits.
+	cache *recentMap[string, readChains]
 }
 
 // A readChains is what a store has for a key, and when that was read.
@@ -21,58 +21,59 @@ type readChains struct {
 	at     time.Time
 }
 
-// The number of keys whose sequences are known, and for how long: a sequence that was left with another daemon is found that much later.
+// The most keys whose sequences are cached, and for how long: a sequence that was left with another daemon is found so much later.
 const (
-	mostRead = 1_000
-	knownFor = 2 * time.Second
+	mostCached = 1_000
+	cachedFor  = 2 * time.Second
 )
 
-// newStoredChains returns what keeps sequences in a store.
+// newStoredChains returns the chainKeeper of the store that a reader asks. `c` has the limits.
 func newStoredChains(c *chains, reader reader) *storedChains {
-	return &storedChains{c, reader, newRecentMap[string, readChains](mostRead)}
+	return &storedChains{c, reader, newRecentMap[string, readChains](mostCached)}
 }
 
-// of returns the sequences of a key that have not ended. What the store has said is used again for knownFor.
-func (s *storedChains) of(key string, now time.Time) (left []keptChain, err error) {
-	read, isKnown := s.known.get(key)
-	if age := now.Sub(read.at); !isKnown || age < 0 || age > knownFor {
-		if read.chains, err = s.reader.chains(digestIn(key)); err != nil {
+// of returns the sequences of a key that have not ended. What the store has returned is used again for cachedFor. It fails if the store does not answer.
+func (s *storedChains) of(key string, now time.Time) (current []keptChain, err error) {
+	cached, isCached := s.cache.get(key)
+	if age := now.Sub(cached.at); !isCached || age < 0 || age > cachedFor {
+		if cached.chains, err = s.reader.chains(digestIn(key)); err != nil {
 			return nil, fmt.Errorf("kept certificates: %w", err)
 		}
-		read.at = now
-		s.known.add(key, read)
+		cached.at = now
+		s.cache.add(key, cached)
 	}
-	for _, each := range read.chains {
+	for _, each := range cached.chains {
 		if now.Before(each.until) {
-			left = append(left, each)
+			current = append(current, each)
 		}
 	}
-	return left, nil
+	return current, nil
 }
 
-// whyNotAdded returns the answer to a sequence that add would not keep beside those of its key, or an empty one. Whether there is room for one more
-// key only the store says.
+// whyNotAdded returns the answer to a sequence that add would not keep beside those of its key, or an empty one. Only the store knows whether there is
+// room for one more key. It fails if the store does not answer.
 func (s *storedChains) whyNotAdded(key string, chain keptChain, now time.Time) (answer, error) {
 	others, err := s.of(key, now)
 	return s.whyNotBeside(others, chain.text), err
 }
 
 // add has the store keep a sequence for a key, and returns its answer: `kept`, `known` or `full`, or `failed` with an error, also where the store
-// answers anything else. What was known of the key is forgotten.
+// answers anything else. What was cached for the key is forgotten. The last argument, the time, is not needed: the store has a clock.
 func (s *storedChains) add(key string, chain keptChain, _ time.Time) (answer, error) {
-	became, err := s.reader.keep(digestIn(key), chain, s.chains)
-	if err == nil && became != answerKept && became != answerKnown && became != answerFull {
-		err = fmt.Errorf("the store answers %q", became)
+	reply, err := s.reader.keep(digestIn(key), chain, s.chains)
+	if err == nil && reply != answerKept && reply != answerKnown && reply != answerFull {
+		err = fmt.Errorf("the store answers %q", reply)
 	}
 	if err != nil {
 		return answerFailed, fmt.Errorf("kept certificates: %w", err)
 	}
-	s.known.add(key, readChains{})
-	return became, nil
+	// (what has no time is too old to be used)
+	s.cache.add(key, readChains{})
+	return reply, nil
 }
 
-// digestIn returns the octets of a digest whose 64 hexadecimal digits are `text`.
-func digestIn(text string) (made digest) {
-	_, _ = hex.Decode(made[:], []byte(text))
-	return made
+// digestIn returns the octets of a digest, whose 64 hexadecimal digits are `text`.
+func digestIn(text string) (octets digest) {
+	_, _ = hex.Decode(octets[:], []byte(text))
+	return octets
 }

@@ -2,18 +2,18 @@ package main
 
 import ordered "container/list"
 
-// A keptRows keeps lists of the entries of a key, up to so many octets: those that were asked for last. It has no mutex of its own.
+// keptRows keeps lists, each with the entries for one key, up to `most` octets: those that were asked for last. The mutex of its store guards it.
 type keptRows struct {
-	// The most octets, and those of what is kept, by keptRow.size.
+	// The most octets, and the sum of keptRow.size of what is kept.
 	most, size int
-	// A keptRow for each key, first the one that was asked for last, and the same by each key's `name` and by each of its `places`.
+	// A *keptRow for each key, first the one that was asked for last, and its element by keptRow.name and by each of keptRow.places.
 	order   *ordered.List
 	byName  map[digest]*ordered.Element
 	byPlace map[string]*ordered.Element
 }
 
-// A keptRow is what is kept for a key. `places` are the digests of the key by which the database has its entries, and `name` is that by SHA-256.
-// `size` is about how many octets of memory it takes.
+// A keptRow is what is kept for a key. `name` is the key's digest by SHA-256, and `places` are all three digests, by which the database has the entries for
+// the key. `size` is about how many octets of memory the list takes.
 type keptRow struct {
 	name   digest
 	places [][]byte
@@ -21,18 +21,18 @@ type keptRow struct {
 	size   int
 }
 
-// About how many octets of memory the library takes for each octet of an entry's text, and how many a key without entries takes.
+// About how many octets of memory the library takes for each octet of an entry's text, and how many a list without entries takes.
 const (
 	octetsEach = 3
 	octetsRow  = 2048
 )
 
-// newKeptRows returns what keeps lists, which have at most so many octets together.
+// newKeptRows returns an empty keptRows for lists with at most `most` octets together.
 func newKeptRows(most int) *keptRows {
 	return &keptRows{most: most, order: ordered.New(), byName: map[digest]*ordered.Element{}, byPlace: map[string]*ordered.Element{}}
 }
 
-// get returns the list of a key, by its digest, or nil.
+// get returns the list that is kept for a key, by the key's digest by SHA-256, or nil.
 func (k *keptRows) get(name digest) *list {
 	element, isKept := k.byName[name]
 	if !isKept {
@@ -42,8 +42,8 @@ func (k *keptRows) get(name digest) *list {
 	return element.Value.(*keptRow).list
 }
 
-// add keeps the list of a key, and says whether it does. `name` is the key's digest by SHA-256, `places` are all its digests from digestsOf, and
-// `octets` is the size of its entries' texts. Lists that were asked for long ago make room.
+// add keeps the list of a key, unless it alone is too large, and says whether it does. `name` is the key's digest by SHA-256, `places` are all its digests
+// from digestsOf, and `octets` is the size of its entries' texts. Lists that were not asked for since long are removed to make room.
 func (k *keptRows) add(name digest, places [][]byte, rows *list, octets int) bool {
 	if before, isKept := k.byName[name]; isKept {
 		k.remove(before)
@@ -64,14 +64,14 @@ func (k *keptRows) add(name digest, places [][]byte, rows *list, octets int) boo
 	return true
 }
 
-// drop forgets the list of a key, if one is kept. `place` is any of the key's digests from digestsOf: that which a changed entry has.
+// drop removes the list of a key, if one is kept. `place` is any of the key's digests from digestsOf: that which a changed entry has.
 func (k *keptRows) drop(place []byte) {
 	if element, isKept := k.byPlace[string(place)]; isKept {
 		k.remove(element)
 	}
 }
 
-// clear forgets all lists.
+// clear removes all lists.
 func (k *keptRows) clear() {
 	for k.order.Len() > 0 {
 		k.remove(k.order.Back())
@@ -83,7 +83,7 @@ func (k *keptRows) count() int {
 	return k.order.Len()
 }
 
-// remove forgets a list, and frees its memory once the questions are closed that it was asked.
+// remove removes a list, and closes its guard: the memory is freed once the questions that the guard was asked are closed.
 func (k *keptRows) remove(element *ordered.Element) {
 	row := k.order.Remove(element).(*keptRow)
 	k.size -= row.size

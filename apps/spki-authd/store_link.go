@@ -7,13 +7,13 @@ import (
 	"time"
 )
 
-// A patient connection waits for each octet at most so long. Otherwise a network that is cut holds a request for minutes.
+// A patient connection waits for each read and each write no longer than `patience`. Otherwise a network that is cut would hold a request for minutes.
 type patient struct {
 	net.Conn
 	patience time.Duration
 }
 
-// Read reads, or fails in time.
+// Read reads, or fails after the patience.
 func (p *patient) Read(octets []byte) (int, error) {
 	if err := p.SetReadDeadline(time.Now().Add(p.patience)); err != nil {
 		return 0, err
@@ -21,7 +21,7 @@ func (p *patient) Read(octets []byte) (int, error) {
 	return p.Conn.Read(octets)
 }
 
-// Write writes, or fails in time.
+// Write writes, or fails after the patience.
 func (p *patient) Write(octets []byte) (int, error) {
 	if err := p.SetWriteDeadline(time.Now().Add(p.patience)); err != nil {
 		return 0, err

@@ -5,7 +5,7 @@ import (
 	"time"
 )
 
-// poll polls until the daemon ends.
+// poll calls pollOnce again and again, as long as the process runs. The store keeps the error of the last call.
 func (s *store) poll() {
 	for {
 		_ = s.pollOnce()
@@ -13,20 +13,20 @@ func (s *store) poll() {
 	}
 }
 
-// pollOnce reads what has changed since the last poll. Where that cannot be told, as after a failover to a server that lacks changes, or where too
-// much has changed, nothing is kept, and all ended certificates are read again.
+// pollOnce reads what has changed since the last poll. If that cannot be told, as after a failover to a server that lacks changes, or if too much has
+// changed, it drops all lists that are kept, and reads all ended certificates again. After an error the state that was polled last stays.
 func (s *store) pollOnce() error {
 	before, begun := s.lastPolled(), s.now()
-	var read pollResult
+	var result pollResult
 	var err error
 	follows := false
 	if !before.at.IsZero() {
-		read, err = s.reader.since(before.changes)
-		follows = err == nil && !read.isCut && read.first == before.token && read.changes >= before.changes && read.beat >= before.beat
+		result, err = s.reader.since(before.changes)
+		follows = err == nil && !result.isCut && result.first == before.token && result.changes >= before.changes && result.beat >= before.beat
 	}
 	if err == nil && !follows {
 		begun = s.now()
-		read, err = s.reader.whole()
+		result, err = s.reader.whole()
 	}
 	s.mutex.Lock()
 	defer s.mutex.Unlock()
@@ -36,32 +36,32 @@ func (s *store) pollOnce() error {
 		s.reader.renew()
 		return err
 	}
-	s.take(read, begun, follows)
+	s.take(result, begun, follows)
 	return nil
 }
 
-// take uses what a poll has read that was begun at a time. `follows` says that these are the changes since the poll before. Otherwise `read` has all
-// ended certificates, and what was known before is forgotten. The mutex is held.
-func (s *store) take(read pollResult, begun time.Time, follows bool) {
+// take notes the result of a poll that was begun at a moment. `follows` says that these are the changes since the poll before. Otherwise the result has all
+// ended certificates, and replaces what was polled before. The mutex is held.
+func (s *store) take(result pollResult, begun time.Time, follows bool) {
 	s.fault = nil
 	if !follows {
 		s.kept.clear()
-		s.ended = make(map[digest]struct{}, len(read.ended))
+		s.ended = make(map[digest]struct{}, len(result.ended))
 		s.polled.history++
 	}
-	for _, each := range read.ended {
+	for _, each := range result.ended {
 		s.ended[each] = struct{}{}
 	}
-	for _, each := range read.changed {
+	for _, each := range result.changed {
 		s.kept.drop(each)
 	}
-	if s.polled.at.IsZero() || read.beat != s.polled.beat || read.beaten != s.polled.beaten {
-		s.polled.at, s.polled.lag = begun, begun.Round(0).Sub(time.UnixMicro(read.beaten))
+	if s.polled.at.IsZero() || result.beat != s.polled.beat || result.beaten != s.polled.beaten {
+		s.polled.at, s.polled.lag = begun, begun.Round(0).Sub(time.UnixMicro(result.beaten))
 	}
-	s.polled.storeState = read.storeState
+	s.polled.storeState = result.storeState
 }
 
-// statusLine returns a line on the state of the store, for people. The error says what an operator must look after.
+// statusLine returns a line on the state of the store, for people. The error says what an operator must look after, and is nil if all is well.
 func (s *store) statusLine() (string, error) {
 	err := s.checkFresh()
 	s.mutex.RLock()
@@ -74,16 +74,17 @@ func (s *store) statusLine() (string, error) {
 		s.polled.beat, age.Seconds(), len(s.ended), s.kept.count(), s.kept.size, s.count.misses, s.count.failures), err
 }
 
-// stamp returns what tells one state of a list from another: the digest of a file, or `change-NUMBER-TIME` of the last change of a store.
+// stamp returns what differs between two states of a list: the digest of a file, or `change-NUMBER-TIME` of the last change of a store, the time in
+// microseconds since 1970.
 func (l *list) stamp() string {
 	if l.store == nil {
 		return l.digest
 	}
-	seen := l.store.lastPolled()
-	return fmt.Sprintf("change-%d-%d", seen.changes, seen.token)
+	state := l.store.lastPolled()
+	return fmt.Sprintf("change-%d-%d", state.changes, state.token)
 }
 
-// digestNow returns the digest of the lists. Where one is in a store, it is made anew from the state that was polled last.
+// digestNow returns the digest of the lists, as digestOfLists does. It computes it again only if a list is in a store, from the state that was polled last.
 func (a *access) digestNow() string {
 	for _, each := range a.lists {
 		if each.store != nil {
@@ -93,7 +94,7 @@ func (a *access) digestNow() string {
 	return a.digest
 }
 
-// storeFamilies are the metrics of a store.
+// storeFamilies are the metrics of a store: the name, the kind and the help for exposition.family, and the function that returns the value.
 var storeFamilies = []struct {
 	name, kind, help string
 	valueOf          func(s *store) any
@@ -105,7 +106,7 @@ var storeFamilies = []struct {
 	{"store_rows_failed_total", "counter", "Decisions that failed since their rows could not be read.", func(s *store) any { return s.countsNow().failures }},
 }
 
-// stores writes the metrics of the stores, by the numbers of their lists, which count from 1. Without a store it writes nothing.
+// stores writes the metrics of all stores. The label `list` is the number of the list in the configuration, from 1. Without a store it writes nothing.
 func (e *exposition) stores(present *access) {
 	for _, family := range storeFamilies {
 		isBegun := false
@@ -122,7 +123,7 @@ func (e *exposition) stores(present *access) {
 	}
 }
 
-// counted returns a copy of the store's counts.
+// countsNow returns a copy of the store's counts.
 func (s *store) countsNow() storeCounts {
 	s.mutex.RLock()
 	defer s.mutex.RUnlock()

@@ -19,26 +19,26 @@ import (
 	"github.com/lib/pq"
 )
 
-// A pool has connections to a server. A slot is an open connection, or nil for one that is not open.
+// A pool is the reader of a store in PostgreSQL: it has connections to the server. A slot is an open connection, or nil for one that is not open.
 type pool struct {
 	connector *pq.Connector
-	// How long an answer, and a free connection, is waited for.
+	// How long the pool waits for each read of an answer, and for a free slot.
 	patience time.Duration
 	slots    chan *link
-	// The SQL of each statement, by askRows and so on.
+	// The SQL of each statement, by its number: askRows to askKeep.
 	texts [asks]string
-	// How often the connections were renewed: a connection of an earlier time is closed before it is used again.
+	// How often renew was called: a connection that was opened before the last call is closed before it is used again.
 	times atomic.Int64
 }
 
-// A link is a connection, its prepared statements, which are nil until they are used, and the pool's `times` when it was opened.
+// A link is a connection, its prepared statements by their numbers, which are nil until they are used, and the pool's `times` when it was opened.
 type link struct {
 	driver.Conn
 	statements [asks]driver.Stmt
 	times      int64
 }
 
-// The statements, by the method of reader that uses each, and their number.
+// The numbers of the statements, each named by the method of reader that uses it, and how many there are.
 const (
 	askRows = iota
 	askSince
@@ -48,7 +48,7 @@ const (
 	asks
 )
 
-// The version of the store, and the most changes that one poll reads.
+// The version of the store's tables that this daemon reads, and the most changes that one poll reads.
 const (
 	storeVersion = 2
 	mostChanges  = 10_000
@@ -56,23 +56,24 @@ const (
 
 var errVersion = errors.New("the store is of another version than this daemon reads")
 
-// The columns of a state, and the tables that have them.
+// Parts of the statements: the columns of a state, the tables that have them, and the time of a change in microseconds since 1970. `@` is the schema.
 const (
 	stateColumns = "s.version, s.changes, b.number, (extract(epoch FROM b.moment) * 1000000)::bigint"
 	stateTables  = "@.state s JOIN @.heartbeat b ON s.one AND b.one"
 	microseconds = "(extract(epoch FROM c.moment) * 1000000)::bigint"
 )
 
-// openReader returns what reads a store, and waits for each answer no longer than `patience`. It connects when it is asked first.
+// openReader returns what reads a store, and waits for each read of an answer no longer than `patience`. It connects when it is asked first. The error says
+// that the settings are wrong.
 func openReader(options *storeOf, patience time.Duration) (reader, error) {
 	connector, err := pq.NewConnector(options.settings())
 	if err != nil {
 		return nil, err
 	}
 	connector.Dialer(dialer{patience})
-	made := &pool{connector: connector, patience: patience, slots: make(chan *link, options.Connections)}
+	opened := &pool{connector: connector, patience: patience, slots: make(chan *link, options.Connections)}
 	for count := 0; count < options.Connections; count++ {
-		made.slots <- nil
+		opened.slots <- nil
 	}
 	for ask, text := range map[int]string{
 		askRows: "SELECT " + stateColumns + ", e.number, e.text FROM " + stateTables + " LEFT JOIN LATERAL (" + rowsOf(sha1.Size, 1) + " UNION ALL " +
@@ -86,18 +87,18 @@ func openReader(options *storeOf, patience time.Duration) (reader, error) {
 		askKeep:   "SELECT @.keep($1, $2, $3, $4, $5)",
 	} {
 		// (the name of the schema was checked)
-		made.texts[ask] = strings.ReplaceAll(text, "@", options.Schema)
+		opened.texts[ask] = strings.ReplaceAll(text, "@", options.Schema)
 	}
-	return made, nil
+	return opened, nil
 }
 
-// rowsOf returns the part of a statement for principals whose digests have so many octets. Each length has an index of its own. `parameter` is the
-// number of the digest among the statement's values.
+// rowsOf returns the part of askRows for the entries whose principal is a digest of so many octets. The table has an index for each length. `parameter` is
+// the number of the digest among the statement's values, from 1.
 func rowsOf(octets, parameter int) string {
 	return fmt.Sprintf("SELECT number, text FROM @.entries WHERE octet_length(principal) = %d AND principal = $%d", octets, parameter)
 }
 
-// A dialer connects, and waits for each answer at most so long.
+// A dialer opens patient connections for the driver.
 type dialer struct {
 	patience time.Duration
 }
@@ -109,11 +110,11 @@ func (d dialer) Dial(network, address string) (net.Conn, error) {
 
 // DialTimeout connects within the dialer's patience, whatever time the driver gives.
 func (d dialer) DialTimeout(network, address string, _ time.Duration) (net.Conn, error) {
-	made, err := net.DialTimeout(network, address, d.patience)
+	connection, err := net.DialTimeout(network, address, d.patience)
 	if err != nil {
 		return nil, err
 	}
-	return &patient{made, d.patience}, nil
+	return &patient{connection, d.patience}, nil
 }
 
 // renew has each connection closed before it would be used again.
@@ -121,7 +122,8 @@ func (p *pool) renew() {
 	p.times.Add(1)
 }
 
-// take takes a connection from its slot, or opens a new one. The caller puts it into p.slots again, or nil after closing it.
+// take takes a connection from a slot, or opens a new one. The caller puts it into p.slots again, or nil after closing it. It fails if no slot is free in
+// time, or if it cannot connect; then the slot is free again.
 func (p *pool) take() (*link, error) {
 	timer := time.NewTimer(p.patience)
 	defer timer.Stop()
@@ -138,21 +140,22 @@ func (p *pool) take() (*link, error) {
 	if taken != nil {
 		taken.Close()
 	}
-	made, err := p.connector.Connect(context.Background())
+	opened, err := p.connector.Connect(context.Background())
 	if err != nil {
 		p.slots <- nil
 		return nil, err
 	}
-	return &link{Conn: made, times: times}, nil
+	return &link{Conn: opened, times: times}, nil
 }
 
-// ask calls a function with each row of the statement with a number such as askRows. The row's values are valid during the call alone.
-func (p *pool) ask(what int, use func(row []driver.Value) error, values ...driver.Value) error {
+// ask runs the statement with a number such as askRows, and calls a function with each of its rows. The row's values are valid during that call alone. After
+// an error, also one of the function, the connection is closed.
+func (p *pool) ask(number int, use func(row []driver.Value) error, values ...driver.Value) error {
 	link, err := p.take()
 	if err != nil {
 		return err
 	}
-	if err = link.ask(what, p.texts[what], use, values); err != nil {
+	if err = link.ask(number, p.texts[number], use, values); err != nil {
 		link.Close()
 		link = nil
 	}
@@ -160,17 +163,18 @@ func (p *pool) ask(what int, use func(row []driver.Value) error, values ...drive
 	return err
 }
 
-// ask runs a statement on this connection, and prepares it before if that was not done. After an error the caller closes the connection.
-func (l *link) ask(what int, text string, use func(row []driver.Value) error, values []driver.Value) error {
-	if l.statements[what] == nil {
-		made, err := l.Prepare(text)
+// ask is pool.ask on this connection, for the statement with a number, whose SQL is `text`: it is prepared the first time. After an error the caller closes
+// the connection.
+func (l *link) ask(number int, text string, use func(row []driver.Value) error, values []driver.Value) error {
+	if l.statements[number] == nil {
+		statement, err := l.Prepare(text)
 		if err != nil {
 			return err
 		}
-		l.statements[what] = made
+		l.statements[number] = statement
 	}
 	//lint:ignore SA1019 a call with a context has a goroutine each: the connection itself waits at most so long
-	rows, err := l.statements[what].Query(values)
+	rows, err := l.statements[number].Query(values)
 	if err != nil {
 		return err
 	}
@@ -189,7 +193,7 @@ func (l *link) ask(what int, text string, use func(row []driver.Value) error, va
 	return err
 }
 
-// stateIn returns the state that a row begins with, in stateColumns, without its token. It fails with errVersion if the store has another version.
+// stateIn returns the state that a row begins with, in stateColumns. It has no token yet. It fails with errVersion if the store has another version.
 func stateIn(row []driver.Value) (storeState, error) {
 	var numbers [4]int64
 	for place := range numbers {
@@ -205,26 +209,26 @@ func stateIn(row []driver.Value) (storeState, error) {
 	return storeState{changes: numbers[1], beat: numbers[2], beaten: numbers[3]}, nil
 }
 
-// octetsIn returns a copy of the octets of a column, or none if it has none.
+// octetsIn returns a copy of the octets that a column has, or nil for a column of another type.
 func octetsIn(value driver.Value) []byte {
 	octets, _ := value.([]byte)
 	return append([]byte(nil), octets...)
 }
 
-// rows returns the entries whose principal is one of these digests of a key: by SHA-1, SHA-256 and SHA-512, in this order. Behind the state a row has
-// the number and the text.
+// rows returns the entries for a key, by its digests by SHA-1, SHA-256 and SHA-512, in this order. Behind the state a row has the number and the text of an
+// entry, or NULL for both if there is none.
 func (p *pool) rows(digests [][]byte) (rows entryRows, err error) {
 	hasState := false
 	err = p.ask(askRows, func(row []driver.Value) (err error) {
-		made.storeState, err = stateIn(row)
+		rows.storeState, err = stateIn(row)
 		hasState = true
 		if number, isThere := row[4].(int64); isThere {
-			made.numbers = append(made.numbers, int(number))
-			made.texts = append(made.texts, octetsIn(row[5]))
+			rows.numbers = append(rows.numbers, int(number))
+			rows.texts = append(rows.texts, octetsIn(row[5]))
 		}
 		return err
 	}, digests[0], digests[1], digests[2])
-	return made, requireState(hasState, err)
+	return rows, requireState(hasState, err)
 }
 
 // requireState returns the error of a statement, or errVersion if it had no row, and so no state.
@@ -235,72 +239,71 @@ func requireState(hasState bool, err error) error {
 	return err
 }
 
-// since returns the changes after that with a number, and the time of that one. Behind the state a row has the number, the time, the kind and the
-// digest of a change. The statement also reads the change with that number, and one more than a poll takes, which shows whether there are more.
+// since returns the changes after the one with a number, and the time of that one. Behind the state a row has the number, the time, the kind and the digest
+// of a change. The statement also reads the change with that number, and one more than a poll takes, which shows whether there are more.
 func (p *pool) since(number int64) (result pollResult, err error) {
 	hasState, count := false, 0
 	err = p.ask(askSince, func(row []driver.Value) (err error) {
-		made.storeState, err = stateIn(row)
+		result.storeState, err = stateIn(row)
 		hasState = true
-		at, isThere := row[4].(int64)
+		changeNumber, isThere := row[4].(int64)
 		if !isThere {
 			return err
 		}
 		moment, _ := row[5].(int64)
-		made.token = moment
-		if at == number {
-			made.first = moment
+		result.token = moment
+		if changeNumber == number {
+			result.first = moment
 			return err
 		}
 		count++
-		made.note(row[6], octetsIn(row[7]))
+		result.note(row[6], octetsIn(row[7]))
 		return err
 	}, number)
-	made.isCut = count > mostChanges
-	return made, requireState(hasState, err)
+	result.isCut = count > mostChanges
+	return result, requireState(hasState, err)
 }
 
-// note adds a change. `what` is its kind, and `place` its digest: of an ended certificate if the kind is `end`, and otherwise of the key whose
-// entries have changed.
-func (r *pollResult) note(what driver.Value, place []byte) {
-	if text, isText := what.(string); isText && text == "end" && len(place) == len(digest{}) {
-		n.ended = append(n.ended, *(*digest)(place))
+// note adds a change. `kind` is `end`, and `octets` the digest of an ended certificate, or `octets` is the digest of the key whose entries have changed.
+func (r *pollResult) note(kind driver.Value, octets []byte) {
+	if text, isText := kind.(string); isText && text == "end" && len(octets) == len(digest{}) {
+		r.ended = append(r.ended, *(*digest)(octets))
 		return
 	}
-	n.changed = append(n.changed, place)
+	r.changed = append(r.changed, octets)
 }
 
-// whole returns all ended certificates. Behind the state a row has the time of the last change and the digest of one of them.
+// whole returns all ended certificates. Behind the state a row has the time of the last change and the digest of one certificate, or NULL if there is none.
 func (p *pool) whole() (result pollResult, err error) {
 	hasState := false
 	err = p.ask(askWhole, func(row []driver.Value) (err error) {
-		made.storeState, err = stateIn(row)
+		result.storeState, err = stateIn(row)
 		hasState = true
-		made.token, _ = row[4].(int64)
+		result.token, _ = row[4].(int64)
 		if octets := octetsIn(row[5]); len(octets) == len(digest{}) {
-			made.ended = append(made.ended, *(*digest)(octets))
+			result.ended = append(result.ended, *(*digest)(octets))
 		}
 		return err
 	})
-	return made, requireState(hasState, err)
+	return result, requireState(hasState, err)
 }
 
-// chains returns the sequences that are kept for a key.
-func (p *pool) chains(key digest) (made []keptChain, err error) {
+// chains returns the sequences that are kept for the key with a digest, by their ends.
+func (p *pool) chains(key digest) (chains []keptChain, err error) {
 	err = p.ask(askChains, func(row []driver.Value) error {
 		until, _ := row[1].(int64)
-		made = append(made, keptChain{text: string(octetsIn(row[0])), until: time.UnixMicro(until)})
+		chains = append(chains, keptChain{text: string(octetsIn(row[0])), until: time.UnixMicro(until)})
 		return nil
 	}, key[:])
-	return made, err
+	return chains, err
 }
 
-// keep keeps a sequence for a key, if the limits let it, and returns the answer to that, which a function of the database gives: `kept`, `known` or
-// `full`.
-func (p *pool) keep(key digest, chain keptChain, limits *chains) (became answer, err error) {
+// keep keeps a sequence for the key with a digest, if the limits let it, and returns the answer, which a function of the database gives: `kept`, `known` or
+// `full` if the database is right.
+func (p *pool) keep(key digest, chain keptChain, limits *chains) (reply answer, err error) {
 	err = p.ask(askKeep, func(row []driver.Value) error {
-		became = answer(fmt.Sprint(row[0]))
+		reply = answer(fmt.Sprint(row[0]))
 		return nil
 	}, key[:], []byte(chain.text), chain.until, int64(limits.Each), int64(limits.Keys))
-	return became, err
+	return reply, err
 }

@@ -57,13 +57,13 @@ func (t *table) note(made change) {
 }
 
 // rows returns the entries, by numbers below 100, whose key has one of these digests.
-func (t *table) rows(places [][]byte) (rows entryRows, err error) {
+func (t *table) rows(digests [][]byte) (rows entryRows, err error) {
 	t.reads++
-	made.storeState = t.state
+	rows.storeState = t.state
 	for number := 0; number < 100; number++ {
-		for _, place := range places {
-			if t.texts[number] != "" && t.places[number] == string(place) {
-				made.numbers, made.texts = append(made.numbers, number), append(made.texts, []byte(t.texts[number]))
+		for _, digest := range digests {
+			if t.texts[number] != "" && t.places[number] == string(digest) {
+				rows.numbers, rows.texts = append(rows.numbers, number), append(rows.texts, []byte(t.texts[number]))
 			}
 		}
 	}
@@ -71,7 +71,7 @@ func (t *table) rows(places [][]byte) (rows entryRows, err error) {
 		t.meanwhile = nil
 		what()
 	}
-	return made, t.fault
+	return rows, t.fault
 }
 
 // since returns the changes after that with a number, and the time of that one, or 0 if there is no such change.

@@ -5,14 +5,14 @@ import (
 	"io"
 )
 
-// A stream is the sink of a writer for standard output or the standard error stream: what others read, such as the journal.
+// A stream is the sink of a writer for standard output or standard error, which another process reads, such as the journal.
 type stream struct {
 	to io.Writer
-	// Whether a line was cut. The next one begins a line of its own.
+	// Whether the last line was written in part. Then a line feed precedes the next one.
 	isCut bool
 }
 
-// write writes lines, behind a line feed if the last line was cut. After an error it notes whether a line is cut now.
+// write writes lines, behind a line feed if isCut. After an error it notes in isCut whether a line was written in part.
 func (s *stream) write(lines []byte) error {
 	if s.isCut {
 		lines = append([]byte{'\n'}, lines...)
@@ -22,7 +22,7 @@ func (s *stream) write(lines []byte) error {
 	return err
 }
 
-// tell writes a message of the daemon itself. Whether it can be written changes nothing.
+// tell offers the writer the line of an event. That the line cannot be written is no error.
 func (w *writer) tell(message event) {
 	if line, err := json.Marshal(message); err == nil {
 		w.offer(append(line, '\n'))

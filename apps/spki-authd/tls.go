@@ -8,16 +8,16 @@ import (
 	"sync/atomic"
 )
 
-// A tlsOf has the files by which the daemon shows the web server who it is.
+// A tlsOf has the files of the daemon's own certificate for TLS, which the web server verifies, in PEM.
 type tlsOf struct {
 	Certificate string `json:"certificate"`
 	Key         string `json:"key"`
-	// What was read last.
+	// What the listener shows: what was read last and not refused.
 	present atomic.Pointer[tls.Certificate]
 }
 
-// read reads the certificate and the key, and returns both. Without a configuration for TLS, where `t` is nil, it returns nil and no error. The
-// listener shows the certificate only after `use`.
+// read reads the certificate and the key, and returns both. `t` is nil for a configuration without TLS: then it returns nil and no error. It fails if others
+// than the owner and the group may use the file of the key. The listener shows the certificate only after `use`.
 func (t *tlsOf) read() (*tls.Certificate, error) {
 	if t == nil {
 		return nil, nil
@@ -29,7 +29,7 @@ func (t *tlsOf) read() (*tls.Certificate, error) {
 	if about.Mode().Perm()&0o007 != 0 {
 		return nil, fmt.Errorf("%s: others may read or write the key: its mode is %v", t.Key, about.Mode().Perm())
 	}
-	certificate, err := readFile(t.Certificate, mostConfig)
+	chain, err := readFile(t.Certificate, mostConfig)
 	if err != nil {
 		return nil, err
 	}
@@ -37,14 +37,14 @@ func (t *tlsOf) read() (*tls.Certificate, error) {
 	if err != nil {
 		return nil, err
 	}
-	made, err := tls.X509KeyPair(certificate, key)
+	pair, err := tls.X509KeyPair(chain, key)
 	if err != nil {
 		return nil, fmt.Errorf("%s: %w", t.Certificate, err)
 	}
-	return &made, nil
+	return &pair, nil
 }
 
-// use has the listener show a certificate from now on. Without a configuration for TLS it does nothing.
+// use has the listener show a certificate from now on. For a configuration without TLS it does nothing.
 func (t *tlsOf) use(certificate *tls.Certificate) {
 	if t != nil {
 		t.present.Store(certificate)
@@ -53,6 +53,6 @@ func (t *tlsOf) use(certificate *tls.Certificate) {
 
 // around returns a listener that speaks TLS on the connections of another one.
 func (t *tlsOf) around(listener net.Listener) net.Listener {
-	shown := func(*tls.ClientHelloInfo) (*tls.Certificate, error) { return t.present.Load(), nil }
-	return tls.NewListener(listener, &tls.Config{MinVersion: tls.VersionTLS12, GetCertificate: shown, NextProtos: []string{"http/1.1"}})
+	present := func(*tls.ClientHelloInfo) (*tls.Certificate, error) { return t.present.Load(), nil }
+	return tls.NewListener(listener, &tls.Config{MinVersion: tls.VersionTLS12, GetCertificate: present, NextProtos: []string{"http/1.1"}})
 }

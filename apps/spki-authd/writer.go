@@ -8,28 +8,28 @@ import (
 	"time"
 )
 
-// A sink takes lines, many at once. After an error none of them counts.
+// A sink is what a writer writes to. write takes one or more lines, each with its line feed. After an error none of them counts as written.
 type sink interface {
 	write(lines []byte) error
 }
 
-// A writer hands lines to a sink by one goroutine, all that wait at once. Whoever has a line waits until it is written, but not for longer than
-// patience: a reader or a disk that hangs holds up no answer.
+// A writer passes lines to a sink by one goroutine, all that wait at once. Its callers wait until their line is written, but no longer than `patience`: so
+// a disk or a reader of the lines that hangs blocks no answer.
 type writer struct {
 	to       sink
 	patience time.Duration
 	commands chan func()
-	// Tells the goroutine that lines wait.
+	// Has an element if lines wait and the goroutine has not looked since.
 	wakes chan struct{}
-	// What is done each second, if anything.
+	// What the goroutine calls each second, or nil.
 	eachSecond func()
-	// Whether the last lines had to be waited for in vain, and whether they could not be written.
+	// Whether lines were late since the last successful write, and whether the last write failed.
 	isStuck, isFailing atomic.Bool
 	// The lines that were written, those that could not be, and those that were dropped because too many waited.
 	written, failed, dropped atomic.Uint64
 	// Guards what follows.
 	mutex sync.Mutex
-	// What waits, first what came first, the number of its lines, and what is written now, or nil.
+	// The batches that wait, in their order, the number of lines in them, and the batch that is being written, or nil.
 	waiting []*batch
 	queued  int
 	present *batch
@@ -40,58 +40,59 @@ type writer struct {
 	isWatched bool
 }
 
-// A batch has lines that are written at once. Then all who wait for one of them are told.
+// A batch has lines that are written at once. Then all callers that wait for one of them go on.
 type batch struct {
 	lines []byte
 	count int
-	// Whether its lines are still written when nobody waits for them any more: those of offer are, and those of write are not.
+	// Whether its lines are still to be written when their callers have stopped waiting: those of offer are, and those of write are not.
 	isKept bool
-	// When its first line came, and whether no further one comes.
+	// When its first line came, and whether no further line may be added.
 	begun  time.Time
 	isFull bool
-	// Closed when the lines are written or are not waited for any more, after err and isDone are set.
+	// Closed when the callers go on, after err and isDone are set.
 	done   chan struct{}
 	isDone bool
 	err    error
 }
 
-// The lines that may wait without anyone who waits for them, and the octets after which no further line is written at once.
+// The most lines that may wait when offer is called, and the octets from which on a batch takes no further line.
 const (
 	mostQueued = 1024
 	mostAtOnce = 1 << 18
 )
 
-// The room that lines have at first, and how many such rooms are kept: for those that are written, and for those that wait meanwhile.
+// The octets of a new buffer for a batch, and how many unused buffers are kept: one for the batch that is written, and one for that which waits meanwhile.
 const (
 	roomForLines = 8 * roomForLine
 	mostRooms    = 2
 )
 
-// How often in the time of a line it is looked which lines have had theirs. To set a timer for each line would take a microsecond.
+// How often, in the time of `patience`, the batches are looked through for those that are late. To set a timer for each line would take a microsecond.
 const looksInPatience = 20
 
 var errHangs = errors.New("the log takes no line in time")
 
-// newWriter returns a writer, which begins at once. `eachSecond` may be nil.
+// newWriter returns a writer, whose goroutine it starts. `eachSecond` may be nil.
 func newWriter(to sink, patience time.Duration, eachSecond func()) *writer {
-	made := &writer{to: to, patience: patience, commands: make(chan func()), wakes: make(chan struct{}, 1), eachSecond: eachSecond}
-	made.watchdog = time.AfterFunc(patience, made.endLate)
-	made.watchdog.Stop()
-	go made.run()
-	return made
+	started := &writer{to: to, patience: patience, commands: make(chan func()), wakes: make(chan struct{}, 1), eachSecond: eachSecond}
+	started.watchdog = time.AfterFunc(patience, started.endLate)
+	started.watchdog.Stop()
+	go started.run()
+	return started
 }
 
-// write writes a line, and returns when it is written. With errHangs it may still be written later, and with another error it is not. The caller may
-// use the line's octets again in any case.
+// write writes a line, which ends with a line feed, and returns when it is written. If it fails with errHangs, the line may still be written later, and with
+// another error it is not. The caller may use the line's octets again in each case.
 func (w *writer) write(line []byte) error {
 	w.mutex.Lock()
-	in := w.add(line, false)
+	batch := w.add(line, false)
 	w.mutex.Unlock()
-	<-in.done
-	return in.err
+	<-batch.done
+	return batch.err
 }
 
-// offer writes a line, and waits for that unless the last lines were late. Where mostQueued lines wait, it is dropped and counted.
+// offer writes a line, which ends with a line feed, and waits until it is written, unless earlier lines were late. If mostQueued lines wait, the line is
+// dropped and counted.
 func (w *writer) offer(line []byte) {
 	w.mutex.Lock()
 	if w.queued >= mostQueued {
@@ -99,15 +100,14 @@ func (w *writer) offer(line []byte) {
 		w.dropped.Add(1)
 		return
 	}
-	in := w.add(line, true)
+	batch := w.add(line, true)
 	w.mutex.Unlock()
 	if !w.isStuck.Load() {
-		<-in.done
+		<-batch.done
 	}
 }
 
-// add adds a line to the last batch that waits, or to a new one, and returns that batch. isKept says that it is written even if nobody waits for it.
-// The mutex is held.
+// add adds a line to the last batch that waits, or to a new one, and returns that batch. isKept is that of the batch. The mutex is held.
 func (w *writer) add(line []byte, isKept bool) *batch {
 	last := len(w.waiting) - 1
 	if last < 0 || w.waiting[last].isFull || w.waiting[last].isKept != isKept {
@@ -116,15 +116,15 @@ func (w *writer) add(line []byte, isKept bool) *batch {
 		w.watch()
 		w.wake()
 	}
-	in := w.waiting[last]
-	in.lines = append(in.lines, line...)
-	in.count++
-	in.isFull = len(in.lines) >= mostAtOnce
+	present := w.waiting[last]
+	present.lines = append(present.lines, line...)
+	present.count++
+	present.isFull = len(present.lines) >= mostAtOnce
 	w.queued++
-	return in
+	return present
 }
 
-// newRoom returns room for lines, which may have been used before. The mutex is held.
+// newRoom returns an empty buffer for lines: a new one, or one that was used before. The mutex is held.
 func (w *writer) newRoom() []byte {
 	last := len(w.rooms) - 1
 	if last < 0 {
@@ -135,7 +135,7 @@ func (w *writer) newRoom() []byte {
 	return room
 }
 
-// wake tells the writer's goroutine that lines wait, unless it was told and has not looked yet.
+// wake has the writer's goroutine look for lines that wait. If that was asked already and has not been done, it does nothing.
 func (w *writer) wake() {
 	select {
 	case w.wakes <- struct{}{}:
@@ -143,7 +143,7 @@ func (w *writer) wake() {
 	}
 }
 
-// watch has endLate called after some time, if that is not planned yet. The mutex is held.
+// watch has endLate called after a part of the patience, if that is not planned yet. The mutex is held.
 func (w *writer) watch() {
 	if !w.isWatched {
 		w.isWatched = true
@@ -151,42 +151,41 @@ func (w *writer) watch() {
 	}
 }
 
-// endLate tells those who have waited too long that their lines are not written in time, and drops the lines of write among those that wait. A line
-// of write that comes from now on is in a batch of its own, and is given as much time.
+// endLate ends the waiting of callers whose lines are late, and drops late batches of lines of write. A line of write that comes from now on is in a later
+// batch, so it has its whole time.
 func (w *writer) endLate() {
 	w.mutex.Lock()
 	defer w.mutex.Unlock()
-	// (what has begun before this would be late before the next look)
+	// (a batch that was begun before this moment will be late before the next look)
 	late := time.Now().Add(w.patience/looksInPatience - w.patience)
 	if w.present != nil && w.present.begun.Before(late) {
 		w.giveUp(w.present)
 	}
-	left := w.waiting[:0]
-	for _, each := range w.waiting {
-		each.isFull = each.isFull || !each.isKept
-		if each.begun.After(late) || w.giveUp(each) {
-			left = append(left, each)
+	remaining := w.waiting[:0]
+	for _, batch := range w.waiting {
+		batch.isFull = batch.isFull || !batch.isKept
+		if batch.begun.After(late) || w.giveUp(batch) {
+			remaining = append(remaining, batch)
 			continue
 		}
-		w.queued -= each.count
-		w.failed.Add(uint64(each.count))
+		w.queued -= batch.count
+		w.failed.Add(uint64(batch.count))
 	}
-	w.waiting = left
+	w.waiting = remaining
 	w.isWatched = false
-	if w.present != nil || len(left) > 0 {
+	if w.present != nil || len(remaining) > 0 {
 		w.watch()
 	}
 }
 
-// giveUp tells those who wait for a batch that it is not written in time, and says whether the batch is still to be written: it is if it isKept. The
-// mutex is held.
+// giveUp ends the waiting for a batch, by errHangs, and says whether the batch is still to be written. The mutex is held.
 func (w *writer) giveUp(late *batch) (isKept bool) {
 	w.isStuck.Store(true)
 	late.end(errHangs)
 	return late.isKept
 }
 
-// end tells those who wait what became of their lines, if they were not told before. `err` is nil if the lines are written. The writer's mutex is
+// end has the callers that wait for a batch go on, with an error, or nil if the lines are written. It does nothing the second time. The writer's mutex is
 // held.
 func (b *batch) end(err error) {
 	if !b.isDone {
@@ -195,8 +194,8 @@ func (b *batch) end(err error) {
 	}
 }
 
-// do has the writer's goroutine call a function between two writes, and says whether that ended in time. If not, the function was not called, or is
-// still under way.
+// do has the writer's goroutine call a function between two writes, and says whether that returned within the patience. If not, the function was not and
+// will not be called, or it is still running.
 func (w *writer) do(command func()) bool {
 	patience := time.NewTimer(w.patience)
 	defer patience.Stop()
@@ -214,7 +213,7 @@ func (w *writer) do(command func()) bool {
 	}
 }
 
-// flush writes what waits, if the sink takes it in time.
+// flush writes the lines that wait, and returns when that is done, or after the patience.
 func (w *writer) flush() {
 	w.do(func() {
 		for w.writeNext() {
@@ -222,7 +221,7 @@ func (w *writer) flush() {
 	})
 }
 
-// run is the writer's goroutine: it writes what waits, and calls the functions that are handed over.
+// run is the writer's goroutine: it writes the lines that wait, and calls eachSecond and the functions of do. It never ends.
 func (w *writer) run() {
 	var beats <-chan time.Time
 	if w.eachSecond != nil {
@@ -231,7 +230,7 @@ func (w *writer) run() {
 	for {
 		select {
 		case <-w.wakes:
-			// (whoever is about to hand over a line does that first: under load one write then has several lines, and not one)
+			// (goroutines that are about to add a line do that first: so under load one write has several lines)
 			runtime.Gosched()
 			w.writeNext()
 		case command := <-w.commands:
@@ -242,7 +241,7 @@ func (w *writer) run() {
 	}
 }
 
-// writeNext writes the lines that have waited longest, and says whether there were any.
+// writeNext writes the batch that has waited longest, and says whether there was one.
 func (w *writer) writeNext() bool {
 	next := w.next()
 	if next == nil {
@@ -269,7 +268,7 @@ func (w *writer) writeNext() bool {
 	return true
 }
 
-// next takes the batch that has waited longest, which is w.present from then on, or returns nil.
+// next takes the batch that has waited longest out of w.waiting, and returns it, as w.present until it is written. If none waits, it returns nil.
 func (w *writer) next() *batch {
 	w.mutex.Lock()
 	defer w.mutex.Unlock()
