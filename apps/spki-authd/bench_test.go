@@ -18,12 +18,12 @@ func BenchmarkHandler(b *testing.B) {
 	} {
 		request.Header.Set(name, value)
 	}
-	var room []byte
+	var buffer []byte
 	b.ReportAllocs()
 	for turn := 0; turn < b.N; turn++ {
-		made := s.answerTo(request)
-		if room = made.response(room, time.Now(), false); made.Status != http.StatusOK {
-			b.Fatal(made.Status)
+		result := s.answerTo(request)
+		if buffer = result.response(buffer, time.Now(), false); result.Status != http.StatusOK {
+			b.Fatal(result.Status)
 		}
 	}
 }

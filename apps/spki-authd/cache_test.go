@@ -10,8 +10,8 @@ import (
 )
 
 // verifies asks a cache whether a signature is valid, and whether it knew that. It makes the digest of the message, which the daemon has already.
-func verifies(c *cache, signed guard.Signature, verify guard.Verify) (isValid, wasKnown bool) {
-	return c.verifies(signed, sha256.Sum256(signed.Message), verify)
+func verifies(c *cache, signature guard.Signature, verify guard.Verify) (isValid, wasKnown bool) {
+	return c.verifies(signature, sha256.Sum256(signature.Message), verify)
 }
 
 // numbered returns a signature that is another one for each number.
@@ -22,16 +22,16 @@ func numbered(number int) guard.Signature {
 // TestCacheKeepsValidSignatures asks three times for a valid signature, which is verified once, and for one that is not valid, which is verified each
 // time.
 func TestCacheKeepsValidSignatures(t *testing.T) {
-	made, calls := newCache(10), 0
+	cache, calls := newCache(10), 0
 	verify := func(signed guard.Signature) bool {
 		calls++
 		return string(signed.Message) == "1"
 	}
 	for turn, wanted := range []bool{false, true, true} {
-		if isValid, wasKnown := verifies(made, numbered(1), verify); !isValid || wasKnown != wanted {
+		if isValid, wasKnown := verifies(cache, numbered(1), verify); !isValid || wasKnown != wanted {
 			t.Errorf("turn %d: %v, %v", turn, isValid, wasKnown)
 		}
-		if isValid, wasKnown := verifies(made, numbered(2), verify); isValid || wasKnown {
+		if isValid, wasKnown := verifies(cache, numbered(2), verify); isValid || wasKnown {
 			t.Error("a signature that is not valid is kept")
 		}
 	}
@@ -42,13 +42,13 @@ func TestCacheKeepsValidSignatures(t *testing.T) {
 
 // TestCacheTellsPartsApart asks for signatures whose parts, one behind the other, are the octets of one that is kept. None of them is known.
 func TestCacheTellsPartsApart(t *testing.T) {
-	made, valid := newCache(10), func(guard.Signature) bool { return true }
-	verifies(made, guard.Signature{Key: []byte("ab"), Message: []byte("c"), Value: []byte("d")}, valid)
+	cache, valid := newCache(10), func(guard.Signature) bool { return true }
+	verifies(cache, guard.Signature{Key: []byte("ab"), Message: []byte("c"), Value: []byte("d")}, valid)
 	for _, other := range []guard.Signature{
 		{Key: []byte("a"), Message: []byte("bc"), Value: []byte("d")}, {Key: []byte("ab"), Message: []byte("cd")}, {Key: []byte("abcd")},
 		{Key: []byte("c"), Message: []byte("ab"), Value: []byte("d")},
 	} {
-		if _, wasKnown := verifies(made, other, valid); wasKnown {
+		if _, wasKnown := verifies(cache, other, valid); wasKnown {
 			t.Errorf("%q is taken for another one", other)
 		}
 	}
@@ -56,13 +56,13 @@ func TestCacheTellsPartsApart(t *testing.T) {
 
 // TestCacheIsBounded asks a cache of 100 signatures for 1000. One that is asked for each time stays, and a cache of 0 keeps none.
 func TestCacheIsBounded(t *testing.T) {
-	made, valid := newCache(100), func(guard.Signature) bool { return true }
+	cache, valid := newCache(100), func(guard.Signature) bool { return true }
 	for number := 0; number < 1000; number++ {
-		verifies(made, numbered(number), valid)
-		if len(made.valid.old)+len(made.valid.young) > 100 {
-			t.Fatalf("%d are kept", len(made.valid.old)+len(made.valid.young))
+		verifies(cache, numbered(number), valid)
+		if len(cache.valid.old)+len(cache.valid.young) > 100 {
+			t.Fatalf("%d are kept", len(cache.valid.old)+len(cache.valid.young))
 		}
-		if _, wasKnown := verifies(made, numbered(0), valid); number > 0 && !wasKnown {
+		if _, wasKnown := verifies(cache, numbered(0), valid); number > 0 && !wasKnown {
 			t.Fatal("what is asked for each time is dropped")
 		}
 	}
@@ -75,14 +75,14 @@ func TestCacheIsBounded(t *testing.T) {
 
 // TestCacheInGoroutines asks one cache at the same time for more signatures than it keeps, some of which are not valid.
 func TestCacheInGoroutines(t *testing.T) {
-	made := newCache(50)
+	cache := newCache(50)
 	var all sync.WaitGroup
 	for routine := 0; routine < 8; routine++ {
 		all.Add(1)
 		go func() {
 			defer all.Done()
 			for number := 0; number < 500; number++ {
-				if isValid, _ := verifies(made, numbered(number%70), func(it guard.Signature) bool { return len(it.Message) > 1 }); isValid != (number%70 > 9) {
+				if isValid, _ := verifies(cache, numbered(number%70), func(signature guard.Signature) bool { return len(signature.Message) > 1 }); isValid != (number%70 > 9) {
 					t.Error(number)
 				}
 			}

@@ -83,12 +83,12 @@ func TestKindsOfKeys(t *testing.T) {
 
 // TestKeysAreKept reads Alice's certificate twice, the second time from what is kept, and a text that is no certificate twice.
 func TestKeysAreKept(t *testing.T) {
-	made, alice := newKeys(escapedPEM), newPerson(t)
+	keys, alice := newKeys(escapedPEM), newPerson(t)
 	for turn := 0; turn < 2; turn++ {
-		if met, err := made.of(alice.escaped()); err != nil || met.key.Text() != alice.key || met.keyDigest != hexDigest([]byte(alice.key)) {
-			t.Errorf("turn %d: %v, %v", turn, met, err)
+		if holder, err := keys.of(alice.escaped()); err != nil || holder.key.Text() != alice.key || holder.keyDigest != hexDigest([]byte(alice.key)) {
+			t.Errorf("turn %d: %v, %v", turn, holder, err)
 		}
-		if _, err := made.of(alice.escaped() + "x"); err == nil {
+		if _, err := keys.of(alice.escaped() + "x"); err == nil {
 			t.Error("what is no certificate is kept")
 		}
 	}

@@ -12,14 +12,14 @@ const least = `{"listen": "unix:/run/x/s", "server": "nginx", "list": "/acl", "l
 
 // TestLeastConfig reads the least configuration: each field that was left out has its usual value.
 func TestLeastConfig(t *testing.T) {
-	made, err := parseConfig([]byte(least))
+	config, err := parseConfig([]byte(least))
 	if err != nil {
 		t.Fatal(err)
 	}
 	wanted := headers{Method: "X-Original-Method", URI: "X-Original-Uri", Certificate: "X-Client-Cert", Sequence: "X-Spki-Sequence", Secret: "X-Spki-Secret",
 		ID: "X-Request-Id", Host: "X-Original-Host", Address: "X-Real-Ip"}
-	if made.Headers != wanted || made.CertificateForm != escapedPEM || made.RefusedStatus != 400 || made.Limits != usualLimits || *made.Cache != usualCache {
-		t.Errorf("%+v", made)
+	if config.Headers != wanted || config.CertificateForm != escapedPEM || config.RefusedStatus != 400 || config.Limits != usualLimits || *config.Cache != usualCache {
+		t.Errorf("%+v", config)
 	}
 }
 
@@ -51,8 +51,8 @@ func TestWrongConfigs(t *testing.T) {
 func TestSecrets(t *testing.T) {
 	const secret = "0123456789abcdef0123456789abcdef"
 	path := writeFile(t, "secret", secret+"\n")
-	if met, err := readSecret(path); err != nil || string(met) != secret {
-		t.Errorf("%q, %v", met, err)
+	if text, err := readSecret(path); err != nil || string(text) != secret {
+		t.Errorf("%q, %v", text, err)
 	}
 	for _, text := range []string{"", "short\n", secret + " x", secret + "\n" + secret, secret + "\x00"} {
 		if _, err := readSecret(writeFile(t, "secret", text)); err == nil {

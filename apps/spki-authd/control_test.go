@@ -14,7 +14,7 @@ import (
 )
 
 // runProgram runs spki-authd with these words and a configuration of a site, and returns its status and what it writes.
-func (s *served) runProgram(t *testing.T, words ...string) (status int, out, messages string) {
+func (s *servedSite) runProgram(t *testing.T, words ...string) (status int, out, messages string) {
 	t.Helper()
 	text := strings.Replace(strings.Replace(least, "/run/x/s", s.socket, 1), `"/log"`, `"`+s.config.Log+`"`, 1)
 	var to, fault bytes.Buffer
@@ -58,8 +58,8 @@ func TestReloadsThatAreRefused(t *testing.T) {
 		if (status == 0) != row.isWell || !strings.Contains(messages, row.said) || !strings.Contains(out, "list: "+hexDigest(list)+"\n") {
 			t.Errorf("%+v: %d, %s, %s", row, status, out, messages)
 		}
-		if met := s.get(t, "/web/x"); met != 200 {
-			t.Errorf("%+v: %d", row, met)
+		if status := s.get(t, "/web/x"); status != 200 {
+			t.Errorf("%+v: %d", row, status)
 		}
 	}
 }
@@ -80,9 +80,9 @@ func TestHealth(t *testing.T) {
 	if line := s.lastLine(t); line.ID != healthID || line.Answer != answerRefused || s.lines() != 1 {
 		t.Errorf("%+v", line)
 	}
-	s.daemon.granted.do(func() { s.daemon.ledger.file = &failing{File: s.daemon.ledger.file.(*os.File), room: 0} })
-	if met := s.get(t, "/web/x"); met != 503 {
-		t.Errorf("a full disk: %d", met)
+	s.daemon.granted.do(func() { s.daemon.ledger.file = &failingFile{File: s.daemon.ledger.file.(*os.File), room: 0} })
+	if status := s.get(t, "/web/x"); status != 503 {
+		t.Errorf("a full disk: %d", status)
 	}
 	if status, out, messages := s.runProgram(t, "-health"); status != 1 || !strings.Contains(messages, "takes no lines") || !strings.Contains(out, "failures 1") {
 		t.Errorf("%d, %q, %q", status, out, messages)

@@ -36,9 +36,9 @@ func TestCostToStrangers(t *testing.T) {
 		{"Bob", bobs, "/web/docs/b", s.bob, 200, 1, 0}, {"Bob again", bobs, "/web/docs/b", s.bob, 200, 0, 0}, {"Carol", carols, "/web/docs/a/b", s.carol, 200, 1, 0},
 	} {
 		calls = 0
-		met, line := s.by(row.who, "GET", row.path, row.shown), s.lastLine(t)
-		if met.StatusCode != row.status || calls != row.calls || line.Unverified != row.unverified {
-			t.Errorf("%s: %d, %d calls, %+v", row.name, met.StatusCode, calls, line)
+		response, line := s.by(row.who, "GET", row.path, row.shown), s.lastLine(t)
+		if response.StatusCode != row.status || calls != row.calls || line.Unverified != row.unverified {
+			t.Errorf("%s: %d, %d calls, %+v", row.name, response.StatusCode, calls, line)
 		}
 	}
 	if known, verified, spared := s.counts.known.Load(), s.counts.verified.Load(), s.counts.spared.Load(); verified != 3 || spared != 20 || known != 2 {
@@ -54,8 +54,8 @@ func TestFalseSignatureIsVerifiedEachTime(t *testing.T) {
 	s.verify = func(guard.Signature) bool { calls++; return false }
 	_, carols := s.sequencesShown()
 	for turn := 1; turn <= 2; turn++ {
-		if met := s.by(s.carol, "GET", "/web/docs/a/b", carols); met.StatusCode != 403 || calls != turn {
-			t.Errorf("%d, %d calls", met.StatusCode, calls)
+		if response := s.by(s.carol, "GET", "/web/docs/a/b", carols); response.StatusCode != 403 || calls != turn {
+			t.Errorf("%d, %d calls", response.StatusCode, calls)
 		}
 		if line := s.lastLine(t); line.Reason != "certificate "+digestOfText(s.toBob)+" has no valid signature" || len(line.Certificates) != 1 {
 			t.Errorf("%+v", line)

@@ -190,19 +190,19 @@ func (d *decider) decideAnew(result *record, question guard.Question, path, sequ
 	if err != nil {
 		return guard.Decision{}, err
 	}
-	shown := newShownSequence(signatures)
-	notEnded, err := shown.notEnded(present)
+	certificates := newShownSequence(signatures)
+	notEnded, err := certificates.notEnded(present)
 	if err != nil {
 		return guard.Decision{}, err
 	}
-	result.List, result.numbers, result.Certificates = list.digest, list.numbers, shown.names
+	result.List, result.numbers, result.Certificates = list.digest, list.numbers, certificates.names
 	if notEnded < len(signatures) {
-		result.Certificates = shown.names[:notEnded+1]
-		result.noteEnded(shown.names[notEnded])
+		result.Certificates = certificates.names[:notEnded+1]
+		result.noteEnded(certificates.names[notEnded])
 	}
 	valid, canHelp := 0, notEnded == len(signatures) && opened.Possible()
 	if canHelp {
-		valid = d.countValid(result, shown, signatures)
+		valid = d.countValid(result, certificates, signatures)
 	} else {
 		result.Unverified = notEnded
 	}
@@ -211,8 +211,8 @@ func (d *decider) decideAnew(result *record, question guard.Question, path, sequ
 	}
 	decision, err := opened.Decide()
 	if err == nil && canHelp && valid == len(signatures) {
-		shown.verified = opened.Verified()
-		d.sequences.add(sequence, shown)
+		certificates.verified = opened.Verified()
+		d.sequences.add(sequence, certificates)
 	}
 	if err == nil && !decision.Granted() && d.config.Explain {
 		result.Reasons = d.explain(result, opened)
@@ -234,17 +234,17 @@ func (d *decider) explain(result *record, opened *guard.Asked) string {
 	return reasonsOf(explanation, err, result.number)
 }
 
-// countValid verifies signatures up to the first that is not valid, and returns how many precede that one, or the number of all. `shown` has the digests
-// of their certificates. The record gets the number of signatures that were known, and the first certificate whose signature is not valid.
-func (d *decider) countValid(result *record, shown *shownSequence, signatures []guard.Signature) int {
+// countValid verifies signatures up to the first that is not valid, and returns how many precede that one, or the number of all. `certificates` are those
+// that are signed. The record gets the number of signatures that were known, and the first certificate whose signature is not valid.
+func (d *decider) countValid(result *record, certificates *shownSequence, signatures []guard.Signature) int {
 	for place, signature := range signatures {
-		isValid, wasKnown := d.cache.verifies(signature, shown.digests[place], d.verify)
+		isValid, wasKnown := d.cache.verifies(signature, certificates.digests[place], d.verify)
 		if !wasKnown {
 			d.counts.verified.Add(1)
 		}
 		if !isValid {
-			result.Certificates = shown.names[:place+1]
-			result.Reason = "certificate " + shown.names[place] + " has no valid signature"
+			result.Certificates = certificates.names[:place+1]
+			result.Reason = "certificate " + certificates.names[place] + " has no valid signature"
 			return place
 		}
 		if wasKnown {

@@ -72,8 +72,8 @@ func TestFewerEnded(t *testing.T) {
 			t.Errorf("%s: %v", row.evidence, err)
 		}
 		bobs, _ := s.sequencesShown()
-		if met := s.by(s.bob, "GET", "/web/docs/b", bobs).StatusCode; (met == 403) != row.isStill {
-			t.Errorf("%s: %d", row.evidence, met)
+		if status := s.by(s.bob, "GET", "/web/docs/b", bobs).StatusCode; (status == 403) != row.isStill {
+			t.Errorf("%s: %d", row.evidence, status)
 		}
 	}
 }

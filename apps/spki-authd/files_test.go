@@ -35,8 +35,8 @@ func TestNoFiles(t *testing.T) {
 func TestLongLists(t *testing.T) {
 	begin, end := "(3:acl", ")"
 	longest := begin + strings.Repeat(" ", mostList-len(begin)-len(end)) + end
-	if made, err := readList(writeFile(t, "acl", longest), 0, usualLimits); err == nil {
-		made.guard.Close()
+	if list, err := readList(writeFile(t, "acl", longest), 0, usualLimits); err == nil {
+		list.guard.Close()
 	} else if strings.Contains(err.Error(), "split") {
 		t.Error(err)
 	}

@@ -12,7 +12,7 @@ import (
 	"conguraki/spki/guard"
 )
 
-// FuzzHeaders sends headers that nobody sends, and holds each answer against what may be one: 200 only for the three requests that are granted.
+// FuzzHeaders asks with headers that no web server sends. Each status must be one that the daemon uses, and 200 only for what mustBeGranted allows.
 func FuzzHeaders(f *testing.F) {
 	s := newSite(f, "")
 	bobs, carols := s.sequencesShown()
@@ -46,7 +46,7 @@ func FuzzHeaders(f *testing.F) {
 	})
 }
 
-// FuzzSequence sends other octets as certificates, in a right header, so that they reach the guard.
+// FuzzSequence shows octets as certificates, in transport form in a right header, so that they reach the guard. 200 is only for what mustBeGranted allows.
 func FuzzSequence(f *testing.F) {
 	s := newSite(f, "")
 	people := []person{s.alice, s.bob, s.carol, s.mallory}
@@ -66,8 +66,7 @@ func FuzzSequence(f *testing.F) {
 	})
 }
 
-// FuzzLeft leaves other octets as certificates, by Bob's key. What is kept has this key in it, or its hash, and nothing is granted by it but what the
-// certificates give.
+// FuzzLeft leaves octets as certificates, by Bob's key. What is kept has this key in it, or its hash, and no more is granted by it than mustBeGranted allows.
 func FuzzLeft(f *testing.F) {
 	s := newSite(f, `, "chains": {"folder": "`+f.TempDir()+`"}`+ofSite)
 	bobs, hashed := s.alice.sign(s.toBob), s.alice.gives(s.bob.hashOfKey(), prefix("read", "/web/docs/"), "(7:comment[1:x]1:y)")
@@ -77,8 +76,8 @@ func FuzzLeft(f *testing.F) {
 	f.Fuzz(func(t *testing.T, octets []byte) {
 		defer s.log.Reset()
 		s.chains = &folderChains{chains: *s.config.Chains, byKey: map[string][]keptChain{}}
-		status, met := s.leaves(t, s.bob, string(octets))
-		if (status == 201) != (met == answerKept) || status != 201 && status != 400 || s.keeps(t, s.bob) != (status == 201) {
+		status, reply := s.leaves(t, s.bob, string(octets))
+		if (status == 201) != (reply == answerKept) || status != 201 && status != 400 || s.keeps(t, s.bob) != (status == 201) {
 			t.Errorf("%d: %+v", status, s.lastLine(t))
 		}
 		if canonical, err := guard.Canonical(octets); status == 201 && (err != nil || !bytes.Contains(canonical, []byte(s.bob.key)) &&
@@ -91,21 +90,22 @@ func FuzzLeft(f *testing.F) {
 	})
 }
 
-// A played connection is one on which a client has sent all that it sends: `sent` has what is not read yet, and `told` what was answered. It is never
-// closed, and its deadlines do nothing.
-type played struct {
+// A scriptedConnection is one on which a client has sent all that it sends: `sent` has what is not read yet, and `answered` what the daemon has written. It
+// is never closed, and its deadlines do nothing.
+type scriptedConnection struct {
 	net.Conn
-	sent *bytes.Reader
-	told bytes.Buffer
+	sent     *bytes.Reader
+	answered bytes.Buffer
 }
 
-func (p *played) Read(octets []byte) (int, error)  { return p.sent.Read(octets) }
-func (p *played) Write(octets []byte) (int, error) { return p.told.Write(octets) }
-func (p *played) Close() error                     { return nil }
-func (p *played) SetDeadline(time.Time) error      { return nil }
-func (p *played) SetReadDeadline(time.Time) error  { return nil }
+func (p *scriptedConnection) Read(octets []byte) (int, error)  { return p.sent.Read(octets) }
+func (p *scriptedConnection) Write(octets []byte) (int, error) { return p.answered.Write(octets) }
+func (p *scriptedConnection) Close() error                     { return nil }
+func (p *scriptedConnection) SetDeadline(time.Time) error      { return nil }
+func (p *scriptedConnection) SetReadDeadline(time.Time) error  { return nil }
 
-// FuzzConnection sends octets that may be requests. Each answer has a line in the log that says the same, and 200 is said where it is granted.
+// FuzzConnection sends octets that may be requests on a connection. Each answer has one line in the log with the same answer, and 200 is only for what
+// mustBeGranted allows.
 func FuzzConnection(f *testing.F) {
 	s := newSite(f, "")
 	server := newConnectionServer(s.decider)
@@ -119,17 +119,17 @@ func FuzzConnection(f *testing.F) {
 	}
 	f.Fuzz(func(t *testing.T, octets []byte) {
 		defer s.log.Reset()
-		connection := &played{sent: bytes.NewReader(octets)}
+		connection := &scriptedConnection{sent: bytes.NewReader(octets)}
 		server.places <- struct{}{}
 		state := server.add(connection)
 		if len(server.open) != 1 {
 			t.Fatal("the connection is not open")
 		}
 		server.answerAll(state)
-		told, lines := connection.told.String(), strings.SplitAfter(s.log.String(), "\n")
-		answers := strings.SplitAfter(told, "\r\n\r\n")
+		answered, lines := connection.answered.String(), strings.SplitAfter(s.log.String(), "\n")
+		answers := strings.SplitAfter(answered, "\r\n\r\n")
 		if len(answers) != len(lines) || len(server.open) != 0 || len(server.places) != 0 {
-			t.Fatalf("%d answers, %d lines: %q", len(answers)-1, len(lines)-1, told)
+			t.Fatalf("%d answers, %d lines: %q", len(answers)-1, len(lines)-1, answered)
 		}
 		for place, answer := range answers[:len(answers)-1] {
 			var line record
@@ -146,8 +146,8 @@ func FuzzConnection(f *testing.F) {
 	})
 }
 
-// mustBeGranted fails unless a line of the log may be a grant: by what newSite gives Alice, Bob and Carol, and by nothing that the daemon computes.
-// `method` is the one that was asked for.
+// mustBeGranted reports an error unless a line of the log may be a grant, by what newSite gives Alice, Bob and Carol. It does not use the daemon for that.
+// `method` is that of the request.
 func (s *site) mustBeGranted(t *testing.T, method string, line record) {
 	t.Helper()
 	folders := map[string]string{s.alice.key: "/web/", s.bob.key: "/web/docs/", s.carol.key: "/web/docs/a/"}

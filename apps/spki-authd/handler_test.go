@@ -23,25 +23,25 @@ type site struct {
 	log journal
 }
 
-// newSite makes a site. `fields` are more fields of its configuration, each after a comma such as `, "cache": 0`, or empty.
+// newSite returns a site with new keys. `fields` are more fields of its configuration, each after a comma such as `, "cache": 0`, or empty.
 func newSite(t testing.TB, fields string) *site {
 	t.Helper()
-	made := &site{alice: newPerson(t), bob: newPerson(t), carol: newPerson(t), mallory: newPerson(t)}
-	list := "(3:acl(5:entry" + made.alice.key + propagates + "(3:tag" + prefix("read", "/web/") + ")))"
-	made.toBob = made.alice.certificate(made.bob, prefix("read", "/web/docs/"), propagates)
-	made.toCarol = made.bob.certificate(made.carol, prefix("read", "/web/docs/a/"), "")
+	here := &site{alice: newPerson(t), bob: newPerson(t), carol: newPerson(t), mallory: newPerson(t)}
+	list := "(3:acl(5:entry" + here.alice.key + propagates + "(3:tag" + prefix("read", "/web/") + ")))"
+	here.toBob = here.alice.certificate(here.bob, prefix("read", "/web/docs/"), propagates)
+	here.toCarol = here.bob.certificate(here.carol, prefix("read", "/web/docs/a/"), "")
 	text := `{"listen": "unix:/run/x/s", "server": "nginx", "list": "` + writeFile(t, "acl", list) + `", "log": "/log",
 		"requests": [{"prefix": "/", "methods": {"GET": "read", "PUT": "write"}, "request": ["files", "{method}", "{path}"]}]` + fields + `}`
 	config, err := parseConfig([]byte(text))
 	if err != nil {
 		t.Fatal(err)
 	}
-	made.decider = newDecider(config)
-	made.logGrant, made.logOther = made.log.grant, made.log.other
-	if err := made.keeper.reload(config, false, made.now()); err != nil {
+	here.decider = newDecider(config)
+	here.logGrant, here.logOther = here.log.grant, here.log.other
+	if err := here.keeper.reload(config, false, here.now()); err != nil {
 		t.Fatal(err)
 	}
-	return made
+	return here
 }
 
 // sequencesShown returns the sequences that Bob and Carol show, in transport form: Bob's certificate, and both.
@@ -50,26 +50,26 @@ func (s *site) sequencesShown() (bob, carol string) {
 	return sequence(bobs), sequence(bobs, s.bob.sign(s.toCarol))
 }
 
-// ask returns the answer to a request with these headers, in pairs of name and value.
+// ask returns the response to a request with these headers, in pairs of name and value.
 func (s *site) ask(pairs ...string) *http.Response {
 	request := httptest.NewRequest(http.MethodGet, "/auth", nil)
 	for place := 0; place < len(pairs); place += 2 {
 		request.Header.Add(pairs[place], pairs[place+1])
 	}
-	return s.told(request)
+	return s.respond(request)
 }
 
-// told has the site answer a request, and returns the response that the web server gets.
-func (s *site) told(request *http.Request) *http.Response {
-	made := s.answerTo(request)
-	response, err := http.ReadResponse(bufio.NewReader(bytes.NewReader(made.response(nil, time.Now(), false))), request)
+// respond has the site answer a request of the web server, and returns the response that the web server reads.
+func (s *site) respond(request *http.Request) *http.Response {
+	result := s.answerTo(request)
+	response, err := http.ReadResponse(bufio.NewReader(bytes.NewReader(result.response(nil, time.Now(), false))), request)
 	if err != nil {
 		panic(err)
 	}
 	return response
 }
 
-// by returns the response to a request of a person who shows a sequence, which is empty for none.
+// by returns the response to a request of a person, with the person's TLS certificate. `sequence` is what the person shows, or empty for none.
 func (s *site) by(who person, method, target, sequence string) *http.Response {
 	pairs := []string{"X-Original-Method", method, "X-Original-URI", target, "X-Client-Cert", who.escaped()}
 	if sequence != "" {
@@ -82,11 +82,11 @@ func (s *site) by(who person, method, target, sequence string) *http.Response {
 func (s *site) lastLine(t testing.TB) record {
 	t.Helper()
 	lines := strings.Split(strings.TrimSpace(s.log.String()), "\n")
-	var made record
-	if err := json.Unmarshal([]byte(lines[len(lines)-1]), &made); err != nil {
+	var line record
+	if err := json.Unmarshal([]byte(lines[len(lines)-1]), &line); err != nil {
 		t.Fatalf("%q: %v", lines[len(lines)-1], err)
 	}
-	return made
+	return line
 }
 
 // TestAnswers asks for each person with certificates of several people, and compares the status.
@@ -115,8 +115,8 @@ func TestAnswers(t *testing.T) {
 		"no sequence":              {s.alice, "GET", "/web/x", "{KDE6YSk=}", 400},
 		"cut off":                  {s.carol, "GET", "/web/docs/a/b", carols[:len(carols)-9], 400},
 	} {
-		if met := s.by(row.who, row.method, row.target, row.sequence); met.StatusCode != row.wanted {
-			t.Errorf("%s: %d, wanted %d: %+v", name, met.StatusCode, row.wanted, s.lastLine(t))
+		if response := s.by(row.who, row.method, row.target, row.sequence); response.StatusCode != row.wanted {
+			t.Errorf("%s: %d, wanted %d: %+v", name, response.StatusCode, row.wanted, s.lastLine(t))
 		}
 	}
 }
@@ -126,10 +126,10 @@ func TestHeadersAndLog(t *testing.T) {
 	s := newSite(t, "")
 	bobs, _ := s.sequencesShown()
 	for turn, cached := range []int{0, 1} {
-		met, line := s.by(s.bob, "GET", "/web/docs/b", bobs).Header, s.lastLine(t)
+		header, line := s.by(s.bob, "GET", "/web/docs/b", bobs).Header, s.lastLine(t)
 		key := hexDigest([]byte(s.bob.key))
-		if met.Get("X-Spki-Answer") != "yes" || met.Get("X-Spki-Entry") != "1" || met.Get("X-Spki-Key") != key || met.Get("Cache-Control") != "no-store" {
-			t.Errorf("turn %d: %v", turn, met)
+		if header.Get("X-Spki-Answer") != "yes" || header.Get("X-Spki-Entry") != "1" || header.Get("X-Spki-Key") != key || header.Get("Cache-Control") != "no-store" {
+			t.Errorf("turn %d: %v", turn, header)
 		}
 		if line.Answer != answerYes || line.Status != 200 || line.Key != key || line.Entry != 1 || line.Cached != cached || len(line.Certificates) != 1 ||
 			line.Certificates[0] != digestOfText(s.toBob) || strings.Join(line.Request, " ") != "files read /web/docs/b" || line.List == "" {
@@ -160,8 +160,8 @@ func TestForgedSignatures(t *testing.T) {
 	asAlice := strings.Replace(forged, s.mallory.key+"(7:sig-val", s.alice.key+"(7:sig-val", 1)
 	for name, shown := range map[string]string{"by Mallory's key": forged, "from Mallory": own, "by Alice's key": asAlice} {
 		for turn := 0; turn < 2; turn++ {
-			if met := s.by(s.mallory, "GET", "/web/x", sequence(shown)); met.StatusCode != 403 {
-				t.Errorf("%s: %d", name, met.StatusCode)
+			if response := s.by(s.mallory, "GET", "/web/x", sequence(shown)); response.StatusCode != 403 {
+				t.Errorf("%s: %d", name, response.StatusCode)
 			}
 		}
 	}
@@ -190,8 +190,8 @@ func TestWrongHeaders(t *testing.T) {
 		"empty certificate": {append(without(4), "X-Client-Cert", ""), 401}, "long": {more("X-Other", strings.Repeat("x", 131_072)), 400},
 		"long sequence": {append(without(6), "Authorization", "SPKI {"+strings.Repeat("A", 65_536)+"}"), 400},
 	} {
-		if met := s.ask(row.pairs...); met.StatusCode != row.wanted {
-			t.Errorf("%s: %d, wanted %d: %+v", name, met.StatusCode, row.wanted, s.lastLine(t))
+		if response := s.ask(row.pairs...); response.StatusCode != row.wanted {
+			t.Errorf("%s: %d, wanted %d: %+v", name, response.StatusCode, row.wanted, s.lastLine(t))
 		}
 	}
 }
@@ -205,8 +205,8 @@ func TestManyCertificates(t *testing.T) {
 		many[place] = one
 	}
 	for count, wanted := range map[int]int{16: 403, 17: 400} {
-		if met := s.by(s.bob, "GET", "/web/docs/b", sequence(many[:count]...)); met.StatusCode != wanted {
-			t.Errorf("%d certificates: %d: %+v", count, met.StatusCode, s.lastLine(t))
+		if response := s.by(s.bob, "GET", "/web/docs/b", sequence(many[:count]...)); response.StatusCode != wanted {
+			t.Errorf("%d certificates: %d: %+v", count, response.StatusCode, s.lastLine(t))
 		}
 	}
 }
@@ -221,8 +221,8 @@ func TestSecretOfServer(t *testing.T) {
 		if given != "" {
 			pairs = append(pairs[:len(pairs):len(pairs)], "X-Spki-Secret", given)
 		}
-		if met := s.ask(pairs...); met.StatusCode != wanted {
-			t.Errorf("%q: %d", given, met.StatusCode)
+		if response := s.ask(pairs...); response.StatusCode != wanted {
+			t.Errorf("%q: %d", given, response.StatusCode)
 		}
 	}
 }
@@ -230,8 +230,8 @@ func TestSecretOfServer(t *testing.T) {
 // TestRefusedStatus asks for a path that is not clear where refused_status is 403: the status is that, and the answer is still `refused`.
 func TestRefusedStatus(t *testing.T) {
 	s := newSite(t, `, "refused_status": 403`)
-	if met := s.by(s.alice, "GET", "/web/../x", ""); met.StatusCode != 403 || met.Header.Get("X-Spki-Answer") != "refused" {
-		t.Errorf("%d, %v", met.StatusCode, met.Header)
+	if response := s.by(s.alice, "GET", "/web/../x", ""); response.StatusCode != 403 || response.Header.Get("X-Spki-Answer") != "refused" {
+		t.Errorf("%d, %v", response.StatusCode, response.Header)
 	}
 }
 
@@ -239,18 +239,18 @@ func TestRefusedStatus(t *testing.T) {
 func TestEndedCertificates(t *testing.T) {
 	s := newSite(t, "")
 	bobs, carols := s.sequencesShown()
-	if met := s.by(s.carol, "GET", "/web/docs/a/b", carols); met.StatusCode != 200 {
-		t.Fatal(met.StatusCode)
+	if response := s.by(s.carol, "GET", "/web/docs/a/b", carols); response.StatusCode != 200 {
+		t.Fatal(response.StatusCode)
 	}
 	s.config.Ended = writeFile(t, "ended", withLastLine(digestOfText(s.toCarol)+" # stolen\n"))
 	if err := s.keeper.reload(s.config, false, s.now()); err != nil {
 		t.Fatal(err)
 	}
-	if met := s.by(s.carol, "GET", "/web/docs/a/b", carols); met.StatusCode != 403 || !strings.Contains(s.lastLine(t).Reason, digestOfText(s.toCarol)) {
-		t.Errorf("an ended certificate counts, although its signature is kept: %d, %+v", met.StatusCode, s.lastLine(t))
+	if response := s.by(s.carol, "GET", "/web/docs/a/b", carols); response.StatusCode != 403 || !strings.Contains(s.lastLine(t).Reason, digestOfText(s.toCarol)) {
+		t.Errorf("an ended certificate counts, although its signature is kept: %d, %+v", response.StatusCode, s.lastLine(t))
 	}
-	if met := s.by(s.bob, "GET", "/web/docs/b", bobs); met.StatusCode != 200 {
-		t.Error(met.StatusCode)
+	if response := s.by(s.bob, "GET", "/web/docs/b", bobs); response.StatusCode != 200 {
+		t.Error(response.StatusCode)
 	}
 }
 
@@ -263,8 +263,8 @@ func TestReloads(t *testing.T) {
 	if err := s.keeper.reload(s.config, false, s.now()); err == nil || !strings.Contains(err.Error(), "refused acl 1 Shape") {
 		t.Error(err)
 	}
-	if met := s.by(s.alice, "GET", "/web/x", ""); met.StatusCode != 200 {
-		t.Errorf("a refused list has replaced the old one: %d", met.StatusCode)
+	if response := s.by(s.alice, "GET", "/web/x", ""); response.StatusCode != 200 {
+		t.Errorf("a refused list has replaced the old one: %d", response.StatusCode)
 	}
 	if err := os.WriteFile(s.config.List, []byte("(acl)"), 0o600); err != nil {
 		t.Fatal(err)
@@ -272,8 +272,8 @@ func TestReloads(t *testing.T) {
 	if err := s.keeper.reload(s.config, false, s.now()); err != nil {
 		t.Error(err)
 	}
-	if met := s.by(s.alice, "GET", "/web/x", ""); met.StatusCode != 401 {
-		t.Errorf("the old list is asked: %d", met.StatusCode)
+	if response := s.by(s.alice, "GET", "/web/x", ""); response.StatusCode != 401 {
+		t.Errorf("the old list is asked: %d", response.StatusCode)
 	}
 }
 
@@ -282,12 +282,12 @@ func TestExplanations(t *testing.T) {
 	s := newSite(t, `, "explain": true`)
 	bobs, _ := s.sequencesShown()
 	s.by(s.bob, "GET", "/web/x", bobs)
-	if met := s.lastLine(t).Reasons; met != "entry 1 TagLacks" {
-		t.Error(met)
+	if reasons := s.lastLine(t).Reasons; reasons != "entry 1 TagLacks" {
+		t.Error(reasons)
 	}
 	s.by(s.mallory, "GET", "/web/x", "")
-	if met := s.lastLine(t).Reasons; met != "no entry is for this key or for the first issuer" {
-		t.Error(met)
+	if reasons := s.lastLine(t).Reasons; reasons != "no entry is for this key or for the first issuer" {
+		t.Error(reasons)
 	}
 }
 
@@ -310,15 +310,15 @@ func TestExplanationsAreBounded(t *testing.T) {
 		if place >= savedSeconds*3 {
 			wanted = notExplained
 		}
-		met := s.by(s.bob, "GET", "/web/x", shows)
-		if line := s.lastLine(t); met.StatusCode != 403 || line.Answer != answerNo || line.Reasons != wanted {
-			t.Errorf("%d: %d, %+v", place, met.StatusCode, line)
+		response := s.by(s.bob, "GET", "/web/x", shows)
+		if line := s.lastLine(t); response.StatusCode != 403 || line.Answer != answerNo || line.Reasons != wanted {
+			t.Errorf("%d: %d, %+v", place, response.StatusCode, line)
 		}
 	}
 	moment = moment.Add(time.Second)
 	s.by(s.bob, "GET", "/web/x", shows)
-	if met := s.lastLine(t).Reasons; met != "refused TooLarge" {
-		t.Error(met)
+	if reasons := s.lastLine(t).Reasons; reasons != "refused TooLarge" {
+		t.Error(reasons)
 	}
 }
 
@@ -328,8 +328,8 @@ func TestTime(t *testing.T) {
 	until := s.alice.certificateUntil(s.bob, prefix("read", "/web/"), "2026-01-01_00:00:00")
 	for year, wanted := range map[int]int{2025: 200, 2027: 403} {
 		s.now = func() time.Time { return time.Date(year, 1, 1, 0, 0, 0, 0, time.UTC) }
-		if met := s.by(s.bob, "GET", "/web/x", sequence(s.alice.sign(until))); met.StatusCode != wanted {
-			t.Errorf("%d: %d, %+v", year, met.StatusCode, s.lastLine(t))
+		if response := s.by(s.bob, "GET", "/web/x", sequence(s.alice.sign(until))); response.StatusCode != wanted {
+			t.Errorf("%d: %d, %+v", year, response.StatusCode, s.lastLine(t))
 		}
 	}
 }
@@ -339,8 +339,8 @@ func TestPanicIsAFailure(t *testing.T) {
 	s := newSite(t, "")
 	s.cache = nil
 	bobs, _ := s.sequencesShown()
-	if met := s.by(s.bob, "GET", "/web/docs/b", bobs); met.StatusCode != 503 || s.lastLine(t).Answer != answerFailed {
-		t.Errorf("%d, %+v", met.StatusCode, s.lastLine(t))
+	if response := s.by(s.bob, "GET", "/web/docs/b", bobs); response.StatusCode != 503 || s.lastLine(t).Answer != answerFailed {
+		t.Errorf("%d, %+v", response.StatusCode, s.lastLine(t))
 	}
 }
 
@@ -357,8 +357,8 @@ func TestEnvoy(t *testing.T) {
 		request := httptest.NewRequest(http.MethodGet, target, nil)
 		request.RequestURI = target
 		request.Header.Set("X-Forwarded-Client-Cert", `Hash=x;Cert="`+s.alice.escaped()+`"`)
-		if met := s.told(request); met.StatusCode != wanted {
-			t.Errorf("%s: %d, %+v", target, met.StatusCode, s.lastLine(t))
+		if response := s.respond(request); response.StatusCode != wanted {
+			t.Errorf("%s: %d, %+v", target, response.StatusCode, s.lastLine(t))
 		}
 	}
 }

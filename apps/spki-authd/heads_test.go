@@ -42,13 +42,13 @@ func TestHeads(t *testing.T) {
 			for name, from := range map[string]io.Reader{
 				"whole": strings.NewReader(text), "halves": iotest.HalfReader(strings.NewReader(text)), "octets": iotest.OneByteReader(strings.NewReader(text)),
 			} {
-				if met := strings.Join(readAll(from), ", "); met != row.wanted {
-					t.Errorf("%.60q, %d octets more, %s: %q, wanted %q", row.text, len(more), name, met, row.wanted)
+				if requests := strings.Join(readAll(from), ", "); requests != row.wanted {
+					t.Errorf("%.60q, %d octets more, %s: %q, wanted %q", row.text, len(more), name, requests, row.wanted)
 				}
 			}
 		}
 	}
-	if met := readAll(strings.NewReader("\r\nGET / HTTP/1.1\r\n\r\n")); len(met) != 1 || !strings.Contains(met[0], "malformed") {
-		t.Errorf("%q", met)
+	if requests := readAll(strings.NewReader("\r\nGET / HTTP/1.1\r\n\r\n")); len(requests) != 1 || !strings.Contains(requests[0], "malformed") {
+		t.Errorf("%q", requests)
 	}
 }

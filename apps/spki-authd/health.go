@@ -79,8 +79,8 @@ func (c *config) client() (*http.Client, error) {
 	certificate, err := c.TLS.read()
 	if certificate != nil {
 		// (Go's own test, of names and authorities, is off: the certificate must be this one)
-		transport.TLSClientConfig = &tls.Config{InsecureSkipVerify: true, VerifyPeerCertificate: func(shown [][]byte, _ [][]*x509.Certificate) error {
-			if len(shown) == 0 || !bytes.Equal(shown[0], certificate.Certificate[0]) {
+		transport.TLSClientConfig = &tls.Config{InsecureSkipVerify: true, VerifyPeerCertificate: func(chain [][]byte, _ [][]*x509.Certificate) error {
+			if len(chain) == 0 || !bytes.Equal(chain[0], certificate.Certificate[0]) {
 				return errors.New("another certificate than that of the configuration is shown")
 			}
 			return nil

@@ -17,8 +17,8 @@ const mostHost = 253
 // is refused.
 func hostOf(text string) (string, error) {
 	host := text
-	if at := strings.LastIndexByte(text, ':'); at >= 0 && !strings.HasSuffix(text, "]") {
-		if host = text[:at]; !isPort(text[at+1:]) {
+	if colon := strings.LastIndexByte(text, ':'); colon >= 0 && !strings.HasSuffix(text, "]") {
+		if host = text[:colon]; !isPort(text[colon+1:]) {
 			return "", errHost
 		}
 	}

@@ -7,11 +7,11 @@ import (
 	"sync"
 )
 
-// A journal is where the tests have all lines written: grants and others, each at once.
+// A journal has, in memory, all lines that a decider writes in a test: grants and others.
 type journal struct {
 	mutex sync.Mutex
 	text  bytes.Buffer
-	// What each grant fails by, if anything.
+	// The error of each later grant, or nil.
 	fault error
 }
 
@@ -48,7 +48,7 @@ func (j *journal) Reset() {
 	j.text.Reset()
 }
 
-// fail has each later grant fail with a fault, or with none if that is nil.
+// fail sets the error of each later grant, or nil.
 func (j *journal) fail(fault error) {
 	j.mutex.Lock()
 	defer j.mutex.Unlock()

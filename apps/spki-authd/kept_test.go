@@ -26,11 +26,11 @@ func newKeeping(t *testing.T) *site {
 // reopenChains reads the folder of kept certificates, as the daemon does at its start.
 func (s *site) reopenChains(t *testing.T) {
 	t.Helper()
-	made, err := openFolderChains(s.config.Chains, s.now(), true)
+	opened, err := openFolderChains(s.config.Chains, s.now(), true)
 	if err != nil {
 		t.Fatal(err)
 	}
-	s.chains = made
+	s.chains = opened
 }
 
 // statusFor returns the status of a request to read a target by a TLS certificate. `sequence` is empty if none is shown.
@@ -61,18 +61,18 @@ func (p person) put(t testing.TB, target, sequence string) *http.Request {
 // leaves sends the site a request by which a person leaves certificates, and returns the status and the answer.
 func (s *site) leaves(t testing.TB, who person, sequence string) (int, answer) {
 	t.Helper()
-	met := s.told(who.put(t, usualPath, sequence))
-	return met.StatusCode, answer(met.Header.Get("X-Spki-Answer"))
+	response := s.respond(who.put(t, usualPath, sequence))
+	return response.StatusCode, answer(response.Header.Get("X-Spki-Answer"))
 }
 
 // keeps says whether any sequence that a client has left is kept for a person's key.
 func (s *site) keeps(t testing.TB, who person) bool {
 	t.Helper()
-	found, err := s.chains.of(hexDigest([]byte(who.key)), s.now())
+	chains, err := s.chains.of(hexDigest([]byte(who.key)), s.now())
 	if err != nil {
 		t.Fatal(err)
 	}
-	return len(found) > 0
+	return len(chains) > 0
 }
 
 // TestKeptChains leaves certificates and asks, with and without showing some, one after the other, and once more after a start of the daemon. A row
@@ -111,14 +111,14 @@ func TestKeptChains(t *testing.T) {
 		{"the third is not", "/web/third/b", "", s.bob, 401, ""},
 		{"shown in place of the kept ones", "/web/docs/b", other, s.bob, 403, ""},
 	} {
-		status, met := 0, answer("")
+		status, reply := 0, answer("")
 		if row.target == put {
-			status, met = s.leaves(t, row.who, row.sequence)
+			status, reply = s.leaves(t, row.who, row.sequence)
 		} else {
 			status = s.statusFor(row.who, row.target, row.sequence)
 		}
-		if status != row.status || met != row.answer {
-			t.Errorf("%s: %d %q, wanted %d %q: %+v", row.name, status, met, row.status, row.answer, s.lastLine(t))
+		if status != row.status || reply != row.answer {
+			t.Errorf("%s: %d %q, wanted %d %q: %+v", row.name, status, reply, row.status, row.answer, s.lastLine(t))
 		}
 	}
 	// (a folder whose name is no pattern that it fits)
@@ -198,12 +198,12 @@ func TestWhatIsKept(t *testing.T) {
 		{"no signature", "refused sequence 1 UnsignedCert", []string{s.toBob}},
 	} {
 		s.chains = &folderChains{chains: chains{Folder: t.TempDir(), Each: 2, Keys: 2, Days: 9}, byKey: map[string][]keptChain{}}
-		status, met := s.leaves(t, s.bob, sequence(row.shown...))
+		status, reply := s.leaves(t, s.bob, sequence(row.shown...))
 		line, isKept := s.lastLine(t), s.keeps(t, s.bob)
-		if row.reason == "" && (status != 201 || met != answerKept || !isKept) {
+		if row.reason == "" && (status != 201 || reply != answerKept || !isKept) {
 			t.Errorf("%s: %d, %+v", row.name, status, line)
 		}
-		if row.reason != "" && (status != 400 || met != answerRefused || isKept || !strings.Contains(line.Reason, row.reason)) {
+		if row.reason != "" && (status != 400 || reply != answerRefused || isKept || !strings.Contains(line.Reason, row.reason)) {
 			t.Errorf("%s: %d, %+v", row.name, status, line)
 		}
 	}
@@ -217,7 +217,7 @@ func TestEndedIsNotKept(t *testing.T) {
 	if err := s.keeper.reload(s.config, false, s.now()); err != nil {
 		t.Fatal(err)
 	}
-	if status, met := s.leaves(t, s.bob, bobs); status != 400 || met != answerRefused || !strings.HasSuffix(s.lastLine(t).Reason, "has ended") {
+	if status, reply := s.leaves(t, s.bob, bobs); status != 400 || reply != answerRefused || !strings.HasSuffix(s.lastLine(t).Reason, "has ended") {
 		t.Errorf("%d, %+v", status, s.lastLine(t))
 	}
 }
@@ -231,23 +231,23 @@ func TestStrangersLeave(t *testing.T) {
 	for place, wanted := range []answer{answerKept, answerKept, answerFull, answerFull} {
 		stranger := newPerson(t)
 		shown := sequence(s.mallory.sign(s.mallory.certificate(stranger, prefix("read", "/web/"), "")))
-		if _, met := s.leaves(t, stranger, shown); met != wanted {
-			t.Errorf("%d: %s, wanted %s", place, met, wanted)
+		if _, reply := s.leaves(t, stranger, shown); reply != wanted {
+			t.Errorf("%d: %s, wanted %s", place, reply, wanted)
 		}
 		if s.statusFor(stranger, "/web/x", "") != 401 || s.statusFor(stranger, "/web/x", shown) != 403 {
 			t.Error("a stranger is granted something")
 		}
 	}
-	if made := s.counts.verified.Load() - verified; made != 2 {
-		t.Errorf("%d signatures were verified", made)
+	if count := s.counts.verified.Load() - verified; count != 2 {
+		t.Errorf("%d signatures were verified", count)
 	}
 	bobs, _ := s.sequencesShown()
 	if s.statusFor(s.bob, "/web/docs/b", bobs) != 200 {
 		t.Error("what a request brings itself does not count")
 	}
 	full := &folderChains{chains: *s.config.Chains, byKey: map[string][]keptChain{}, octets: mostLeft - 9}
-	if met, _ := full.add("key", keptChain{text: "ten octets"}, s.now()); met != answerFull {
-		t.Error(met)
+	if reply, _ := full.add("key", keptChain{text: "ten octets"}, s.now()); reply != answerFull {
+		t.Error(reply)
 	}
 }
 
@@ -257,12 +257,12 @@ func TestNoncesOfLeaving(t *testing.T) {
 	s.reopenChains(t)
 	for place, wanted := range []answer{answerKept, answerRefused} {
 		stranger := newPerson(t)
-		if _, met := s.leaves(t, stranger, sequence(s.mallory.sign(s.mallory.certificate(stranger, prefix("read", "/"), "")))); met != wanted {
-			t.Errorf("%d: %s, %+v", place, met, s.lastLine(t))
+		if _, reply := s.leaves(t, stranger, sequence(s.mallory.sign(s.mallory.certificate(stranger, prefix("read", "/"), "")))); reply != wanted {
+			t.Errorf("%d: %s, %+v", place, reply, s.lastLine(t))
 		}
 	}
-	if met := s.ask(s.alice.signs(t, "GET", "files.example.org", "/web/x", "", nil)...); met.StatusCode != 200 {
-		t.Error(met.StatusCode, s.lastLine(t))
+	if response := s.ask(s.alice.signs(t, "GET", "files.example.org", "/web/x", "", nil)...); response.StatusCode != 200 {
+		t.Error(response.StatusCode, s.lastLine(t))
 	}
 }
 
@@ -275,68 +275,68 @@ func TestPutAttacks(t *testing.T) {
 	long := strings.Repeat(" ", mostShownOctets+1-len(bobs)) + bobs
 	other := sequence(s.alice.sign(s.alice.certificate(s.bob, prefix("read", "/web/docs/"), "")))
 	body := func(text string) func(*http.Request) {
-		return func(it *http.Request) {
-			it.Body, it.ContentLength = io.NopCloser(strings.NewReader(text)), int64(len(text))
+		return func(request *http.Request) {
+			request.Body, request.ContentLength = io.NopCloser(strings.NewReader(text)), int64(len(text))
 		}
 	}
 	set := func(name, value string) func(*http.Request) {
-		return func(it *http.Request) { it.Header.Set(name, value) }
+		return func(request *http.Request) { request.Header.Set(name, value) }
 	}
 	for name, change := range map[string]func(*http.Request){
 		"another body":   body(other),
 		"a body less":    body(""),
-		"half a body":    func(it *http.Request) { body(bobs[:99])(it); it.ContentLength = int64(len(bobs)) },
+		"half a body":    func(request *http.Request) { body(bobs[:99])(request); request.ContentLength = int64(len(bobs)) },
 		"a longer body":  body(bobs + " "),
-		"no length":      func(it *http.Request) { it.ContentLength = -1 },
+		"no length":      func(request *http.Request) { request.ContentLength = -1 },
 		"another digest": set("Content-Digest", httpsig.ContentDigest([]byte(other))),
-		"no digest":      func(it *http.Request) { it.Header.Del("Content-Digest") },
-		"a digest of each": func(it *http.Request) {
-			body(other)(it)
-			set("Content-Digest", httpsig.ContentDigest([]byte(other)))(it)
+		"no digest":      func(request *http.Request) { request.Header.Del("Content-Digest") },
+		"a digest of each": func(request *http.Request) {
+			body(other)(request)
+			set("Content-Digest", httpsig.ContentDigest([]byte(other)))(request)
 		},
-		"a query put in":              func(it *http.Request) { it.RequestURI = usualPath + "?GET=/web/docs/b" },
-		"an empty query put in":       func(it *http.Request) { it.RequestURI = usualPath + "?" },
-		"another host":                func(it *http.Request) { it.Host = "files.example.net" },
-		"a stranger's host":           func(it *http.Request) { it.Host = "evil.example" },
-		"no host":                     func(it *http.Request) { it.Host = "" },
-		"no signature":                func(it *http.Request) { it.Header.Del("Signature"); it.Header.Del("Signature-Input") },
-		"no key":                      func(it *http.Request) { it.Header.Del("X-Spki-Public-Key") },
+		"a query put in":              func(request *http.Request) { request.RequestURI = usualPath + "?GET=/web/docs/b" },
+		"an empty query put in":       func(request *http.Request) { request.RequestURI = usualPath + "?" },
+		"another host":                func(request *http.Request) { request.Host = "files.example.net" },
+		"a stranger's host":           func(request *http.Request) { request.Host = "evil.example" },
+		"no host":                     func(request *http.Request) { request.Host = "" },
+		"no signature":                func(request *http.Request) { request.Header.Del("Signature"); request.Header.Del("Signature-Input") },
+		"no key":                      func(request *http.Request) { request.Header.Del("X-Spki-Public-Key") },
 		"another key":                 set("X-Spki-Public-Key", s.mallory.inBraces()),
-		"two keys":                    func(it *http.Request) { it.Header.Add("X-Spki-Public-Key", s.bob.inBraces()) },
-		"a certificate alone":         func(it *http.Request) { it.Header = http.Header{"X-Client-Cert": {s.bob.escaped()}} },
+		"two keys":                    func(request *http.Request) { request.Header.Add("X-Spki-Public-Key", s.bob.inBraces()) },
+		"a certificate alone":         func(request *http.Request) { request.Header = http.Header{"X-Client-Cert": {s.bob.escaped()}} },
 		"a chain in a header":         set("X-Spki-Sequence", bobs),
 		"credentials":                 set("Authorization", "SPKI "+bobs),
-		"a second signature":          func(it *http.Request) { it.Header.Add("Signature", "spki=:AAAA:") },
-		"two numbers":                 func(it *http.Request) { it.Header["X-Request-Id"] = []string{"1", "2"} },
-		"POST":                        func(it *http.Request) { it.Method = http.MethodPost },
-		"GET, as the web server asks": func(it *http.Request) { it.Method = http.MethodGet },
-		"another place":               func(it *http.Request) { it.RequestURI = "/web/docs/b" },
-		"a place below":               func(it *http.Request) { it.RequestURI = usualPath + "/" },
-		"an escaped place":            func(it *http.Request) { it.RequestURI = "/.well-known/spki%2dchain" },
+		"a second signature":          func(request *http.Request) { request.Header.Add("Signature", "spki=:AAAA:") },
+		"two numbers":                 func(request *http.Request) { request.Header["X-Request-Id"] = []string{"1", "2"} },
+		"POST":                        func(request *http.Request) { request.Method = http.MethodPost },
+		"GET, as the web server asks": func(request *http.Request) { request.Method = http.MethodGet },
+		"another place":               func(request *http.Request) { request.RequestURI = "/web/docs/b" },
+		"a place below":               func(request *http.Request) { request.RequestURI = usualPath + "/" },
+		"an escaped place":            func(request *http.Request) { request.RequestURI = "/.well-known/spki%2dchain" },
 	} {
 		request := s.bob.put(t, target, bobs)
 		change(request)
-		if met := s.told(request); met.StatusCode < 400 || s.keeps(t, s.bob) {
-			t.Errorf("%s: %d, %+v", name, met.StatusCode, s.lastLine(t))
+		if response := s.respond(request); response.StatusCode < 400 || s.keeps(t, s.bob) {
+			t.Errorf("%s: %d, %+v", name, response.StatusCode, s.lastLine(t))
 		}
 	}
-	if met := s.told(s.bob.put(t, target, long)); met.StatusCode != 400 || !strings.Contains(s.lastLine(t).Reason, "8192") {
-		t.Error("too long: ", met.StatusCode, s.lastLine(t))
+	if response := s.respond(s.bob.put(t, target, long)); response.StatusCode != 400 || !strings.Contains(s.lastLine(t).Reason, "8192") {
+		t.Error("too long: ", response.StatusCode, s.lastLine(t))
 	}
-	if met := s.told(s.bob.put(t, target+"?GET=/web/docs/b", bobs)); met.StatusCode != 400 || s.keeps(t, s.bob) {
-		t.Error("a query: ", met.StatusCode, s.lastLine(t))
+	if response := s.respond(s.bob.put(t, target+"?GET=/web/docs/b", bobs)); response.StatusCode != 400 || s.keeps(t, s.bob) {
+		t.Error("a query: ", response.StatusCode, s.lastLine(t))
 	}
 	once := s.bob.put(t, target, bobs)
 	for name, value := range map[string]string{"X-Original-Method": "GET", "X-Original-Uri": "/web/x", "X-Original-Host": "evil.example",
 		"X-Client-Cert": s.mallory.escaped()} {
 		once.Header.Set(name, value)
 	}
-	if met := s.told(once); met.StatusCode != 201 || s.lastLine(t).Key != hexDigest([]byte(s.bob.key)) || s.lastLine(t).Proof != bySignature {
-		t.Error("other headers: ", met.StatusCode, s.lastLine(t))
+	if response := s.respond(once); response.StatusCode != 201 || s.lastLine(t).Key != hexDigest([]byte(s.bob.key)) || s.lastLine(t).Proof != bySignature {
+		t.Error("other headers: ", response.StatusCode, s.lastLine(t))
 	}
 	body(bobs)(once)
-	if met := s.told(once); met.StatusCode != 400 || !strings.HasSuffix(s.lastLine(t).Reason, "nonce-seen") {
-		t.Error("sent again: ", met.StatusCode, s.lastLine(t))
+	if response := s.respond(once); response.StatusCode != 400 || !strings.HasSuffix(s.lastLine(t).Reason, "nonce-seen") {
+		t.Error("sent again: ", response.StatusCode, s.lastLine(t))
 	}
 }
 
@@ -348,18 +348,18 @@ func TestKeptChainsEnd(t *testing.T) {
 	short := sequence(s.alice.sign(s.alice.certificateUntil(s.bob, prefix("read", "/web/docs/"), end)))
 	long := sequence(s.alice.sign(s.alice.certificate(s.bob, prefix("read", "/web/docs/"), "")))
 	for _, text := range []string{short, long} {
-		if _, kept := s.leaves(t, s.bob, text); kept != answerKept {
-			t.Error(kept)
+		if _, reply := s.leaves(t, s.bob, text); reply != answerKept {
+			t.Error(reply)
 		}
 	}
 	for _, row := range [][2]int{{9, 2}, {11, 1}, {89, 1}, {91, 0}} {
 		now := begun.AddDate(0, 0, row[0])
-		made, err := openFolderChains(s.config.Chains, now, false)
+		opened, err := openFolderChains(s.config.Chains, now, false)
 		if err != nil {
 			t.Fatal(err)
 		}
-		if left, _ := made.of(hexDigest([]byte(s.bob.key)), now); len(left) != row[1] {
-			t.Error(row, left)
+		if current, _ := opened.of(hexDigest([]byte(s.bob.key)), now); len(current) != row[1] {
+			t.Error(row, current)
 		}
 	}
 	// (only the daemon removes a file: -test reads them alone)
@@ -369,8 +369,8 @@ func TestKeptChainsEnd(t *testing.T) {
 	if _, err := openFolderChains(s.config.Chains, begun.AddDate(0, 0, 11), true); err != nil || len(s.filesOfChains()) != 1 {
 		t.Error(err, s.filesOfChains())
 	}
-	if left, _ := s.chains.of(hexDigest([]byte(s.bob.key)), begun.AddDate(1, 0, 0)); left != nil {
-		t.Error(left)
+	if current, _ := s.chains.of(hexDigest([]byte(s.bob.key)), begun.AddDate(1, 0, 0)); current != nil {
+		t.Error(current)
 	}
 	if files, _ := filepath.Glob(filepath.Join(s.config.Chains.Folder, "*")); files != nil {
 		t.Error(files)
@@ -393,8 +393,8 @@ func TestKeptNowhere(t *testing.T) {
 	if err := os.WriteFile(s.config.Chains.Folder, nil, 0o600); err != nil {
 		t.Fatal(err)
 	}
-	if status, met := s.leaves(t, s.bob, bobs); status != 503 || met != answerFailed || !strings.Contains(s.lastLine(t).Reason, "not a directory") {
-		t.Error(status, met, s.lastLine(t))
+	if status, reply := s.leaves(t, s.bob, bobs); status != 503 || reply != answerFailed || !strings.Contains(s.lastLine(t).Reason, "not a directory") {
+		t.Error(status, reply, s.lastLine(t))
 	}
 	if s.keeps(t, s.bob) {
 		t.Error("what has no file is kept")

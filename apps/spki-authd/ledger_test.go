@@ -11,8 +11,8 @@ import (
 	"time"
 )
 
-// A failing file fails as a full disk does where a write has more octets than `room`, which is -1 for no limit.
-type failing struct {
+// A failingFile fails as on a full disk if a write has more octets than `room`, which is -1 for no limit.
+type failingFile struct {
 	*os.File
 	room int
 	// Whether Truncate fails, and whether Sync does.
@@ -20,7 +20,7 @@ type failing struct {
 }
 
 // Write writes what there is room for, and fails with errFull if that is not all.
-func (f *failing) Write(octets []byte) (int, error) {
+func (f *failingFile) Write(octets []byte) (int, error) {
 	if f.room < 0 || len(octets) <= f.room {
 		return f.File.Write(octets)
 	}
@@ -32,7 +32,7 @@ func (f *failing) Write(octets []byte) (int, error) {
 }
 
 // Truncate cuts the file, or fails with errFull if isUncut.
-func (f *failing) Truncate(size int64) error {
+func (f *failingFile) Truncate(size int64) error {
 	if f.isUncut {
 		return errFull
 	}
@@ -40,66 +40,66 @@ func (f *failing) Truncate(size int64) error {
 }
 
 // Sync writes the file to its disk, or fails with errFull if isNotWritten.
-func (f *failing) Sync() error {
+func (f *failingFile) Sync() error {
 	if f.isNotWritten {
 		return errFull
 	}
 	return f.File.Sync()
 }
 
-// openFailing opens a ledger that has a text already, or is new if that is empty, and returns it with its file, which fails once its fields say so.
+// openFailing opens a ledger that has a text already, or is new if that is empty, and returns it with its file, which fails when its fields are set so.
 // `syncs` is syncNever, syncSeconds or syncEach.
-func openFailing(t *testing.T, syncs, text string) (*ledger, *failing) {
+func openFailing(t *testing.T, syncs, text string) (*ledger, *failingFile) {
 	t.Helper()
 	path := filepath.Join(t.TempDir(), "log")
 	if text != "" {
 		path = writeFile(t, "log", text)
 	}
-	made, err := openLedger(path, syncs)
+	opened, err := openLedger(path, syncs)
 	if err != nil {
 		t.Fatal(err)
 	}
-	to := &failing{File: made.file.(*os.File), room: -1}
-	made.file = to
-	t.Cleanup(func() { _ = made.close() })
-	return made, to
+	disk := &failingFile{File: opened.file.(*os.File), room: -1}
+	opened.file = disk
+	t.Cleanup(func() { _ = opened.close() })
+	return opened, disk
 }
 
 // mustHave reports an error unless a ledger's file has this text.
 func (l *ledger) mustHave(t *testing.T, wanted string) {
 	t.Helper()
-	if met, err := os.ReadFile(l.path); err != nil || string(met) != wanted {
-		t.Errorf("%q, %v, wanted %q", met, err, wanted)
+	if content, err := os.ReadFile(l.path); err != nil || string(content) != wanted {
+		t.Errorf("%q, %v, wanted %q", content, err, wanted)
 	}
 }
 
 // TestFullDisk writes two lines of which the second is cut. It is removed, or the next one does not join it.
 func TestFullDisk(t *testing.T) {
 	for isUncut, wanted := range map[bool]string{false: "one\nthree\n", true: "one\ntw\nthree\n"} {
-		made, to := openFailing(t, syncNever, "")
-		if err := made.write([]byte("one\n")); err != nil {
+		ledger, disk := openFailing(t, syncNever, "")
+		if err := ledger.write([]byte("one\n")); err != nil {
 			t.Fatal(err)
 		}
-		to.room, to.isUncut = 2, isUncut
-		if made.write([]byte("two\n")) == nil {
+		disk.room, disk.isUncut = 2, isUncut
+		if ledger.write([]byte("two\n")) == nil {
 			t.Error("a cut line is written")
 		}
-		to.room = -1
-		if err := made.write([]byte("three\n")); err != nil {
+		disk.room = -1
+		if err := ledger.write([]byte("three\n")); err != nil {
 			t.Error(err)
 		}
-		made.mustHave(t, wanted)
+		ledger.mustHave(t, wanted)
 	}
 }
 
-// A filled file takes half of what it is given, and fails, at each third write.
-type filled struct {
+// A fullFile writes half of the octets, and fails, at each third write.
+type fullFile struct {
 	*os.File
 	writes int
 }
 
 // Write writes octets, or at each third call half of them, and fails then.
-func (f *filled) Write(octets []byte) (int, error) {
+func (f *fullFile) Write(octets []byte) (int, error) {
 	if f.writes++; f.writes%3 > 0 {
 		return f.File.Write(octets)
 	}
@@ -110,9 +110,9 @@ func (f *filled) Write(octets []byte) (int, error) {
 // TestFullDiskOfMany has many hand lines over while a disk is full again and again. The file has those that are said to be written, whole and once,
 // and no others.
 func TestFullDiskOfMany(t *testing.T) {
-	made, to := openFailing(t, syncNever, "")
-	made.file = &filled{File: to.File}
-	writer := newWriter(made, time.Minute, nil)
+	ledger, disk := openFailing(t, syncNever, "")
+	ledger.file = &fullFile{File: disk.File}
+	writer := newWriter(ledger, time.Minute, nil)
 	var all sync.WaitGroup
 	var mutex sync.Mutex
 	wanted := map[string]bool{}
@@ -131,8 +131,8 @@ func TestFullDiskOfMany(t *testing.T) {
 		}(routine)
 	}
 	all.Wait()
-	met, err := os.ReadFile(made.path)
-	lines := strings.SplitAfter(string(met), "\n")
+	content, err := os.ReadFile(ledger.path)
+	lines := strings.SplitAfter(string(content), "\n")
 	if err != nil || len(lines)-1 != len(wanted) || len(wanted) == 0 || len(wanted) == 800 {
 		t.Errorf("%d lines, wanted %d, %v", len(lines)-1, len(wanted), err)
 	}
@@ -146,78 +146,78 @@ func TestFullDiskOfMany(t *testing.T) {
 
 // TestCutLedger opens a file whose last line was cut, as by a machine that was switched off.
 func TestCutLedger(t *testing.T) {
-	made, to := openFailing(t, syncNever, "one\ntw")
-	to.room = 0
-	if made.write([]byte("three\n")) == nil {
+	ledger, disk := openFailing(t, syncNever, "one\ntw")
+	disk.room = 0
+	if ledger.write([]byte("three\n")) == nil {
 		t.Error("a full disk takes a line")
 	}
-	to.room = -1
+	disk.room = -1
 	for _, line := range []string{"four\n", "five\n"} {
-		if err := made.write([]byte(line)); err != nil {
+		if err := ledger.write([]byte(line)); err != nil {
 			t.Fatal(err)
 		}
 	}
-	made.mustHave(t, "one\ntw\nfour\nfive\n")
+	ledger.mustHave(t, "one\ntw\nfour\nfive\n")
 }
 
 // TestSyncs writes where the disk takes nothing. With syncEach that is no line; with syncSeconds no further one, until the disk takes them. A row
 // says whether the first and the second write succeed.
 func TestSyncs(t *testing.T) {
 	for syncs, row := range map[string]struct{ first, second bool }{syncNever: {true, true}, syncSeconds: {true, false}, syncEach: {false, false}} {
-		made, to := openFailing(t, syncs, "")
-		to.isNotWritten = true
-		if err := made.write([]byte("one\n")); (err == nil) != row.first {
+		ledger, disk := openFailing(t, syncs, "")
+		disk.isNotWritten = true
+		if err := ledger.write([]byte("one\n")); (err == nil) != row.first {
 			t.Errorf("%s: %v", syncs, err)
 		}
-		made.beat()
-		if err := made.write([]byte("two\n")); (err == nil) != row.second {
+		ledger.beat()
+		if err := ledger.write([]byte("two\n")); (err == nil) != row.second {
 			t.Errorf("%s: %v", syncs, err)
 		}
-		to.isNotWritten = false
-		if err := made.write([]byte("three\n")); err != nil {
+		disk.isNotWritten = false
+		if err := ledger.write([]byte("three\n")); err != nil {
 			t.Errorf("%s: %v", syncs, err)
 		}
 		wanted := map[string]string{syncNever: "one\ntwo\nthree\n", syncSeconds: "one\nthree\n", syncEach: "three\n"}[syncs]
-		made.mustHave(t, wanted)
+		ledger.mustHave(t, wanted)
 	}
 }
 
 // TestReopened renames, removes and empties a file that is written.
 func TestReopened(t *testing.T) {
-	made, _ := openFailing(t, syncSeconds, "")
+	ledger, _ := openFailing(t, syncSeconds, "")
 	write := func(line string) {
-		if err := made.write([]byte(line)); err != nil {
+		if err := ledger.write([]byte(line)); err != nil {
 			t.Error(err)
 		}
 	}
 	write("one\n")
-	old := made.path + ".1"
-	if err := os.Rename(made.path, old); err != nil {
+	old := ledger.path + ".1"
+	if err := os.Rename(ledger.path, old); err != nil {
 		t.Fatal(err)
 	}
 	write("two\n")
 	for turn := 0; turn < 2; turn++ {
-		if err := made.reopen(); err != nil {
+		if err := ledger.reopen(); err != nil {
 			t.Error(err)
 		}
 	}
 	write("three\n")
-	made.mustHave(t, "three\n")
-	if met, err := os.ReadFile(old); err != nil || string(met) != "one\ntwo\n" {
-		t.Errorf("%q, %v", met, err)
+	ledger.mustHave(t, "three\n")
+	if content, err := os.ReadFile(old); err != nil || string(content) != "one\ntwo\n" {
+		t.Errorf("%q, %v", content, err)
 	}
-	os.Remove(made.path)
+	os.Remove(ledger.path)
 	write("four\n")
-	made.mustHave(t, "four\n")
-	if err := os.Truncate(made.path, 0); err != nil {
+	ledger.mustHave(t, "four\n")
+	if err := os.Truncate(ledger.path, 0); err != nil {
 		t.Fatal(err)
 	}
 	write("five\n")
-	made.mustHave(t, "five\n")
-	if err := os.Rename(filepath.Dir(made.path), filepath.Dir(made.path)+".gone"); err != nil {
+	ledger.mustHave(t, "five\n")
+	if err := os.Rename(filepath.Dir(ledger.path), filepath.Dir(ledger.path)+".gone"); err != nil {
 		t.Fatal(err)
 	}
-	if made.reopen() == nil {
+	if ledger.reopen() == nil {
 		t.Error("there is no folder")
 	}
 	write("six\n")
@@ -228,7 +228,7 @@ func TestReopened(t *testing.T) {
 func TestLastSync(t *testing.T) {
 	for _, syncs := range []string{syncNever, syncSeconds, syncEach} {
 		for _, isOver := range []bool{false, true} {
-			made, to := openFailing(t, syncs, "")
+			ledger, disk := openFailing(t, syncs, "")
 			mustTell := func(what string, err error) {
 				t.Helper()
 				if (err == nil) != (syncs == syncNever || isOver && syncs == syncEach) || err != nil && !strings.Contains(err.Error(), "may not be on the disk") {
@@ -236,37 +236,37 @@ func TestLastSync(t *testing.T) {
 				}
 			}
 			fail := func(line string) {
-				if err := made.write([]byte(line)); err != nil {
+				if err := ledger.write([]byte(line)); err != nil {
 					t.Error(err)
 				}
-				to.isNotWritten = true
-				made.beat()
-				to.isNotWritten = !isOver
+				disk.isNotWritten = true
+				ledger.beat()
+				disk.isNotWritten = !isOver
 			}
 			fail("one\n")
-			if err := os.Rename(made.path, made.path+".1"); err != nil {
+			if err := os.Rename(ledger.path, ledger.path+".1"); err != nil {
 				t.Fatal(err)
 			}
-			mustTell("reopened", made.reopen())
-			to = &failing{File: made.file.(*os.File), room: -1}
-			made.file = to
+			mustTell("reopened", ledger.reopen())
+			disk = &failingFile{File: ledger.file.(*os.File), room: -1}
+			ledger.file = disk
 			fail("two\n")
-			made.mustHave(t, "two\n")
-			mustTell("closed", made.close())
+			ledger.mustHave(t, "two\n")
+			mustTell("closed", ledger.close())
 		}
 	}
 }
 
 // TestNoLedgers opens what is no file, or what another daemon has.
 func TestNoLedgers(t *testing.T) {
-	made, _ := openFailing(t, syncNever, "")
+	ledger, _ := openFailing(t, syncNever, "")
 	room := t.TempDir()
 	fifo := filepath.Join(room, "fifo")
 	if err := syscall.Mkfifo(fifo, 0o600); err != nil {
 		t.Fatal(err)
 	}
 	for path, wanted := range map[string]string{
-		made.path: "another daemon", fifo: "no ordinary file", room: "no ordinary file", "/dev/null": "no ordinary file", "/none/log": "no such file",
+		ledger.path: "another daemon", fifo: "no ordinary file", room: "no ordinary file", "/dev/null": "no ordinary file", "/none/log": "no such file",
 	} {
 		if _, err := openLedger(path, syncNever); err == nil || !strings.Contains(err.Error(), wanted) {
 			t.Errorf("%s: %v", path, err)

@@ -127,14 +127,14 @@ func (d *decider) checkCertificates(result *record, key guard.ProvenKey, sequenc
 	if err != nil {
 		return err
 	}
-	shown := newShownSequence(signatures)
-	result.Certificates = shown.names
-	notEnded, err := shown.notEnded(d.keeper.present.Load())
+	certificates := newShownSequence(signatures)
+	result.Certificates = certificates.names
+	notEnded, err := certificates.notEnded(d.keeper.present.Load())
 	if err != nil {
 		return err
 	}
 	if notEnded < len(signatures) {
-		return fmt.Errorf("%w: certificate %s has ended", errUnkept, shown.names[notEnded])
+		return fmt.Errorf("%w: certificate %s has ended", errUnkept, certificates.names[notEnded])
 	}
 	isSubject, err := d.config.namesKey(subjectOf(signatures[len(signatures)-1].Message), key, d.now())
 	if err != nil {
@@ -146,7 +146,7 @@ func (d *decider) checkCertificates(result *record, key guard.ProvenKey, sequenc
 	for place, signature := range signatures {
 		d.counts.verified.Add(1)
 		if !d.verify(signature) {
-			return fmt.Errorf("%w: certificate %s has no valid signature", errUnkept, shown.names[place])
+			return fmt.Errorf("%w: certificate %s has no valid signature", errUnkept, certificates.names[place])
 		}
 	}
 	return nil

@@ -11,16 +11,16 @@ func TestHosts(t *testing.T) {
 		"a.example": "a.example", "A.Example": "a.example", "a.example:443": "a.example", "a.example:": "a.example", "192.0.2.1:8443": "192.0.2.1",
 		"[2001:DB8::1]": "[2001:db8::1]", "[::1]:443": "[::1]", "localhost": "localhost", "a-b_c.example": "a-b_c.example",
 	} {
-		if met, err := hostOf(text); err != nil || met != wanted {
-			t.Errorf("%q: %q, %v", text, met, err)
+		if host, err := hostOf(text); err != nil || host != wanted {
+			t.Errorf("%q: %q, %v", text, host, err)
 		}
 	}
 	for _, text := range []string{
 		"", ":443", "a.example.", "a..example", ".example", "a example", "a/b", "a%2eb", "a@b", "a:b", "a:443:443", "::1", "[::1", "[192.0.2.1]", "[x]", "é.example",
 		"a.example:123456", "a,b", "a\x00", strings.Repeat("a", 254),
 	} {
-		if met, err := hostOf(text); err == nil {
-			t.Errorf("%q: %q", text, met)
+		if host, err := hostOf(text); err == nil {
+			t.Errorf("%q: %q", text, host)
 		}
 	}
 }
@@ -70,9 +70,9 @@ func TestListsOfHosts(t *testing.T) {
 			if row.host != "" {
 				pairs = append(pairs, "X-Original-Host", row.host)
 			}
-			met, line := s.ask(pairs...), s.lastLine(t)
-			if met.StatusCode != row.wanted || (line.List != "") != row.isInTheLists {
-				t.Errorf("%s, turn %d: %d, wanted %d: %+v", name, turn, met.StatusCode, row.wanted, line)
+			response, line := s.ask(pairs...), s.lastLine(t)
+			if response.StatusCode != row.wanted || (line.List != "") != row.isInTheLists {
+				t.Errorf("%s, turn %d: %d, wanted %d: %+v", name, turn, response.StatusCode, row.wanted, line)
 			}
 			if host, err := hostOf(row.host); err == nil && line.Host != host {
 				t.Errorf("%s: %+v", name, line)
@@ -89,9 +89,9 @@ func TestRulesOfHosts(t *testing.T) {
 		t.Fatal(err)
 	}
 	for host, wanted := range map[string]int{"a.example": 200, "b.example": 403, "": 400} {
-		met := s.ask("X-Original-Method", "GET", "X-Original-URI", "/web/x", "X-Client-Cert", s.alice.escaped(), "X-Original-Host", host)
-		if met.StatusCode != wanted {
-			t.Errorf("%q: %d", host, met.StatusCode)
+		response := s.ask("X-Original-Method", "GET", "X-Original-URI", "/web/x", "X-Client-Cert", s.alice.escaped(), "X-Original-Host", host)
+		if response.StatusCode != wanted {
+			t.Errorf("%q: %d", host, response.StatusCode)
 		}
 	}
 }
@@ -100,9 +100,9 @@ func TestRulesOfHosts(t *testing.T) {
 func TestHostsThatNothingDependsOn(t *testing.T) {
 	s := newSite(t, "")
 	for host, wanted := range map[string]string{"A.example:443": "a.example", "": "", "a b": ""} {
-		met := s.ask("X-Original-Method", "GET", "X-Original-URI", "/web/x", "X-Client-Cert", s.alice.escaped(), "X-Original-Host", host)
-		if met.StatusCode != 200 || s.lastLine(t).Host != wanted {
-			t.Errorf("%q: %d, %+v", host, met.StatusCode, s.lastLine(t))
+		response := s.ask("X-Original-Method", "GET", "X-Original-URI", "/web/x", "X-Client-Cert", s.alice.escaped(), "X-Original-Host", host)
+		if response.StatusCode != 200 || s.lastLine(t).Host != wanted {
+			t.Errorf("%q: %d, %+v", host, response.StatusCode, s.lastLine(t))
 		}
 	}
 }
@@ -120,7 +120,7 @@ func TestWrongLists(t *testing.T) {
 			t.Errorf("%s: accepted", name)
 		}
 	}
-	if made, err := parseConfig([]byte(lists(`{"host": "a.example", "list": "/a"}, {"list": "/b"}`))); err != nil || !made.needsHost || made.Lists[1].Prefix != "/" {
-		t.Errorf("%+v, %v", made, err)
+	if config, err := parseConfig([]byte(lists(`{"host": "a.example", "list": "/a"}, {"list": "/b"}`))); err != nil || !config.needsHost || config.Lists[1].Prefix != "/" {
+		t.Errorf("%+v, %v", config, err)
 	}
 }

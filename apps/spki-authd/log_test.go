@@ -13,13 +13,13 @@ func TestLines(t *testing.T) {
 	for _, text := range texts {
 		for _, number := range numbers {
 			for _, list := range [][]string{nil, {}, {text}, {text, "", text}} {
-				made := record{
+				record := record{
 					Time: text, ID: text, Answer: answer(text), Status: number, Key: text, Request: list, Entry: number, Certificates: list, Cached: number,
 					Unverified: number, List: text, Reason: text, Reasons: text, Target: text, Microseconds: int64(number), Host: text, Address: text,
 				}
-				wanted, err := json.Marshal(made)
-				if met := string(made.line(nil)); err != nil || met != string(wanted)+"\n" {
-					t.Errorf("%q, wanted %q", met, wanted)
+				wanted, err := json.Marshal(record)
+				if line := string(record.line(nil)); err != nil || line != string(wanted)+"\n" {
+					t.Errorf("%q, wanted %q", line, wanted)
 				}
 			}
 		}
@@ -29,23 +29,23 @@ func TestLines(t *testing.T) {
 // TestLogThatCannotBeWritten asks where no grant can be logged: what would be granted fails. A denial stays what it is.
 func TestLogThatCannotBeWritten(t *testing.T) {
 	s := newSite(t, "")
-	if met := s.by(s.alice, "GET", "/web/x", ""); met.StatusCode != 200 {
-		t.Fatal(met.StatusCode)
+	if response := s.by(s.alice, "GET", "/web/x", ""); response.StatusCode != 200 {
+		t.Fatal(response.StatusCode)
 	}
 	s.log.fail(errFull)
-	met := s.by(s.alice, "GET", "/web/x", "")
-	if met.StatusCode != 503 || met.Header.Get("X-Spki-Answer") != "failed" || met.Header.Get("X-Spki-Entry") != "" {
-		t.Errorf("%d, %v", met.StatusCode, met.Header)
+	response := s.by(s.alice, "GET", "/web/x", "")
+	if response.StatusCode != 503 || response.Header.Get("X-Spki-Answer") != "failed" || response.Header.Get("X-Spki-Entry") != "" {
+		t.Errorf("%d, %v", response.StatusCode, response.Header)
 	}
 	if line := s.lastLine(t); line.Answer != answerFailed || line.Status != 503 || !strings.Contains(line.Reason, errFull.Error()) {
 		t.Errorf("%+v", line)
 	}
-	if met := s.by(s.mallory, "GET", "/web/x", ""); met.StatusCode != 401 {
-		t.Errorf("a denial: %d", met.StatusCode)
+	if response := s.by(s.mallory, "GET", "/web/x", ""); response.StatusCode != 401 {
+		t.Errorf("a denial: %d", response.StatusCode)
 	}
 	s.log.fail(nil)
-	if met := s.by(s.alice, "GET", "/web/x", ""); met.StatusCode != 200 {
-		t.Errorf("afterwards: %d", met.StatusCode)
+	if response := s.by(s.alice, "GET", "/web/x", ""); response.StatusCode != 200 {
+		t.Errorf("afterwards: %d", response.StatusCode)
 	}
 }
 
@@ -54,14 +54,14 @@ func TestLogThatHangs(t *testing.T) {
 	s := serveHere(t, "")
 	goes := make(chan struct{})
 	defer close(goes)
-	s.logGrant = newWriter(&hanging{goes: goes}, s.config.Limits.time()/20, nil).write
+	s.logGrant = newWriter(&hangingSink{goes: goes}, s.config.Limits.time()/20, nil).write
 	for turn := 0; turn < 2; turn++ {
-		if met := s.get(t, "/web/x"); met != 503 {
-			t.Errorf("%d", met)
+		if status := s.get(t, "/web/x"); status != 503 {
+			t.Errorf("%d", status)
 		}
 	}
-	if met := s.get(t, "/x"); met != 401 || s.lastLine(t).Status != 401 {
-		t.Errorf("a denial: %d", met)
+	if status := s.get(t, "/x"); status != 401 || s.lastLine(t).Status != 401 {
+		t.Errorf("a denial: %d", status)
 	}
 }
 
@@ -81,11 +81,11 @@ func TestNumbersOfRequests(t *testing.T) {
 			t.Errorf("%q: %+v", id, s.lastLine(t))
 		}
 	}
-	if met := s.ask(append(alice[:6:6], "X-Request-Id", "a", "X-Request-Id", "b")...); met.StatusCode != 400 {
-		t.Errorf("two numbers: %d", met.StatusCode)
+	if response := s.ask(append(alice[:6:6], "X-Request-Id", "a", "X-Request-Id", "b")...); response.StatusCode != 400 {
+		t.Errorf("two numbers: %d", response.StatusCode)
 	}
 	refused := append([]string{"X-Original-Method", "GET", "X-Original-URI", "/web/../x", "X-Request-Id", "4f2b"}, alice[4:]...)
-	if met := s.ask(refused...); met.StatusCode != 400 || s.lastLine(t).ID != "4f2b" {
-		t.Errorf("%d, %+v", met.StatusCode, s.lastLine(t))
+	if response := s.ask(refused...); response.StatusCode != 400 || s.lastLine(t).ID != "4f2b" {
+		t.Errorf("%d, %+v", response.StatusCode, s.lastLine(t))
 	}
 }

@@ -10,10 +10,10 @@ import (
 // TestRates asks as two clients at several times, and counts how many requests are allowed. A row has the client, the time since the row before, and
 // how many requests are made and allowed.
 func TestRates(t *testing.T) {
-	made, now := newRateLimiter(5), time.Unix(1_000_000, 0)
+	limiter, now := newRateLimiter(5), time.Unix(1_000_000, 0)
 	count := func(who string, times int) (allowed int) {
 		for turn := 0; turn < times; turn++ {
-			if made.allows(who, now) {
+			if limiter.allows(who, now) {
 				allowed++
 			}
 		}
@@ -28,8 +28,8 @@ func TestRates(t *testing.T) {
 		{"a", -time.Hour, 100, 0}, {"a", time.Second, 100, 5}, {"a", 24 * time.Hour, 100, 10},
 	} {
 		now = now.Add(row.later)
-		if met := count(row.who, row.times); met != row.wanted {
-			t.Errorf("%+v: %d", row, met)
+		if allowed := count(row.who, row.times); allowed != row.wanted {
+			t.Errorf("%+v: %d", row, allowed)
 		}
 	}
 	none := newRateLimiter(0)
@@ -42,15 +42,15 @@ func TestRates(t *testing.T) {
 
 // TestRatesAreBounded asks from more addresses than are known. One that asks all the time is not forgotten.
 func TestRatesAreBounded(t *testing.T) {
-	made, now, allowed := newRateLimiter(1), time.Unix(1_000_000, 0), 0
+	limiter, now, allowed := newRateLimiter(1), time.Unix(1_000_000, 0), 0
 	for number := 0; number < 3*mostBuckets; number++ {
-		made.allows(fmt.Sprint(number), now)
-		if made.allows("a", now) {
+		limiter.allows(fmt.Sprint(number), now)
+		if limiter.allows("a", now) {
 			allowed++
 		}
 	}
-	if known := len(made.buckets.old) + len(made.buckets.young); known > mostBuckets || allowed != savedSeconds {
-		t.Errorf("%d are known, %d are allowed", known, allowed)
+	if count := len(limiter.buckets.old) + len(limiter.buckets.young); count > mostBuckets || allowed != savedSeconds {
+		t.Errorf("%d are known, %d are allowed", count, allowed)
 	}
 }
 
@@ -63,22 +63,22 @@ func TestLimited(t *testing.T) {
 			s.now = func() time.Time { return fixed }
 			pairs := []string{"X-Original-Method", "GET", "X-Original-URI", "/web/x", "X-Client-Cert", s.alice.escaped()}
 			if address != "" {
-				if met := s.ask(pairs...); met.StatusCode/100 != 4 {
-					t.Errorf("no address: %d", met.StatusCode)
+				if response := s.ask(pairs...); response.StatusCode/100 != 4 {
+					t.Errorf("no address: %d", response.StatusCode)
 				}
 				pairs = append(pairs, "X-Real-IP", address)
 			}
 			for turn, status := range []int{200, 200, wanted, wanted} {
-				if met := s.ask(pairs...); met.StatusCode != status {
-					t.Errorf("%s, turn %d: %d, wanted %d", limit, turn, met.StatusCode, status)
+				if response := s.ask(pairs...); response.StatusCode != status {
+					t.Errorf("%s, turn %d: %d, wanted %d", limit, turn, response.StatusCode, status)
 				}
 			}
 			if line := s.lastLine(t); line.Answer != answerLimited || line.Address != address {
 				t.Errorf("%+v", line)
 			}
 			fixed = fixed.Add(time.Second)
-			if met := s.ask(pairs...); met.StatusCode != 200 {
-				t.Errorf("a second later: %d", met.StatusCode)
+			if response := s.ask(pairs...); response.StatusCode != 200 {
+				t.Errorf("a second later: %d", response.StatusCode)
 			}
 		}
 	}
@@ -86,18 +86,18 @@ func TestLimited(t *testing.T) {
 
 // TestClock notes moments, of which one is far before the one noted last.
 func TestClock(t *testing.T) {
-	var made clock
+	var watched clock
 	begin := time.Unix(1_000_000, 0)
 	for _, row := range []struct {
 		at     time.Duration
 		isBack bool
 	}{{0, false}, {time.Second, false}, {500 * time.Millisecond, false}, {-time.Hour, true}, {-time.Hour, false}, {time.Hour, false}} {
-		if made.note(begin.Add(row.at)) != row.isBack {
+		if watched.note(begin.Add(row.at)) != row.isBack {
 			t.Errorf("%+v", row)
 		}
 	}
-	if made.times.Load() != 1 {
-		t.Errorf("%d times", made.times.Load())
+	if watched.times.Load() != 1 {
+		t.Errorf("%d times", watched.times.Load())
 	}
 }
 
@@ -123,10 +123,10 @@ func TestClockIsWatched(t *testing.T) {
 	at := time.Now()
 	s.now = func() time.Time { return at }
 	var messages journal
-	made := &daemon{decider: s.decider, messages: newWriter(&stream{to: messages.writer()}, time.Minute, nil)}
+	daemon := &daemon{decider: s.decider, messages: newWriter(&stream{to: messages.writer()}, time.Minute, nil)}
 	for _, later := range []time.Duration{0, time.Second, -time.Hour, time.Second, time.Second} {
 		at = at.Add(later)
-		made.watchClock()
+		daemon.watchClock()
 	}
 	if text := messages.String(); strings.Count(text, `"event":"the clock went back"`) != 1 || strings.Count(text, "\n") != 1 {
 		t.Errorf("%q", text)

@@ -10,12 +10,12 @@ import (
 func TestMoments(t *testing.T) {
 	begin := time.Date(2026, 2, 28, 23, 59, 59, 999_999_999, time.FixedZone("east", 3600))
 	for _, moment := range []time.Time{begin, begin.Add(time.Nanosecond), begin.Add(time.Millisecond), begin.Add(-time.Hour), begin, {}, time.Unix(-1, 5)} {
-		if said, want := stamp(moment), moment.UTC().Format("2006-01-02T15:04:05.000Z"); said != want {
-			t.Errorf("%s, not %s", said, want)
+		if text, want := stamp(moment), moment.UTC().Format("2006-01-02T15:04:05.000Z"); text != want {
+			t.Errorf("%s, not %s", text, want)
 		}
-		made := record{Status: 200, Answer: answerYes}
-		if want := moment.UTC().Format(time.RFC1123); !strings.Contains(string(made.response(nil, moment, false)), "\r\nDate: "+strings.Replace(want, "UTC", "GMT", 1)+"\r\n") {
-			t.Errorf("no date %s: %s", want, made.response(nil, moment, false))
+		granted := record{Status: 200, Answer: answerYes}
+		if want := moment.UTC().Format(time.RFC1123); !strings.Contains(string(granted.response(nil, moment, false)), "\r\nDate: "+strings.Replace(want, "UTC", "GMT", 1)+"\r\n") {
+			t.Errorf("no date %s: %s", want, granted.response(nil, moment, false))
 		}
 	}
 }

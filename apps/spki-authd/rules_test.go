@@ -22,9 +22,9 @@ func TestRequests(t *testing.T) {
 		{"GET", "/api/x", nil, 1}, {"get", "/a", nil, 2}, {"DELETE", "/a", nil, 2}, {"", "/a", nil, 2}, {"GET ", "/a", nil, 2},
 		{"GET", "/{method}", []string{"files", "read", "/{method}"}, 2},
 	} {
-		met, rule := requestOf(rulesOfTests, "", row.method, row.path)
-		if !reflect.DeepEqual(met, row.wanted) || rule != row.rule {
-			t.Errorf("%s %s: %q by rule %d, wanted %q", row.method, row.path, met, rule, row.wanted)
+		request, rule := requestOf(rulesOfTests, "", row.method, row.path)
+		if !reflect.DeepEqual(request, row.wanted) || rule != row.rule {
+			t.Errorf("%s %s: %q by rule %d, wanted %q", row.method, row.path, request, rule, row.wanted)
 		}
 	}
 	if rulesOfTests[1].Request[2] != "{path}" {
@@ -50,8 +50,8 @@ func TestRequestsOfHosts(t *testing.T) {
 		{"a.example", "/x/1", []string{"a", "read", "/x/1"}}, {"b.example", "/x/1", []string{"b", "/x/1"}}, {"c.example", "/x/1", []string{"c.example", "/x/1"}},
 		{"b.example", "/y", nil}, {"", "/y", nil},
 	} {
-		if met, _ := requestOf(rules, row.host, "GET", row.path); !reflect.DeepEqual(met, row.wanted) {
-			t.Errorf("%s %s: %q", row.host, row.path, met)
+		if request, _ := requestOf(rules, row.host, "GET", row.path); !reflect.DeepEqual(request, row.wanted) {
+			t.Errorf("%s %s: %q", row.host, row.path, request)
 		}
 	}
 }

@@ -17,69 +17,71 @@ import (
 	"time"
 )
 
-// served is a site that answers on a Unix socket, in this process.
-type served struct {
+// A servedSite is a site for which a daemon in this process answers at a Unix socket.
+type servedSite struct {
 	*site
 	daemon *daemon
 	socket string
 	client *http.Client
-	// What stays open until the daemon has ended.
+	// Connections that are closed only when the daemon has ended.
 	open []net.Conn
 }
 
 // serveHere returns a site that a daemon in this process answers for at a socket, until the test ends. `fields` are more fields of its configuration,
 // each after a comma, or empty.
-func serveHere(t *testing.T, fields string) *served {
+func serveHere(t *testing.T, fields string) *servedSite {
 	t.Helper()
 	room := t.TempDir()
-	made := &served{site: newSite(t, fields), socket: filepath.Join(room, "socket")}
-	made.config.Listen, made.config.SocketMode, made.config.Log = unixScheme+made.socket, "0600", filepath.Join(room, "log")
-	made.config.Control = made.config.Listen + controlSuffix
+	here := &servedSite{site: newSite(t, fields), socket: filepath.Join(room, "socket")}
+	here.config.Listen, here.config.SocketMode, here.config.Log = unixScheme+here.socket, "0600", filepath.Join(room, "log")
+	here.config.Control = here.config.Listen + controlSuffix
 	signals := signals{make(chan os.Signal, 1), make(chan os.Signal, 1), make(chan os.Signal, 1)}
-	made.daemon = &daemon{decider: made.decider, signals: signals, orders: make(chan order), begun: time.Now()}
+	here.daemon = &daemon{decider: here.decider, signals: signals, orders: make(chan order), begun: time.Now()}
 	var messages journal
-	if err := made.daemon.open(io.Discard, messages.writer()); err != nil {
+	if err := here.daemon.open(io.Discard, messages.writer()); err != nil {
 		t.Fatal(err)
 	}
-	made.logGrant, made.logOther = made.log.grant, made.log.other
+	here.logGrant, here.logOther = here.log.grant, here.log.other
 	ended := make(chan error, 1)
-	go func() { ended <- made.daemon.listenAndServe() }()
-	made.client = &http.Client{Transport: &http.Transport{MaxIdleConnsPerHost: 16, DialContext: func(ctx context.Context, _, _ string) (net.Conn, error) {
-		return (&net.Dialer{}).DialContext(ctx, "unix", made.socket)
+	go func() { ended <- here.daemon.listenAndServe() }()
+	here.client = &http.Client{Transport: &http.Transport{MaxIdleConnsPerHost: 16, DialContext: func(ctx context.Context, _, _ string) (net.Conn, error) {
+		return (&net.Dialer{}).DialContext(ctx, "unix", here.socket)
 	}}}
-	waitFor(t, made.config.controlPath())
+	waitFor(t, here.config.controlPath())
 	t.Cleanup(func() {
-		made.client.CloseIdleConnections()
+		here.client.CloseIdleConnections()
 		signals.end <- syscall.SIGTERM
 		if err := <-ended; err != nil || !strings.Contains(messages.String(), `"started"`) || !strings.Contains(messages.String(), `"ended"`) {
 			t.Errorf("%v, %s", err, messages.String())
 		}
-		for _, connection := range made.open {
+		for _, connection := range here.open {
 			connection.Close()
 		}
 	})
-	return made
+	return here
 }
 
 // TestEndsWithoutDisk ends a daemon whose disk does not take the last grants: the error and the message say so.
 func TestEndsWithoutDisk(t *testing.T) {
-	made := &daemon{decider: newSite(t, "").decider, begun: time.Now()}
+	daemon := &daemon{decider: newSite(t, "").decider, begun: time.Now()}
 	room := t.TempDir()
-	made.config.Log = filepath.Join(room, "log")
+	daemon.config.Log = filepath.Join(room, "log")
 	var messages journal
-	if err := made.open(io.Discard, messages.writer()); err != nil {
+	if err := daemon.open(io.Discard, messages.writer()); err != nil {
 		t.Fatal(err)
 	}
 	listener, err := net.Listen("unix", filepath.Join(room, "socket"))
 	if err != nil {
 		t.Fatal(err)
 	}
-	made.granted.do(func() { made.ledger.file = &failing{File: made.ledger.file.(*os.File), room: -1, isNotWritten: true} })
-	err = made.end(listener, newConnectionServer(made.decider))
-	made.flush()
-	said := messages.String()
-	if err == nil || !strings.Contains(said, `"ended not"`) || !strings.Contains(said, "may not be on the disk") {
-		t.Errorf("%v, %s", err, said)
+	daemon.granted.do(func() {
+		daemon.ledger.file = &failingFile{File: daemon.ledger.file.(*os.File), room: -1, isNotWritten: true}
+	})
+	err = daemon.end(listener, newConnectionServer(daemon.decider))
+	daemon.flush()
+	events := messages.String()
+	if err == nil || !strings.Contains(events, `"ended not"`) || !strings.Contains(events, "may not be on the disk") {
+		t.Errorf("%v, %s", err, events)
 	}
 }
 
@@ -97,7 +99,7 @@ func waitFor(t *testing.T, path string) {
 }
 
 // get asks the daemon over its socket whether Alice may read a target, and returns the status, or 0 after an error.
-func (s *served) get(t *testing.T, target string) int {
+func (s *servedSite) get(t *testing.T, target string) int {
 	request, err := http.NewRequest(http.MethodGet, "http://daemon/", nil)
 	if err != nil {
 		t.Error(err)
@@ -125,11 +127,11 @@ func TestReloadsUnderLoad(t *testing.T) {
 		go func() {
 			defer all.Done()
 			for turn := 0; turn < 100; turn++ {
-				if met := s.get(t, "/web/x"); met != 200 {
-					t.Errorf("granted: %d", met)
+				if status := s.get(t, "/web/x"); status != 200 {
+					t.Errorf("granted: %d", status)
 				}
-				if met := s.get(t, "/x"); met != 401 {
-					t.Errorf("denied: %d", met)
+				if status := s.get(t, "/x"); status != 401 {
+					t.Errorf("denied: %d", status)
 				}
 			}
 		}()
@@ -158,8 +160,8 @@ func TestConnectionsAreBounded(t *testing.T) {
 			t.Fatal(err)
 		}
 	}
-	if met := s.get(t, "/web/x"); met != 200 {
-		t.Errorf("after the slow ones: %d", met)
+	if status := s.get(t, "/web/x"); status != 200 {
+		t.Errorf("after the slow ones: %d", status)
 	}
 	for _, connection := range waiting {
 		octets, _ := io.ReadAll(connection)
@@ -194,13 +196,13 @@ func TestOtherRequests(t *testing.T) {
 			t.Errorf("%s: %d lines", name, s.lines()-before)
 		}
 	}
-	if met := s.get(t, "/web/x"); met != 200 {
-		t.Errorf("after them: %d", met)
+	if status := s.get(t, "/web/x"); status != 200 {
+		t.Errorf("after them: %d", status)
 	}
 }
 
 // exchange sends the daemon a text, and returns all that it answers until it closes the connection.
-func (s *served) exchange(t *testing.T, text string) []byte {
+func (s *servedSite) exchange(t *testing.T, text string) []byte {
 	t.Helper()
 	connection, err := net.Dial("unix", s.socket)
 	if err != nil {
@@ -215,7 +217,7 @@ func (s *served) exchange(t *testing.T, text string) []byte {
 
 // request returns the text of an HTTP request that asks whether Alice may read a target. `method` is that of the asking request itself. `more` has
 // lines for its header, each with its CRLF, or is empty.
-func (s *served) request(method, target, more string) string {
+func (s *servedSite) request(method, target, more string) string {
 	return method + " / HTTP/1.1\r\nHost: x\r\nX-Original-Method: GET\r\nX-Original-URI: " + target + "\r\nX-Client-Cert: " + s.alice.escaped() + "\r\n" +
 		more + "\r\n"
 }
@@ -225,13 +227,13 @@ func TestRequestsInOneConnection(t *testing.T) {
 	s := serveHere(t, "")
 	octets := s.exchange(t, s.request("GET", "/web/x", "")+s.request("HEAD", "/web/../x", "")+s.request("GET", "/x", "")+
 		s.request("GET", "/web/y", "Connection: close\r\n")+s.request("GET", "/web/z", ""))
-	var met []string
+	var statusLines []string
 	for _, answer := range strings.Split(string(octets), "\r\n\r\n") {
 		line, _, _ := strings.Cut(answer, "\r\n")
-		met = append(met, line)
+		statusLines = append(statusLines, line)
 	}
-	if wanted := "HTTP/1.1 200 OK,HTTP/1.1 400 Bad Request,HTTP/1.1 401 Unauthorized,HTTP/1.1 200 OK,"; strings.Join(met, ",") != wanted {
-		t.Errorf("%q", met)
+	if wanted := "HTTP/1.1 200 OK,HTTP/1.1 400 Bad Request,HTTP/1.1 401 Unauthorized,HTTP/1.1 200 OK,"; strings.Join(statusLines, ",") != wanted {
+		t.Errorf("%q", statusLines)
 	}
 	if s.lines() != 4 {
 		t.Errorf("%d lines", s.lines())
@@ -282,34 +284,34 @@ func TestWaitingConnections(t *testing.T) {
 // connection, as web servers do it.
 func TestManyKeptConnections(t *testing.T) {
 	s := serveHere(t, `, "limits": {"connections": 8, "seconds": 60}`)
-	kept := make([]net.Conn, 40)
+	connections := make([]net.Conn, 40)
 	request := []byte(s.request("GET", "/web/x", ""))
 	asks := func(place int) bool {
-		if kept[place] == nil {
+		if connections[place] == nil {
 			return false
 		}
-		if _, err := kept[place].Write(request); err != nil {
+		if _, err := connections[place].Write(request); err != nil {
 			return false
 		}
-		_, err := http.ReadResponse(bufio.NewReader(kept[place]), nil)
+		_, err := http.ReadResponse(bufio.NewReader(connections[place]), nil)
 		return err == nil
 	}
 	for turn := 0; turn < 3; turn++ {
-		for place := range kept {
+		for place := range connections {
 			if asks(place) {
 				continue
 			}
-			made, err := net.Dial("unix", s.socket)
+			connection, err := net.Dial("unix", s.socket)
 			if err != nil {
 				t.Fatal(err)
 			}
-			defer made.Close()
-			if kept[place] = made; !asks(place) {
+			defer connection.Close()
+			if connections[place] = connection; !asks(place) {
 				t.Fatalf("turn %d, connection %d: no answer", turn, place)
 			}
 		}
 	}
-	if s.lines() != 3*len(kept) {
+	if s.lines() != 3*len(connections) {
 		t.Errorf("%d lines", s.lines())
 	}
 }
@@ -328,19 +330,19 @@ func TestEndBesideConnections(t *testing.T) {
 			t.Fatal(err)
 		}
 	}
-	if met := s.get(t, "/web/x"); met != 200 {
-		t.Error(met)
+	if status := s.get(t, "/web/x"); status != 200 {
+		t.Error(status)
 	}
 }
 
-// A dated connection notes the deadline that it was given last, for reads or for both.
-type dated struct {
+// A recordedDeadline is a connection that keeps the last deadline that was set, for reads or for both.
+type recordedDeadline struct {
 	net.Conn
 	until time.Time
 }
 
-func (d *dated) SetDeadline(until time.Time) error     { d.until = until; return nil }
-func (d *dated) SetReadDeadline(until time.Time) error { d.until = until; return nil }
+func (d *recordedDeadline) SetDeadline(until time.Time) error     { d.until = until; return nil }
+func (d *recordedDeadline) SetReadDeadline(until time.Time) error { d.until = until; return nil }
 
 // TestDeadlines has an idle connection ended, to make room for a new one or since it was idle for long, while a request comes on it: that request has
 // its whole time.
@@ -348,7 +350,7 @@ func TestDeadlines(t *testing.T) {
 	for name, ends := range map[string]func(server *connectionServer){
 		"for a new one": (*connectionServer).closeIdle, "after long": func(server *connectionServer) { server.endLate(time.Now().Add(timeIdle + time.Second)) },
 	} {
-		server, connection := newConnectionServer(newSite(t, "").decider), &dated{}
+		server, connection := newConnectionServer(newSite(t, "").decider), &recordedDeadline{}
 		state := server.add(connection)
 		if err := server.setStage(state, isIdle); err != nil || !connection.until.IsZero() {
 			t.Errorf("%s: %v, %v", name, err, connection.until)
@@ -364,7 +366,7 @@ func TestDeadlines(t *testing.T) {
 }
 
 // lines returns the number of lines in the log.
-func (s *served) lines() int {
+func (s *servedSite) lines() int {
 	return strings.Count(s.log.String(), "\n")
 }
 
@@ -452,8 +454,8 @@ func TestWords(t *testing.T) {
 	list, bad := writeFile(t, "acl", "(acl (entry (public-key (test a)) (tag (*))))"), writeFile(t, "bad", "(acl (entry))")
 	config := writeFile(t, "config", strings.Replace(strings.Replace(least, "/acl", list, 1), `"/log"`, `"`+filepath.Join(t.TempDir(), "log")+`"`, 1))
 	for line, wanted := range map[string]struct {
-		status    int
-		out, said string
+		status       int
+		out, message string
 	}{
 		"-check " + list: {0, "1 entries", ""}, "-check /none": {1, "", "no such file"},
 		"-check " + bad: {1, "", "refused acl 1 Shape; `spki-cert check " + bad + "` says where"},
@@ -462,16 +464,16 @@ func TestWords(t *testing.T) {
 		"-check=": {2, "", "-check is empty"}, "-probe= -stopped": {2, "", "-probe is empty"}, "-of= -state": {2, "", "-of is empty"},
 		"-fewer": {2, "", "-reload"}, "-of x": {2, "", "-state"}, "-reload -state": {2, "", "-reload and -state"}, "-reload -config " + config: {1, "", "no such file"},
 	} {
-		var out, said bytes.Buffer
-		status := run(strings.Fields(line), &out, &said)
-		if status != wanted.status || !strings.Contains(out.String(), wanted.out) || !strings.Contains(said.String(), wanted.said) {
-			t.Errorf("%s: %d, %q, %q", line, status, out.String(), said.String())
+		var out, messages bytes.Buffer
+		status := run(strings.Fields(line), &out, &messages)
+		if status != wanted.status || !strings.Contains(out.String(), wanted.out) || !strings.Contains(messages.String(), wanted.message) {
+			t.Errorf("%s: %d, %q, %q", line, status, out.String(), messages.String())
 		}
 	}
 	for _, words := range [][]string{{"-check", list}, {"-test", "-config", config}, {"-version"}} {
-		var said bytes.Buffer
-		if status := run(words, &filling{}, &said); status != 1 || !strings.Contains(said.String(), errFull.Error()) {
-			t.Errorf("%q to a full disk: %d, %q", words, status, said.String())
+		var messages bytes.Buffer
+		if status := run(words, &fullWriter{}, &messages); status != 1 || !strings.Contains(messages.String(), errFull.Error()) {
+			t.Errorf("%q to a full disk: %d, %q", words, status, messages.String())
 		}
 	}
 }

@@ -6,6 +6,9 @@ import (
 	"strings"
 	"testing"
 	"time"
+
+	"conguraki/spki"
+	"conguraki/spki/guard"
 )
 
 // kept returns the number of sequences that are kept since they were shown and valid.
@@ -18,8 +21,8 @@ func (s *site) kept() int {
 func (s *site) mustBe(t *testing.T, what string, who person, target, shown string, wanted int) record {
 	t.Helper()
 	for turn := 1; turn <= 3; turn++ {
-		if met := s.by(who, "GET", target, shown); met.StatusCode != wanted {
-			t.Errorf("%s, turn %d: %d, wanted %d: %+v", what, turn, met.StatusCode, wanted, s.lastLine(t))
+		if response := s.by(who, "GET", target, shown); response.StatusCode != wanted {
+			t.Errorf("%s, turn %d: %d, wanted %d: %+v", what, turn, response.StatusCode, wanted, s.lastLine(t))
 		}
 	}
 	return s.lastLine(t)
@@ -42,8 +45,8 @@ func TestKeptSequencesGrantNothingByThemselves(t *testing.T) {
 	if s.kept() != 1 {
 		t.Errorf("%d sequences are kept", s.kept())
 	}
-	if met := s.by(s.carol, "PUT", "/web/docs/a/b", carols); met.StatusCode != 403 {
-		t.Errorf("another method: %d", met.StatusCode)
+	if response := s.by(s.carol, "PUT", "/web/docs/a/b", carols); response.StatusCode != 403 {
+		t.Errorf("another method: %d", response.StatusCode)
 	}
 }
 
@@ -52,10 +55,10 @@ func TestSequenceIsCanonicalFromTheSecondTimeOn(t *testing.T) {
 	s := newSite(t, "")
 	_, carols := s.sequencesShown()
 	for _, begin := range []string{"{", "(8:sequence"} {
-		if met := s.by(s.carol, "GET", "/web/docs/a/b", carols); met.StatusCode != 200 {
-			t.Errorf("%s: %d", begin, met.StatusCode)
+		if response := s.by(s.carol, "GET", "/web/docs/a/b", carols); response.StatusCode != 200 {
+			t.Errorf("%s: %d", begin, response.StatusCode)
 		}
-		if known := s.sequences.of(carols); known == nil || !strings.HasPrefix(string(known.text), begin) {
+		if kept := s.sequences.of(carols); kept == nil || !strings.HasPrefix(string(kept.text), begin) {
 			t.Errorf("what is kept does not begin with %s", begin)
 		}
 	}
@@ -173,5 +176,23 @@ func TestKeptSequencesAreExplained(t *testing.T) {
 	s.mustBe(t, "granted", s.bob, "/web/docs/b", bobs, 200)
 	if line := s.mustBe(t, "denied", s.bob, "/web/x", bobs, 403); line.Reasons != "entry 1 TagLacks" {
 		t.Errorf("%+v", line)
+	}
+}
+
+// TestSignaturesThatAreNotRead closes a question before its signatures are read: that is an error, and not a sequence without signatures.
+func TestSignaturesThatAreNotRead(t *testing.T) {
+	s := newSite(t, "")
+	bobs, _ := s.sequencesShown()
+	question := guard.Question{Sequence: []byte(bobs), Key: spki.AssumeKey([]byte(s.bob.key)), Words: anyWords, Time: s.now()}
+	_, _, opened, err := s.decider.ask(question, "", "/web/x")
+	if err != nil {
+		t.Fatal(err)
+	}
+	if signatures, err := signaturesIn(opened); err != nil || len(signatures) != 1 {
+		t.Errorf("%d signatures, %v", len(signatures), err)
+	}
+	opened.Close()
+	if _, err := signaturesIn(opened); err == nil {
+		t.Error("a closed question has no signatures")
 	}
 }

@@ -36,24 +36,24 @@ func (p person) signs(t testing.TB, method, authority, target, sequence string, 
 
 // withValue returns pairs of name and value, with another value for a name.
 func withValue(pairs []string, name, value string) []string {
-	made := append([]string{}, pairs...)
-	for place := 0; place < len(made); place += 2 {
-		if strings.EqualFold(made[place], name) {
-			made[place+1] = value
+	changed := append([]string{}, pairs...)
+	for place := 0; place < len(changed); place += 2 {
+		if strings.EqualFold(changed[place], name) {
+			changed[place+1] = value
 		}
 	}
-	return made
+	return changed
 }
 
 // without returns pairs of name and value, without those of a name.
 func without(pairs []string, name string) []string {
-	var made []string
+	var remaining []string
 	for place := 0; place < len(pairs); place += 2 {
 		if !strings.EqualFold(pairs[place], name) {
-			made = append(made, pairs[place], pairs[place+1])
+			remaining = append(remaining, pairs[place], pairs[place+1])
 		}
 	}
-	return made
+	return remaining
 }
 
 // TestSigned asks with signed requests, right ones and changed ones, and compares the status and the reason.
@@ -93,10 +93,10 @@ func TestSigned(t *testing.T) {
 		{"a certificate alone", []string{"X-Original-Method", "GET", "X-Original-URI", "/web/x", "X-Client-Cert", s.alice.escaped()}, 200, ""},
 		{"nothing", []string{"X-Original-Method", "GET", "X-Original-URI", "/web/x"}, 401, ""},
 	} {
-		met := s.ask(row.pairs...)
+		response := s.ask(row.pairs...)
 		line := s.lastLine(t)
-		if met.StatusCode != row.status || !strings.HasSuffix(line.Reason, row.reason) || (line.Entry > 0) != (row.status == 200) {
-			t.Errorf("%s: %d, wanted %d: %+v", row.name, met.StatusCode, row.status, line)
+		if response.StatusCode != row.status || !strings.HasSuffix(line.Reason, row.reason) || (line.Entry > 0) != (row.status == 200) {
+			t.Errorf("%s: %d, wanted %d: %+v", row.name, response.StatusCode, row.status, line)
 		}
 	}
 	if line := s.lastLine(t); line.Proof != "" {
@@ -109,8 +109,8 @@ func TestNoncesOfDenials(t *testing.T) {
 	s := newSite(t, `, "signatures": {"names": ["files.example.org"], "nonces": 1}`)
 	denied := s.mallory.signs(t, "GET", "files.example.org", "/web/x", "", nil)
 	for range [3]int{} {
-		if met := s.ask(denied...); met.StatusCode != http.StatusUnauthorized {
-			t.Error(met.StatusCode, s.lastLine(t))
+		if response := s.ask(denied...); response.StatusCode != http.StatusUnauthorized {
+			t.Error(response.StatusCode, s.lastLine(t))
 		}
 	}
 	for _, wanted := range []string{"", string(httpsig.StoreFull)} {
@@ -124,8 +124,8 @@ func TestNoncesOfDenials(t *testing.T) {
 // TestSignaturesAreOff sends a signed request where none are read, and reads wrong settings of signatures.
 func TestSignaturesAreOff(t *testing.T) {
 	s := newSite(t, "")
-	if met := s.ask(s.alice.signs(t, "GET", "files.example.org", "/web/x", "", nil)...); met.StatusCode != http.StatusUnauthorized {
-		t.Error(met.StatusCode)
+	if response := s.ask(s.alice.signs(t, "GET", "files.example.org", "/web/x", "", nil)...); response.StatusCode != http.StatusUnauthorized {
+		t.Error(response.StatusCode)
 	}
 	for _, wrong := range []string{
 		`{}`, `{"names": []}`, `{"names": ["a b"]}`, `{"names": ["a.example", "A.example:8443"]}`, `{"names": ["a"], "nonces": -1}`,
@@ -139,17 +139,17 @@ func TestSignaturesAreOff(t *testing.T) {
 	}
 }
 
-// forgetful are nonces that are never seen twice, so that one request can be measured.
-type forgetful struct{}
+// forgetfulNonces accept each nonce again, so that one request can be sent often.
+type forgetfulNonces struct{}
 
 // Take accepts each nonce.
-func (forgetful) Take([]byte, string, int64, int64) error { return nil }
+func (forgetfulNonces) Take([]byte, string, int64, int64) error { return nil }
 
 // BenchmarkSigned measures a signed request without certificates: the proof and the decision.
 func BenchmarkSigned(b *testing.B) {
 	s := newSite(b, ofSite)
 	s.logGrant = func([]byte) error { return nil }
-	s.requests.Nonces = forgetful{}
+	s.requests.Nonces = forgetfulNonces{}
 	request := httptest.NewRequest(http.MethodGet, "/auth", nil)
 	pairs := s.alice.signs(b, "GET", "files.example.org", "/web/x", "", nil)
 	for place := 0; place < len(pairs); place += 2 {
@@ -157,9 +157,9 @@ func BenchmarkSigned(b *testing.B) {
 	}
 	b.ReportAllocs()
 	for turn := 0; turn < b.N; turn++ {
-		made := s.answerTo(request)
-		if made.response(nil, time.Now(), false); made.Status != http.StatusOK {
-			b.Fatal(made.Status, made.Reason)
+		result := s.answerTo(request)
+		if result.response(nil, time.Now(), false); result.Status != http.StatusOK {
+			b.Fatal(result.Status, result.Reason)
 		}
 	}
 }

@@ -130,8 +130,8 @@ func (s *store) list(question *guard.Question) (*list, error) {
 		return nil, err
 	}
 	keyDigest := sha256.Sum256(key)
-	if kept := s.keptOf(keyDigest); kept != nil {
-		return kept, nil
+	if cached := s.keptOf(keyDigest); cached != nil {
+		return cached, nil
 	}
 	opened, err := s.read(keyDigest, key)
 	if err == nil {
@@ -230,11 +230,11 @@ func digestsOf(key []byte) [][]byte {
 func (s *store) keptOf(keyDigest digest) *list {
 	s.mutex.Lock()
 	defer s.mutex.Unlock()
-	kept := s.kept.get(keyDigest)
-	if kept != nil {
+	cached := s.kept.get(keyDigest)
+	if cached != nil {
 		s.count.hits++
 	}
-	return kept
+	return cached
 }
 
 // noteRead counts a question for which the database was asked. `err` is why the entries could not be read, or nil.

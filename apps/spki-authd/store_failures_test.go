@@ -58,18 +58,18 @@ func newTimeline(t *testing.T) *timeline {
 	if os.Getenv(envWriters) == "" {
 		t.Skip("tests/suite/test_store_failures.py names servers")
 	}
-	made := &timeline{rig: newRig(t, failingPatience), end: make(chan struct{}), past: []*version{{map[int]string{}, time.Now(), time.Time{}}}}
-	made.store.options.StaleSeconds = failingStale
+	line := &timeline{rig: newRig(t, failingPatience), end: make(chan struct{}), past: []*version{{map[int]string{}, time.Now(), time.Time{}}}}
+	line.store.options.StaleSeconds = failingStale
 	for _, host := range strings.Split(os.Getenv(envWriters), ",") {
-		of := *made.store.options
+		of := *line.store.options
 		of.Host, of.Root, of.Connections = host, "", 1
 		opened, err := openReader(&of, failingPatience)
 		if err != nil {
 			t.Fatal(err)
 		}
-		made.writers = append(made.writers, opened.(*pool))
+		line.writers = append(line.writers, opened.(*pool))
 	}
-	return made
+	return line
 }
 
 // transact runs statements, in which @ is the schema, in one transaction, and returns the rows of all. `values` are those of the last statement. After
@@ -103,13 +103,13 @@ func (l *timeline) transact(texts []string, values ...driver.Value) (rows [][]dr
 
 // copyOf returns a copy of a row, whose octets are valid until the next row alone.
 func copyOf(row []driver.Value) []driver.Value {
-	made := append([]driver.Value(nil), row...)
-	for place, value := range made {
+	copied := append([]driver.Value(nil), row...)
+	for place, value := range copied {
 		if octets, isText := value.([]byte); isText {
-			made[place] = append([]byte(nil), octets...)
+			copied[place] = append([]byte(nil), octets...)
 		}
 	}
-	return made
+	return copied
 }
 
 // The statement that adds a beat, by the clock of a server, which is wrong by what the table `error` says.
@@ -162,25 +162,25 @@ func (l *timeline) settle(begun time.Time) {
 }
 
 // add adds a version. If it is certain, no version before it is in force any more.
-func (l *timeline) add(made *version, isCertain bool) {
+func (l *timeline) add(next *version, isCertain bool) {
 	l.mutex.Lock()
 	defer l.mutex.Unlock()
 	for place := len(l.past) - 1; isCertain && place >= 0 && l.past[place].until.IsZero(); place-- {
 		l.past[place].until = time.Now()
 	}
-	l.past = append(l.past, made)
+	l.past = append(l.past, next)
 }
 
 // within returns the entries of each version that may have been in force between two moments, the last one first.
-func (l *timeline) within(from, until time.Time) (found []map[int]string) {
+func (l *timeline) within(from, until time.Time) (lists []map[int]string) {
 	l.mutex.Lock()
 	defer l.mutex.Unlock()
 	for place := len(l.past) - 1; place >= 0; place-- {
-		if it := l.past[place]; !it.from.After(until) && (it.until.IsZero() || !it.until.Before(from)) {
-			found = append(found, it.entries)
+		if version := l.past[place]; !version.from.After(until) && (version.until.IsZero() || !version.until.Before(from)) {
+			lists = append(lists, version.entries)
 		}
 	}
-	return found
+	return lists
 }
 
 // isRight says whether an answer is that of a version that was in force at most `failingStale` seconds before its question was asked, or since.
@@ -214,12 +214,12 @@ func TestQuestionsUnderFailures(t *testing.T) {
 	go l.store.poll()
 	go func() { defer close(over); l.changeUntilEnd() }()
 	wanted, _ := strconv.Atoi(os.Getenv(envQuestions))
-	met, last := map[string]int{}, time.Now()
+	counts, last := map[string]int{}, time.Now()
 	for count := 0; !t.Failed() && (count < wanted || !isThere(os.Getenv(envEnd))); {
 		question, asked := l.question(random), time.Now()
 		answer := l.answer(question)
 		if strings.HasPrefix(answer, failed) {
-			met[failed]++
+			counts[failed]++
 			time.Sleep(time.Millisecond)
 			if time.Since(last) > 5*time.Minute {
 				t.Fatal("no answer for minutes: " + answer)
@@ -227,17 +227,17 @@ func TestQuestionsUnderFailures(t *testing.T) {
 			continue
 		}
 		count, last = count+1, time.Now()
-		met[answer[:2]]++
+		counts[answer[:2]]++
 		if !l.isRight(asked, question, answer) {
 			t.Errorf("seed %s, question %d: %s: %s", os.Getenv(envSeed), count, answer, hex.EncodeToString(question.Sequence))
 		}
 	}
 	close(l.end)
 	<-over
-	if met["ye"] < wanted/20 || met["no"] < wanted/20 || met[failed] == 0 {
-		t.Errorf("%v", met)
+	if counts["ye"] < wanted/20 || counts["no"] < wanted/20 || counts[failed] == 0 {
+		t.Errorf("%v", counts)
 	}
-	t.Logf("%v, %d versions, %d changes not certain, %d kept of %d", met, len(l.past), l.uncertain, l.store.count.hits, l.store.count.hits+l.store.count.misses)
+	t.Logf("%v, %d versions, %d changes not certain, %d kept of %d", counts, len(l.past), l.uncertain, l.store.count.hits, l.store.count.hits+l.store.count.misses)
 }
 
 // isThere says whether there is a file at a path.

@@ -62,14 +62,14 @@ func newFigures(t *testing.T, keys int) *figures {
 	open := func(entries []byte) (*guard.Guard, error) {
 		return guard.Open([]byte("(3:acl"+string(entries)+")"), guard.Strict, guard.Limits{})
 	}
-	made, err := newStore(of, reader, open, time.Now)
+	opened, err := newStore(of, reader, open, time.Now)
 	if err != nil {
 		t.Fatal(err)
 	}
-	if err := made.pollOnce(); err != nil {
+	if err := opened.pollOnce(); err != nil {
 		t.Fatal(err)
 	}
-	return &figures{t, made, keys}
+	return &figures{t, opened, keys}
 }
 
 // key returns the key with a number, in canonical form, for which bench/store.py has put an entry into the store.
@@ -92,11 +92,11 @@ func (f *figures) timeOf(number int) time.Duration {
 // decides asks the store as the daemon does: a list that another goroutine has dropped meanwhile is asked for again.
 func (f *figures) decides(question guard.Question) (guard.Decision, error) {
 	for {
-		found, err := f.store.list(&question)
+		list, err := f.store.list(&question)
 		if err != nil {
 			return guard.Decision{}, err
 		}
-		decision, err := found.guard.Decide(question, nil)
+		decision, err := list.guard.Decide(question, nil)
 		if !errors.Is(err, guard.ErrClosed) {
 			return decision, err
 		}
@@ -195,8 +195,8 @@ func BenchmarkStored(b *testing.B) {
 		request.Header.Set(name, value)
 	}
 	for turn := 0; turn < b.N; turn++ {
-		if made := s.answerTo(request); made.Status != http.StatusOK {
-			b.Fatal(made.Status)
+		if result := s.answerTo(request); result.Status != http.StatusOK {
+			b.Fatal(result.Status)
 		}
 	}
 }

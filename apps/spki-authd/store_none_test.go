@@ -10,11 +10,11 @@ import (
 // TestNoDriver starts a daemon that has no driver with a list in PostgreSQL: it refuses.
 func TestNoDriver(t *testing.T) {
 	text := strings.Replace(least, `"/acl"`, `{"postgres": {"host": "/run/postgresql", "database": "acl", "user": "u"}}`, 1)
-	made, err := parseConfig([]byte(text))
+	config, err := parseConfig([]byte(text))
 	if err != nil {
 		t.Fatal(err)
 	}
-	if _, err := readAccess(made, newSite(t, "").now()); err == nil || !strings.Contains(err.Error(), "spki_postgres") {
+	if _, err := readAccess(config, newSite(t, "").now()); err == nil || !strings.Contains(err.Error(), "spki_postgres") {
 		t.Errorf("%v", err)
 	}
 }

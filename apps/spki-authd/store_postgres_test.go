@@ -58,7 +58,7 @@ func newRig(t *testing.T, patience time.Duration) *rig {
 		t.Fatal(err)
 	}
 	seed, _ := strconv.ParseInt(os.Getenv(envSeed), 10, 64)
-	made := &rig{t: t, random: rand.New(rand.NewSource(seed)), entries: map[int]string{}}
+	opened := &rig{t: t, random: rand.New(rand.NewSource(seed)), entries: map[int]string{}}
 	reader, err := openReader(of, patience)
 	if err != nil {
 		t.Fatal(err)
@@ -67,18 +67,18 @@ func newRig(t *testing.T, patience time.Duration) *rig {
 	if err != nil {
 		t.Fatal(err)
 	}
-	made.writer = other.(*pool)
+	opened.writer = other.(*pool)
 	open := func(entries []byte) (*guard.Guard, error) {
 		return guard.Open([]byte("(3:acl"+string(entries)+")"), guard.Strict, guard.Limits{})
 	}
-	if made.store, err = newStore(of, reader, open, time.Now); err != nil {
+	if opened.store, err = newStore(of, reader, open, time.Now); err != nil {
 		t.Fatal(err)
 	}
 	for count := 0; count < 12; count++ {
-		made.people = append(made.people, newPerson(t))
+		opened.people = append(opened.people, newPerson(t))
 	}
-	made.history = []map[int]string{{}}
-	return made
+	opened.history = []map[int]string{{}}
+	return opened
 }
 
 // forget closes the statement with a number, if it is prepared, so that the next ask prepares the text that it is given: ask keeps the statement that
@@ -224,16 +224,16 @@ func answerBy(opened *guard.Guard, numbers []int, question guard.Question) strin
 // answer returns the answer by the store. Where it has none, the answer begins with `failed`.
 func (r *rig) answer(question guard.Question) string {
 	for {
-		found, err := r.store.list(&question)
+		list, err := r.store.list(&question)
 		if errors.Is(err, guard.ErrRefused) {
 			return err.Error()
 		}
 		if err != nil {
 			return failed + err.Error()
 		}
-		made := answerBy(found.guard, found.numbers, question)
-		if made != guard.ErrClosed.Error() {
-			return made
+		answer := answerBy(list.guard, list.numbers, question)
+		if answer != guard.ErrClosed.Error() {
+			return answer
 		}
 	}
 }
@@ -262,7 +262,7 @@ func TestQuestionsToStore(t *testing.T) {
 		}
 	}()
 	questions, _ := strconv.Atoi(os.Getenv(envQuestions))
-	met := map[string]int{}
+	counts := map[string]int{}
 	for count := 0; count < questions && !t.Failed(); count++ {
 		if count%20 == 0 {
 			if err := r.store.pollOnce(); err != nil {
@@ -272,17 +272,17 @@ func TestQuestionsToStore(t *testing.T) {
 		question := r.question(random)
 		first := r.store.lastPolled().changes
 		answer := r.answer(question)
-		met[answer[:2]]++
+		counts[answer[:2]]++
 		if !r.wasRightSince(first, question, answer) {
 			t.Errorf("seed %s, question %d: %s: %s", os.Getenv(envSeed), count, answer, hex.EncodeToString(question.Sequence))
 		}
 	}
 	close(end)
 	<-ended
-	if met["ye"] < questions/20 || met["no"] < questions/20 || met["re"] < questions/200 || r.store.count.hits < uint64(questions)/20 {
-		t.Errorf("%v, %d kept", met, r.store.count.hits)
+	if counts["ye"] < questions/20 || counts["no"] < questions/20 || counts["re"] < questions/200 || r.store.count.hits < uint64(questions)/20 {
+		t.Errorf("%v, %d kept", counts, r.store.count.hits)
 	}
-	t.Logf("%v, %d changes, %d kept of %d", met, len(r.history), r.store.count.hits, r.store.count.hits+r.store.count.misses)
+	t.Logf("%v, %d changes, %d kept of %d", counts, len(r.history), r.store.count.hits, r.store.count.hits+r.store.count.misses)
 }
 
 // wasRightSince says whether an answer is that of the list after a change with this number or a later one, also if that is just being made.

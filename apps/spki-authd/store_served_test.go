@@ -192,14 +192,14 @@ func runAt(writer *pool, text string, values ...driver.Value) error {
 
 // processesOf returns the number of a process and those of the processes that it has started.
 func processesOf(parent string) []string {
-	found := []string{parent}
+	processes := []string{parent}
 	paths, _ := filepath.Glob("/proc/[0-9]*/stat")
 	for _, path := range paths {
 		if fields := statOf(path); len(fields) > 1 && fields[1] == parent {
-			found = append(found, filepath.Base(filepath.Dir(path)))
+			processes = append(processes, filepath.Base(filepath.Dir(path)))
 		}
 	}
-	return found
+	return processes
 }
 
 // statOf returns the fields of a file such as /proc/1/stat from the state on, or none if it cannot be read.

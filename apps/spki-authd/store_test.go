@@ -11,7 +11,7 @@ import (
 	"conguraki/spki/guard"
 )
 
-// A table is a reader of a store in memory: it has the entries, and what a poll would return of their changes.
+// A table is a reader of a store without a database: it has the entries, and what a poll would return of their changes.
 type table struct {
 	// The entries, and the SHA-256 digests of their keys, by the numbers of the entries.
 	texts  map[int]string
@@ -20,7 +20,7 @@ type table struct {
 	news  []change
 	ended []digest
 	state storeState
-	// What each call fails by, if anything.
+	// The error of each call, or nil.
 	fault error
 	// What happens after rows were read and before they are returned.
 	meanwhile func()
@@ -49,11 +49,11 @@ func (t *table) put(number int, key, text string) {
 }
 
 // note adds a change with the next number.
-func (t *table) note(made change) {
+func (t *table) note(next change) {
 	t.state.changes++
 	t.state.token += 7
-	made.token = t.state.token
-	t.news = append(t.news, made)
+	next.token = t.state.token
+	t.news = append(t.news, next)
 }
 
 // rows returns the entries, by numbers below 100, whose key has one of these digests.
@@ -76,18 +76,18 @@ func (t *table) rows(digests [][]byte) (rows entryRows, err error) {
 
 // since returns the changes after that with a number, and the time of that one, or 0 if there is no such change.
 func (t *table) since(number int64) (pollResult, error) {
-	made := pollResult{storeState: t.state}
+	result := pollResult{storeState: t.state}
 	if number > 0 && number <= t.state.changes {
-		made.first = t.news[number-1].token
+		result.first = t.news[number-1].token
 	}
 	for place := number; place < t.state.changes; place++ {
 		if each := t.news[place]; each.ended != nil {
-			made.ended = append(made.ended, *each.ended)
+			result.ended = append(result.ended, *each.ended)
 		} else {
-			made.changed = append(made.changed, []byte(each.place))
+			result.changed = append(result.changed, []byte(each.place))
 		}
 	}
-	return made, t.fault
+	return result, t.fault
 }
 
 // whole returns the ended certificates of the table, and the state.
@@ -115,8 +115,8 @@ func (t *table) keep(key digest, chain keptChain, limits *chains) (answer, error
 // renew does nothing: there are no connections.
 func (t *table) renew() {}
 
-// A stored is a site whose list is a table in memory. `time` is what the clock of its store says.
-type stored struct {
+// A storedSite is a site whose list is in a table. `time` is what the clock of its store says.
+type storedSite struct {
 	*site
 	table *table
 	store *store
@@ -125,9 +125,9 @@ type stored struct {
 
 // newStored returns a site whose list is a table in memory, in which Alice has entry 7. `fields` are more fields of its configuration, each after a
 // comma.
-func newStored(t testing.TB, fields ...string) *stored {
+func newStored(t testing.TB, fields ...string) *storedSite {
 	t.Helper()
-	made := &stored{site: newSite(t, strings.Join(fields, "")), table: &table{texts: map[int]string{}, places: map[int]string{}}, time: time.Now()}
+	here := &storedSite{site: newSite(t, strings.Join(fields, "")), table: &table{texts: map[int]string{}, places: map[int]string{}}, time: time.Now()}
 	open := func(entries []byte) (*guard.Guard, error) {
 		return guard.Open([]byte("(3:acl"+string(entries)+")"), guard.Strict, guard.Limits{})
 	}
@@ -136,34 +136,34 @@ func newStored(t testing.TB, fields ...string) *stored {
 		t.Fatal(err)
 	}
 	var err error
-	made.store, err = newStore(of, made.table, open, func() time.Time { return made.time })
+	here.store, err = newStore(of, here.table, open, func() time.Time { return here.time })
 	if err != nil {
 		t.Fatal(err)
 	}
-	present := made.keeper.present.Load()
-	made.keeper.present.Store(&access{lists: []*list{{scope: scope{Prefix: "/"}, store: made.store}}, ended: present.ended, digest: "store", read: present.read})
-	made.table.put(7, made.alice.key, made.entryOf(made.alice))
-	made.beat()
-	return made
+	present := here.keeper.present.Load()
+	here.keeper.present.Store(&access{lists: []*list{{scope: scope{Prefix: "/"}, store: here.store}}, ended: present.ended, digest: "store", read: present.read})
+	here.table.put(7, here.alice.key, here.entryOf(here.alice))
+	here.beat()
+	return here
 }
 
 // entryOf returns an entry by which a person may read and give on everything below /web/.
-func (s *stored) entryOf(who person) string {
+func (s *storedSite) entryOf(who person) string {
 	return "(5:entry" + who.key + propagates + "(3:tag" + prefix("read", "/web/") + "))"
 }
 
 // beat adds a beat to the table at the time of its clock, and polls.
-func (s *stored) beat() {
+func (s *storedSite) beat() {
 	s.table.state.beat++
 	s.table.state.beaten = s.time.UnixMicro()
 	_ = s.store.pollOnce()
 }
 
 // expect asks whether Alice may read /web/x, and reports an error, which begins with `name`, unless the status is the one that is wanted.
-func (s *stored) expect(t *testing.T, name string, wanted int) {
+func (s *storedSite) expect(t *testing.T, name string, wanted int) {
 	t.Helper()
-	if met := s.by(s.alice, "GET", "/web/x", ""); met.StatusCode != wanted {
-		t.Errorf("%s: %d, and not %d: %s", name, met.StatusCode, wanted, s.lastLine(t).Reason)
+	if response := s.by(s.alice, "GET", "/web/x", ""); response.StatusCode != wanted {
+		t.Errorf("%s: %d, and not %d: %s", name, response.StatusCode, wanted, s.lastLine(t).Reason)
 	}
 }
 
@@ -183,8 +183,8 @@ func TestStoreDecides(t *testing.T) {
 		"Bob": {s.bob, bobs, 200}, "Carol": {s.carol, carols, 403}, "Mallory": {s.mallory, "", 401}, "Mallory with Bob's": {s.mallory, bobs, 403},
 		"no sequence": {s.alice, "{KDE6YSk=}", 400},
 	} {
-		if met := s.by(row.who, "GET", "/web/docs/b", row.shown); met.StatusCode != row.wanted {
-			t.Errorf("%s: %d", name, met.StatusCode)
+		if response := s.by(row.who, "GET", "/web/docs/b", row.shown); response.StatusCode != row.wanted {
+			t.Errorf("%s: %d", name, response.StatusCode)
 		}
 	}
 	reads := s.table.reads
@@ -201,8 +201,8 @@ func TestStoreDecides(t *testing.T) {
 	ends := *(*digest)(hexOf(t, digestOfText(s.toBob)))
 	s.table.note(change{ended: &ends})
 	s.beat()
-	if met := s.by(s.bob, "GET", "/web/docs/b", bobs); met.StatusCode != 403 {
-		t.Errorf("an ended certificate: %d", met.StatusCode)
+	if response := s.by(s.bob, "GET", "/web/docs/b", bobs); response.StatusCode != 403 {
+		t.Errorf("an ended certificate: %d", response.StatusCode)
 	}
 	s.table.put(9, s.alice.key, "")
 	s.beat()
@@ -255,8 +255,8 @@ func TestListBesideStaleStore(t *testing.T) {
 			s.beat()
 		}
 		s.expect(t, "Alice, without certificates", 200)
-		if met := s.by(s.bob, "GET", "/web/docs/b", bobs); met.StatusCode != wanted {
-			t.Errorf("Bob: %d, and not %d", met.StatusCode, wanted)
+		if response := s.by(s.bob, "GET", "/web/docs/b", bobs); response.StatusCode != wanted {
+			t.Errorf("Bob: %d, and not %d", response.StatusCode, wanted)
 		}
 	}
 }
@@ -298,8 +298,8 @@ func TestStoredChains(t *testing.T) {
 	}
 	leaves := func(name string, wanted answer) {
 		t.Helper()
-		if _, became := s.leaves(t, s.bob, bobs); became != wanted {
-			t.Errorf("%s: %q", name, became)
+		if _, reply := s.leaves(t, s.bob, bobs); reply != wanted {
+			t.Errorf("%s: %q", name, reply)
 		}
 	}
 	is("nothing is kept", 401, "")
@@ -315,8 +315,8 @@ func TestStoredChains(t *testing.T) {
 	is("without the entries for the issuer", 503, "")
 	s.table.fault = nil
 	other := newStoredChains(limits, s.table)
-	if found, err := other.of(hexDigest([]byte(s.bob.key)), s.now()); err != nil || len(found) != 1 || found[0].text != bobs {
-		t.Errorf("%v %v", found, err)
+	if chains, err := other.of(hexDigest([]byte(s.bob.key)), s.now()); err != nil || len(chains) != 1 || chains[0].text != bobs {
+		t.Errorf("%v %v", chains, err)
 	}
 	s.table.fault = errors.New("the server is gone")
 	s.chains = newStoredChains(limits, s.table)
@@ -324,8 +324,8 @@ func TestStoredChains(t *testing.T) {
 	leaves("shown, and not kept", answerFailed)
 	s.table.fault, s.table.became, s.table.kept = nil, answerYes, map[digest][]keptChain{}
 	leaves("an answer that is none", answerFailed)
-	if found, err := other.of(hexDigest([]byte(s.bob.key)), s.now().AddDate(1, 0, 0)); err != nil || found != nil {
-		t.Errorf("a year later: %v %v", found, err)
+	if chains, err := other.of(hexDigest([]byte(s.bob.key)), s.now().AddDate(1, 0, 0)); err != nil || chains != nil {
+		t.Errorf("a year later: %v %v", chains, err)
 	}
 }
 
@@ -353,15 +353,15 @@ func TestStoreConfigs(t *testing.T) {
 		return strings.Replace(least, `"/acl"`, `{"postgres": {`+fields+`}}`, 1)
 	}
 	const needed = `"host": "/run/postgresql", "database": "acl", "user": "u"`
-	made, err := parseConfig([]byte(of(needed)))
+	config, err := parseConfig([]byte(of(needed)))
 	if err != nil {
 		t.Fatal(err)
 	}
-	if it := made.Source.store; it.Schema != "spki" || it.stale() != 10*time.Second || !strings.Contains(it.settings(), "sslmode=disable") {
-		t.Errorf("%+v", it)
+	if settings := config.Source.store; settings.Schema != "spki" || settings.stale() != 10*time.Second || !strings.Contains(settings.settings(), "sslmode=disable") {
+		t.Errorf("%+v", settings)
 	}
-	if made, err = parseConfig([]byte(of(`"host": "db", "root": "/a'b", "database": "d", "user": "u"`))); err != nil ||
-		!strings.Contains(made.Source.store.settings(), `sslmode=verify-full sslrootcert='/a\'b'`) {
+	if config, err = parseConfig([]byte(of(`"host": "db", "root": "/a'b", "database": "d", "user": "u"`))); err != nil ||
+		!strings.Contains(config.Source.store.settings(), `sslmode=verify-full sslrootcert='/a\'b'`) {
 		t.Errorf("%v", err)
 	}
 	for _, text := range []string{
@@ -378,7 +378,7 @@ func TestStoreConfigs(t *testing.T) {
 // TestKeptRows keeps lists up to some octets, and forgets those that were not asked for.
 func TestKeptRows(t *testing.T) {
 	s := newStored(t)
-	kept := newKeptRows(3 * octetsRow)
+	rows := newKeptRows(3 * octetsRow)
 	names := make([]digest, 5)
 	for number := range names {
 		opened, err := s.store.open(nil)
@@ -386,21 +386,21 @@ func TestKeptRows(t *testing.T) {
 			t.Fatal(err)
 		}
 		names[number][0] = byte(number)
-		kept.add(names[number], [][]byte{{byte(number)}}, &list{guard: opened}, 0)
-		kept.get(names[0])
+		rows.add(names[number], [][]byte{{byte(number)}}, &list{guard: opened}, 0)
+		rows.get(names[0])
 	}
 	for number, wanted := range []bool{true, false, false, true, true} {
-		if (kept.get(names[number]) != nil) != wanted {
+		if (rows.get(names[number]) != nil) != wanted {
 			t.Errorf("list %d", number)
 		}
 	}
-	kept.drop([]byte{3})
-	if kept.get(names[3]) != nil || kept.count() != 2 || kept.size != 2*octetsRow || len(kept.byPlace) != 2 {
-		t.Errorf("%d lists of %d octets", kept.count(), kept.size)
+	rows.drop([]byte{3})
+	if rows.get(names[3]) != nil || rows.count() != 2 || rows.size != 2*octetsRow || len(rows.byPlace) != 2 {
+		t.Errorf("%d lists of %d octets", rows.count(), rows.size)
 	}
-	kept.clear()
-	if kept.count() != 0 || kept.size != 0 || len(kept.byPlace) != 0 {
-		t.Errorf("%d lists of %d octets", kept.count(), kept.size)
+	rows.clear()
+	if rows.count() != 0 || rows.size != 0 || len(rows.byPlace) != 0 {
+		t.Errorf("%d lists of %d octets", rows.count(), rows.size)
 	}
 }
 

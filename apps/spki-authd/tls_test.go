@@ -71,8 +71,8 @@ func TestTLS(t *testing.T) {
 		response.Body.Close()
 		return response.StatusCode, nil
 	}
-	if met, err := asks(); met != 200 || err != nil {
-		t.Errorf("%d, %v, %s", met, err, messages.String())
+	if status, err := asks(); status != 200 || err != nil {
+		t.Errorf("%d, %v, %s", status, err, messages.String())
 	}
 	var to, fault bytes.Buffer
 	if status := run([]string{"-health", "-config", path}, &to, &fault); status != 0 {
@@ -83,8 +83,8 @@ func TestTLS(t *testing.T) {
 	}
 	// another certificate, which the daemon has not read yet, and then has
 	config.TLS.Certificate, config.TLS.Key = tlsFiles(t, mallory)
-	if met, err := asks(); err == nil {
-		t.Errorf("another certificate is expected: %d", met)
+	if status, err := asks(); err == nil {
+		t.Errorf("another certificate is expected: %d", status)
 	}
 	text := strings.Replace(tlsConfig(t, alice), "{", "{", 1)
 	if _, err := parseConfig([]byte(text)); err != nil {
