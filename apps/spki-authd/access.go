@@ -73,7 +73,7 @@ func (a *access) readEnded(path string) error {
 	return err
 }
 
-// digestOfLists returns the stamp of the one list, or the digest of the places and stamps of several. The stamp is the digest of a file, and names
+// digestOfLists returns the stamp of the one list, or the digest of the scopes and stamps of several. The stamp is the digest of a file, and names
 // the last change of a store. Operators compare what is returned between daemons.
 func (a *access) digestOfLists() string {
 	if len(a.lists) == 1 {

@@ -23,6 +23,7 @@ const (
 // A form reads the value of a header, and returns the X.509 certificate in it, in DER. Each form is the function for one kind of value.
 type form func(text string) ([]byte, error)
 
+// forms has each form by its name in the configuration.
 var forms = map[string]form{escapedPEM: fromEscapedPEM, base64DER: fromBase64DER, xfcc: fromXFCC}
 
 var (

@@ -153,7 +153,7 @@ func setText(text *string, usual string) {
 	}
 }
 
-// check returns an error that says what is wrong in a configuration, or nil. The checks of lists and chains also set fields that were left out.
+// check returns an error if a field of a configuration is wrong. The checks of lists and chains also set fields that were left out.
 func (c *config) check() error {
 	if _, isServer := servers[c.Server]; !isServer {
 		return fmt.Errorf(`"server" is %q, and must be nginx, caddy, haproxy, apache, traefik or envoy`, c.Server)
@@ -186,7 +186,7 @@ func (c *config) check() error {
 	return nil
 }
 
-// checkLog says what is wrong in `log` and `log_sync`.
+// checkLog returns an error if `log` or `log_sync` is wrong.
 func (c *config) checkLog() error {
 	if !strings.HasPrefix(c.Log, "/") {
 		return fmt.Errorf(`"log" is %q, and must be /PATH: the file that gets a line before each grant`, c.Log)
@@ -213,7 +213,7 @@ func (l limits) ofQuestion() guard.Limits {
 	return guard.Limits{Octets: l.Octets, Certificates: l.Certificates, Words: l.Words}
 }
 
-// time returns the time that one request may take.
+// time returns the time that one request may take: `seconds`.
 func (l limits) time() time.Duration {
 	return time.Duration(l.Seconds) * time.Second
 }

@@ -14,7 +14,7 @@ import (
 // file is read, changed or removed.
 type probe struct {
 	base *url.URL
-	// Whether the operator has stopped the daemon, so that the web server can grant only by a hole. Then an answer must be 5xx.
+	// Whether the operator has stopped the daemon, so that the web server can grant only by a hole. Then at least one answer must be 5xx.
 	isStopped bool
 	out       io.Writer
 	// The number of requests that were sent, of answers with 5xx, which show that nothing decided, and of requests that were granted.
