@@ -69,7 +69,7 @@ func (d *daemon) exposition() string {
 	text.single("clock_back_total", "counter", "How often the time of day went back.", d.clock.times.Load())
 	text.stores(present)
 	text.single("log_lines_total", "counter", "Lines in the log of grants.", d.granted.written.Load())
-	text.single("log_failures_total", "counter", "Lines of grants that could not be written. The answers were 503.", d.granted.failed.Load())
+	text.single("log_failures_total", "counter", "Grants that became 503, since their lines could not be written in time.", d.granted.failed.Load())
 	text.single("lines_lost_total", "counter", "Other lines that were dropped.", d.other.failed.Load()+d.other.dropped.Load())
 	return text.String()
 }

@@ -25,7 +25,8 @@ type writer struct {
 	eachSecond func()
 	// Whether lines were late since the last successful write, and whether the last write failed.
 	isStuck, isFailing atomic.Bool
-	// The lines that were written, those that could not be, and those that were dropped because too many waited.
+	// The lines that were written; those that were not, and of write also those that were written too late; and those that were dropped because too many
+	// waited.
 	written, failed, dropped atomic.Uint64
 	// Guards what follows.
 	mutex sync.Mutex
@@ -169,7 +170,6 @@ func (w *writer) endLate() {
 			continue
 		}
 		w.queued -= batch.count
-		w.failed.Add(uint64(batch.count))
 	}
 	w.waiting = remaining
 	w.isWatched = false
@@ -178,9 +178,13 @@ func (w *writer) endLate() {
 	}
 }
 
-// giveUp ends the waiting for a batch, by errHangs, and says whether the batch is still to be written. The mutex is held.
+// giveUp ends the waiting for a batch, by errHangs, and says whether the batch is still to be written. Lines of write count as failed from then on. The
+// mutex is held.
 func (w *writer) giveUp(late *batch) (isKept bool) {
 	w.isStuck.Store(true)
+	if !late.isKept && !late.isDone {
+		w.failed.Add(uint64(late.count))
+	}
 	late.end(errHangs)
 	return late.isKept
 }
@@ -254,7 +258,7 @@ func (w *writer) writeNext() bool {
 	if err == nil {
 		w.isStuck.Store(false)
 		w.written.Add(uint64(next.count))
-	} else {
+	} else if next.isKept || !next.isDone {
 		w.failed.Add(uint64(next.count))
 	}
 	next.end(err)

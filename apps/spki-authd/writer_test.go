@@ -83,7 +83,8 @@ func TestManyLines(t *testing.T) {
 }
 
 // TestTimeOfLines writes lines by many goroutines, some of them later, to a sink that takes none. Each call fails within its patience, also that whose line
-// is being written, and none before the patience is nearly over. A line that waits then is not written, and lines that come afterwards are.
+// is being written, and none before the patience is nearly over: all of them count as failed. A line that waits then is not written, and lines that come
+// afterwards are.
 func TestTimeOfLines(t *testing.T) {
 	const patience = time.Second
 	sink := &hangingSink{goes: make(chan struct{})}
@@ -120,7 +121,7 @@ func TestTimeOfLines(t *testing.T) {
 			t.Fatal(err)
 		}
 	}
-	if text := sink.text.String(); text != wanted || writer.isStuck.Load() || writer.written.Load() != 101 || writer.failed.Load() != 64 {
+	if text := sink.text.String(); text != wanted || writer.isStuck.Load() || writer.written.Load() != 101 || writer.failed.Load() != 65 {
 		t.Errorf("%d written, %d failed: %.100q", writer.written.Load(), writer.failed.Load(), text)
 	}
 }
