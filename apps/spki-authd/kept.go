@@ -244,7 +244,7 @@ func (f *folderChains) of(key string, now time.Time) ([]keptChain, error) {
 	return f.current(key, now), nil
 }
 
-// current is `of` where the mutex is held.
+// current is `of` where the mutex is held. It changes only what is kept for this key.
 func (f *folderChains) current(key string, now time.Time) []keptChain {
 	var current []keptChain
 	for _, each := range f.byKey[key] {
@@ -269,13 +269,21 @@ func (f *folderChains) whyNotAdded(key string, chain keptChain, now time.Time) (
 	return f.whyNotAddedLocked(key, chain, now), nil
 }
 
-// whyNotAddedLocked is whyNotAdded where the mutex is held.
+// whyNotAddedLocked is whyNotAdded where the mutex is held. If there is no room, the sequences of other keys that have ended make room: their keys may never
+// ask again.
 func (f *folderChains) whyNotAddedLocked(key string, chain keptChain, now time.Time) answer {
-	refusal := f.whyNotBeside(f.current(key, now), chain.text)
-	if refusal == "" && !f.hasRoom(key, len(chain.text)) {
+	if refusal := f.whyNotBeside(f.current(key, now), chain.text); refusal != "" {
+		return refusal
+	}
+	if !f.hasRoom(key, len(chain.text)) {
+		for other := range f.byKey {
+			f.current(other, now)
+		}
+	}
+	if !f.hasRoom(key, len(chain.text)) {
 		return answerFull
 	}
-	return refusal
+	return ""
 }
 
 // add keeps a sequence for a key in a file and in memory, if there is room, and returns the answer to the client: `failed` with an error, if the file

@@ -251,6 +251,25 @@ func TestStrangersLeave(t *testing.T) {
 	}
 }
 
+// TestEndedMakeRoom keeps the sequence of one key where there is room for no other one. Once it has ended, another key's is kept in its place.
+func TestEndedMakeRoom(t *testing.T) {
+	kept := &folderChains{chains: chains{Folder: t.TempDir(), Each: 1, Keys: 1, Days: 9}, byKey: map[string][]keptChain{}}
+	now := time.Now()
+	for place, row := range []struct {
+		key    string
+		later  int
+		wanted answer
+	}{{"a", 0, answerKept}, {"b", 8, answerFull}, {"b", 2, answerKept}} {
+		now = now.AddDate(0, 0, row.later)
+		if reply, err := kept.add(row.key, kept.chainOf(sequence(row.key), now), now); reply != row.wanted || err != nil {
+			t.Errorf("row %d: %s, %v", place, reply, err)
+		}
+	}
+	if files, _ := filepath.Glob(filepath.Join(kept.Folder, "*", "*")); len(files) != 1 {
+		t.Error(files)
+	}
+}
+
 // TestNoncesOfLeaving fills the nonces of those who leave certificates. Those of requests that are granted stay free.
 func TestNoncesOfLeaving(t *testing.T) {
 	s := newSite(t, `, "chains": {"folder": "`+t.TempDir()+`"}, "signatures": {"names": ["files.example.org"], "nonces": 1}`)
