@@ -41,10 +41,11 @@ type order struct {
 
 var errOrder = errors.New("this is no order")
 
-// checkControl returns an error unless `control` is unix:/PATH and differs from `listen`.
+// checkControl returns an error unless `control` is unix:/PATH for a path that a socket can have, and differs from `listen`.
 func (c *config) checkControl() error {
-	if c.Control == c.Listen || !strings.HasPrefix(c.controlPath(), "/") || c.controlPath() == c.Control {
-		return fmt.Errorf(`"control" is %q, and must be unix:/PATH, another one than "listen"`, c.Control)
+	path := c.controlPath()
+	if c.Control == c.Listen || !strings.HasPrefix(path, "/") || path == c.Control || len(path) > mostSocketPath {
+		return fmt.Errorf(`"control" is %q, and must be unix:/PATH of at most %d octets, another one than "listen"`, c.Control, mostSocketPath)
 	}
 	return nil
 }

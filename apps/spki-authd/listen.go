@@ -15,6 +15,9 @@ const (
 	tlsScheme  = "tls:"
 )
 
+// The most octets of the path of a Unix socket: Linux has room for 108, with a zero at the end.
+const mostSocketPath = 107
+
 // checkEntrance returns an error if `listen` or a field for it is wrong. Only the web server may be able to ask, and it must know that this daemon
 // answers: by the folder of a Unix socket, or by a certificate for TLS.
 func (c *config) checkEntrance() error {
@@ -43,8 +46,8 @@ func (c *config) checkEntrance() error {
 // checkSocket returns an error if a field for a Unix socket at a path is wrong.
 func (c *config) checkSocket(path string) error {
 	mode, err := modeOf(c.SocketMode)
-	if err != nil || !strings.HasPrefix(path, "/") {
-		return fmt.Errorf(`"listen" is %q with the mode %q, and must be unix:/PATH with a mode such as 0660`, c.Listen, c.SocketMode)
+	if err != nil || !strings.HasPrefix(path, "/") || len(path) > mostSocketPath {
+		return fmt.Errorf(`"listen" is %q with the mode %q, and must be unix:/PATH of at most %d octets with a mode such as 0660`, c.Listen, c.SocketMode, mostSocketPath)
 	}
 	if c.TLS != nil {
 		return errors.New(`"tls" is for a port`)

@@ -152,6 +152,7 @@ func TestEntrances(t *testing.T) {
 		listen("tls:127.0.0.1:9180", `"tls": {"certificate": "/c"}`, secret, control): `"tls" is missing`,
 		listen("tls:127.0.0.1:9180", files, secret):                                   `"control"`, listen("tls:192.0.2.1:9180", files, secret, control): "must be",
 		listen("tls:localhost:9180", files, secret, control): "must be", with(files): `"tls" is for a port`,
+		listen("unix:/"+strings.Repeat("x", 107), `"cache": 1`): "at most 107 octets", listen("unix:/"+strings.Repeat("x", 100), `"cache": 1`): `"control"`,
 		with(`"control": "unix:/run/x/s"`): `another one than "listen"`, with(`"control": "/run/x/c"`): "unix:/PATH",
 	} {
 		if _, err := parseConfig([]byte(text)); err == nil || !strings.Contains(err.Error(), wanted) {
