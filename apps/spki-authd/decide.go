@@ -137,6 +137,7 @@ func (d *decider) decideKnown(result *record, question guard.Question, path stri
 	})
 	if err == nil {
 		result.noteSequence(list, sequence, valid)
+		result.Cached = valid
 	}
 	return decision, err
 }
@@ -195,11 +196,7 @@ func (d *decider) decideAnew(result *record, question guard.Question, path, sequ
 	if err != nil {
 		return guard.Decision{}, err
 	}
-	result.List, result.numbers, result.Certificates = list.digest, list.numbers, certificates.names
-	if notEnded < len(signatures) {
-		result.Certificates = certificates.names[:notEnded+1]
-		result.noteEnded(certificates.names[notEnded])
-	}
+	result.noteSequence(list, certificates, notEnded)
 	valid, canHelp := 0, notEnded == len(signatures) && opened.Possible()
 	if canHelp {
 		valid = d.countValid(result, certificates, signatures)

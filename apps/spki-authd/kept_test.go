@@ -285,14 +285,9 @@ func TestNoncesOfLeaving(t *testing.T) {
 	}
 }
 
-// TestPutAttacks leaves certificates in wrong ways. They are kept only if they are signed as they came, once, and short. What the headers say of
-// another request or client counts nothing.
-func TestPutAttacks(t *testing.T) {
-	s := newKeeping(t)
-	bobs, _ := s.sequencesShown()
-	const target = usualPath
-	long := strings.Repeat(" ", mostShownOctets+1-len(bobs)) + bobs
-	other := sequence(s.alice.sign(s.alice.certificate(s.bob, prefix("read", "/web/docs/"), "")))
+// putAttacks returns changes of a request by which Bob leaves certificates, after which it must be refused. `bobs` is what he leaves, and `other` another
+// sequence for him.
+func (s *site) putAttacks(bobs, other string) map[string]func(*http.Request) {
 	body := func(text string) func(*http.Request) {
 		return func(request *http.Request) {
 			request.Body, request.ContentLength = io.NopCloser(strings.NewReader(text)), int64(len(text))
@@ -301,7 +296,7 @@ func TestPutAttacks(t *testing.T) {
 	set := func(name, value string) func(*http.Request) {
 		return func(request *http.Request) { request.Header.Set(name, value) }
 	}
-	for name, change := range map[string]func(*http.Request){
+	return map[string]func(*http.Request){
 		"another body":   body(other),
 		"a body less":    body(""),
 		"half a body":    func(request *http.Request) { body(bobs[:99])(request); request.ContentLength = int64(len(bobs)) },
@@ -332,13 +327,30 @@ func TestPutAttacks(t *testing.T) {
 		"another place":               func(request *http.Request) { request.RequestURI = "/web/docs/b" },
 		"a place below":               func(request *http.Request) { request.RequestURI = usualPath + "/" },
 		"an escaped place":            func(request *http.Request) { request.RequestURI = "/.well-known/spki%2dchain" },
-	} {
-		request := s.bob.put(t, target, bobs)
+	}
+}
+
+// TestPutAttacks leaves certificates in wrong ways: they are kept only if they are signed as they came.
+func TestPutAttacks(t *testing.T) {
+	s := newKeeping(t)
+	bobs, _ := s.sequencesShown()
+	other := sequence(s.alice.sign(s.alice.certificate(s.bob, prefix("read", "/web/docs/"), "")))
+	for name, change := range s.putAttacks(bobs, other) {
+		request := s.bob.put(t, usualPath, bobs)
 		change(request)
 		if response := s.respond(request); response.StatusCode < 400 || s.keeps(t, s.bob) {
 			t.Errorf("%s: %d, %+v", name, response.StatusCode, s.lastLine(t))
 		}
 	}
+}
+
+// TestPutOnce leaves certificates that are too long, and to a path with a query, which is refused. Then it leaves them rightly, with headers of another
+// request and client, which count nothing, and once more by the same request, which is refused.
+func TestPutOnce(t *testing.T) {
+	s := newKeeping(t)
+	bobs, _ := s.sequencesShown()
+	const target = usualPath
+	long := strings.Repeat(" ", mostShownOctets+1-len(bobs)) + bobs
 	if response := s.respond(s.bob.put(t, target, long)); response.StatusCode != 400 || !strings.Contains(s.lastLine(t).Reason, "8192") {
 		t.Error("too long: ", response.StatusCode, s.lastLine(t))
 	}
@@ -353,7 +365,7 @@ func TestPutAttacks(t *testing.T) {
 	if response := s.respond(once); response.StatusCode != 201 || s.lastLine(t).Key != hexDigest([]byte(s.bob.key)) || s.lastLine(t).Proof != bySignature {
 		t.Error("other headers: ", response.StatusCode, s.lastLine(t))
 	}
-	body(bobs)(once)
+	once.Body = io.NopCloser(strings.NewReader(bobs))
 	if response := s.respond(once); response.StatusCode != 400 || !strings.HasSuffix(s.lastLine(t).Reason, "nonce-seen") {
 		t.Error("sent again: ", response.StatusCode, s.lastLine(t))
 	}

@@ -68,19 +68,14 @@ func (r record) withReason(answer answer, fault error) record {
 	return r
 }
 
-// noteSequence notes the list by which a question was decided, and the certificates of a sequence whose signatures are known to be valid. `valid` of them
-// precede the first that has ended early, which is noted too.
-func (r *record) noteSequence(list *list, sequence *shownSequence, valid int) {
-	r.List, r.numbers, r.Certificates, r.Cached = list.digest, list.numbers, sequence.names, valid
-	if valid < len(sequence.names) {
-		r.Certificates = sequence.names[:valid+1]
-		r.noteEnded(sequence.names[valid])
+// noteSequence notes the list by which a question is decided, and the certificates of its sequence. `notEnded` is what sequence.notEnded has returned: if a
+// certificate has ended early, that is the reason, and those behind it are left out.
+func (r *record) noteSequence(list *list, sequence *shownSequence, notEnded int) {
+	r.List, r.numbers, r.Certificates = list.digest, list.numbers, sequence.names
+	if notEnded < len(sequence.names) {
+		r.Certificates = sequence.names[:notEnded+1]
+		r.Reason = "certificate " + sequence.names[notEnded] + " has ended"
 	}
-}
-
-// noteEnded notes as the reason that a certificate has ended early. `certificate` is its digest in hexadecimal digits.
-func (r *record) noteEnded(certificate string) {
-	r.Reason = "certificate " + certificate + " has ended"
 }
 
 // status returns the HTTP status of an answer. `refused` is `refused_status` of the configuration. Only `yes` is 200: so no web server takes the answer to

@@ -92,8 +92,8 @@ func (w *writer) write(line []byte) error {
 	return batch.err
 }
 
-// offer writes a line, which ends with a line feed, and waits until it is written, unless earlier lines were late. If mostQueued lines wait, the line is
-// dropped and counted.
+// offer writes a line, which ends with a line feed, and waits until it is written or late. If earlier lines are late, it does not wait. If mostQueued lines
+// wait, the line is dropped and counted. The caller may use the line's octets again in each case.
 func (w *writer) offer(line []byte) {
 	w.mutex.Lock()
 	if w.queued >= mostQueued {

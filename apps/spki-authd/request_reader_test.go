@@ -22,8 +22,8 @@ func readAll(from io.Reader) (read []string) {
 	}
 }
 
-// TestHeads reads requests whose lines fit in what is read at once, and the same with a longer one, whole and in pieces. They are read alike.
-func TestHeads(t *testing.T) {
+// TestRequestReader reads requests whose lines fit in what is read at once, and the same with a longer one, whole and in pieces. They are read alike.
+func TestRequestReader(t *testing.T) {
 	for _, row := range []struct{ text, wanted string }{
 		{"GET / HTTP/1.1\r\n%sHost: x\r\nX-Last: a\r\n\r\n", "GET a  <nil>, EOF"},
 		{"GET / HTTP/1.1\n%sHost: x\nX-Last: a\n\n", "GET a  <nil>, EOF"},
