@@ -107,7 +107,7 @@ func TestHostsThatNothingDependsOn(t *testing.T) {
 	}
 }
 
-// TestWrongLists reads configurations whose places of lists are wrong, each of which is refused, and a right one.
+// TestWrongLists reads configurations in which the scope of a list is wrong, each of which is refused, and a right one.
 func TestWrongLists(t *testing.T) {
 	lists := func(text string) string { return strings.Replace(least, `"list": "/acl"`, `"lists": [`+text+`]`, 1) }
 	for name, text := range map[string]string{

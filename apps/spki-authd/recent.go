@@ -10,7 +10,7 @@ type recentMap[K comparable, V any] struct {
 	old, young map[K]V
 }
 
-// newRecent returns a map of at most so many values. With 0 or 1 it keeps none.
+// newRecentMap returns a map of at most `most` values. With 0 or 1 it keeps none.
 func newRecentMap[K comparable, V any](most int) *recentMap[K, V] {
 	return &recentMap[K, V]{half: most / 2, young: map[K]V{}}
 }

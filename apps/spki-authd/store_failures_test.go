@@ -267,8 +267,10 @@ type fakeStatement struct {
 	text string
 }
 
+// Close closes the statement.
 func (s *fakeStatement) Close() error { s.conn.open--; return nil }
 
+// Query runs the statement, which returns no rows.
 func (s *fakeStatement) Query([]driver.Value) (driver.Rows, error) {
 	s.conn.ran = append(s.conn.ran, s.text)
 	return noRows{}, nil

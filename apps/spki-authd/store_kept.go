@@ -6,19 +6,19 @@ import ordered "container/list"
 type keptRows struct {
 	// The most octets, and the sum of keptRow.size of what is kept.
 	most, size int
-	// A *keptRow for each key, first the one that was asked for last, and its element by keptRow.name and by each of keptRow.places.
-	order   *ordered.List
-	byName  map[digest]*ordered.Element
-	byPlace map[string]*ordered.Element
+	// A *keptRow for each key, first the one that was asked for last, and its element by keptRow.name and by each of keptRow.digests.
+	order    *ordered.List
+	byName   map[digest]*ordered.Element
+	byDigest map[string]*ordered.Element
 }
 
-// A keptRow is what is kept for a key. `name` is the key's digest by SHA-256, and `places` are all three digests, by which the database has the entries for
+// A keptRow is what is kept for a key. `name` is the key's digest by SHA-256, and `digests` are all three, by which the database has the entries for
 // the key. `size` is about how many octets of memory the list takes.
 type keptRow struct {
-	name   digest
-	places [][]byte
-	list   *list
-	size   int
+	name    digest
+	digests [][]byte
+	list    *list
+	size    int
 }
 
 // About how many octets of memory the library takes for each octet of an entry's text, and how many a list without entries takes.
@@ -29,7 +29,7 @@ const (
 
 // newKeptRows returns an empty keptRows for lists with at most `most` octets together.
 func newKeptRows(most int) *keptRows {
-	return &keptRows{most: most, order: ordered.New(), byName: map[digest]*ordered.Element{}, byPlace: map[string]*ordered.Element{}}
+	return &keptRows{most: most, order: ordered.New(), byName: map[digest]*ordered.Element{}, byDigest: map[string]*ordered.Element{}}
 }
 
 // get returns the list that is kept for a key, by the key's digest by SHA-256, or nil.
@@ -42,20 +42,20 @@ func (k *keptRows) get(name digest) *list {
 	return element.Value.(*keptRow).list
 }
 
-// add keeps the list of a key, unless it alone is too large, and says whether it does. `name` is the key's digest by SHA-256, `places` are all its digests
+// add keeps the list of a key, unless it alone is too large, and says whether it does. `name` is the key's digest by SHA-256, `digests` are all its digests
 // from digestsOf, and `octets` is the size of its entries' texts. Lists that were not asked for since long are removed to make room.
-func (k *keptRows) add(name digest, places [][]byte, rows *list, octets int) bool {
+func (k *keptRows) add(name digest, digests [][]byte, rows *list, octets int) bool {
 	if before, isKept := k.byName[name]; isKept {
 		k.remove(before)
 	}
-	row := &keptRow{name, places, rows, octetsRow + octetsEach*octets}
+	row := &keptRow{name, digests, rows, octetsRow + octetsEach*octets}
 	if row.size > k.most {
 		return false
 	}
 	element := k.order.PushFront(row)
 	k.byName[name] = element
-	for _, place := range places {
-		k.byPlace[string(place)] = element
+	for _, digest := range digests {
+		k.byDigest[string(digest)] = element
 	}
 	k.size += row.size
 	for k.size > k.most {
@@ -64,9 +64,9 @@ func (k *keptRows) add(name digest, places [][]byte, rows *list, octets int) boo
 	return true
 }
 
-// drop removes the list of a key, if one is kept. `place` is any of the key's digests from digestsOf: that which a changed entry has.
-func (k *keptRows) drop(place []byte) {
-	if element, isKept := k.byPlace[string(place)]; isKept {
+// drop removes the list of a key, if one is kept. `digest` is any of the key's digests from digestsOf: that which a changed entry has.
+func (k *keptRows) drop(digest []byte) {
+	if element, isKept := k.byDigest[string(digest)]; isKept {
 		k.remove(element)
 	}
 }
@@ -88,8 +88,8 @@ func (k *keptRows) remove(element *ordered.Element) {
 	row := k.order.Remove(element).(*keptRow)
 	k.size -= row.size
 	delete(k.byName, row.name)
-	for _, place := range row.places {
-		delete(k.byPlace, string(place))
+	for _, digest := range row.digests {
+		delete(k.byDigest, string(digest))
 	}
 	row.list.guard.Close()
 }

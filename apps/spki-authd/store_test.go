@@ -14,8 +14,8 @@ import (
 // A table is a reader of a store without a database: it has the entries, and what a poll would return of their changes.
 type table struct {
 	// The entries, and the SHA-256 digests of their keys, by the numbers of the entries.
-	texts  map[int]string
-	places map[int]string
+	texts      map[int]string
+	keyDigests map[int]string
 	// All changes, first that with the number 1, and what `whole` returns as ended.
 	news  []change
 	ended []digest
@@ -33,19 +33,19 @@ type table struct {
 
 // A change is the digest of the key whose entry has changed, or an ended certificate, with the time of the change.
 type change struct {
-	place string
-	ended *digest
-	token int64
+	keyDigest string
+	ended     *digest
+	token     int64
 }
 
 // put puts an entry for a key into the table, or takes it out if `text` is empty.
 func (t *table) put(number int, key, text string) {
-	place := string(digestsOf([]byte(key))[1])
-	t.texts[number], t.places[number] = text, place
+	keyDigest := string(digestsOf([]byte(key))[1])
+	t.texts[number], t.keyDigests[number] = text, keyDigest
 	if text == "" {
 		delete(t.texts, number)
 	}
-	t.note(change{place: place})
+	t.note(change{keyDigest: keyDigest})
 }
 
 // note adds a change with the next number.
@@ -62,7 +62,7 @@ func (t *table) rows(digests [][]byte) (rows entryRows, err error) {
 	rows.storeState = t.state
 	for number := 0; number < 100; number++ {
 		for _, digest := range digests {
-			if t.texts[number] != "" && t.places[number] == string(digest) {
+			if t.texts[number] != "" && t.keyDigests[number] == string(digest) {
 				rows.numbers, rows.texts = append(rows.numbers, number), append(rows.texts, []byte(t.texts[number]))
 			}
 		}
@@ -84,7 +84,7 @@ func (t *table) since(number int64) (pollResult, error) {
 		if each := t.news[place]; each.ended != nil {
 			result.ended = append(result.ended, *each.ended)
 		} else {
-			result.changed = append(result.changed, []byte(each.place))
+			result.changed = append(result.changed, []byte(each.keyDigest))
 		}
 	}
 	return result, t.fault
@@ -127,7 +127,7 @@ type storedSite struct {
 // comma.
 func newStored(t testing.TB, fields ...string) *storedSite {
 	t.Helper()
-	here := &storedSite{site: newSite(t, strings.Join(fields, "")), table: &table{texts: map[int]string{}, places: map[int]string{}}, time: time.Now()}
+	here := &storedSite{site: newSite(t, strings.Join(fields, "")), table: &table{texts: map[int]string{}, keyDigests: map[int]string{}}, time: time.Now()}
 	open := func(entries []byte) (*guard.Guard, error) {
 		return guard.Open([]byte("(3:acl"+string(entries)+")"), guard.Strict, guard.Limits{})
 	}
@@ -395,11 +395,11 @@ func TestKeptRows(t *testing.T) {
 		}
 	}
 	rows.drop([]byte{3})
-	if rows.get(names[3]) != nil || rows.count() != 2 || rows.size != 2*octetsRow || len(rows.byPlace) != 2 {
+	if rows.get(names[3]) != nil || rows.count() != 2 || rows.size != 2*octetsRow || len(rows.byDigest) != 2 {
 		t.Errorf("%d lists of %d octets", rows.count(), rows.size)
 	}
 	rows.clear()
-	if rows.count() != 0 || rows.size != 0 || len(rows.byPlace) != 0 {
+	if rows.count() != 0 || rows.size != 0 || len(rows.byDigest) != 0 {
 		t.Errorf("%d lists of %d octets", rows.count(), rows.size)
 	}
 }
