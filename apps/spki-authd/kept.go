@@ -302,18 +302,24 @@ func (f *folderChains) add(key string, chain keptChain, now time.Time) (answer, 
 	return answerKept, nil
 }
 
-// write writes the file of a sequence, whole or not at all: under a name with partSuffix at its end, from which it is renamed. After an error the file
-// with that suffix may be left.
+// write writes the file of a sequence, whole or not at all: under a name with partSuffix at its end, from which it is renamed. It calls fsync, so that what
+// a client was told is kept is not lost if the machine stops. After an error the file with that suffix may be left.
 func (f *folderChains) write(key string, chain keptChain) error {
 	folder := filepath.Join(f.Folder, key)
 	if err := os.MkdirAll(folder, 0o700); err != nil {
 		return err
 	}
 	path := filepath.Join(folder, chain.name)
-	if err := os.WriteFile(path+partSuffix, []byte(chain.text), 0o600); err != nil {
+	if err := writeSynced(path+partSuffix, chain.text); err != nil {
 		return err
 	}
-	return os.Rename(path+partSuffix, path)
+	if err := os.Rename(path+partSuffix, path); err != nil {
+		return err
+	}
+	if err := syncFolder(folder); err != nil {
+		return err
+	}
+	return syncFolder(f.Folder)
 }
 
 // judgeAll sets the answer of a record by the certificates that its request shows. Where it shows none and the list alone grants nothing, each
