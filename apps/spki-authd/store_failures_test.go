@@ -30,8 +30,8 @@ const (
 	betweenChanges  = 5 * time.Millisecond
 )
 
-// A version is the entries of a list by their numbers, and when they may have been what was in force: since its change was begun, until the next
-// change was over. `until` is zero while that is not so yet.
+// A version is the entries of a list by their numbers, and when they may have been in force: from the begin of the change that made it to the end of the
+// next change. `until` is zero until that change has ended.
 type version struct {
 	entries     map[int]string
 	from, until time.Time
@@ -61,9 +61,9 @@ func newTimeline(t *testing.T) *timeline {
 	line := &timeline{rig: newRig(t, failingPatience), end: make(chan struct{}), past: []*version{{map[int]string{}, time.Now(), time.Time{}}}}
 	line.store.options.StaleSeconds = failingStale
 	for _, host := range strings.Split(os.Getenv(envWriters), ",") {
-		of := *line.store.options
-		of.Host, of.Root, of.Connections = host, "", 1
-		opened, err := openReader(&of, failingPatience)
+		options := *line.store.options
+		options.Host, options.Root, options.Connections = host, "", 1
+		opened, err := openReader(&options, failingPatience)
 		if err != nil {
 			t.Fatal(err)
 		}

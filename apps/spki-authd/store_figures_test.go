@@ -51,18 +51,18 @@ func TestStoreFigures(t *testing.T) {
 
 // newFigures opens the store that the environment names, which has entries for so many keys.
 func newFigures(t *testing.T, keys int) *figures {
-	of := &storeOf{Host: os.Getenv(envHost), Database: "postgres", User: "postgres", Schema: os.Getenv(envSchema), StaleSeconds: 1 << 30}
-	if err := of.check(); err != nil {
+	options := &storeOf{Host: os.Getenv(envHost), Database: "postgres", User: "postgres", Schema: os.Getenv(envSchema), StaleSeconds: 1 << 30}
+	if err := options.check(); err != nil {
 		t.Fatal(err)
 	}
-	reader, err := openReader(of, time.Minute)
+	reader, err := openReader(options, time.Minute)
 	if err != nil {
 		t.Fatal(err)
 	}
 	open := func(entries []byte) (*guard.Guard, error) {
 		return guard.Open([]byte("(3:acl"+string(entries)+")"), guard.Strict, guard.Limits{})
 	}
-	opened, err := newStore(of, reader, open, time.Now)
+	opened, err := newStore(options, reader, open, time.Now)
 	if err != nil {
 		t.Fatal(err)
 	}

@@ -53,17 +53,17 @@ func newRig(t *testing.T, patience time.Duration) *rig {
 	if host == "" {
 		t.Skip("no store: tests/suite/test_store.py names one")
 	}
-	of := &storeOf{Host: host, Root: os.Getenv(envRoot), Database: "postgres", User: "postgres", Schema: os.Getenv(envSchema)}
-	if err := of.check(); err != nil {
+	options := &storeOf{Host: host, Root: os.Getenv(envRoot), Database: "postgres", User: "postgres", Schema: os.Getenv(envSchema)}
+	if err := options.check(); err != nil {
 		t.Fatal(err)
 	}
 	seed, _ := strconv.ParseInt(os.Getenv(envSeed), 10, 64)
 	opened := &rig{t: t, random: rand.New(rand.NewSource(seed)), entries: map[int]string{}}
-	reader, err := openReader(of, patience)
+	reader, err := openReader(options, patience)
 	if err != nil {
 		t.Fatal(err)
 	}
-	other, err := openReader(of, patience)
+	other, err := openReader(options, patience)
 	if err != nil {
 		t.Fatal(err)
 	}
@@ -71,7 +71,7 @@ func newRig(t *testing.T, patience time.Duration) *rig {
 	open := func(entries []byte) (*guard.Guard, error) {
 		return guard.Open([]byte("(3:acl"+string(entries)+")"), guard.Strict, guard.Limits{})
 	}
-	if opened.store, err = newStore(of, reader, open, time.Now); err != nil {
+	if opened.store, err = newStore(options, reader, open, time.Now); err != nil {
 		t.Fatal(err)
 	}
 	for count := 0; count < 12; count++ {
@@ -83,12 +83,12 @@ func newRig(t *testing.T, patience time.Duration) *rig {
 
 // forget closes the statement with a number, if it is prepared, so that the next ask prepares the text that it is given: ask keeps the statement that
 // it prepared under a number, and would run the text before again.
-func (l *link) forget(what int) error {
-	prepared := l.statements[what]
+func (l *link) forget(number int) error {
+	prepared := l.statements[number]
 	if prepared == nil {
 		return nil
 	}
-	l.statements[what] = nil
+	l.statements[number] = nil
 	return prepared.Close()
 }
 
@@ -117,14 +117,14 @@ func (r *rig) somebody(random *rand.Rand) person {
 
 // principalOf returns a person's key or, half of the time, a hash of it.
 func principalOf(who person, random *rand.Rand) string {
-	places := digestsOf([]byte(who.key))
+	digests := digestsOf([]byte(who.key))
 	switch random.Intn(6) {
 	case 0:
-		return "(4:hash6:sha256" + str(string(places[1])) + ")"
+		return "(4:hash6:sha256" + str(string(digests[1])) + ")"
 	case 1:
-		return "(4:hash6:sha512" + str(string(places[2])) + ")"
+		return "(4:hash6:sha512" + str(string(digests[2])) + ")"
 	case 2:
-		return "(4:hash4:sha1" + str(string(places[0])) + ")"
+		return "(4:hash4:sha1" + str(string(digests[0])) + ")"
 	}
 	return who.key
 }

@@ -123,7 +123,7 @@ type storedSite struct {
 	time  time.Time
 }
 
-// newStored returns a site whose list is a table in memory, in which Alice has entry 7. `fields` are more fields of its configuration, each after a
+// newStored returns a site whose list is in a table, in which Alice has entry 7. `fields` are more fields of its configuration, each after a
 // comma.
 func newStored(t testing.TB, fields ...string) *storedSite {
 	t.Helper()
@@ -131,12 +131,12 @@ func newStored(t testing.TB, fields ...string) *storedSite {
 	open := func(entries []byte) (*guard.Guard, error) {
 		return guard.Open([]byte("(3:acl"+string(entries)+")"), guard.Strict, guard.Limits{})
 	}
-	of := &storeOf{Host: "/run", Database: "d", User: "u"}
-	if err := of.check(); err != nil {
+	options := &storeOf{Host: "/run", Database: "d", User: "u"}
+	if err := options.check(); err != nil {
 		t.Fatal(err)
 	}
 	var err error
-	here.store, err = newStore(of, here.table, open, func() time.Time { return here.time })
+	here.store, err = newStore(options, here.table, open, func() time.Time { return here.time })
 	if err != nil {
 		t.Fatal(err)
 	}
