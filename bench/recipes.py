@@ -186,9 +186,9 @@ def greatest(fits: Callable[[int], bool], most: int = 1 << 20) -> int:
     return low
 
 
-def fitted(recipe: Recipe, listed: int, asked: int, certificates: int) -> Recipe | None:
-    """The recipe with its growing numbers as great as can be: the list has at most `listed` octets, the question at most `asked` octets and
-    `certificates` certificates. None if even the number 1 makes more, or tags of too many nodes or too deep ones."""
+def fitted(recipe: Recipe, listed: int, asked: int, certificates: int, entries: int) -> Recipe | None:
+    """The recipe with its growing numbers as great as can be: the list has at most `listed` octets and `entries` entries, the question at most
+    `asked` octets and `certificates` certificates. None if even the number 1 makes more, or tags of too many nodes or too deep ones."""
     def asks(number: int) -> bool:
         """Whether the question is read and small enough with this as its growing number."""
         made = recipe.with_links(number)
@@ -202,7 +202,7 @@ def fitted(recipe: Recipe, listed: int, asked: int, certificates: int) -> Recipe
     def lists(number: int) -> bool:
         """Whether the list is read and small enough with this as the growing number of its entries."""
         larger = made.with_list(number)
-        return larger.is_read(certificates) and len(larger.list_text()) <= listed
+        return larger.is_read(certificates) and larger.entries.count <= entries and len(larger.list_text()) <= listed
 
     number = greatest(lists)
     return made.with_list(number) if number else None

@@ -39,6 +39,8 @@ TURNS, PAUSE = 4, 5
 MOST_MEMORY = 8 << 30
 # Processor seconds for each entry that no limit of work refuses, as its product of nodes is at most 1,000,000, and for each octet that is written.
 SECONDS_AN_ENTRY, SECONDS_AN_OCTET = 0.1, 2e-9
+# The most entries of a text that the search makes for a call whose limit is by the entry: 10,000 would take a quarter of an hour, and show no more.
+MOST_ENTRIES = 100
 MANY = 1 << 30
 
 
@@ -230,14 +232,19 @@ def size_of(call: Call, recipe: Any) -> int:
     return len(recipe.tags()) if call.word == "intersect" else sum(map(len, recipe.parts()))
 
 
-def sized(call: Call, recipe: Any, listed: int, asked: int) -> Any:
-    """The recipe with the largest text that a call may have, with at most so many octets of the list and the question. None if none is small
-    enough."""
+def sized(call: Call, recipe: Any, listed: int, asked: int, entries: int = MANY) -> Any:
+    """The recipe with the largest text that a call may have, with at most so many octets of the list and the question, and so many entries. None if
+    none is small enough."""
     listed, asked = min(listed, call.listed), min(asked, call.asked)
     if call.word in FORMED:
         return formed(recipe, listed)
-    made = fitted(recipe, listed, asked, call.certificates)
+    made = fitted(recipe, listed, asked, call.certificates, entries)
     return made if made is None or call.limits or len(made.tags() if call.word == "intersect" else made.case()) <= MIB else None
+
+
+def found_size(call: Call, recipe: Any, listed: int, asked: int) -> Any:
+    """As `sized`, for a recipe that the search made: with MOST_ENTRIES at most for a call whose limit is by the entry."""
+    return sized(call, recipe, listed, asked, MOST_ENTRIES if call.is_by_entry else MANY)
 
 
 def searched(measure: Measure, call: Call, first: Any, chance: random.Random, steps: int) -> Iterator[tuple[float, Any]]:
@@ -248,7 +255,7 @@ def searched(measure: Measure, call: Call, first: Any, chance: random.Random, st
         # (mostly one change, and sometimes two that help only together)
         tried = at if step == 0 else change(chance, at)
         tried = change(chance, tried) if step and chance.random() < 0.3 else tried
-        made = sized(call, tried, SEARCHED_LIST, SEARCHED_QUESTION if call.word != "question" else SEARCHED_LIST)
+        made = found_size(call, tried, SEARCHED_LIST, SEARCHED_QUESTION if call.word != "question" else SEARCHED_LIST)
         if made is None:
             continue
         # (a short text takes what does not depend on its octets)
@@ -269,7 +276,7 @@ def recipes_of(measure: Measure, call: Call, steps: int, seed: int) -> Iterator[
     for first in begins if steps else []:
         found += [*searched(measure, call, first, chance, steps // len(begins))][-1:]
     for _, recipe in sorted(found, key=lambda it: -it[0])[:IN_FULL]:
-        yield "found", sized(call, recipe, MIB, MIB)
+        yield "found", found_size(call, recipe, MIB, MIB)
 
 
 def most_seconds(call: Call, recipe: Any, written: int = 0) -> float:
