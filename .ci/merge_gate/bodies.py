@@ -1,9 +1,12 @@
-"""Tries wrong bodies, edits `crates/NAME/wrong/x.edit` of functions, by checks of the functions alone that they change. One that the contract
-refuses passes. One that is still proved fails. So does one that cannot be applied or read, one whose check ends at a limit of the prover, and one
-that is refused only because a proof file names what it removed: that says nothing of the contract."""
+"""Tries wrong bodies, edits `crates/NAME/wrong/x.edit` of functions, by checks of the functions alone that they change. One check tries several that
+change different functions, since loading the crate is most of its cost. A wrong body that the contract refuses passes. One that is still proved
+fails. So does one that cannot be applied or read, one whose check ends at a limit of the prover, and one that is refused only because a proof file
+names what it removed: that says nothing of the contract."""
+import glob
 import os
 import re
-from typing import Any
+from collections.abc import Iterator
+from typing import Any, NamedTuple
 
 from merge_gate import toolchain
 
@@ -64,17 +67,68 @@ def refuses(crate: str, path: str, said: str) -> bool:
     return any("did not prove" in verdict or verdict.startswith("not proved") and not are_gone for verdict in verdicts)
 
 
-def tried(crate: Any, name: str, over: str) -> tuple[bool, str]:
-    """Tries a wrong body in wrong/. First only the functions that it changes are checked, beginning with the proofs that the folder `over` keeps. If
-    that does not show that it is refused, as where the check did not end, the whole crate is checked. Returns whether it is refused, as it must
-    be, and the line to print."""
-    path = os.path.join(crate.folder, "wrong", f"{name}.edit")
-    texts, why = toolchain.applied(path, crate.folder)
-    functions = functions_of(crate.folder, texts)
-    if not functions:
-        return False, f"{crate.name}/{name}: BAD EDIT: {why or 'it changes something else than functions'}"
-    said = toolchain.check_of(crate, texts, functions, over)
-    if any(refuses(crate.name, function, said) for function in functions):
-        return True, f"{crate.name}/{name}: refused"
-    shows, said = toolchain.verdict_on(crate, path)
-    return shows, f"{crate.name}/{name}: {'refused' if shows else f'NOT SHOWN: {said}'}"
+def path_of_edit(crate: Any, name: str) -> str:
+    """The path of the file of a wrong body, which is named CRATE/NAME."""
+    return os.path.join(crate.folder, "wrong", f"{name.rpartition('/')[2]}.edit")
+
+
+def paths_of(crate: Any) -> list[str]:
+    """The paths of the files of all wrong bodies in wrong/ of a crate."""
+    return sorted(glob.glob(os.path.join(crate.folder, "wrong", "*.edit")))
+
+
+class Body(NamedTuple):
+    """A wrong body: the path of its file, its crate's files that it changes with their texts after it, and the paths of the functions that it
+    changes: none if it changes something else too, or cannot be applied."""
+
+    path: str
+    texts: dict[str, str]
+    functions: list[str]
+
+
+def body_of(path: str, folder: str) -> Body:
+    """The wrong body in a file, an edit of the crate in a folder."""
+    texts, _ = toolchain.applied(path, folder)
+    return Body(path, texts, functions_of(folder, texts))
+
+
+def batches(bodies: list[Body]) -> list[list[Body]]:
+    """Wrong bodies in groups, each for one check. No two of a group change functions of the same name: by its name a line of a check says which it is
+    about. Those that change no functions are in none."""
+    groups: list[tuple[set[str], list[Body]]] = []
+    for body in bodies:
+        names = {path.rpartition("::")[2] for path in body.functions}
+        for taken, group in groups:
+            if names and not taken & names:
+                taken |= names
+                group.append(body)
+                break
+        else:
+            groups += [(names, [body])] if names else []
+    return [group for _, group in groups]
+
+
+def merged(folder: str, bodies: list[Body]) -> dict[str, str]:
+    """The files of the crate in a folder that wrong bodies of different functions change, with their texts after all of them. An edit leaves the
+    number of lines as it is."""
+    texts = {}
+    for file in {file for body in bodies for file in body.texts}:
+        with open(os.path.join(folder, file), encoding="utf-8") as old:
+            before = old.read().split("\n")
+        after = [body.texts[file].split("\n") for body in bodies if file in body.texts]
+        texts[file] = "\n".join(next((line for line in lines if line != lines[0]), lines[0]) for lines in zip(before, *after, strict=True))
+    return texts
+
+
+def tried(crate: Any, paths: list[str], over: str) -> Iterator[tuple[bool, str]]:
+    """Tries the wrong bodies in files. First only the functions that they change are checked, beginning with the proofs that the folder `over` keeps.
+    If that does not show that one is refused, as where it changes something else, the whole crate is checked with it alone. Yields of each whether
+    it is refused, as it must be, and the line to print."""
+    bodies = [body_of(path, crate.folder) for path in paths]
+    refused = set()
+    for group in batches(bodies):
+        said = toolchain.check_of(crate, merged(crate.folder, group), [path for body in group for path in body.functions], over)
+        refused |= {body.path for body in group if any(refuses(crate.name, path, said) for path in body.functions)}
+    for path in paths:
+        is_refused, why = (True, "") if path in refused else toolchain.verdict_on(crate, path, over)
+        yield is_refused, f"{crate.name}/{os.path.basename(path)[:-5]}: {'refused' if is_refused else f'NOT SHOWN: {why}'}"

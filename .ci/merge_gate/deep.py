@@ -7,64 +7,43 @@ import shutil
 import subprocess
 import tempfile
 import time
-from collections import defaultdict
-from collections.abc import Iterable
+from typing import Any
 
-from merge_gate import plan, toolchain
-from merge_gate.bodies import tried
+from merge_gate import bodies, plan, records, toolchain
 from merge_gate.report import Counts
-from merge_gate.run import Parts, wait_until_proved
+from merge_gate.run import Parts
 
 SEED = re.compile(r"^\d+ cases, seed ([0-9a-f]{8}): ", re.MULTILINE)
-# What `rt must-fail` says of an edit, and how what it says begins of one that is refused.
-TRIED, REFUSED = re.compile(r"^rt: must-fail (\w+/[\w.-]+)\.edit: (.*)", re.MULTILINE), "refused, as it must be"
 
 
-def try_alone(names: list[str], beside: str | None, counts: Counts) -> None:
-    """Tries wrong bodies, given as CRATE/NAME, by checks of the functions alone that they change, over the libraries that `rt ci` has left.
-    `beside` is the file that `rt ci` writes its lines to while it still runs, or None. Then the bodies of a crate wait until the crates below are
-    proved, and the checks have the lowest priority."""
-    by_crate: dict[str, list[str]] = defaultdict(list)
-    for crate, _, body in (name.partition("/") for name in names):
-        by_crate[crate].append(body)
-    crates = toolchain.crates(*by_crate)
+def try_bodies(names: list[str], counts: Counts) -> None:
+    """Tries wrong bodies of wrong/, over the libraries that `rt ci` has left. A name is CRATE/NAME, or a crate, for all of it. If all of a crate are
+    tried and refused, its record says so."""
+    crates = toolchain.crates(*(name.partition("/")[0] for name in names))
+    lacking = {it.name for crate in crates.values() for it in crate.below() if not os.path.isdir(it.rlib)}
+    if lacking:
+        return counts.add(False, f"no wrong body was tried, since rt ci has not left the libraries {', '.join(sorted(lacking))}")
 
-    def verdicts(name: str) -> list[tuple[bool, str]]:
-        """Whether each wrong body of a crate is refused, and the line about it. Waits until the crates below are proved."""
-        below = crates[name].below()
-        lacking = wait_until_proved({it.name for it in below}, beside) if beside else {it.name for it in below if not os.path.isdir(it.rlib)}
-        if lacking:
-            return [(False, f"{name}: no wrong body was tried, since rt ci has not left the libraries {', '.join(sorted(lacking))}")]
+    def verdicts(crate: Any) -> tuple[Any, list[str], list[tuple[bool, str]]]:
+        """A crate, the files of those of its wrong bodies that are tried, and of each whether it is refused, and the line about it."""
+        own = [name for name in names if name.partition("/")[0] == crate.name]
+        chosen = bodies.paths_of(crate) if crate.name in own else [bodies.path_of_edit(crate, name) for name in own]
         with tempfile.TemporaryDirectory(prefix="trials-") as over:
-            return [tried(crates[name], body, over) for body in by_crate[name]]
+            return crate, chosen, [*bodies.tried(crate, chosen, over)]
 
-    os.nice(19 if beside else 0)
     with concurrent.futures.ThreadPoolExecutor(2) as pool:
-        for is_refused, said in (result for results in pool.map(verdicts, crates) for result in results):
-            counts.add(is_refused, said)
+        for crate, chosen, results in pool.map(verdicts, crates.values()):
+            for is_refused, said in results:
+                counts.add(is_refused, said)
+            if crate.name in names and all(is_refused for is_refused, _ in results):
+                records.write(crate)
 
 
-def copy_to(folder: str) -> None:
-    """Copies the sources to a folder, with all wrong bodies in must-fail/, where `rt must-fail` looks for them."""
-    listed = subprocess.check_output(["git", "ls-files", "-co", "--exclude-standard", "-z"], cwd=toolchain.TOP, text=True)
-    for name in filter(os.path.isfile, (os.path.join(toolchain.TOP, name) for name in listed.split("\0") if name)):
-        to = os.path.join(folder, os.path.relpath(name, toolchain.TOP)).replace("/wrong/", "/must-fail/")
-        os.makedirs(os.path.dirname(to), exist_ok=True)
-        shutil.copy2(name, to)
-
-
-def try_all(names: Iterable[str], counts: Counts) -> None:
-    """Tries every wrong body of these crates, or of all, by `rt must-fail` in a copy of the sources. It begins with what checks in this checkout
-    have proved, and tries again only what changed."""
-    with tempfile.TemporaryDirectory(prefix="deep-") as folder, Parts(plan.DEEP_MINUTES) as parts:
-        copy_to(folder)
-        said, status = parts.wait_and_print(parts.begin("rt", "must-fail", *names, folder=folder))
-    found = TRIED.findall(said)
-    for name, verdict in found:
-        is_refused = verdict.startswith(REFUSED) and not any(words in verdict for words in toolchain.SAYS_LITTLE)
-        counts.add(is_refused, f"{name}: {'refused' if is_refused else 'NOT SHOWN'}")
-    if status and all(verdict.startswith(REFUSED) for _, verdict in found):
-        counts.add(False, "rt must-fail failed: a crate is not proved, or an edit was not tried")
+def try_all(names: list[str], counts: Counts) -> None:
+    """Tries every wrong body of these crates, or of all. `rt ci` proves the crates first, and tries those in must-fail/."""
+    with Parts(plan.DEEP_MINUTES) as parts:
+        counts.add_log(*parts.wait_and_print(parts.begin("rt", "ci", *names)))
+    try_bodies([name for name, crate in toolchain.crates(*names).items() if bodies.paths_of(crate)], counts)
 
 
 def run_all(counts: Counts) -> None:
@@ -90,14 +69,13 @@ def run_all(counts: Counts) -> None:
 def main(about: str) -> int:
     """Runs what the command line asks for. `about` is the text of its help. Returns the exit status."""
     asked = argparse.ArgumentParser(description=about)
-    asked.add_argument("names", nargs="*", metavar="NAME", help="a crate whose wrong bodies are tried, or with --alone CRATE/WRONG-BODY")
-    asked.add_argument("--alone", action="store_true", help="try these by the functions that they change, over what `rt ci` left")
-    asked.add_argument("--beside", metavar="FILE", help="with --alone: while `rt ci` runs, which writes its lines to this file")
+    asked.add_argument("names", nargs="*", metavar="NAME", help="a crate whose wrong bodies are tried, or with --alone also CRATE/WRONG-BODY")
+    asked.add_argument("--alone", action="store_true", help="do not prove the crates first: take the libraries that `rt ci` left")
     given, counts = asked.parse_args(), Counts()
     if given.alone:
-        try_alone(given.names, given.beside, counts)
+        try_bodies(given.names, counts)
     elif given.names:
-        try_all(toolchain.crates(*given.names), counts)
+        try_all(given.names, counts)
     else:
         run_all(counts)
     return counts.end()

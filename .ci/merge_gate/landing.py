@@ -20,13 +20,13 @@ def remove_kept_libraries() -> None:
 def land(parts: Parts, counts: Counts) -> None:
     """Runs all parts of the gate. The proofs, the wrong bodies, the tests and the pages begin side by side. Stops if a page or a proof fails."""
     proving = parts.begin("rt", "ci")
-    trying = parts.begin(".ci/deep", "--alone", "--beside", proving.log, *(f"{crate}/{name}" for crate in plan.TRIED for name in plan.TRIED[crate]))
     testing = parts.begin("tests/run", "--beside", proving.log, "--cases", str(plan.CASES))
     for part, minutes in ((parts.begin("tests/run", "--pages"), plan.PAGES), (proving, plan.PROOFS)):
         counts.add_log(*parts.wait_and_print(part, minutes))
         if counts.failed:
             print("nothing after this was run, since it failed")
             return
+    trying = parts.begin(".ci/deep", "--alone", *(f"{crate}/{name}" for crate in plan.TRIED for name in plan.TRIED[crate]))
     counts.add_log(*parts.wait_and_print(testing, plan.TESTS))
     counts.add_log(*parts.wait_and_print(parts.begin("tests/run", "--gate"), plan.TESTS))
     counts.add_log(*parts.wait_and_print(trying, plan.TRIALS))

@@ -62,7 +62,7 @@ def check_of(crate: Any, texts: dict[str, str], only: list[str], over: str) -> s
     return ran.stdout if is_read and ran.returncode in (0, 1) else ""
 
 
-def verdict_on(crate: Any, path: str) -> tuple[bool, str]:
-    """Whether a crate's contract refuses an edit, and what is said of it. The whole crate is checked."""
-    verdict, said = rt_module().must_fail(crate, path, ONE)
+def verdict_on(crate: Any, path: str, over: str) -> tuple[bool, str]:
+    """Whether a crate's contract refuses an edit, and what is said of it. The whole crate is checked, beginning with what the folder `over` has."""
+    verdict, said = rt_module().must_fail(crate, path, ONE, over)
     return verdict == rt_module().REFUSED and not any(words in said for words in SAYS_LITTLE), said

@@ -1,6 +1,6 @@
 """The parts of the gate: what bash runs of its file, which functions a wrong body changes, which output of a check
-refuses it, how logs are counted, that all that a command writes is printed, and that one which takes too long is ended.
-The texts of the toolchain are those that it printed in runs."""
+refuses it, which promises the deep run has tried, how logs are counted, that all that a command writes is printed, and
+that one which takes too long is ended. The texts of the toolchain are those that it printed in runs."""
 import contextlib
 import io
 import os
@@ -10,7 +10,7 @@ import unittest
 from unittest import mock
 
 from harness.support import TOP, text_of, waits_for
-from merge_gate import bodies, plan, run, toolchain
+from merge_gate import bodies, plan, records, run, toolchain
 from merge_gate.report import Counts
 
 SOURCE = """use std::alloc::Global;
@@ -62,10 +62,42 @@ class Bodies(unittest.TestCase):
 
     def test_table(self) -> None:
         """Each wrong body that the gate tries changes functions alone."""
-        for crate, name in ((crate, name) for crate in plan.TRIED for name in plan.TRIED[crate]):
-            folder = os.path.join(TOP, "crates", crate)
-            texts, why = toolchain.applied(os.path.join(folder, "wrong", f"{name}.edit"), folder)
-            self.assertTrue(bodies.functions_of(folder, texts), f"{crate}/{name}: {why}")
+        for name, crate in toolchain.crates(*plan.TRIED).items():
+            for body in plan.TRIED[name]:
+                self.assertTrue(bodies.body_of(bodies.path_of_edit(crate, body), crate.folder).functions, f"{name}/{body}")
+
+    def test_one_check(self) -> None:
+        """Wrong bodies of functions with different names are tried by one check, of the text with all of them."""
+        with tempfile.TemporaryDirectory() as folder:
+            os.mkdir(os.path.join(folder, "src"))
+            with open(os.path.join(folder, "src/names.rt"), "w", encoding="utf-8") as file:
+                file.write(SOURCE)
+            pairs = [("n < MOST", "n <= MOST"), ("self.octets.len()", "0"), ("n < MOST", "n == MOST"), ("= 3", "= 4")]
+            texts = [{"src/names.rt": SOURCE.replace(old, new)} for old, new in pairs]
+            all_bodies = [bodies.Body(str(place), text, bodies.functions_of(folder, text)) for place, text in enumerate(texts)]
+            first, second = bodies.batches(all_bodies)
+            self.assertEqual([body.path for body in first + second], ["0", "1", "2"])
+            self.assertEqual(bodies.merged(folder, first), {"src/names.rt": texts[0]["src/names.rt"].replace("self.octets.len()", "0")})
+
+
+class Records(unittest.TestCase):
+    """What the deep run has recorded."""
+
+    def test_promises(self) -> None:
+        """All wrong bodies of a crate were refused by its present promises. If not, `.ci/deep CRATE` tries them, and writes the record."""
+        stale = [name for name, crate in toolchain.crates().items() if bodies.paths_of(crate) and not records.is_right(crate)]
+        self.assertEqual(stale, [], "run .ci/deep with these crates")
+
+    def test_text(self) -> None:
+        """A record is about contracts of public functions and definitions, and neither about bodies nor about remarks."""
+        def heads(text: str) -> list[str]:
+            return [found[0] for found in records.HEAD.finditer(records.REMARK.sub("", text))]
+
+        public = SOURCE.replace("\nfn", "\npub fn").replace("pub(crate) fn", "pub fn")
+        self.assertEqual(heads(SOURCE), [])
+        self.assertEqual(heads(public), ["pub fn is_it(n: usize) -> bool\n    ensures { result }\n{", "    pub fn length(&self) -> usize {"])
+        self.assertEqual(heads(public.replace("n < MOST", "true").replace("/// Its", "/// The")), heads(public))
+        self.assertNotEqual(heads(public.replace("{ result }", "{ ⊤ }")), heads(public))
 
 
 class Verdicts(unittest.TestCase):

@@ -31,8 +31,8 @@ class Lists(unittest.TestCase):
         """A row whose commands are gone is to be removed."""
         unused = [row for row in RUN if not any((it.page, it.kind) == (row.page, row.kind) for it in self.commands)]
         self.assertEqual(unused, [], "these rows of RUN are about no command: remove them")
-        unused = [row for row in NOT_RUN if not any(page_commands.covers(row, it) for it in self.commands)]
-        self.assertEqual(unused, [], "these rows of NOT_RUN are about no command: remove them")
+        unneeded = [row for row in NOT_RUN if not any(page_commands.covers(row, it) for it in self.commands)]
+        self.assertEqual(unneeded, [], "these rows of NOT_RUN are about no command: remove them")
 
     def test_the_tests_read_their_pages(self) -> None:
         """The test that a row of RUN names has the name of its page in its source."""

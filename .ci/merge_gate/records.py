@@ -1,0 +1,54 @@
+"""Records of deep runs: crates/NAME/wrong/tried has a checksum of what the wrong bodies of a crate were last tried against. The gate compares it, and
+so tells of a crate whose promises changed after its wrong bodies were tried."""
+import glob
+import hashlib
+import os
+import re
+from collections.abc import Iterator
+from typing import Any
+
+# A remark or an import, which says nothing of what is promised. The head of a public function, up to its body. A public trait.
+REMARK = re.compile(r"^\s*(?:--|//|use |ghost use |pub use ).*\n|^\s*\n", re.MULTILINE)
+HEAD = re.compile(r"^( *)pub (?:const |unsafe |extern \"C\" )*fn (?:.|\n)*?(?:\n\1| )\{\}?$", re.MULTILINE)
+TRAIT = re.compile(r"^pub (?:unsafe )?trait (?:.|\n)*?^\}", re.MULTILINE)
+
+
+def read(path: str) -> str:
+    """The text of a file, without remarks, imports and blank lines."""
+    with open(path, encoding="utf-8") as file:
+        return REMARK.sub("", file.read())
+
+
+def promises(crate: Any) -> Iterator[str]:
+    """What the wrong bodies of a crate are tried against, and they themselves: the contracts of its public functions, its public traits, and the
+    definitions of its specifications and of those of the crates below."""
+    for path in sorted(glob.glob(f"{crate.folder}/src/**/*.rt", recursive=True)):
+        text = read(path)
+        yield from (found[0] for pattern in (HEAD, TRAIT) for found in pattern.finditer(text))
+    for folder in sorted({crate.folder, *(it.folder for it in crate.below())}):
+        yield from map(read, sorted(glob.glob(f"{folder}/specs/**/*.antt", recursive=True)))
+    yield from map(read, sorted(glob.glob(f"{crate.folder}/wrong/*.edit")))
+
+
+def sum_of(crate: Any) -> str:
+    """The checksum of these, in hexadecimal."""
+    return hashlib.sha256("\0".join(promises(crate)).encode()).hexdigest()
+
+
+def path_of(crate: Any) -> str:
+    """The path of a crate's record."""
+    return os.path.join(crate.folder, "wrong", "tried")
+
+
+def write(crate: Any) -> None:
+    """Records that all wrong bodies of a crate were tried and refused."""
+    with open(path_of(crate), "w", encoding="utf-8") as file:
+        file.write(sum_of(crate) + "\n")
+
+
+def is_right(crate: Any) -> bool:
+    """Whether the record of a crate is that of its present promises and wrong bodies."""
+    try:
+        return read(path_of(crate)).strip() == sum_of(crate)
+    except FileNotFoundError:
+        return False
