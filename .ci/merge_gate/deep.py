@@ -47,8 +47,8 @@ def try_all(names: list[str], counts: Counts) -> None:
 
 
 def run_all(counts: Counts) -> None:
-    """Tries every wrong body, runs all tests, the long ones and the benches, one after the other, and prints the line for CONTRIBUTING.md. The
-    repository may be at another commit when it ends."""
+    """Tries every wrong body, runs all tests, the long ones and the benches, one after the other, and prints the line for CONTRIBUTING.md. The line
+    names the commit of the beginning, since the repository may be at another one when all has ended."""
     begun, seed = time.monotonic(), "none"
     commit = subprocess.check_output(["git", "describe", "--always", "--dirty", "--abbrev=12", "--exclude=*"], cwd=toolchain.TOP, text=True).strip()
     try_all([], counts)
@@ -67,11 +67,14 @@ def run_all(counts: Counts) -> None:
 
 
 def main(about: str) -> int:
-    """Runs what the command line asks for. `about` is the text of its help. Returns the exit status."""
-    asked = argparse.ArgumentParser(description=about)
-    asked.add_argument("names", nargs="*", metavar="NAME", help="a crate whose wrong bodies are tried, or with --alone also CRATE/WRONG-BODY")
-    asked.add_argument("--alone", action="store_true", help="do not prove the crates first: take the libraries that `rt ci` left")
-    given, counts = asked.parse_args(), Counts()
+    """Runs what the command line asks for. `about` is the text of its help. Returns the exit status. Ends the process with status 2 if `--alone` has
+    no names: a run that tries nothing must not pass."""
+    parser = argparse.ArgumentParser(description=about)
+    parser.add_argument("names", nargs="*", metavar="NAME", help="a crate whose wrong bodies are tried, or with --alone also CRATE/WRONG-BODY")
+    parser.add_argument("--alone", action="store_true", help="do not prove the crates first: take the libraries that `rt ci` left")
+    given, counts = parser.parse_args(), Counts()
+    if given.alone and not given.names:
+        parser.error("--alone takes names")
     if given.alone:
         try_bodies(given.names, counts)
     elif given.names:

@@ -1,7 +1,9 @@
 """What commands passed and failed, by the last lines of what they say."""
 import re
 
+# The last line of a command. `rt ci` may have a remark in parentheses behind it.
 LAST = re.compile(r"^(\d+) passed, (\d+) failed(?:$| \()")
+# A line about what was not run, since a tool is missing: of `tests/run`, and of a bench.
 LEFT_OUT = re.compile(r"^(?:skipped: (.*)|(.*) (?:is|are) left out)$", re.MULTILINE)
 
 
@@ -19,7 +21,7 @@ class Counts:
         self.left_out: list[str] = []
 
     def add(self, is_passed: bool, said: str) -> None:
-        """Counts one trial, and prints what is said of it."""
+        """Counts one trial, and prints the line `said` about it."""
         print(said, flush=True)
         self.passed += is_passed
         self.failed += not is_passed
@@ -27,11 +29,11 @@ class Counts:
     def add_log(self, said: str, status: int, has_counts: bool = True) -> None:
         """Counts the output `said` of a command that ended with this status, by its last line 'N passed, M failed'. A command without this line
         has failed. But if it never writes one (`has_counts` is false), its status says whether it passed."""
-        found = last_counts(said)
-        passed, failed = (int(found[1]), int(found[2])) if found else (int(not has_counts and status == 0), int(has_counts))
+        counts = last_counts(said)
+        passed, failed = (int(counts[1]), int(counts[2])) if counts else (int(not has_counts and status == 0), int(has_counts))
         self.passed += passed
         self.failed += failed or int(status != 0)
-        self.left_out += [skipped or part for skipped, part in LEFT_OUT.findall(said)]
+        self.left_out += [tests or part for tests, part in LEFT_OUT.findall(said)]
 
     def end(self) -> int:
         """Prints what was left out and the last line. Returns the exit status."""

@@ -45,7 +45,8 @@ class Part:
     """A command that runs, and the file that its lines go to."""
 
     def __init__(self, words: tuple[str, ...], log: str, folder: str) -> None:
-        """Begins the command in a folder."""
+        """Begins the command in a folder. What it writes on both outputs goes to the file `log`. In a session of its own, no key of the terminal
+        reaches it: `end` ends it."""
         self.words, self.log, self.begun = words, log, time.monotonic()
         with open(log, "wb") as file:
             how: dict[str, Any] = {"stdin": subprocess.DEVNULL, "stdout": file, "stderr": subprocess.STDOUT, "start_new_session": True}
@@ -74,7 +75,7 @@ class Parts(contextlib.ExitStack):
     """Commands that run side by side, together for so many minutes at most. Those that still run when the context ends are ended."""
 
     def __init__(self, minutes: float) -> None:
-        """None yet. Where this process is asked to end, they are ended too."""
+        """Begins none. From now on SIGTERM raises SystemExit in this process, which ends the context, and with it the commands."""
         super().__init__()
         signal.signal(signal.SIGTERM, lambda *_: sys.exit("ended by a signal"))
         self.until = time.monotonic() + 60 * minutes
@@ -90,17 +91,18 @@ class Parts(contextlib.ExitStack):
 
     def wait_and_print(self, part: Part, minutes: float = math.inf) -> tuple[str, int]:
         """Waits until a command has ended, and prints what it writes, and each five minutes what still runs. One that takes more than so many
-        minutes from now is ended, and has failed. Returns its whole output and its exit status."""
-        spoken = time.monotonic()
-        until = min(spoken + 60 * minutes, self.until)
+        minutes from now, or than what is left to all, is ended, and has failed: a line behind its output says so. Returns its whole output and its
+        exit status, which is negative if a signal ended it."""
+        last_report = time.monotonic()
+        until = min(last_report + 60 * minutes, self.until)
         with open(part.log, encoding="utf-8", errors="replace") as file:
             while part.process.poll() is None and time.monotonic() < until:
                 print(file.read(), end="", flush=True)
-                if time.monotonic() - spoken >= SECONDS_BETWEEN_LINES:
-                    spoken = time.monotonic()
+                if time.monotonic() - last_report >= SECONDS_BETWEEN_LINES:
+                    last_report = time.monotonic()
                     print("still running:", *(it for it in self.begun if it.process.poll() is None), sep="\n    ", flush=True)
                 time.sleep(SECONDS_BETWEEN)
-            late = f"{part}: failed, since it may not take so long\n" * (part.process.poll() is None)
+            late = "" if part.process.poll() is not None else f"{part}: failed, since it may not take so long\n"
             part.end()
             print(file.read(), late, sep="", end="", flush=True)
         return text_of_log(part.log) + late, part.process.returncode

@@ -5,12 +5,13 @@ import contextlib
 import io
 import os
 import subprocess
+import sys
 import tempfile
 import unittest
 from unittest import mock
 
 from harness.support import TOP, text_of, waits_for
-from merge_gate import bodies, plan, records, run, toolchain
+from merge_gate import bodies, deep, plan, records, run, toolchain
 from merge_gate.report import Counts
 
 SOURCE = """use std::alloc::Global;
@@ -137,6 +138,17 @@ class Script(unittest.TestCase):
                 os.chmod(path, 0o755)
             done = subprocess.run(["/bin/bash", ".ci/run"], cwd=TOP, env={"PATH": folder}, capture_output=True, text=True)
         self.assertEqual((done.stdout, done.stderr, done.returncode), (f"{TOP}/.ci -m merge_gate.landing\n", "", 0))
+
+
+class Deep(unittest.TestCase):
+    """The command line of `.ci/deep`."""
+
+    def test_nothing_to_try(self) -> None:
+        """`--alone` without a name would try nothing, and is refused: a run without a trial must not pass."""
+        with contextlib.redirect_stderr(io.StringIO()), mock.patch.object(sys, "argv", ["deep", "--alone"]):
+            with self.assertRaises(SystemExit) as ended:
+                deep.main("")
+        self.assertEqual(ended.exception.code, 2)
 
 
 class Logs(unittest.TestCase):
