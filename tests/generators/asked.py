@@ -13,9 +13,9 @@ class Question:
 
 @dataclass(frozen=True)
 class Call:
-    """A call for C programs with a number that need not be a command's, or of `spki_check_accepted` if there is none; and with texts that
-    are empty or, if they are null or too long, none. Each text, and the buffer, is a pair: whether the pointer is null, and the length that
-    the call is given. `command` is the name of all such calls."""
+    """A call of `spki_answer` with a number that need not be a command's, or of `spki_check_accepted` if the number is None. Each text, and the
+    buffer, is a pair: whether its pointer is null, and the length that the call is given. No octet of a text is read: its length is 0, or
+    its pointer is null, or the length is over 2^63 - 1. `command` is the name of all such calls."""
 
     number: int | None
     texts: tuple[tuple[bool, int], ...]

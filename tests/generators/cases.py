@@ -16,12 +16,13 @@ KEYS: list[Value] = [
     (Atom(b"public-key"), (Atom(b"test"), Atom(b"b", b"h"))), (Atom(b"public-key"), (Atom(b"test"),)),
     (Atom(b"public-key"), (Atom(b"rsa"), (Atom(b"n"), Atom(b"\x00\xc3\x01")), (Atom(b"e"), Atom(b"\x03")))),
     (Atom(b"public-key"), (Atom(b"*"), ()))]
+# The chance of a mistake at one step, where no other is given.
 FAULTY = 0.025
 
 
 @dataclass
 class Subject:
-    """A subject of the chain: whose it is, and the names behind."""
+    """A subject of the chain: a key, or behind it the names of a name that this key defines."""
 
     key: Value
     names: list[bytes] = field(default_factory=list)
@@ -81,6 +82,7 @@ class Builder:
                 limits.append((word(head), Atom(self.rng.choice(MOMENTS if self.wrong(0.2) else fitting))))
         if self.rng.random() < 0.3:
             self.rng.shuffle(limits)
+            # (a limit beside `(valid ..)` is a fault)
             directly = limits[:1] if self.wrong(0.02) else []
             return [(word("valid"), *limits), *directly] if limits or self.wrong(0.3) else []
         return limits
@@ -156,8 +158,8 @@ class Builder:
             subject = self.certificate(subject, True)
         return subject
 
-    def key_items(self) -> list[Value]:
-        """The items of the sequence, with the keys that issuers' hashes name before or behind them."""
+    def items_with_keys(self) -> list[Value]:
+        """The items of the sequence, with the keys that issuers' hashes name before or behind them. By a small chance a key is missing."""
         items = list(self.items)
         for key in self.hashed:
             if not self.wrong():
@@ -166,32 +168,31 @@ class Builder:
 
     # ---- the case
 
-    def entries(self, subject: Subject, length: int) -> list[Value]:
-        """The entry of the chain, and others that nearly match."""
-        entries = [self.entry(subject, length > 0)]
+    def entries(self, subject: Subject) -> list[Value]:
+        """The entry of the chain, and others that nearly match. To be called behind `chain`: an entry that certificates follow must delegate."""
+        entries = [self.entry(subject, bool(self.items))]
         for _ in range(self.rng.choice((0, 0, 0, 0, 1, 1, 1, 2, 2, 12))):
             other = subject if self.rng.random() < 0.7 else self.next_subject(0.3)
             entries.insert(self.rng.randrange(len(entries) + 1), self.entry(other, self.rng.random() < 0.7))
         return entries
 
     def entry(self, subject: Subject, propagate: bool) -> Value:
-        """An entry for a subject, with a tag that mostly contains the request."""
+        """An entry for a subject, with a tag that mostly contains the request. `propagate`: it delegates, but for a mistake."""
         fields = self.fields(self.tag(), propagate=propagate and not self.wrong(), ignored=("comment",))
         return (word("entry"), self.subject(subject), *fields)
 
     def case(self) -> Value:
         """The whole case: an entry and a chain from it to the key that asks, mostly. To be called once."""
         subject = self.next_subject(0.3)
-        length = self.rng.choice(self.lengths)
-        last = self.chain(subject, length)
-        entries = self.entries(subject, len(self.items)) if not self.wrong(0.02) else []
+        last = self.chain(subject, self.rng.choice(self.lengths))
+        entries = self.entries(subject) if not self.wrong(0.02) else []
         if self.wrong(0.1):
             entries.insert(0, (word("version"), Atom(b"0")))
         asker = last.key if not self.wrong() else self.rng.choice(self.keys)
         self.rng.shuffle(self.rows)
         policy = [(word("policy"), word("strict"))] if self.wrong(0.25) else []
         request = self.request if not self.wrong() else tags.request(self.rng)
-        return (word("case"), (word("acl"), *entries), (word("accepted"), *self.rows), (word("sequence"), *self.key_items()),
+        return (word("case"), (word("acl"), *entries), (word("accepted"), *self.rows), (word("sequence"), *self.items_with_keys()),
                 (word("key"), asker), (word("request"), request), (word("at"), Atom(self.moment)), *policy)
 
 

@@ -1,15 +1,18 @@
 """Questions to a guard: a list, the parts of a question as texts of their own, and what a verifier accepts."""
 import random
 from dataclasses import dataclass, replace
+from typing import Union
 
 from model.guard import ALLOWED, FIRST_SECOND, HIGHEST, LAST_SECOND, MISUSES, OPENED, USUAL, WISHES, Limits
 from model.values import Atom, Value, canonical
 
+from .asked import Call, Question, StringQuestion
 from .cases import Builder
 from .nearly import maybe_changed, maybe_wrong_text
 
 ODDITIES = [*MISUSES.counts, *ALLOWED.counts]
 NO_POLICY, OCTETS_ABOVE, NODES_ABOVE, WORK_ABOVE, *_ = OPENED
+# The first and last second that is a moment and those beside them, moments of 2023 to 2024, 2000-02-29, 1900-03-01, and the year 0.
 SECONDS = (0, -1, 1_704_067_199, 1_704_067_200, 1_718_440_200, 951_782_400, -2_203_891_200, -62_167_219_200,
            FIRST_SECOND + 31_622_400, LAST_SECOND, LAST_SECOND + 1, -2**63, 2**63 - 1)
 STRINGS = (b"", b"ftp", b"x) (at ", b"1:a", b"\x00\xff", b"(", b"a.o read")
@@ -35,10 +38,13 @@ class GuardQuestion:
     oddity: str = ""
 
 
+# All that is asked in a case.
+Asked = Union[Question, GuardQuestion, Call, StringQuestion]
+
+
 def guard_question(rng: random.Random) -> GuardQuestion:
     """The parts of a case, each by itself and by chance nearly right, asked of a guard of its list."""
-    builder = Builder(rng)
-    case = builder.case()
+    case = Builder(rng).case()
     assert isinstance(case, tuple)
     acl, rows, sequence = case[1:4]
     key, request, moment = (part[1] for part in case[4:7] if isinstance(part, tuple))
@@ -60,7 +66,8 @@ def limits_for(wish: str, rng: random.Random) -> Limits:
 
 
 def with_oddity(question: GuardQuestion, rng: random.Random, oddity: str) -> GuardQuestion:
-    """A question whose calls have an oddity, a row of MISUSES or ALLOWED. A policy or limit that is misuse is put in."""
+    """A question whose calls have an oddity, a row of MISUSES or ALLOWED. A policy or limit that is misuse is put in. The other limits become the
+    usual ones."""
     policy = rng.choice((2, 3, 255, 2**31, 2**32 - 1)) if oddity == NO_POLICY else question.policy
     octets = rng.choice((HIGHEST.octets + 1, 2**63, 2**64 - 1)) if oddity == OCTETS_ABOVE else USUAL.octets
     nodes = rng.choice((HIGHEST.nodes + 1, 2**63, 2**64 - 1)) if oddity == NODES_ABOVE else USUAL.nodes

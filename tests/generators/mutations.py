@@ -107,12 +107,12 @@ Path = tuple[int, ...]
 
 
 def places(value: Value, path: Path = ()) -> list[Path]:
-    """The paths to all parts of a value: the numbers of the members on the way down, and () for the whole."""
-    found = [path]
+    """The paths to all parts of a value: the numbers of the members on the way down, and () for the whole. `path` is put before each."""
+    paths = [path]
     if isinstance(value, tuple):
         for number, member in enumerate(value):
-            found += places(member, (*path, number))
-    return found
+            paths += places(member, (*path, number))
+    return paths
 
 
 def some_place(value: Value, rng: random.Random) -> Path:
@@ -133,7 +133,8 @@ def part(value: Value, path: Path) -> Value:
 
 
 def replaced(value: Value, path: Path, parts: tuple[Value, ...]) -> Value:
-    """The value with the part at a path replaced by these parts, side by side. The whole is replaced by one of them, or by their list."""
+    """The value with the part at a path replaced by these parts, side by side, or left out if there are none. The path () replaces the whole, by the
+    one part or by the list of them."""
     if not path:
         return parts[0] if len(parts) == 1 else tuple(parts)
     assert isinstance(value, tuple)
@@ -147,30 +148,32 @@ def with_near_form(value: Value, rng: random.Random) -> Value:
     heads = [(path, head) for path in places(value) if (head := head_of(part(value, path))) in NEARLY]
     if not heads:
         return replaced(value, some_place(value, rng), (rng.choice(LISTS),))
-    found = sorted({head for _, head in heads if head})
-    head = rng.choice(found + [it for it in RARE if it in found])
+    # (each head as often as another one, however often the value has it, and those of RARE more often)
+    distinct = sorted({head for _, head in heads if head})
+    head = rng.choice(distinct + [it for it in RARE if it in distinct])
     path = rng.choice([path for path, it in heads if it == head])
     return replaced(value, path, (rng.choice(NEARLY[head]),))
 
 
 def with_faulty_first(value: Value, rng: random.Random) -> Value | None:
     """A value in which a list has a faulty member of FIRST behind its head. None if the value has no list with such a head."""
-    found = [(path, member) for path in places(value) for member in FIRST.get(head_of(part(value, path)) or b"", ())]
-    if not found:
+    pairs = [(path, member) for path in places(value) for member in FIRST.get(head_of(part(value, path)) or b"", ())]
+    if not pairs:
         return None
     # each member as often as another one, also those of lists of which there are few
-    member = rng.choice(sorted({it for _, it in found}, key=canonical))
-    path = rng.choice([path for path, it in found if it == member])
+    member = rng.choice(sorted({it for _, it in pairs}, key=canonical))
+    path = rng.choice([path for path, it in pairs if it == member])
     old = part(value, path)
     assert isinstance(old, tuple)
     return replaced(value, path, ((old[0], member, *old[1:]),))
 
 
 def mutated(value: Value, rng: random.Random) -> Value:
-    """A value that differs from the given one at one place."""
+    """A value that mostly differs from the given one at one place: a structure, a member behind a head, or a part that is left out, doubled, replaced,
+    followed by another or changed inside."""
     kind = rng.random()
-    if kind < 0.15 and (made := with_faulty_first(value, rng)):
-        return made
+    if kind < 0.15 and (faulty := with_faulty_first(value, rng)):
+        return faulty
     if kind < 0.57:
         return with_near_form(value, rng)
     everywhere = places(value)
@@ -221,15 +224,16 @@ def changed_octets(text: bytes, rng: random.Random) -> bytes:
 
 
 def changed_length(text: bytes, rng: random.Random) -> bytes:
-    """A text with one of its lengths off by one, with a leading zero, or much too large."""
+    """A text with one of its lengths off by one, with a leading zero or a space behind it, or much too large. One without a length has an octet
+    changed."""
     lengths = list(LENGTH.finditer(text))
     if not lengths:
         return changed_octets(text, rng)
-    found = rng.choice(lengths)
-    length = int(found[0][:9])
-    new = rng.choice((b"%d" % (length + 1), b"%d" % max(0, length - 1), b"0" + found[0], b"%d" % (length + 10**rng.choice((1, 2, 9, 19))),
-                      found[0] + b" "))
-    return text[:found.start()] + new + text[found.end():]
+    digits = rng.choice(lengths)
+    length = int(digits[0][:9])
+    new = rng.choice((b"%d" % (length + 1), b"%d" % max(0, length - 1), b"0" + digits[0], b"%d" % (length + 10**rng.choice((1, 2, 9, 19))),
+                      digits[0] + b" "))
+    return text[:digits.start()] + new + text[digits.end():]
 
 
 def cut(text: bytes, rng: random.Random) -> bytes:

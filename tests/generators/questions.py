@@ -1,6 +1,5 @@
 """What is asked in one case: a command and its text, by a seed and a number."""
 import random
-from typing import Union
 
 from model.answers import COMMANDS
 from model.values import Atom, Value, canonical
@@ -8,7 +7,7 @@ from model.values import Atom, Value, canonical
 from . import rare, spellings, tags
 from .asked import Call, Question, StringQuestion
 from .cases import KEYS, Builder, with_rows_apart
-from .guards import ODDITIES, GuardQuestion, guard_question, with_oddity
+from .guards import ODDITIES, Asked, guard_question, with_oddity
 from .mutations import LISTS, mutated_text, places
 from .nearly import maybe_changed, maybe_wrong_text
 from .seldom import MAKERS, OF_CASES, ROOM
@@ -21,11 +20,9 @@ LONG_QUESTIONS = len(rare.LONG) * len((*COMMANDS, "rows"))
 LENGTHS = (9, 10, 63, 64, 65, 99, 100, 255, 256, 1000, 4096)
 
 
-Asked = Union[Question, GuardQuestion, Call, StringQuestion]
-
-
 def question(seed: str, number: int) -> Asked:
-    """The question of a number. Of each EVERY numbers the first are those of MAKERS, and the last those of long texts."""
+    """The question of a seed and a number. Of each EVERY numbers the first are those of MAKERS, and the last those of long texts. The others are of
+    the kinds below, by chance: the number beside a kind is the share of all kinds up to it."""
     rng = random.Random(f"{seed}/{number}")
     at = number % rare.EVERY
     if at < len(MAKERS):
@@ -59,7 +56,7 @@ def long_question(rng: random.Random, at: int) -> Question:
 
 
 def limit_question(rng: random.Random) -> Question:
-    """A text at another limit."""
+    """A text at another limit than that of octets: nodes of a tag, the product of two tags, or lists that are open at once."""
     kind = rng.randrange(8)
     if kind < 3:
         return Question("intersect", (rare.large_tags, rare.too_many_nodes, rare.deep_tags)[kind](rng))
@@ -97,6 +94,7 @@ def case_question(rng: random.Random) -> Question:
     case = maybe_changed(Builder(rng).case(), rng, 0.35)
     if command != "check_accepted":
         return Question(command, maybe_wrong_text(case, rng, 0.05))
+    # (a case that was changed may have lost the list of its rows)
     if not isinstance(case, tuple) or len(case) < 3 or not isinstance(case[2], tuple):
         return Question(command, maybe_wrong_text(case, rng, 0.05), b"(accepted)")
     case, rows = with_rows_apart(case, rng)
@@ -104,7 +102,7 @@ def case_question(rng: random.Random) -> Question:
 
 
 def value(rng: random.Random, depth: int = 3) -> Value:
-    """Any value."""
+    """Any value, of up to `depth` lists inside one another and one of LISTS in these. A whole value, of depth 3, is a tag by chance."""
     if depth == 3 and rng.random() < 0.1:
         return tags.tag(rng, 3)
     kind = rng.random()

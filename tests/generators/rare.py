@@ -6,6 +6,7 @@ from model.values import LONGEST, Atom, Value, canonical
 
 from .cases import Builder, Subject
 
+# So many numbers have each kind of text and question that comes at a fixed number (`questions.question`).
 EVERY = 20_000
 
 
@@ -15,17 +16,18 @@ def too_long(rng: random.Random) -> bytes:
 
 
 def too_long_in_braces(rng: random.Random) -> bytes:
-    """A transport form of one octet too many."""
+    """A transport form of two octets too many, or of one without its `}`."""
     return b"{" + LONGEST * b"A" + rng.choice((b"}", b""))
 
 
 def text_that_grows(rng: random.Random) -> bytes:
-    """A text within the limit whose canonical form has one octet too many, or just as many as are read."""
+    """A text within the limit whose canonical form has one octet too many, or just as many as are read: `[a]b` has 4 octets, and 8 there. The octets
+    at the end belong to the last string."""
     return b"(" + 131_071 * b"[a]b" + (7 if rng.randrange(8) else 6) * b"b" + b")"
 
 
 def many_strings(kind: bytes, count: int) -> Value:
-    """A tag of `count` nodes, a list or a set."""
+    """A tag of `count` nodes of the kind `list` or `set`, with the same string in all places. A list and its head are two nodes, a set is one."""
     head = (Atom(b"f"),) if kind == b"list" else (Atom(b"*"), Atom(b"set"))
     return (*head, *(count - (2 if kind == b"list" else 1)) * (Atom(b"x"),))
 
@@ -56,7 +58,7 @@ class LargeTags(Builder):
         self.lengths = (1, 1, 2)
 
     def wrong(self, chance: float = 0.0) -> bool:
-        """Whether something goes wrong here. What seldom does never does, so that the tags are intersected."""
+        """Whether something happens that has this chance. Under 0.1 it never does: so no mistake stops the chain, and the tags are intersected."""
         return chance >= 0.1 and super().wrong(chance)
 
     def tag(self) -> Value:

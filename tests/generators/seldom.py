@@ -12,16 +12,16 @@ from model.values import DEEPEST, LONGEST, Atom, Value, canonical, head_of
 
 from . import spellings
 from .asked import Call, Question, StringQuestion
-from .guards import ODDITIES, GuardQuestion, with_oddity
+from .guards import ODDITIES, Asked, GuardQuestion, with_oddity
 from .mutations import FIRST, NEARLY, SNIPPETS, part, places, replaced
 from .rare import many_strings
 
-Made = Question | GuardQuestion | Call | StringQuestion
 # makes the question of one number (`questions.question`)
-Maker = Callable[[random.Random], Made]
+Maker = Callable[[random.Random], Asked]
 OF_CASES = ("check", "explain", "reduce", "check_accepted")
 KEY, OTHER = (advanced.read(b"(public-key (test %s))" % name) for name in (b"a", b"b"))
 NO_ROWS = b"(accepted)"
+# The octets of the buffer of a `Call`: enough for each answer to texts without octets.
 ROOM = 64
 
 # a case that has each structure at one place or at two
@@ -58,6 +58,7 @@ def everything_nearly() -> Iterator[Value]:
         head = head_of(structure) or b""
         yield from (replaced(EVERYTHING, path, (form,)) for form in NEARLY.get(head, ()))
         yield from (replaced(EVERYTHING, path, ((*members[:1], member, *members[1:]),)) for member in FIRST.get(head, ()))
+    # (the tag of the entry has too many nodes; the list has no entry)
     yield replaced(EVERYTHING, (1, 2, 3, 1), (many_strings(b"set", 1025),))
     yield replaced(EVERYTHING, (1,), ((Atom(b"acl"),),))
 
@@ -88,8 +89,8 @@ def too_deep_intersection() -> Value:
     return (Atom(b"intersect"), lists, sets)
 
 
-def guard_question(case: Value, wish: str) -> GuardQuestion:
-    """The question to a guard that has the parts of a case."""
+def guard_question_of(case: Value, wish: str) -> GuardQuestion:
+    """The question to a guard that has the parts of a case, by the default limits and the strict policy. `wish` is one of WISHES."""
     assert isinstance(case, tuple)
     acl, rows, sequence = map(canonical, case[1:4])
     key, request, moment = (canonical(it[1]) for it in case[4:7] if isinstance(it, tuple))
@@ -99,7 +100,7 @@ def guard_question(case: Value, wish: str) -> GuardQuestion:
 # ---- makers
 
 
-def always(question: Made) -> Maker:
+def always(question: Asked) -> Maker:
     """A maker of the same question each time."""
     return lambda rng: question
 
@@ -146,14 +147,15 @@ def makers_of_cases() -> Iterator[Maker]:
 
 
 def makers_of_guards() -> Iterator[Maker]:
-    """Makers of questions to guards: with tags that are too large, with parts that are wrong, and with an oddity in the calls."""
+    """Makers of questions to guards: at and past limits that are set, with tags that are too large, with parts that are wrong or given otherwise,
+    and with an oddity in the calls."""
     for wish in WISHES:
-        question = guard_question(case_of_two_lists(4, 4), wish)
+        question = guard_question_of(case_of_two_lists(4, 4), wish)
         yield from (always(replace(question, limits=Limits(nodes=nodes))) for nodes in (15, 16))
         # 4 nodes, each times 32, 15 for 4 nodes, 3 tags and 3 octets
         yield from (always(replace(question, limits=Limits(work=work))) for work in (391, 392))
         yield from (always(replace(question, limits=Limits(answer=answer))) for answer in (1, 12, 15, 16, 17, 1000))
-        yield always(guard_question(case_of_two_lists(1000, 1001), wish))
+        yield always(guard_question_of(case_of_two_lists(1000, 1001), wish))
         yield from (always(replace(question, acl=acl)) for acl in (b"acl", b'(acl (version "1"))', b"(acl (version [0:]1:0))"))
         yield from (always(replace(question, sequence=sequence)) for sequence in (b"sequence", b"(sequences)", b"(sequence x)"))
         yield from (always(replace(question, strings=strings)) for strings in ((), (b"x",), (b"f", b"x")))

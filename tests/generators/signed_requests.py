@@ -47,12 +47,13 @@ def string(octets: bytes) -> bytes:
 
 
 def in_base64(octets: bytes) -> str:
+    """Octets in base64, padded."""
     return base64.b64encode(octets).decode()
 
 
 @dataclass
 class Key:
-    """A private key: its text, its algorithm, and how it signs."""
+    """A key pair: the canonical text of the public key, the value of `alg` for it, and the function that returns its signature of a message."""
 
     text: bytes
     algorithm: str
@@ -95,7 +96,8 @@ LONGER, BY_SHORT_DIGEST = ecdsa(OTHER, 384, SHA384()), ecdsa(OTHER, 384, SHA256(
 
 @dataclass
 class Request:
-    """A request, and how it is signed."""
+    """A request, and how it is signed. `components` are the names that the signature covers, `created` and `expires` seconds since 1970, and `now`
+    the second at which it comes. If `keyid` or `algorithm` is None, it is that of `key`, by which the request is signed."""
 
     method: str = "GET"
     target: str = "/foo?param=Value&Pet=dog"
@@ -110,9 +112,9 @@ class Request:
     keyid: Optional[str] = None
     algorithm: Optional[str] = None
     tag: str = "spki"
-    # The lines with the key, and the key by which it is signed.
+    # The values of the field with the key, one for each line. None: one line, with `key`.
     keys: Optional[tuple[str, ...]] = None
-    # The whole of the parameters, where they are not the usual ones.
+    # The components with all parameters, in place of those that the fields above make.
     parameters: Optional[str] = None
     key: Key = field(default_factory=lambda: ALICE)
 
@@ -145,11 +147,11 @@ def parameters_of(request: Request) -> str:
 
 
 def value_of(request: Request, name: str) -> str:
-    """The value of a component: a derived one, or the values of a field, as the signature base has it."""
+    """The value of a component as the signature base has it: of a name with `@` from the request itself, of another one the values of this field."""
     path, mark, query = request.target.partition("?")
     derived = {"@method": request.method, "@authority": request.authority.lower(), "@path": path, "@query": "?" + query, "@status": "200",
                "@target-uri": f"https://{request.authority}{path}{mark}{query}", "@scheme": "https", "@request-target": request.target}
-    return derived[name] if name.startswith("@") else ", ".join(value for known, value in lines_of(request) if known.lower() == name)
+    return derived[name] if name.startswith("@") else ", ".join(value for field_name, value in lines_of(request) if field_name.lower() == name)
 
 
 def signed(request: Request) -> Fields:
@@ -162,28 +164,28 @@ def signed(request: Request) -> Fields:
 
 def escaped(text: str) -> str:
     """A text as the lines of the table have it."""
-    made = text.replace("\\", "\\\\").replace("\t", "\\t").replace("\n", "\\n").replace("\r", "\\r")
-    return "".join(it if " " <= it <= "~" else f"\\x{ord(it):02x}" for it in made)
+    text = text.replace("\\", "\\\\").replace("\t", "\\t").replace("\n", "\\n").replace("\r", "\\r")
+    return "".join(it if " " <= it <= "~" else f"\\x{ord(it):02x}" for it in text)
 
 
 LINES: list[str] = []
 
 
 def row(name: str, gives: str, sent: Request, signature: Optional[Fields] = None, again: Optional[int] = None) -> None:
-    """Adds a row to LINES. What is sent has these fields of a signature, or by default those of its own. `gives` is the verdict that a
-    verifier must return. `again`: the same came so many seconds before."""
-    both = signed(sent) if signature is None else signature
+    """Adds a row to LINES. `gives` is the verdict that a verifier must return. `signature` are the fields of the signature that are sent: by default
+    those of `sent` itself. `again`: the same request was valid so many seconds before."""
+    signature = signed(sent) if signature is None else signature
     LINES.extend([f"row {name}", f"on {escaped(f'{sent.method}|{sent.target}|{sent.authority}|{sent.now}')}"])
-    LINES.extend(f"field {escaped(f'{known}: {value}')}" for known, value in [*lines_of(sent), *both])
+    LINES.extend(f"field {escaped(f'{field_name}: {value}')}" for field_name, value in [*lines_of(sent), *signature])
     LINES.extend([f"body {escaped(sent.body)}"] if sent.body is not None else [])
     LINES.extend([f"again {again}"] if again is not None else [])
     LINES.extend([f"gives {gives}", ""])
 
 
 def digest(body: str, algorithm: str = "sha-256") -> tuple[str, str]:
-    """The field Content-Digest of a body."""
-    made = hashlib.new(algorithm.replace("-", ""), body.encode()).digest()
-    return "Content-Digest", f"{algorithm}=:{in_base64(made)}:"
+    """The name and the value of the field Content-Digest for a body."""
+    octets = hashlib.new(algorithm.replace("-", ""), body.encode()).digest()
+    return "Content-Digest", f"{algorithm}=:{in_base64(octets)}:"
 
 
 BODY = '{"hello": "world"}'
@@ -271,8 +273,8 @@ def changed_requests() -> None:
     row("an octet over ASCII in the target", "bad-target", replace(GET, target="/f\xe9"))
 
 
-def changed_fields() -> None:
-    """Bodies, digests, chains and covered fields that are changed."""
+def changed_bodies() -> None:
+    """Bodies and digests that are changed."""
     other = [digest(BODY + "!"), ("Content-Length", "18")]
     row("another body", "other-digest", replace(POST, body='{"hello": "wurld"}'), signed(POST))
     row("no body any more", "other-digest", replace(POST, body=""), signed(POST))
@@ -296,6 +298,10 @@ def changed_fields() -> None:
         f"sha-256=:{body}:;a", "a digest's algorithm in capitals": f"SHA-256=:{body}:",
     }.items():
         row(name, "bad-digest", replace(POST, fields=[("Content-Digest", value)]))
+
+
+def changed_certificates() -> None:
+    """Certificates that are left at the service, changed."""
     row("other certificates left", "other-digest", replace(LEAVE, body=CHAIN[:-2] + "=}"), signed(LEAVE))
     row("no certificates left", "other-digest", replace(LEAVE, body=""), signed(LEAVE))
     row("other certificates left, with their digest", "invalid-signature", replace(LEAVE, fields=[digest("(sequence)")], body="(sequence)"),
@@ -309,6 +315,10 @@ def changed_fields() -> None:
         (name, value.replace(hash_of(ALICE.text), hash_of(MALLORY.text))) for name, value in signed(LEAVE)])
     row("certificates left at another service", "invalid-signature", LEAVE, signed(replace(LEAVE, authority="evil.example")))
     row("certificates left twice", "nonce-seen", LEAVE, again=0)
+
+
+def changed_fields() -> None:
+    """Chains and covered fields that are changed."""
     row("another chain", "invalid-signature", replace(CHAINED, fields=[("X-Spki-Sequence", "{KDE6YSk=}")]), signed(CHAINED))
     row("a chain taken away", "absent-field", replace(CHAINED, fields=[]), signed(CHAINED))
     row("a chain put in", "uncovered-field", replace(CHAINED, components=PLAIN))
@@ -389,10 +399,9 @@ def changed_inputs() -> None:
 
 def changed_parameters() -> None:
     """Parameters that are changed, or that are not those of the profile."""
-    (_, text), (_, octets) = signed(GET)
     for name in ("created", "expires", "nonce", "keyid", "alg", "tag"):
-        kept = [it for it in parameters_of(GET).split(";") if not it.startswith(name)]
-        row(f"{name} left out", "missing-parameter", Request(parameters=";".join(kept)))
+        others = [it for it in parameters_of(GET).split(";") if not it.startswith(name)]
+        row(f"{name} left out", "missing-parameter", Request(parameters=";".join(others)))
         twice = parameters_of(GET) + ";" + next(it for it in parameters_of(GET).split(";") if it.startswith(name))
         row(f"{name} twice", "parameter-twice", Request(parameters=twice))
     row("a parameter more", "unknown-parameter", Request(parameters=parameters_of(GET) + ";a=1"))
@@ -432,7 +441,6 @@ def changed_parameters() -> None:
 
 def changed_keys() -> None:
     """The field with the key that is changed, or that has none."""
-    (_, text), (_, octets) = signed(GET)
     alice, mallory = in_braces(ALICE.text), in_braces(MALLORY.text)
     row("no key", "absent-field", Request(keys=()), signed(GET))
     row("a key twice", "repeated-field", Request(keys=(alice, alice)))
@@ -458,6 +466,12 @@ def changed_keys() -> None:
         ALICE.text.replace(b"32:", b"032:"), "a key of 4,098 characters": rsa_key_of(3028),
     }.items():
         row(name, "bad-key", Request(keys=(in_braces(shown),), keyid=hash_of(shown)))
+
+
+def other_keys() -> None:
+    """Keys other than that of the signature, and keys of odd sizes."""
+    (_, text), (_, octets) = signed(GET)
+    mallory = in_braces(MALLORY.text)
     small = b"(10:public-key(3:ecc(5:curve7:Ed25519)(5:flags5:eddsa)(1:q32:%s)))" % bytes(32)
     row("a point of small order", "invalid-signature", Request(keys=(in_braces(small),)), [
         ("Signature-Input", text.replace(hash_of(ALICE.text), hash_of(small))), ("Signature", f"spki=:{in_base64(bytes(64))}:")])
@@ -481,51 +495,66 @@ def rsa_key_of(octets: int) -> bytes:
     return b"(10:public-key(3:rsa(1:n%s)(1:e3:\1\0\1)))" % string(b"\x7f" * octets)
 
 
+def row_of_signature(name: str, gives: str, sent: Request, parameters: str, value: str) -> None:
+    """Adds a row in which a request has these values of Signature-Input and, behind the label, of Signature."""
+    row(name, gives, sent, [("Signature-Input", parameters), ("Signature", f"spki={value}")])
+
+
+def octets_of(signature: str) -> bytes:
+    """The octets of a signature, by the value of the field Signature."""
+    return base64.b64decode(signature.removeprefix("spki=:").removesuffix(":"))
+
+
 def changed_signatures() -> None:
-    """The octets of a signature, and what is sent again."""
-    (_, text), (_, octets) = signed(GET)
-    made = base64.b64decode(octets.removeprefix("spki=:").removesuffix(":"))
+    """The octets of a signature by Ed25519, and how they are written."""
+    (_, text), (_, value) = signed(GET)
+    octets = octets_of(value)
 
-    def sent(name: str, gives: str, value: str, request: Request = GET, input_: str = text) -> None:
-        """Adds a row in which a request has this value of Signature, behind its label."""
-        row(name, gives, request, [("Signature-Input", input_), ("Signature", f"spki={value}")])
+    def sent(name: str, gives: str, changed: str) -> None:
+        """Adds a row in which GET has this value of Signature, behind its label."""
+        row_of_signature(name, gives, GET, text, changed)
 
-    sent("an octet changed", "invalid-signature", f":{in_base64(bytes([made[0] ^ 1]) + made[1:])}:")
-    sent("a signature cut off", "invalid-signature", f":{in_base64(made[:-1])}:")
-    sent("an octet more", "invalid-signature", f":{in_base64(made + bytes(1))}:")
+    sent("an octet changed", "invalid-signature", f":{in_base64(bytes([octets[0] ^ 1]) + octets[1:])}:")
+    sent("a signature cut off", "invalid-signature", f":{in_base64(octets[:-1])}:")
+    sent("an octet more", "invalid-signature", f":{in_base64(octets + bytes(1))}:")
     sent("no octets", "invalid-signature", "::")
     sent("octets 00", "invalid-signature", f":{in_base64(bytes(64))}:")
-    raised = (int.from_bytes(made[32:], "little") + ORDER_25519).to_bytes(32, "little")
-    sent("s raised by the order", "invalid-signature", f":{in_base64(made[:32] + raised)}:")
-    sent("a signature in quotes", "malformed", f'"{in_base64(made)}"')
-    sent("no padding", "malformed", f":{in_base64(made).rstrip('=')}:")
+    raised = (int.from_bytes(octets[32:], "little") + ORDER_25519).to_bytes(32, "little")
+    sent("s raised by the order", "invalid-signature", f":{in_base64(octets[:32] + raised)}:")
+    sent("a signature in quotes", "malformed", f'"{in_base64(octets)}"')
+    sent("no padding", "malformed", f":{in_base64(octets).rstrip('=')}:")
     sent("base64 of URLs", "malformed", ":" + in_base64(b"\xff" * 64).replace("/", "_") + ":")
-    sent("a space in base64", "malformed", f":{in_base64(made)[:8]} {in_base64(made)[8:]}:")
-    sent("a line feed in base64", "malformed", f":{in_base64(made)[:8]}\n{in_base64(made)[8:]}:")
-    sent("no colon at the end", "malformed", f":{in_base64(made)}")
-    sent("a parameter behind the signature", "malformed", f":{in_base64(made)}:;a=1")
-    bits = in_base64(made).removesuffix("==")
+    sent("a space in base64", "malformed", f":{in_base64(octets)[:8]} {in_base64(octets)[8:]}:")
+    sent("a line feed in base64", "malformed", f":{in_base64(octets)[:8]}\n{in_base64(octets)[8:]}:")
+    sent("no colon at the end", "malformed", f":{in_base64(octets)}")
+    sent("a parameter behind the signature", "malformed", f":{in_base64(octets)}:;a=1")
+    bits = in_base64(octets).removesuffix("==")
     sent("bits behind the end", "malformed", f":{bits[:-1]}{chr(ord(bits[-1]) + 1)}==:")
+
+
+def changed_ecdsa() -> None:
+    """The octets of a signature by ECDSA, which are r and s side by side, and what is sent again."""
     curve = Request(key=CURVE)
-    (_, second), (_, pair) = signed(curve)
-    numbers = base64.b64decode(pair.removeprefix("spki=:").removesuffix(":"))
+    (_, text), (_, value) = signed(curve)
+    numbers = octets_of(value)
     r, s = int.from_bytes(numbers[:32], "big"), int.from_bytes(numbers[32:], "big")
-    sent("ECDSA in DER", "invalid-signature", f":{in_base64(encode_dss_signature(r, s))}:", curve, second)
-    sent("ECDSA with numbers 00", "invalid-signature", f":{in_base64(bytes(64))}:", curve, second)
+    row_of_signature("ECDSA in DER", "invalid-signature", curve, text, f":{in_base64(encode_dss_signature(r, s))}:")
+    row_of_signature("ECDSA with numbers 00", "invalid-signature", curve, text, f":{in_base64(bytes(64))}:")
     other = numbers[:32] + (ORDER_256 - s).to_bytes(32, "big")
-    sent("ECDSA with the other s, whose nonce is the same", "valid", f":{in_base64(other)}:", curve, second)
+    row_of_signature("ECDSA with the other s, whose nonce is the same", "valid", curve, text, f":{in_base64(other)}:")
     longer = Request(key=LONGER)
-    (_, third), (_, pair) = signed(longer)
-    numbers = base64.b64decode(pair.removeprefix("spki=:").removesuffix(":"))
+    (_, longer_text), (_, value) = signed(longer)
+    numbers = octets_of(value)
     r, s = int.from_bytes(numbers[:48], "big"), int.from_bytes(numbers[48:], "big")
-    for name, made in {
+    for name, octets in {
         "in DER": encode_dss_signature(r, s), "with numbers 00": bytes(96), "with numbers of 32 octets": numbers[:32] + numbers[48:80],
         "with numbers of 49 octets": b"\0" + numbers[:48] + b"\0" + numbers[48:],
         "with the order for r": ORDER_384.to_bytes(48, "big") + numbers[48:],
-        "of the other order": numbers[48:] + numbers[:48], "of another digest": BY_SHORT_DIGEST.sign(third.encode()),
+        "of the other order": numbers[48:] + numbers[:48], "of another digest": BY_SHORT_DIGEST.sign(longer_text.encode()),
     }.items():
-        sent(f"P-384 {name}", "invalid-signature", f":{in_base64(made)}:", longer, third)
-    sent("P-384 with the other s", "valid", f":{in_base64(numbers[:48] + (ORDER_384 - s).to_bytes(48, 'big'))}:", longer, third)
+        row_of_signature(f"P-384 {name}", "invalid-signature", longer, longer_text, f":{in_base64(octets)}:")
+    other = numbers[:48] + (ORDER_384 - s).to_bytes(48, "big")
+    row_of_signature("P-384 with the other s", "valid", longer, longer_text, f":{in_base64(other)}:")
     row("P-384 by SHA-256", "invalid-signature", longer, signed(replace(longer, key=BY_SHORT_DIGEST, algorithm=LONGER.algorithm)))
     row("P-384 sent again", "nonce-seen", longer, again=0)
     row("sent again at once", "nonce-seen", GET, again=0)
@@ -536,9 +565,10 @@ def changed_signatures() -> None:
 
 
 def main() -> None:
-    for each in (valid, changed_requests, changed_fields, changed_inputs, changed_parameters, changed_keys, changed_signatures):
-        LINES.append(f"# {each.__doc__}\n" if each.__doc__ else "")
-        each()
+    for rows in (valid, changed_requests, changed_bodies, changed_certificates, changed_fields, changed_inputs, changed_parameters, changed_keys,
+                 other_keys, changed_signatures, changed_ecdsa):
+        LINES.append(f"# {rows.__doc__}\n")
+        rows()
     with open(os.path.join(os.path.dirname(os.path.realpath(__file__)), ROWS), "w", encoding="ascii") as file:
         file.write("# Signed requests, made by tests/generators/signed_requests.py, which says what each line is.\n\n" + "\n".join(LINES))
 

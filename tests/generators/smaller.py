@@ -10,24 +10,25 @@ from model.printed import printed
 from model.values import FormFault, Value, canonical
 
 from .asked import Call, Question, StringQuestion
-from .guards import GuardQuestion
+from .guards import Asked, GuardQuestion
 from .mutations import part, places, replaced
-from .questions import Asked
 
+# A text of so many octets is only cut: to leave out each of its parts would take too long.
 LARGE = 20_000
 
 
 def smaller(question: Asked, shows: Callable[[Asked], bool], seconds: float = 20) -> Asked:
-    """A smaller question for which `shows` is still true. Its candidates are tried until none is left for which it is, or the time is over."""
+    """A smaller question for which `shows` is still true, or the question itself if none was found. It is replaced by its first candidate that shows,
+    until no candidate does, or the time is over."""
     ends = time.monotonic() + seconds
-    goes_on = True
-    while goes_on and time.monotonic() < ends:
-        goes_on = False
+    is_smaller = True
+    while is_smaller:
+        is_smaller = False
         for candidate in candidates(question):
             if time.monotonic() > ends:
-                break
+                return question
             if shows(candidate):
-                question, goes_on = candidate, True
+                question, is_smaller = candidate, True
                 break
     return question
 

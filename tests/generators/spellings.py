@@ -26,7 +26,7 @@ def text_of(value: Value, rng: random.Random) -> bytes:
 
 
 def spaces(rng: random.Random, chance: float = 0.1) -> bytes:
-    """Whitespace by this chance, else nothing."""
+    """One of SPACES by this chance, else nothing."""
     return rng.choice(SPACES) if rng.random() < chance else b""
 
 
@@ -41,7 +41,7 @@ def with_less_padding(body: bytes, rng: random.Random) -> bytes:
 
 
 def with_whitespace(body: bytes, rng: random.Random) -> bytes:
-    """A body with whitespace inside by chance."""
+    """A body of base64 or hexadecimal digits, with whitespace inside or at its ends by chance."""
     for _ in range(rng.choice((0, 0, 0, 1, 2))):
         at = rng.randrange(len(body) + 1)
         body = body[:at] + rng.choice(SPACES) + body[at:]
@@ -108,7 +108,7 @@ def quoted(octets: bytes, rng: random.Random) -> bytes:
 
 
 def rejoined(pieces: list[bytes]) -> bytes:
-    """The pieces side by side, where a raw line end that would lengthen an escaped one is written as an escape."""
+    """The pieces side by side. A raw line end that would lengthen an escaped one before it is written as an escape."""
     text = b""
     for piece in pieces:
         if piece in (b"\n", b"\r") and text.endswith((b"\\\n", b"\\\r")):
@@ -118,12 +118,12 @@ def rejoined(pieces: list[bytes]) -> bytes:
 
 
 def escape(octet: int, rng: random.Random) -> bytes:
-    """An octet as an escape, or raw where it may stand so."""
+    """An octet in quotes as an escape, or raw unless it is a quote or a backslash."""
     ways = [b"\\%03o" % octet, b"\\x%02x" % octet, b"\\x%02X" % octet]
     if octet in b"\"'?\\":
         ways += 3 * [b"\\" + bytes([octet])]
     if octet in LETTERS:
         ways += 3 * [LETTERS[octet]]
-    if octet not in b'"\\\r\n':
+    if octet not in b'"\\':
         ways.append(bytes([octet]))
     return rng.choice(ways)

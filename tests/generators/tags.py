@@ -11,7 +11,7 @@ NOTHING = (Atom(b"*"), Atom(b"set"))
 
 
 def request(rng: random.Random, depth: int = 2) -> Value:
-    """A request."""
+    """A request, of up to `depth` lists inside one another. No list begins with `*`, which a request must not."""
     if depth == 0 or rng.random() < 0.3:
         return Atom(rng.choice(STRINGS))
     head = Atom(rng.choice([it for it in STRINGS if it != b"*"]))
@@ -50,7 +50,7 @@ def near(body: bytes, rng: random.Random) -> bytes:
 
 
 def range_for(body: bytes, rng: random.Random) -> Value:
-    """A range that contains a string, or nearly."""
+    """A range that contains a string, or nearly. A string of 8 octets may be a time, one of 19 a date."""
     if rng.random() < 0.7:
         fitting = b"time" if len(body) == 8 else b"date" if len(body) == 19 else b"alpha"
         ordering = fitting if rng.random() < 0.6 else b"alpha"
@@ -113,7 +113,7 @@ def strings_tag_for(body: bytes, rng: random.Random) -> Value:
 
 
 def changed_request(old: Value, rng: random.Random) -> Value:
-    """A request that differs from the given one in one string."""
+    """A request that differs from the given one in one string, or by chance in none. The head of a list gets an octet `x` more."""
     if isinstance(old, Atom):
         return Atom(rng.choice(STRINGS))
     at = rng.randrange(len(old))
