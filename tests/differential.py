@@ -41,20 +41,19 @@ from generators.seldom import ROOM
 from generators.smaller import smaller
 from harness.guard_door import GuardDoor
 from harness.guard_door import model_answer as model_guard_answer
-from harness.support import LIBRARY as ARCHIVE, PROGRAM
+from harness.support import LIBRARY as ARCHIVE, PROGRAM, positive
 from model import coverage, laws
 from model.answers import COMMANDS, Answer, ModelDisagrees, answer, check_accepted
 from model.calls import DONE, TOO_SMALL, call, of_library, string_at, too_small
 from model.guard import MISUSES, WISHES
 
-# A case that takes longer counts as one that does not end.
-SECONDS = 600
-SECONDS_QUIET = 300
+# A case that takes longer counts as one that does not end. How often a line says how far the run is.
+SECONDS, SECONDS_BETWEEN_LINES = 600, 300
 # The program answers the texts of each 7th case. Questions to guards, calls and rows apart are no texts, so this is over a tenth of all.
 PROGRAM_EVERY, PROGRAM_SHARE = 7, 0.1
 SMALL_BUFFER_EVERY = 5
-WHOLE_COVERAGE = 20_000
-SHOWN = 5
+# A run of so many cases must reach each row of the model. So many cases that differ are made smaller and printed.
+WHOLE_COVERAGE, SHOWN = 20_000, 5
 
 # ---- the model, the library and the program
 
@@ -67,7 +66,7 @@ def model_answer(asked: Question) -> Answer:
 
 
 class Library:
-    """The library for C programs, loaded into this process or relayed to another machine."""
+    """The library for C programs: `loaded` into this process by ctypes, or a `Relayed` of harness/relayed.py."""
 
     def __init__(self, loaded: Any) -> None:
         self.guards = GuardDoor(loaded)
@@ -94,15 +93,15 @@ class Library:
         """What is wrong with the answer to a call with texts that are empty, null or too long, None if nothing is."""
         wanted = call(asked.number, asked.texts, asked.buffer)
         octets, needed = ctypes.create_string_buffer(ROOM + 1), ctypes.c_size_t()
-        words = [word for is_null, length in asked.texts for word in (None if is_null else b"", length)]
+        texts = [argument for is_null, length in asked.texts for argument in (None if is_null else b"", length)]
         is_null, room = asked.buffer
         buffer = None if is_null else octets
         if asked.number is None:
-            status = self.by_rows(*words, buffer, room, needed)
+            status = self.by_rows(*texts, buffer, room, needed)
         else:
-            status = self.by_command(asked.number, *words, buffer, room, needed)
-        met = status, octets.raw.rstrip(b"\0")
-        return None if met == wanted else f"the library answers {shown(met)}, the model {shown(wanted)}"
+            status = self.by_command(asked.number, *texts, buffer, room, needed)
+        result = status, octets.raw.rstrip(b"\0")
+        return None if result == wanted else f"the library answers {in_short(result)}, the model {in_short(wanted)}"
 
     def fault_of_string(self, asked: StringQuestion) -> str | None:
         """What is wrong with the string that `spki_string` finds by a path inside a value, None if nothing is."""
@@ -110,27 +109,28 @@ class Library:
         text, path = ctypes.create_string_buffer(asked.text, len(asked.text) + 1), (ctypes.c_size_t * len(asked.path))(*asked.path)
         octets, length = ctypes.c_void_p(), ctypes.c_size_t()
         status = self.string(text, len(asked.text), path, len(path), octets, length)
+        # (the string is a part of the text that was given; without one, the pointer is null and the length 0)
         at = (octets.value or 0) - ctypes.addressof(text)
         if status != DONE:
-            is_inside, found = octets.value is None and not length.value, b""
+            is_inside, string = octets.value is None and not length.value, b""
         else:
-            is_inside, found = 0 <= at <= at + length.value <= len(asked.text), asked.text[at:at + length.value]
-        if (status, found) == wanted and is_inside:
+            is_inside, string = 0 <= at <= at + length.value <= len(asked.text), asked.text[at:at + length.value]
+        if (status, string) == wanted and is_inside:
             return None
-        return f"the library finds {shown((status, found))}, inside the text: {is_inside}, the model {shown(wanted)}"
+        return f"the library finds {in_short((status, string))}, inside the text: {is_inside}, the model {in_short(wanted)}"
 
     def fault_of_answer(self, asked: Question, wanted: Answer) -> str | None:
-        """What is wrong with the answer to a text, None if nothing is. `wanted` is what the model answers."""
+        """What is wrong with the answer to a text, None if nothing is. `wanted` is what the model answers, with the status of the program."""
         wanted = of_library(asked.command, wanted)
-        met_status, needed, buffer = self.ask(asked, len(wanted[1]) + 8)
-        if met_status == TOO_SMALL:
-            met_status, needed, buffer = self.ask(asked, needed)
-        if (met_status, buffer[:needed]) != wanted:
-            return f"the library answers {shown((met_status, buffer[:needed]))}"
+        status, needed, buffer = self.ask(asked, len(wanted[1]) + 8)
+        if status == TOO_SMALL:
+            status, needed, buffer = self.ask(asked, needed)
+        if (status, buffer[:needed]) != wanted:
+            return f"the library answers {in_short((status, buffer[:needed]))}"
         return "the library writes behind its answer" if buffer[needed:].strip(b"\0") else None
 
     def fault_with_small_buffer(self, asked: Question, wanted: Answer) -> str | None:
-        """What is wrong where the buffer has one octet less than the answer, None if nothing is."""
+        """What is wrong where the buffer has one octet less than the answer, None if nothing is. There is no such buffer for an empty answer."""
         length = len(wanted[1])
         if not length or self.ask(asked, length - 1) == (too_small(), length, length * b"\0"):
             return None
@@ -140,12 +140,13 @@ class Library:
 def fault_of_program(program: str, asked: Question, wanted: Answer) -> str | None:
     """What is wrong with the program's answer to a text, None if nothing is. `wanted` is what the model answers."""
     done = subprocess.run([program, asked.command], input=asked.text, stdout=subprocess.PIPE, stderr=subprocess.DEVNULL, timeout=SECONDS)
-    return None if (done.returncode, done.stdout) == wanted else f"the program answers {shown((done.returncode, done.stdout))}"
+    return None if (done.returncode, done.stdout) == wanted else f"the program answers {in_short((done.returncode, done.stdout))}"
 
 
-def shown(said: Answer) -> str:
+def in_short(result: Answer) -> str:
     """The status and the first 300 octets of an answer, for a message."""
-    return f"{said[0]} {said[1][:300]!r}{'..' if len(said[1]) > 300 else ''}"
+    status, octets = result
+    return f"{status} {octets[:300]!r}{'..' if len(octets) > 300 else ''}"
 
 
 @dataclass
@@ -177,10 +178,10 @@ class Comparison:
             return f"the model disagrees with itself: {why}"
         except Exception as why:
             return f"the model fails: {why!r}"
-        found = library.guards.fault_of_answer(asked, wanted)
-        if not found and number % SMALL_BUFFER_EVERY == 0 and asked.oddity not in MISUSES.counts:
-            found = library.guards.fault_with_small_buffer(asked)
-        return found and f"{found}, the model {shown(wanted[0])}"
+        fault = library.guards.fault_of_answer(asked, wanted)
+        if not fault and number % SMALL_BUFFER_EVERY == 0 and asked.oddity not in MISUSES.counts:
+            fault = library.guards.fault_with_small_buffer(asked)
+        return fault and f"{fault}, the model {in_short(wanted[0])}"
 
     def fault_of_text(self, asked: Question, number: int) -> str | None:
         """What is wrong with the answers to a text, None if nothing is: that of the model breaks a law of model/laws.py, or that of the library or of
@@ -188,19 +189,19 @@ class Comparison:
         try:
             wanted = model_answer(asked)
             rng = random.Random(number)
-            laws.check_laws(asked.command, asked.text, wanted, lambda near: [tags.request_near(it, rng) for it in near])
+            laws.check_laws(asked.command, asked.text, wanted, lambda of_tags: [tags.request_near(tag, rng) for tag in of_tags])
         except ModelDisagrees as why:
             return f"the model disagrees with itself: {why}"
         except Exception as why:
             # an error of the model is shown with its case, and does not end the run
             return f"the model fails: {why!r}"
-        found = self.library.fault_of_answer(asked, wanted) if self.library else None
-        if not found and self.library and number % SMALL_BUFFER_EVERY == 0:
-            found = self.library.fault_with_small_buffer(asked, wanted)
-        if not found and (not self.library or number % PROGRAM_EVERY == 0) and asked.command != "check_accepted":
+        fault = self.library.fault_of_answer(asked, wanted) if self.library else None
+        if not fault and self.library and number % SMALL_BUFFER_EVERY == 0:
+            fault = self.library.fault_with_small_buffer(asked, wanted)
+        if not fault and (not self.library or number % PROGRAM_EVERY == 0) and asked.command != "check_accepted":
             self.by_program += 1
-            found = fault_of_program(self.program, asked, wanted)
-        return found and f"{found}, the model {shown(wanted)}"
+            fault = fault_of_program(self.program, asked, wanted)
+        return fault and f"{fault}, the model {in_short(wanted)}"
 
 
 # ---- many cases
@@ -208,12 +209,13 @@ class Comparison:
 
 def work(comparison: Comparison, numbers: range, at: MutableSequence[int], job: int, results: Connection) -> None:
     """Compares the cases of these numbers, in a process of its own, and keeps the present number in `at[job]`. Sends to `results` the numbers of the
-    cases that differ, the counts of the rows, and how many cases the program answered."""
+    cases that differ, the counts of the rows, and how many cases the program answered. A case that takes over SECONDS ends the process: then nothing
+    is sent."""
     coverage.reset_counts()
     differ = []
     for number in numbers:
         at[job] = number
-        # a call that does not end ends the process
+        # (the signal ends the process also within a call in C)
         signal.alarm(SECONDS)
         if comparison.fault(question(comparison.seed, number), number):
             differ.append(number)
@@ -223,7 +225,7 @@ def work(comparison: Comparison, numbers: range, at: MutableSequence[int], job: 
 
 def compare(comparison: Comparison, first: int, cases: int, jobs: int) -> tuple[list[int], list[int], Counter]:
     """Compares so many cases from the number `first` on, in `jobs` processes. Returns the numbers of the cases that differ, the numbers of those that
-    ended their process, and how often each row came, by its table and name."""
+    ended their process, and how often each row came, by its table and name. A process that ended reports neither its other cases nor its rows."""
     # (the number of the case that each process is at)
     at = multiprocessing.Array("q", jobs)
     workers = []
@@ -238,7 +240,7 @@ def compare(comparison: Comparison, first: int, cases: int, jobs: int) -> tuple[
     ended: list[int] = []
     rows: Counter = Counter()
     for job, (results, process) in enumerate(workers):
-        while not results.poll(SECONDS_QUIET):
+        while not results.poll(SECONDS_BETWEEN_LINES):
             print(f"about {sum(at.get_obj()) // jobs - first} cases so far", flush=True)
         try:
             numbers, counts, by_program = results.recv()
@@ -252,7 +254,7 @@ def compare(comparison: Comparison, first: int, cases: int, jobs: int) -> tuple[
 
 
 def lines_of_case(comparison: Comparison, number: int) -> str:
-    """The lines about a case that differs: the smallest one that was found to differ too, and what is wrong with it."""
+    """The lines about a case that differs: the smallest one that was found to differ too, and what is wrong with that one."""
     least = smaller(question(comparison.seed, number), lambda it: comparison.fault(it, number) is not None)
     return f"case {number}: {least!r:.4000}\n    {comparison.fault(least, number)}"
 
@@ -264,10 +266,10 @@ def line_of_ended(seed: str, number: int) -> str:
 
 def tables(rows: Counter) -> list[str]:
     """A line for each table of the model: its rows with their counts. `rows` has the counts by table and row."""
-    titles: dict[str, list[str]] = {}
+    by_title: dict[str, list[str]] = {}
     for (title, name), count in rows.items():
-        titles.setdefault(title, []).append(f"{name} {count}")
-    return [f"{title}: {'; '.join(said)}" for title, said in titles.items()]
+        by_title.setdefault(title, []).append(f"{name} {count}")
+    return [f"{title}: {'; '.join(names)}" for title, names in by_title.items()]
 
 
 def shared_object(archive: str, folder: str) -> str:
@@ -286,15 +288,15 @@ def comparison_of(program: str, archive: str | None, folder: str, seed: str) -> 
 
 def arguments() -> argparse.Namespace:
     """What the command line asks for."""
-    asked = argparse.ArgumentParser(description="Compares the library and the program with the model on generated texts.")
-    asked.add_argument("--cases", type=int, default=20_000)
-    asked.add_argument("--seed", default=secrets.token_hex(4))
-    asked.add_argument("--first", type=int, default=0, help="the number of the first case")
-    asked.add_argument("--jobs", type=int, default=os.cpu_count() or 1)
-    asked.add_argument("--program-alone", action="store_true", help="there is no library")
-    asked.add_argument("program", nargs="?", default=PROGRAM)
-    asked.add_argument("library", nargs="?", default=ARCHIVE)
-    return asked.parse_args()
+    parser = argparse.ArgumentParser(description="Compares the library and the program with the model on generated texts.")
+    parser.add_argument("--cases", type=positive, default=20_000)
+    parser.add_argument("--seed", default=secrets.token_hex(4))
+    parser.add_argument("--first", type=int, default=0, help="the number of the first case")
+    parser.add_argument("--jobs", type=positive, default=os.cpu_count() or 1)
+    parser.add_argument("--program-alone", action="store_true", help="there is no library")
+    parser.add_argument("program", nargs="?", default=PROGRAM)
+    parser.add_argument("library", nargs="?", default=ARCHIVE)
+    return parser.parse_args()
 
 
 def unreached(rows: Counter) -> list[str]:

@@ -169,8 +169,8 @@ def with_faulty_first(value: Value, rng: random.Random) -> Value | None:
 
 
 def mutated(value: Value, rng: random.Random) -> Value:
-    """A value that mostly differs from the given one at one place: a structure, a member behind a head, or a part that is left out, doubled, replaced,
-    followed by another or changed inside."""
+    """A value that mostly differs from the given one at one place: a structure, a member behind a head, or a part that is left out, doubled,
+    replaced, followed by another or changed inside."""
     kind = rng.random()
     if kind < 0.15 and (faulty := with_faulty_first(value, rng)):
         return faulty

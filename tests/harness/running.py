@@ -44,19 +44,18 @@ def module_of(test: unittest.TestCase) -> str:
     return type(test).__module__.removeprefix("suite.")
 
 
-def short_name(test: unittest.TestCase | str) -> str:
+def short_name(test: unittest.TestCase) -> str:
     """The name of a test for `tests/run`: a row of a table by its place, as `tables/tags:12`, another by module, class and method."""
-    module, _, rest = (test if isinstance(test, str) else test.id()).removeprefix("suite.").partition(".")
-    own, _, method = rest.partition(".")
-    bare = method.removeprefix("test_")
-    return bare if ":" in bare else f"{module.removeprefix('test_')}.{rest}"
+    module, _, rest = test.id().removeprefix("suite.").partition(".")
+    method = rest.partition(".")[2].removeprefix("test_")
+    return method if ":" in method else f"{module.removeprefix('test_')}.{rest}"
 
 
 def goes_by(test: unittest.TestCase, name: str) -> bool:
-    """Whether a name of the command line means a test: by its own name, that of its table, class or module, or the path of its module."""
+    """Whether a name of the command line means a test: it is that of the test, of its table, class or module, or the path of its module."""
     name = name.removeprefix(f"{os.path.relpath(SUITE)}{os.sep}").removesuffix(".py").removeprefix("suite.").removeprefix("test_")
-    bare, own = module_of(test).removeprefix("test_"), type(test).__qualname__
-    names = (short_name(test), test.id().removeprefix("suite.test_"), bare, f"{bare}.{own}", own)
+    module, class_name = module_of(test).removeprefix("test_"), type(test).__qualname__
+    names = (short_name(test), test.id().removeprefix("suite.test_"), module, f"{module}.{class_name}", class_name)
     return name in names or ":" in short_name(test) and short_name(test).startswith(f"{name}:")
 
 
@@ -94,7 +93,8 @@ class Result(unittest.TestResult):
         self.add(test, "it passes, and it is marked as one that fails")
 
     def add(self, test, text: str) -> None:
-        """Adds a fault of a test, behind those that it has. If `is_fast` was true, no further test of this part begins."""
+        """Adds a fault of a test, behind those that it has; `test` may stand for a class whose setup failed. If `is_fast` was true, no further test of
+        this part begins."""
         name = short_name(test) if isinstance(test, unittest.TestCase) else str(test)
         self.outcome.failed[name] = self.outcome.failed.get(name, "") + text.rstrip() + "\n"
         if self.failfast:
@@ -102,9 +102,9 @@ class Result(unittest.TestResult):
 
 
 @contextlib.contextmanager
-def outputs_caught() -> Iterator[io.StringIO]:
+def catching_outputs() -> Iterator[io.StringIO]:
     """A context that catches what this process and those that it starts write to the two outputs. The text has it when the context ends."""
-    said, kept = io.StringIO(), [os.dup(1), os.dup(2)]
+    said, originals = io.StringIO(), [os.dup(1), os.dup(2)]
     with tempfile.TemporaryFile() as file:
         sys.stdout.flush()
         sys.stderr.flush()
@@ -115,9 +115,9 @@ def outputs_caught() -> Iterator[io.StringIO]:
         finally:
             sys.stdout.flush()
             sys.stderr.flush()
-            for place, old in zip((1, 2), kept):
-                os.dup2(old, place)
-                os.close(old)
+            for place, original in zip((1, 2), originals):
+                os.dup2(original, place)
+                os.close(original)
             file.seek(0)
             said.write(file.read().decode(errors="replace"))
 
@@ -125,7 +125,7 @@ def outputs_caught() -> Iterator[io.StringIO]:
 def run_part(name: str, tests: list[unittest.TestCase], is_fast: bool) -> Outcome:
     """Runs some tests of the class of this name. `is_fast`: it begins none after the first that fails."""
     outcome, begun = Outcome(name), time.monotonic()
-    with outputs_caught() as said:
+    with catching_outputs() as said:
         unittest.TestSuite(tests).run(Result(outcome, is_fast))
     outcome.seconds, outcome.said = time.monotonic() - begun, said.getvalue()
     return outcome
@@ -143,8 +143,9 @@ def flattened(suite: unittest.TestSuite | unittest.TestCase) -> Iterator[unittes
             yield from flattened(each)
 
 
-def found(words: list[str], modules: Sequence[str] = ()) -> list[unittest.TestCase]:
-    """The tests of these modules, or of all if none is given. If there are words, only the tests whose names have one of them."""
+def tests_of(words: list[str], modules: Sequence[str] = ()) -> list[unittest.TestCase]:
+    """The tests of these modules, or of all if none is given. If there are words, only the tests whose names have one of them, or match it if it has
+    a star."""
     loader = unittest.TestLoader()
     if words:
         loader.testNamePatterns = [word if "*" in word else f"*{word}*" for word in words]
@@ -159,15 +160,16 @@ def is_whole_module(test: unittest.TestCase) -> bool:
 
 
 def parts_of(tests: Iterable[unittest.TestCase]) -> list[tuple[str, list[unittest.TestCase]]]:
-    """The tests in parts (name of the class, tests), those that take longest first. A class of APART has several parts."""
+    """The tests in parts (name of the class, tests), those that take longest first. A class of a module of APART has several parts, of at most
+    MOST_TOGETHER tests."""
     by_class: dict[str, list[unittest.TestCase]] = {}
     for test in tests:
         name = test.id().rpartition(".")[2] if is_whole_module(test) else f"{module_of(test)}.{type(test).__qualname__}"
         by_class.setdefault(name, []).append(test)
     parts = []
-    for name, own in by_class.items():
-        size = MOST_TOGETHER if name.split(".")[0] in APART else len(own)
-        parts += [(name, own[start:start + size]) for start in range(0, len(own), size)]
+    for name, of_class in by_class.items():
+        size = MOST_TOGETHER if name.split(".")[0] in APART else len(of_class)
+        parts += [(name, of_class[start:start + size]) for start in range(0, len(of_class), size)]
     order = {name: place for place, name in enumerate(LONGEST_FIRST)}
     return sorted(parts, key=lambda part: order.get(part[0].split(".")[0], len(order)))
 
@@ -185,8 +187,8 @@ def line_of_class(name: str, outcomes: list[Outcome]) -> str:
     """A line with the outcome of a class."""
     counts = [(sum(it.passed for it in outcomes), "passed"), (sum(len(it.failed) for it in outcomes), "failed"),
               (sum(len(it.skipped) for it in outcomes), "skipped")]
-    said = ", ".join(f"{count} {what}" for count, what in counts if count)
-    return f"{name:<44} {said or 'nothing was run'}, {sum(it.seconds for it in outcomes):.1f} s"
+    text = ", ".join(f"{count} {what}" for count, what in counts if count)
+    return f"{name:<44} {text or 'nothing was run'}, {sum(it.seconds for it in outcomes):.1f} s"
 
 
 class Report:

@@ -29,8 +29,15 @@ COMMANDS = ("canonical", "advanced", "transport", "intersect", "reduce", "check"
 SECONDS, SECONDS_TO_COMPILE, SECONDS_TO_WAIT = 120, 900, 600
 
 __all__ = ["ARM", "BENCH", "COMMANDS", "EXAMPLES", "LIBRARY", "ON_ARM", "PROGRAM", "SECONDS", "TESTS", "TOP", "braced", "canonical",
-           "given_program", "group", "is_compiled", "loaded", "on_one_line", "output_of", "read", "run", "room_for", "string",
+           "given_program", "group", "is_compiled", "loaded", "on_one_line", "output_of", "positive", "read", "run", "room_for", "string",
            "tables_here", "text_of", "waits_for"]
+
+
+def positive(text: str) -> int:
+    """The number 1 or more that a word of a command line is: a type for argparse. Raises ValueError if it is none."""
+    if int(text) < 1:
+        raise ValueError(text)
+    return int(text)
 
 
 def given_program(place=1):
@@ -43,7 +50,7 @@ def given_program(place=1):
 
 
 def run(program, command, text, seconds=SECONDS):
-    """The exit status of a command of the program on a text, and its standard output."""
+    """The exit status of a command of the program on a text, and its standard output. Raises TimeoutExpired after so many seconds."""
     done = subprocess.run([program, command], input=text, stdout=subprocess.PIPE, stderr=subprocess.DEVNULL, timeout=seconds)
     return done.returncode, done.stdout
 
@@ -66,7 +73,7 @@ def text_of(path):
 
 
 def string(octets):
-    """A string in canonical form."""
+    """A string in canonical form, by its octets or its text."""
     return verbatim(octets.encode() if isinstance(octets, str) else octets)
 
 
@@ -102,11 +109,11 @@ def tables_here():
 
 
 def loaded(path):
-    """Loads a script, also one without a suffix, as a module. Its name there differs from its own, so that its main does not run."""
+    """Loads the script at a path, also one without a suffix, as a module. The module's name is not `__main__`, so its main does not run."""
     sys.dont_write_bytecode = True
     name = f"loaded {os.path.basename(path)}"
     loader = importlib.machinery.SourceFileLoader(name, path)
-    made = importlib.util.module_from_spec(importlib.util.spec_from_loader(name, loader))
-    sys.modules[name] = made
-    loader.exec_module(made)
-    return made
+    module = importlib.util.module_from_spec(importlib.util.spec_from_loader(name, loader))
+    sys.modules[name] = module
+    loader.exec_module(module)
+    return module

@@ -10,7 +10,7 @@ import tempfile
 import unittest
 from unittest import mock
 
-from harness.support import TOP, text_of, waits_for
+from harness.support import TESTS, TOP, text_of, waits_for
 from merge_gate import bodies, deep, plan, records, run, toolchain
 from merge_gate.report import Counts
 
@@ -140,11 +140,16 @@ class Script(unittest.TestCase):
         self.assertEqual((done.stdout, done.stderr, done.returncode), (f"{TOP}/.ci -m merge_gate.landing\n", "", 0))
 
 
-class Deep(unittest.TestCase):
-    """The command line of `.ci/deep`."""
+class NothingToTry(unittest.TestCase):
+    """Command lines by which nothing would be tried: such a run must not pass."""
 
-    def test_nothing_to_try(self) -> None:
-        """`--alone` without a name would try nothing, and is refused: a run without a trial must not pass."""
+    def test_tests(self) -> None:
+        for words in (["run", "--pages", "-k", "no such test"], ["run", "--jobs", "0"], ["differential.py", "--jobs", "0", "--cases", "9"]):
+            done = subprocess.run([sys.executable, os.path.join(TESTS, words[0]), *words[1:]], capture_output=True)
+            self.assertNotEqual(done.returncode, 0, words)
+
+    def test_wrong_bodies(self) -> None:
+        """`.ci/deep --alone` without a name would try nothing, and is refused."""
         with contextlib.redirect_stderr(io.StringIO()), mock.patch.object(sys, "argv", ["deep", "--alone"]):
             with self.assertRaises(SystemExit) as ended:
                 deep.main("")
