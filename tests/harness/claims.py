@@ -84,8 +84,8 @@ class Sources:
 
 
 def unclaimed(page: str, header: str, source: str) -> Iterator[str]:
-    """A line for each function `spki_c_..` that has no row on a page, and for each call of a header for C that the page does not explain. The
-    source of the calls shows which functions they use."""
+    """A line for each function `spki_c_..` of a source that no row of the page's section `spki_c` has, and for each call of a header for C that calls
+    no such function of its own name and that the words before the rows do not explain. All three are paths."""
     section = next(rows for head, rows in SECTION.findall(text_of(page)) if head == "`spki_c`")
     introduction, _, rows = section.partition("\n|")
     exports = set(re.findall(r"^\w[\w *]*\b(spki_c_\w+)\(", text_of(source), re.MULTILINE))

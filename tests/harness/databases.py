@@ -107,7 +107,9 @@ class Server:
         waits_for("the server answers", self.answers)
 
     def answers(self) -> bool:
-        """Whether the server takes connections."""
+        """Whether the server takes connections. Raises AssertionError if it has ended."""
+        if self.process is not None and self.process.poll() is not None:
+            raise AssertionError(f"the server ended with {self.process.returncode}: see {self.folder}/log")
         words = [program("pg_isready"), "-q", "-h", self.folder]
         return subprocess.run(words, stdout=subprocess.DEVNULL, stderr=subprocess.DEVNULL, check=False).returncode == 0
 
@@ -120,9 +122,9 @@ class Server:
 
     def replica(self, at: networks.Node | None = None, mib: int = 0, **settings: str) -> Server:
         """A replica of this server, which is not started yet. It has the settings of this server, except for those that are given."""
-        made = Server(at, mib, **{**self.settings, **settings})
-        made.run("pg_basebackup", "-d", made.source(self), "-D", made.data, "-R", "-X", "stream", "-c", "fast", "--no-sync")
-        return made
+        replica = Server(at, mib, **{**self.settings, **settings})
+        replica.run("pg_basebackup", "-d", replica.source(self), "-D", replica.data, "-R", "-X", "stream", "-c", "fast", "--no-sync")
+        return replica
 
     def source(self, primary: Server) -> str:
         """The settings of libpq by which this replica follows its primary, which knows it by the name of its folder."""

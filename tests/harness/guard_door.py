@@ -13,6 +13,7 @@ from model.calls import DONE, GRANTED, MISUSED, TOO_SMALL
 from model.guard import Parts, Signed, answer
 from model.values import Atom
 
+# octets of a buffer that each line of a refusal fits into
 ROOM = 64
 # so many structures have more octets than an array can have
 MANY = 2**60
@@ -109,33 +110,33 @@ class GuardDoor:
     def decide(self, asked: Any, line: Any, room: int, needed: Any) -> int:
         """Calls `spki_asked_decide`, which writes a line of at most `room` octets. Returns the status alone, as the calls that explain and reduce do,
         and keeps the last second of the decision in `until`."""
-        said = self.decision(asked, line, room, needed)
-        self.until = said.until
-        return int(said.status)
+        decision = self.decision(asked, line, room, needed)
+        self.until = decision.until
+        return int(decision.status)
 
     def fault_of_answer(self, question: GuardQuestion, wanted: tuple[Answer, list[Signed]]) -> str | None:
         """What is wrong with the answer or the listed signatures, None if nothing is. `wanted` is what `model_answer` returns."""
         handle, asked = c_void_p(), c_void_p()
         self.truths = ()
         try:
-            met, listed = self.answered(question, handle, asked)
+            answered, listed = self.answer_and_signatures(question, handle, asked)
         finally:
             self.close_asked(asked)
             self.close(handle)
-        said, signed = wanted
-        if met != said:
-            return f"the guard answers {met[0]} {met[1][:300]!r}"
-        if self.truths and self.truths != self.wanted_truths(question, met):
+        wanted_answer, wanted_signatures = wanted
+        if answered != wanted_answer:
+            return f"the guard answers {answered[0]} {answered[1][:300]!r}"
+        if self.truths and self.truths != self.wanted_truths(question, answered):
             return f"whether it is granted and whether it is possible are said to be {self.truths}"
-        if self.truths and self.until != guard.until(question.acl, parts_of(question), question.policy, question.limits, met):
+        if self.truths and self.until != guard.until(question.acl, parts_of(question), question.policy, question.limits, answered):
             return f"a decision holds until {self.until}"
-        if listed is None or met[0] == MISUSED or listed == signed:
+        if listed is None or answered[0] == MISUSED or listed == wanted_signatures:
             return None
         return f"the guard lists {len(listed)} signatures, or others than the model"
 
-    def wanted_truths(self, question: GuardQuestion, met: Answer) -> tuple[bool, ...]:
-        """What `truths` must be: whether the answer that was met is a yes, and whether the model says that it can be one."""
-        return met[0] == GRANTED, guard.is_possible(question.acl, parts_of(question), question.policy, question.limits)
+    def wanted_truths(self, question: GuardQuestion, answered: Answer) -> tuple[bool, ...]:
+        """What `truths` must be: whether the answer is a yes, and whether the model says that it can be one."""
+        return answered[0] == GRANTED, guard.is_possible(question.acl, parts_of(question), question.policy, question.limits)
 
     def fault_with_small_buffer(self, question: GuardQuestion) -> str | None:
         """What is wrong where the buffer has one octet less than the answer, None if nothing is."""
@@ -147,17 +148,17 @@ class GuardDoor:
             self.close(handle)
         return None if is_right else "a call for guards writes where there is too little room, or tells another length or status"
 
-    def answered(self, question: GuardQuestion, handle: c_void_p, asked: c_void_p) -> tuple[Answer, list[Signed] | None]:
+    def answer_and_signatures(self, question: GuardQuestion, handle: c_void_p, asked: c_void_p) -> tuple[Answer, list[Signed] | None]:
         """The answer, and the signatures that are listed, or None if they are not listed. Opens the guard and the question in the handles, which the
         caller closes, but closes the guard itself before the question is answered. Where a call is misuse, the answer is the status of that call."""
-        status, line = self.opened(question, handle, ROOM)
+        status, line = self.open_guard(question, handle, ROOM)
         if status != DONE:
             return (status, line), None
         odd = question.oddity
         # (a guard that is null has no entries)
         if odd == "no guard" and self.entries(None):
             return (status, b"the entries of no guard"), None
-        status, line = self.asked(question, handle, asked, ROOM)
+        status, line = self.open_question(question, handle, asked, ROOM)
         if status != DONE:
             return (status, line), None
         if odd == "a guard in place of an opened question":
@@ -167,15 +168,15 @@ class GuardDoor:
         if odd in guard.LISTED:
             at, place = (None, byref(Listed())) if odd == "a signature of no question" else (asked, None)
             return (self.signature(at, 0, place), b""), None
-        listed = self.listed(asked)
+        listed = self.signatures(asked)
         if odd in guard.MARKED:
             past, far, _ = guard.MARKED
             return (self.mark(None if odd not in (past, far) else asked, len(listed) if odd == past else NEAR_MOST + len(listed)), b""), listed
         self.mark_all(question, asked, listed)
-        said = self.answer(question, None if odd == "no opened question" else asked)
+        answered = self.answer(question, None if odd == "no opened question" else asked)
         if question.command == "guard decide" and odd not in guard.ANSWERED:
             self.truths = self.granted(asked), self.possible(asked)
-        return said, listed
+        return answered, listed
 
     def mark_all(self, question: GuardQuestion, asked: c_void_p, listed: list[Signed]) -> None:
         """Marks the signatures that a row accepts, and a place past them, which must have no effect."""
@@ -183,8 +184,8 @@ class GuardDoor:
             if is_valid:
                 self.mark(asked, place)
 
-    def opened(self, question: GuardQuestion, handle: c_void_p, room: int) -> Answer:
-        """What `spki_guard_open` answers, with a buffer of this room."""
+    def open_guard(self, question: GuardQuestion, handle: c_void_p, room: int) -> Answer:
+        """What `spki_guard_open` answers to the list, with a buffer of `room` octets for the line. `handle` gets the guard."""
         line, needed, odd = ctypes.create_string_buffer(room + 1), c_size_t(), question.oddity
         text, length = (None, 1) if odd == "a list that is null with a length" else (question.acl, len(question.acl))
         size = ctypes.sizeof(Limits) - (odd == "limits of another size")
@@ -193,8 +194,9 @@ class GuardDoor:
         status = self.open(text, length, question.policy, limits, place, line, room, byref(needed))
         return status, line.raw[:needed.value]
 
-    def asked(self, question: GuardQuestion, handle: c_void_p, asked: c_void_p, room: int) -> Answer:
-        """What `spki_guard_ask` answers, with a buffer of this room. The question's texts change afterwards."""
+    def open_question(self, question: GuardQuestion, handle: c_void_p, asked: c_void_p, room: int) -> Answer:
+        """What `spki_guard_ask` answers, with a buffer of `room` octets for the line. `asked` gets the opened question. The structures that are given
+        are freed when this returns."""
         line, needed, odd = ctypes.create_string_buffer(room + 1), c_size_t(), question.oddity
         parts = asked_of(question)
         given = None if odd == "no question" else byref(parts)
@@ -203,22 +205,23 @@ class GuardDoor:
         status = self.ask(None if odd == "no guard" else handle, given, place, buffer, room, byref(needed))
         return status, line.raw[:needed.value]
 
-    def listed(self, asked: c_void_p) -> list[Signed]:
+    def signatures(self, asked: c_void_p) -> list[Signed]:
         """The signatures of an opened question, or LISTED_WRONGLY."""
-        found = []
+        signatures = []
         for place in range(self.count(asked)):
             signature = Listed()
             if self.signature(asked, place, byref(signature)) != DONE:
                 return LISTED_WRONGLY
-            found.append(signed_at(signature))
+            signatures.append(signed_at(signature))
             # (of a value that is one string its octets are listed too)
             octets = ctypes.string_at(signature.octets, signature.octets_length) if signature.octets else None
-            if octets != octets_of_value(found[-1][2]):
+            if octets != octets_of_value(signatures[-1][2]):
                 return LISTED_WRONGLY
-        return LISTED_WRONGLY if self.signature(asked, len(found), byref(Listed())) == DONE else found
+        return LISTED_WRONGLY if self.signature(asked, len(signatures), byref(Listed())) == DONE else signatures
 
     def answer(self, question: GuardQuestion, asked: c_void_p | None) -> Answer:
-        """What a call answers to an opened question by its marks. It asks for the length first, and then with a buffer of that length."""
+        """What the call that the question is for answers to an opened one by its marks. It asks for the length first, and then with a buffer of that
+        length."""
         call, odd, needed = self.by_wish[question.command.removeprefix("guard ")], question.oddity, c_size_t()
         if odd == "a buffer that is null with a length":
             return call(asked, None, 1, byref(needed)), b""
@@ -230,25 +233,25 @@ class GuardDoor:
 
     def refuses_small_buffers(self, question: GuardQuestion, handle: c_void_p, asked: c_void_p) -> bool:
         """Whether the calls for a question return TOO_SMALL and write nothing, where the buffer is one octet too small."""
-        status, line = self.opened(question, handle, ROOM)
+        status, line = self.open_guard(question, handle, ROOM)
         if status != DONE:
-            status, said = self.opened(question, c_void_p(), len(line) - 1)
-            return (status, said) == (guard.status_too_small("the line of a refused list"), len(line) * b"\0")
-        status, line = self.asked(question, handle, asked, ROOM)
+            status, buffer = self.open_guard(question, c_void_p(), len(line) - 1)
+            return (status, buffer) == (guard.status_too_small("the line of a refused list"), len(line) * b"\0")
+        status, line = self.open_question(question, handle, asked, ROOM)
         if status != DONE:
-            status, said = self.asked(question, handle, c_void_p(), len(line) - 1)
-            return (status, said) == (guard.status_too_small("the line of a refused question"), len(line) * b"\0")
-        self.mark_all(question, asked, self.listed(asked))
-        _, said = self.answer(question, asked)
-        octets, needed = ctypes.create_string_buffer(len(said)), c_size_t()
-        status = self.by_wish[question.command.removeprefix("guard ")](asked, octets, len(said) - 1, byref(needed))
-        return (status, needed.value, octets.raw) == (guard.status_too_small("an answer"), len(said), len(said) * b"\0")
+            status, buffer = self.open_question(question, handle, c_void_p(), len(line) - 1)
+            return (status, buffer) == (guard.status_too_small("the line of a refused question"), len(line) * b"\0")
+        self.mark_all(question, asked, self.signatures(asked))
+        length = len(self.answer(question, asked)[1])
+        octets, needed = ctypes.create_string_buffer(length), c_size_t()
+        status = self.by_wish[question.command.removeprefix("guard ")](asked, octets, length - 1, byref(needed))
+        return (status, needed.value, octets.raw) == (guard.status_too_small("an answer"), length, length * b"\0")
 
 
 def octets_of_value(value: bytes) -> bytes | None:
     """The octets of a value in canonical form that is one string, None if it is a list."""
-    read = forms.read(value)
-    return read.body if isinstance(read, Atom) else None
+    string = forms.read(value)
+    return string.body if isinstance(string, Atom) else None
 
 
 def signed_at(listed: Listed) -> Signed:

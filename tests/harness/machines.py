@@ -39,7 +39,7 @@ def output_on_machine(packages: list[str], clone: str, by_root: str, script: str
         for name, text in (("by-root", by_root), ("script", script)):
             with open(os.path.join(room, name), "w", encoding="utf-8") as file:
                 file.write(text)
-        into = f">> {room}/said 2>&1 < /dev/null"
+        into = f">> {room}/output 2>&1 < /dev/null"
         bare = f"/usr/bin/env -i HOME=/home/{USER} PATH={PATH}"
         hooks = [f'chroot "$1" useradd --create-home {USER} && mkdir "$1/home/{USER}/clone" "$1/home/{USER}/empty"',
                  f"sync-in {clone} /home/{USER}/clone", f"upload {room}/by-root /by-root", f"upload {room}/script /script",
@@ -50,8 +50,8 @@ def output_on_machine(packages: list[str], clone: str, by_root: str, script: str
         words = ["mmdebstrap", "--quiet", "--variant=apt", '--aptopt=Apt::Install-Recommends "true"', f"--include={','.join(packages)}",
                  *(f"--customize-hook={it}" for it in hooks), release(), "/dev/null"]
         status, log = output_of(*words, seconds=SECONDS)
-        with open(os.path.join(room, "said"), encoding="utf-8", errors="replace") as file:
-            said = file.read()
+        with open(os.path.join(room, "output"), encoding="utf-8", errors="replace") as file:
+            output = file.read()
     if status:
-        raise subprocess.CalledProcessError(status, words, f"{log[-3000:]}\n{said[-3000:]}")
-    return said
+        raise subprocess.CalledProcessError(status, words, f"{log[-3000:]}\n{output[-3000:]}")
+    return output

@@ -10,7 +10,7 @@ ALL = "10.77.0.0/24"
 
 
 def ip(*words: str) -> None:
-    """Runs a command of `ip`."""
+    """Runs a command of `ip`. Raises CalledProcessError if it fails."""
     subprocess.run(["ip", *words], check=True)
 
 
@@ -57,8 +57,8 @@ class Network:
             ip("netns", "del", name)
 
     def node(self) -> Node:
-        """A new node."""
-        made = Node(self, len(self.nodes) + 1)
-        self.nodes.append(made)
-        made.make()
-        return made
+        """Makes a node, and returns it."""
+        node = Node(self, len(self.nodes) + 1)
+        self.nodes.append(node)
+        node.make()
+        return node

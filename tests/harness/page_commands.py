@@ -86,19 +86,19 @@ NOT_RUN = [
 
 
 def tracked() -> list[str]:
-    """The files of the repository."""
+    """The files of the repository that git tracks and that are here, by their paths from the top."""
     done = subprocess.run(["git", "ls-files", "-z"], cwd=TOP, stdout=subprocess.PIPE, text=True, check=True)
     return [path for path in done.stdout.split("\0") if os.path.isfile(os.path.join(TOP, path))]
 
 
 def pages() -> list[str]:
     """All pages, also of the manual, by their paths from the top."""
-    found = itertools.chain.from_iterable(glob.glob(pattern, root_dir=TOP, recursive=True) for pattern in PAGES)
-    return sorted(path for path in set(found) if f"{os.sep}out{os.sep}" not in path)
+    paths = itertools.chain.from_iterable(glob.glob(pattern, root_dir=TOP, recursive=True) for pattern in PAGES)
+    return sorted(path for path in set(paths) if f"{os.sep}out{os.sep}" not in path)
 
 
 def is_command(line: str) -> bool:
-    """Whether a line begins with a command, or with a program of this repository."""
+    """Whether a line begins with a command of FIRST, with a program of this repository, or with one that is built into a folder `out`."""
     first = line.lstrip("( ").split(" ")[0]
     path = os.path.join(TOP, first.removeprefix("./"))
     return first in FIRST or "/out/" in first or "/" in first and os.path.isfile(path) and os.access(path, os.X_OK)
@@ -121,7 +121,7 @@ def indented_blocks(text: str) -> Iterator[str]:
 
 
 def in_backticks(text: str) -> Iterator[str]:
-    """The texts in backticks that are commands with words after them, or programs of this repository."""
+    """The texts in backticks that are commands with words after them, or programs of this repository. Each is yielded once."""
     for quoted in dict.fromkeys(TICKS.findall(FENCED.sub("", text))):
         if is_command(quoted) and (" " in quoted or "/" in quoted):
             yield quoted

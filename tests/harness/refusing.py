@@ -8,8 +8,9 @@ from dataclasses import dataclass
 
 from harness.support import TESTS
 
-# A run that takes so long is ended.
+# A run takes at most so long, except one by `Program.run`, which only the bound of the whole gate ends.
 SECONDS = 600
+# So many octets fit into a pipe.
 PIPE = 65536
 NAMES = ("memory", "read", "write")
 
@@ -43,7 +44,8 @@ def compiled(folder):
 
 
 def descriptor_of(text):
-    """A descriptor from which a text is read: a pipe if the text fits into one, so that writing it does not block, else a file."""
+    """A descriptor from which a text is read, and which the caller closes: a pipe if the text fits into one, so that writing it does not block, else a
+    file."""
     if len(text) <= PIPE:
         reader, writer = os.pipe()
         os.write(writer, text)
@@ -124,7 +126,8 @@ class Program:
         return Ended(child.returncode, out, err, {}, 0)
 
     def reader_gone(self, command, text, taken, dies):
-        """A run whose output is closed after `taken` octets. `dies`: the signal of a closed pipe ends it, as it ends a program by default."""
+        """A run whose output is closed after `taken` octets, or at its end if it writes fewer. `dies`: the signal of a closed pipe ends it, as it ends a
+        program by default. Otherwise it gets the error EPIPE."""
         reader, writer = os.pipe()
         if taken == 0:
             os.close(reader)
@@ -132,14 +135,14 @@ class Program:
         os.close(writer)
         out = b""
         if taken:
-            while len(out) < taken:
-                out += os.read(reader, taken - len(out))
+            while len(out) < taken and (piece := os.read(reader, taken - len(out))):
+                out += piece
             os.close(reader)
         err = outputs_of(child)[1]
         return Ended(child.returncode, out, err, {}, 0)
 
     def in_packets(self, command, text):
-        """A run that gets one octet at each read, from a pipe in which each octet is a packet."""
+        """A run that gets one octet at each read, from a pipe in which each octet is a packet. The text must fit into the pipe."""
         reader, writer = os.pipe2(os.O_DIRECT | os.O_CLOEXEC)
         child = self.started(command, reader, subprocess.PIPE)
         for place in range(len(text)):

@@ -29,8 +29,8 @@ def numbers(*of: int) -> bytes:
 
 
 class Request:
-    """What one call is given: blocks of memory, links (block, its octet where an address is put, block of this address), and arguments (whether it is
-    a block, and its number or a value)."""
+    """What one call is given: blocks of memory, which are named by their numbers; links (block, the place in it where an address is put, the block of
+    this address); and arguments (whether it is the address of a block, and the block's number or a value)."""
 
     def __init__(self) -> None:
         self.blocks: list[bytes] = []
@@ -79,7 +79,7 @@ class Request:
         return block
 
     def text(self, block: int, place: int, text: Text) -> None:
-        """Adds a block with the octets of a text, and a link to it from the place of the text in another block."""
+        """Adds a block with the octets of a text, and a link to it from the place of the text in another block. A null pointer stays one."""
         at = c_void_p.from_address(addressof(text)).value
         if at:
             self.links.append((block, place, self.block(string_at(at, text.length if text.length <= MOST_OCTETS else 1))))
@@ -152,22 +152,25 @@ class Relayed:
         return call
 
     def pipes(self) -> tuple[BinaryIO, BinaryIO]:
-        """The pipe to the other machine, and the one from it. It is started at the first call of each process."""
+        """The pipe to the process of the other machine, and the one from it. That process is started at the first call of each process here: one that
+        was forked must not share its pipes."""
         if self.process is None or self.owner != os.getpid():
             self.process, self.owner = subprocess.Popen(self.words, stdin=subprocess.PIPE, stdout=subprocess.PIPE), os.getpid()
         return cast(BinaryIO, self.process.stdin), cast(BinaryIO, self.process.stdout)
 
     def relay(self, call: int, request: Request) -> tuple[int, list[tuple[int, bytes]]]:
-        """Has the other machine do a call. Returns what it returns, and for each block its address and its octets after the call."""
-        given, taken = self.pipes()
-        given.write(request.octets_for(call))
-        given.flush()
+        """Has the other machine do the call of this number in CALLS. Returns what it returns, and for each block its address there and its octets
+        afterwards."""
+        to_other, from_other = self.pipes()
+        to_other.write(request.octets_for(call))
+        to_other.flush()
 
         def number() -> int:
-            return int(struct.unpack("<Q", exactly(taken, 8))[0])
+            """The next number from the other machine."""
+            return int(struct.unpack("<Q", exactly(from_other, 8))[0])
 
         returned = number()
-        return returned, [(number(), exactly(taken, len(octets))) for octets in request.blocks]
+        return returned, [(number(), exactly(from_other, len(octets))) for octets in request.blocks]
 
     def fetch(self, listed: Listed) -> None:
         """Copies the texts of a signature from the other machine, by call 0, which copies memory, and sets its addresses to those of the copies."""
@@ -185,10 +188,10 @@ class Relayed:
     def close(self) -> None:
         """Ends the process of the other machine, if this process has started it."""
         if self.process is not None and self.owner == os.getpid():
-            given, taken = self.pipes()
-            given.close()
+            to_other, from_other = self.pipes()
+            to_other.close()
             self.process.wait()
-            taken.close()
+            from_other.close()
             self.process = None
 
 

@@ -93,8 +93,8 @@ class Result(unittest.TestResult):
         self.add(test, "it passes, and it is marked as one that fails")
 
     def add(self, test, text: str) -> None:
-        """Adds a fault of a test, behind those that it has; `test` may stand for a class whose setup failed. If `is_fast` was true, no further test of
-        this part begins."""
+        """Adds a fault of a test, behind those that it has. `test` may stand for a class whose setup failed. If `is_fast` was true, no further test
+        of this part begins."""
         name = short_name(test) if isinstance(test, unittest.TestCase) else str(test)
         self.outcome.failed[name] = self.outcome.failed.get(name, "") + text.rstrip() + "\n"
         if self.failfast:

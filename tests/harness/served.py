@@ -26,18 +26,19 @@ def path_of_commands() -> str:
     return os.pathsep.join([os.path.join(TOP, "apps", "spki-cert"), os.environ["PATH"], "/usr/sbin"])
 
 
-def daemon_built(folder: str) -> str:
+def build_daemon_into(folder: str) -> str:
     """Builds the daemon with the library that is tested, and returns the path of a copy in a folder. Go builds only what has changed."""
-    kept, program = os.path.join(TESTS, "out", "spki-authd"), os.path.join(folder, "spki-authd")
-    os.makedirs(os.path.dirname(kept), exist_ok=True)
-    with open(f"{kept}.lock", "w", encoding="ascii") as lock:
+    original, copy = os.path.join(TESTS, "out", "spki-authd"), os.path.join(folder, "spki-authd")
+    os.makedirs(os.path.dirname(original), exist_ok=True)
+    # (tests in other processes build it too)
+    with open(f"{original}.lock", "w", encoding="ascii") as lock:
         fcntl.flock(lock, fcntl.LOCK_EX)
-        shutil.copy(golang.build_daemon(built.library(), kept), program)
-    return program
+        shutil.copy(golang.build_daemon(built.library(), original), copy)
+    return copy
 
 
 def free_port() -> int:
-    """The number of a port of loopback that nobody listens at now."""
+    """The number of a port of loopback on which no process listens now. Another one may take it before the caller does."""
     with socket.socket() as taken:
         taken.bind(("127.0.0.1", 0))
         return int(taken.getsockname()[1])
@@ -51,7 +52,7 @@ class Site:
         self.port = free_port()
         self.contexts: dict[str | None, ssl.SSLContext] = {}
         self.settings = {**os.environ, "PATH": path_of_commands(), "PORT": str(self.port), "SPKI_LIBRARY": built.shared()}
-        self.program = daemon_built(tempfile.mkdtemp(prefix="daemon-"))
+        self.program = build_daemon_into(tempfile.mkdtemp(prefix="daemon-"))
         self.sh(os.path.join(EXAMPLE, "setup.sh"), self.room, str(self.port))
         self.prepare()
         self.start_daemon()
@@ -168,18 +169,18 @@ class Site:
     def answer(self, who: str | None, request: bytes) -> bytes:
         """All that the web server answers to some octets, until it ends the connection. Empty if there is no connection. Where the rate is exceeded,
         the client waits and asks again. `who` names its certificate and key. None: it has no certificate."""
-        while (said := self.answer_at_once(who, request)).startswith(b"HTTP/1.1 429"):
+        while (answer := self.answer_at_once(who, request)).startswith(b"HTTP/1.1 429"):
             time.sleep(0.2)
-        return said
+        return answer
 
     def answer_at_once(self, who: str | None, request: bytes) -> bytes:
         """All that the web server answers to some octets, sent once: also 429, if the rate is exceeded. Empty if there is no connection."""
-        said = b""
+        answer = b""
         with contextlib.suppress(OSError), self.connected(who) as client:
             client.sendall(request)
             while octets := client.recv(65536):
-                said += octets
-        return said
+                answer += octets
+        return answer
 
     def status(self, who: str | None, method: str, path: str, *lines: str, body: str = "") -> int:
         """The status of the answer to a request, with these lines added to its header. `who` names the client's certificate and key. None: it has no

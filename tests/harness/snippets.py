@@ -134,13 +134,13 @@ replace conguraki/spki => {module}
 """
 
 
-def built(language, source, room, library):
+def build(language, source, room, library):
     """Builds a program in C, Rust, Python or Go from its source, in a folder of its own below `room`. `library` is the static library. Returns the
     words that run the program, or None if the compiler fails."""
     folder = os.path.join(room, language)
     os.makedirs(os.path.join(folder, "src"), exist_ok=True)
     names = {"C": "snippet.c", "Rust": os.path.join("src", "main.rs"), "Python": "snippet.py", "Go": "snippet.go"}
-    path, made = os.path.join(folder, names[language]), os.path.join(folder, "snippet")
+    path, program = os.path.join(folder, names[language]), os.path.join(folder, "snippet")
     with open(path, "w", encoding="utf-8") as file:
         file.write(source)
     if language == "Python":
@@ -148,23 +148,23 @@ def built(language, source, room, library):
     if language == "Go":
         with open(os.path.join(folder, "go.mod"), "w", encoding="utf-8") as file:
             file.write(GO_MODULE.format(module=golang.MODULE))
-        return [made] if golang.go(folder, ["build", "-o", made, "."], library).returncode == 0 else None
+        return [program] if golang.go(folder, ["build", "-o", program, "."], library).returncode == 0 else None
     if language == "C":
-        words = ["cc", "-std=c11", "-Wall", "-Wextra", "-Wpedantic", "-Werror", "-I", CRATE, "-o", made, path, library]
+        words = ["cc", "-std=c11", "-Wall", "-Wextra", "-Wpedantic", "-Werror", "-I", CRATE, "-o", program, path, library]
     else:
         with open(os.path.join(folder, "Cargo.toml"), "w", encoding="utf-8") as file:
             file.write(MANIFEST.format(crate=RUST))
-        made = os.path.join(folder, "target", "debug", "snippet")
+        program = os.path.join(folder, "target", "debug", "snippet")
         words = ["cargo", "build", "--quiet", "--offline"]
     settings = {**os.environ, "SPKI_LIB_DIR": os.path.dirname(library), "CARGO_TARGET_DIR": os.path.join(folder, "target"),
                 "RUSTFLAGS": "-D warnings"}
-    return [made] if subprocess.run(words, cwd=folder, env=settings, timeout=SECONDS).returncode == 0 else None
+    return [program] if subprocess.run(words, cwd=folder, env=settings, timeout=SECONDS).returncode == 0 else None
 
 
 def fault_of_snippet(language, snippet, room, program, library):
-    """What is wrong with a snippet, None if nothing is. It must grant the request of delegation.sexp to the key of this
-    case, and deny it to another. `program` is `spki`, which reads the case, and `library` the static library."""
-    words = built(language, PROGRAMS[language].replace("SNIPPET", textwrap.indent(snippet, "    ").rstrip("\n")), room, library)
+    """What is wrong with a snippet, None if nothing is. In its program of PROGRAMS it must grant the request of examples/delegation.sexp to the key
+    of this case, and deny it to another. `room` is a folder to build in, `program` is `spki`, which reads the case, `library` the static library."""
+    words = build(language, PROGRAMS[language].replace("SNIPPET", textwrap.indent(snippet, "    ").rstrip("\n")), room, library)
     if words is None:
         return f"the snippet in {language} is not compiled"
     with open(os.path.join(EXAMPLES, "delegation.sexp"), "rb") as file:

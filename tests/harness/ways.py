@@ -14,7 +14,7 @@ MOST_ROWS, EXPORTED = 25, "spki_c_"
 def bodies_of(paths: Iterable[str]) -> dict[str, list[str]]:
     """The texts of the functions of these files, from head to last line, each by its name and by its path: its type or module, and its name. A name
     has several texts if several functions have it."""
-    found: dict[str, list[str]] = {}
+    bodies: dict[str, list[str]] = {}
     for path in paths:
         lines = text_of(path).split("\n")
         for at, line in enumerate(lines):
@@ -22,8 +22,8 @@ def bodies_of(paths: Iterable[str]) -> dict[str, list[str]]:
             if head:
                 end = next((n for n in range(at, len(lines)) if lines[n] == head[1] + "}"), at)
                 for name in {head[2], path_of(path[path.index("src/"):], lines, at, head[2])}:
-                    found.setdefault(name, []).append("\n".join(lines[at:end]))
-    return found
+                    bodies.setdefault(name, []).append("\n".join(lines[at:end]))
+    return bodies
 
 
 def is_called(name: str, body: str) -> bool:

@@ -211,14 +211,14 @@ class Indented(unittest.TestCase):
 
     def test_toolchain(self) -> None:
         """`rt try` prints what the page says. It is not run again on the same sources."""
-        if building.kept().get("README.md's rt try") == checksum_of_command() and not built.IS_ANEW:
+        if building.recorded_checksums().get("README.md's rt try") == checksum_of_command() and not built.IS_ANEW:
             return
         for line in OF_TOOLCHAIN:
             self.assertIn(line, commands_of(text_of("README.md")))
             done = subprocess.run(["sh", "-c", line], cwd=TOP, text=True, stdout=subprocess.PIPE, stderr=subprocess.PIPE,
                                   timeout=SECONDS_OF_TOOLCHAIN)
             self.assertEqual(done.stdout, OF_TOOLCHAIN[line], f"$ {line}\n{done.stderr[-1000:]}")
-        building.keep("README.md's rt try", checksum_of_command())
+        building.record("README.md's rt try", checksum_of_command())
 
 
 @needs.needs(*needs.LIBRARY)

@@ -387,7 +387,7 @@ class Example(unittest.TestCase):
 
     def test_run(self) -> None:
         with tempfile.TemporaryDirectory() as room:
-            settings = {**os.environ, "SPKI_AUTHD": served.daemon_built(room), "PORT": str(served.free_port()), "TMPDIR": room}
+            settings = {**os.environ, "SPKI_AUTHD": served.build_daemon_into(room), "PORT": str(served.free_port()), "TMPDIR": room}
             done = subprocess.run([os.path.join(served.EXAMPLE, "run.sh")], env=settings, stdout=subprocess.PIPE, stderr=subprocess.PIPE, text=True,
                                   timeout=served.SECONDS, cwd=TESTS)
             answers = [line for line in done.stdout.splitlines() if not line.startswith("#")]
