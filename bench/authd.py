@@ -32,6 +32,7 @@ from shared import LIBRARY  # noqa: E402
 # The numbers of connections with which a rate is measured. With fewer the processors are idle at times, as each connection waits for its answer.
 CONNECTIONS = 32, 64, 128
 WAYS = "nginx alone", "nginx and handler", "nginx and daemon"
+# The least part of the handler's rate, the most milliseconds of the 99th percentile, and the most growth of the memory.
 LEAST_RATIO, MOST_P99, MOST_GROWTH = 0.55, 10.0, 1.10
 RACE_SECONDS = 10
 # The share of a soak after which the memory is compared: what is first used, such as the heap, has grown by then.
@@ -39,15 +40,16 @@ SETTLED = 0.25
 
 
 def arguments():
-    asked = argparse.ArgumentParser(description=__doc__, formatter_class=argparse.RawDescriptionHelpFormatter)
-    asked.add_argument("--seconds", type=int, default=10, help="of each measurement")
-    asked.add_argument("--soak", type=int, default=60, help="seconds under load with reloads")
-    asked.add_argument("library", nargs="?", default=LIBRARY)
-    return asked.parse_args()
+    """What the command line asks for."""
+    parser = argparse.ArgumentParser(description=__doc__, formatter_class=argparse.RawDescriptionHelpFormatter)
+    parser.add_argument("--seconds", type=int, default=10, help="of each measurement")
+    parser.add_argument("--soak", type=int, default=60, help="seconds under load with reloads")
+    parser.add_argument("library", nargs="?", default=LIBRARY)
+    return parser.parse_args()
 
 
 def measure_ways(site, seconds):
-    """The figures of each way to ask, by its name, with the number of connections that gets the highest rate. Each number is measured twice."""
+    """The Figures of each of WAYS, by its name, with the number of connections that gets the highest rate. Each number is measured twice."""
     best = {}
     for connections in 2 * CONNECTIONS:
         for name, port in zip(WAYS, site.nginx):
@@ -77,8 +79,8 @@ def at_half_load(site, seconds, full):
 
 def run_soak(site, process, seconds):
     """The figures under load with a reload each second, and a list of the daemon's resident memory after each reload, in KiB."""
-    found = []
-    load = threading.Thread(target=lambda: found.append(site.load(site.nginx[2], seconds, CONNECTIONS[0])))
+    figures = []
+    load = threading.Thread(target=lambda: figures.append(site.load(site.nginx[2], seconds, CONNECTIONS[0])))
     load.start()
     memory = []
     while load.is_alive():
@@ -86,7 +88,7 @@ def run_soak(site, process, seconds):
         time.sleep(1)
         memory.append(resident(process))
     load.join()
-    return found[0], memory
+    return figures[0], memory
 
 
 def growth(memory):
@@ -96,15 +98,15 @@ def growth(memory):
     return sum(settled[-part:]) / sum(settled[:part])
 
 
-def run_raced(site):
+def faults_of_races(site):
     """Asks a daemon with the race detector under load, and returns a list of what is wrong, which is empty if nothing is."""
     site.build("-race")
     process = site.start_all()
     figures, _ = run_soak(site, process, RACE_SECONDS)
     site.end()
     print(f"{'race detector':<20}{figures}, status {process.returncode}", flush=True)
-    said = site.said(site.program)
-    return [f"a race, or wrong answers: {said}"] if "DATA RACE" in said or figures.errors or process.returncode else []
+    log = site.end_of_log(site.program)
+    return [f"a race, or wrong answers: {log}"] if "DATA RACE" in log or figures.errors or process.returncode else []
 
 
 def faults_of(site, asked):
@@ -118,16 +120,17 @@ def faults_of(site, asked):
     site.end()
     print(f"{f'{asked.soak} s of reloads':<20}{soak}; {memory[0] / 1024:.0f} MiB at first, {max(memory) / 1024:.0f} at most, "
           f"{memory[-1] / 1024:.0f} at last, grown by {growth(memory):.3f} since it settled", flush=True)
-    judged = figures["nginx and daemon"].rate / figures["nginx and handler"].rate
-    print(f"nginx and daemon: {judged:.2f} of the handler's requests", flush=True)
-    wrong = [f"nginx and daemon: {judged:.2f}, under {LEAST_RATIO} of the handler's requests"] if judged < LEAST_RATIO else []
-    wrong += [f"p99 over {MOST_P99} ms"] if half.p99 > MOST_P99 else []
-    wrong += ["the memory grows"] if growth(memory) > MOST_GROWTH else []
-    wrong += [f"{name}: wrong answers" for name, each in {**figures, "half": half, "soak": soak}.items() if each.errors]
-    return wrong + run_raced(site)
+    ratio = figures["nginx and daemon"].rate / figures["nginx and handler"].rate
+    print(f"nginx and daemon: {ratio:.2f} of the handler's requests", flush=True)
+    faults = [f"nginx and daemon: {ratio:.2f}, under {LEAST_RATIO} of the handler's requests"] if ratio < LEAST_RATIO else []
+    faults += [f"p99 over {MOST_P99} ms"] if half.p99 > MOST_P99 else []
+    faults += ["the memory grows"] if growth(memory) > MOST_GROWTH else []
+    faults += [f"{name}: wrong answers" for name, each in {**figures, "half": half, "soak": soak}.items() if each.errors]
+    return faults + faults_of_races(site)
 
 
 def main():
+    """Measures all. Returns the exit status: 1 if a limit is passed. Without nginx, wrk or Go it measures nothing, says so, and returns 0."""
     asked = arguments()
     if not all(map(shutil.which, ("nginx", "wrk", "go"))):
         print("spki-authd is left out\n0 passed, 0 failed")
@@ -135,11 +138,11 @@ def main():
     with tempfile.TemporaryDirectory() as room:
         site = Site(room, os.path.abspath(asked.library))
         try:
-            wrong = faults_of(site, asked)
+            faults = faults_of(site, asked)
         finally:
             site.end()
-    print("".join(f"{line}\n" for line in wrong), end="")
-    return 1 if wrong else 0
+    print("".join(f"{line}\n" for line in faults), end="")
+    return 1 if faults else 0
 
 
 if __name__ == "__main__":

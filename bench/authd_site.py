@@ -29,20 +29,20 @@ PORTS = 3
 SECONDS_TO_START = 30
 # The script of wrk. Nine of ten requests show the HOT chains in turn, and each tenth shows one of the COLD ones. It is completed by HOT, by the file
 # of the chains, and by the most ms that a connection waits before a request.
-LUA = """local shown, hot = {}, %d
-for line in io.lines("%s") do shown[#shown + 1] = "SPKI " .. line end
+LUA = """local chains, hot = {}, %d
+for line in io.lines("%s") do chains[#chains + 1] = "SPKI " .. line end
 local turn, cold = 0, 0
-function setup(thread) thread:set("seed", math.random(1, #shown)) end
+function setup(thread) thread:set("seed", math.random(1, #chains)) end
 function init(args) cold = seed end
 function delay() return math.random(0, %d) end
 function request()
     turn = turn + 1
     local place = turn %% hot + 1
     if turn %% 10 == 0 then
-        cold = cold %% (#shown - hot) + 1
+        cold = cold %% (#chains - hot) + 1
         place = hot + cold
     end
-    return wrk.format("GET", "/web/index.html", {["Authorization"] = shown[place]})
+    return wrk.format("GET", "/web/index.html", {["Authorization"] = chains[place]})
 end
 function done(summary, latency, requests)
     local errors = summary.errors
@@ -69,21 +69,23 @@ SERVER = """    server {{ listen 127.0.0.1:{port}; root {room}; {ask}
 
 
 class Figures:
-    """What wrk has measured, by the line `figures` of its output: requests, their rate a second, percentiles in ms, and errors."""
+    """What wrk has measured, by the line `figures` of its output: requests, their rate a second, percentiles in ms, and errors. Ends the whole bench
+    if there is no such line."""
 
-    def __init__(self, said):
-        found = re.search(r"^figures (\d+) (\d+) (\d+) (\d+) (\d+)$", said, re.MULTILINE)
-        if not found:
-            sys.exit(f"wrk has failed: {said[-1000:]}")
-        self.requests, duration, p50, p99, self.errors = map(int, found.groups())
+    def __init__(self, output):
+        line = re.search(r"^figures (\d+) (\d+) (\d+) (\d+) (\d+)$", output, re.MULTILINE)
+        if not line:
+            sys.exit(f"wrk has failed: {output[-1000:]}")
+        # (wrk counts in µs)
+        self.requests, duration, p50, p99, self.errors = map(int, line.groups())
         self.rate, self.p50, self.p99 = self.requests / duration * 1e6, p50 / 1000, p99 / 1000
 
     def __str__(self):
         return f"{self.rate:>9,.0f} requests/s, p50 {self.p50:.2f} ms, p99 {self.p99:.2f} ms, {self.errors} errors"
 
 
-def connected(at):
-    """A connection to a port of loopback, which is a number, or to a Unix socket, which is a path."""
+def connect(at):
+    """A connection to a port of loopback, which is a number, or to a Unix socket, which is a path. Raises OSError if nothing listens there."""
     if isinstance(at, int):
         return socket.create_connection(("127.0.0.1", at))
     client = socket.socket(socket.AF_UNIX)
@@ -96,7 +98,7 @@ def connected(at):
 
 
 def free_ports(count):
-    """Numbers of ports of loopback at which nobody listens."""
+    """Numbers of ports of loopback on which no process listens now."""
     with contextlib.ExitStack() as stack:
         sockets = [stack.enter_context(socket.create_server(("127.0.0.1", 0))) for _ in range(count)]
         return [it.getsockname()[1] for it in sockets]
@@ -114,6 +116,7 @@ class Site:
         self.make_certificates()
 
     def path(self, name):
+        """The path of a file of the site."""
         return os.path.join(self.room, name)
 
     def write(self, name, text, mode=0o644):
@@ -128,7 +131,8 @@ class Site:
     # ---- certificates
 
     def make_certificates(self):
-        """Writes the list, whose last entry is the root's, and the chains from the root to the client, and makes the client's TLS certificate."""
+        """Writes the list, whose last entry is the root's, and the chains from the root to the client. Makes the client's TLS certificate, and keeps
+        it as `certificate`, in percent-encoding as nginx passes one."""
         private = new_private("ed25519")
         signers, client = [FileSigner(new_private("ed25519")) for _ in range(3)], FileSigner(private)
         others = b"".join(b"(5:entry(10:public-key(4:test%d:%d))(3:tag(5:files)))" % (len(str(place)), place) for place in range(ENTRIES - 1))
@@ -136,7 +140,7 @@ class Site:
         with open(self.list, "wb") as file:
             file.write(b"(3:acl" + others + b"(5:entry" + canonical(signers[0].key) + b"(9:propagate)(3:tag(5:files))))")
         keys = [*signers, client]
-        self.write("shown", "".join(f"{self.chain(keys, number)}\n" for number in range(HOT + COLD)))
+        self.write("chains", "".join(f"{self.chain(keys, number)}\n" for number in range(HOT + COLD)))
         self.certificate = urllib.parse.quote(self_signed(private))
 
     def chain(self, keys, number):
@@ -171,12 +175,12 @@ class Site:
             process = subprocess.Popen(words, stdin=subprocess.DEVNULL, stdout=out, stderr=out, env={**os.environ, **environment})
         self.running.append(process)
         for _ in range(SECONDS_TO_START * 20):
-            with contextlib.suppress(OSError), connected(at):
+            with contextlib.suppress(OSError), connect(at):
                 return process
             time.sleep(0.05)
-        sys.exit(f"{words[0]} does not listen: {self.said(words[0])}")
+        sys.exit(f"{words[0]} does not listen: {self.end_of_log(words[0])}")
 
-    def said(self, program):
+    def end_of_log(self, program):
         """The end of what the program at this path has written, at most 2,000 characters."""
         with open(self.path(f"{os.path.basename(program)}.out"), encoding="utf-8", errors="replace") as file:
             return file.read()[-2000:]
@@ -210,7 +214,7 @@ class Site:
 
     def load(self, port, seconds, connections, delay=0):
         """What wrk measures at a port of nginx. Each connection waits `delay` ms before a request, on average."""
-        script = self.write("load.lua", LUA % (HOT, self.path("shown"), 2 * delay))
+        script = self.write("load.lua", LUA % (HOT, self.path("chains"), 2 * delay))
         words = ["wrk", "-t", "2", "-c", str(connections), "-d", f"{seconds}s", "--timeout", "10s", "-s", script, f"http://127.0.0.1:{port}"]
         return Figures(subprocess.run(words, stdout=subprocess.PIPE, stderr=subprocess.STDOUT, text=True).stdout)
 

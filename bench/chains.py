@@ -11,6 +11,7 @@ from check import LIMIT_MEMORY, LIMIT_RATIO, PROGRAM, group, key, run, string
 from memory import peak, processor_seconds
 from shapes import a_set, by_hashes, by_keys, case, certificate, entry, keys_of, through_names
 
+# The certificates of the chains, each four times as many as before, and how often each chain is decided.
 LENGTHS = [94, 375, 1500]
 RUNS = 30
 LIMIT_SECONDS = 1.0
@@ -18,7 +19,8 @@ MOST_OCTETS = 1024 * 1024
 
 
 def largest_growth():
-    """Prints the times of long chains. Returns the largest ratio for four times the certificates. Ends the script if the peak is too high."""
+    """Prints the times of long chains. Returns the largest ratio of the time of a chain to that of one with a quarter of its certificates. Ends the
+    script if the peak is too high."""
     worst = 0.0
     print(f"{'chain':<16}" + "".join(f"{length:>9} certs" for length in LENGTHS) + "   ratios      peak")
     for make in (by_keys, by_hashes, through_names):
@@ -27,7 +29,7 @@ def largest_growth():
         times = [min(taken) for taken in zip(*rounds)]
         ratios = [after / before for before, after in zip(times, times[1:])]
         memory = peak(PROGRAM, "check", texts[-1])
-        print(f"{make.__name__:<16}" + "".join(f"{took * 1000:>12.1f} ms" for took in times)
+        print(f"{make.__name__:<16}" + "".join(f"{seconds * 1000:>12.1f} ms" for seconds in times)
               + "   " + " ".join(f"{ratio:.2f}" for ratio in ratios) + f"   {memory:.1f} MiB")
         worst = max([worst] + ratios)
         if memory > LIMIT_MEMORY:
@@ -65,26 +67,26 @@ def behind_a_large_tag(more, tag):
 def large_tags():
     """Yields (what it is, text): cases of at most 1 MiB in which the intersection of an entry's and a certificate's tag has the most nodes, or the
     longest strings."""
-    def made(one, other):
+    def case_of_tags(one, other):
         """A case in which these tags of an entry and a certificate are intersected."""
         first, second = keys_of(1)
         return case([entry(first, one)], [(certificate(first, second, other), first)], asks=key("other"))
 
     strings = a_set(string("a" * 500))
-    yield "long strings", made(strings, strings)
+    yield "long strings", case_of_tags(strings, strings)
     prefixes = a_set(group(string("*"), string("prefix"), string("a" * 1000)))
     ranges = a_set(group(string("*"), string("range"), string("alpha")))
-    yield "ranges of long prefixes", made(prefixes, ranges)
-    yield "long prefixes of ranges", made(ranges, prefixes)
+    yield "ranges of long prefixes", case_of_tags(prefixes, ranges)
+    yield "long prefixes of ranges", case_of_tags(ranges, prefixes)
     low, up = string("a" * 230), string("b" * 230)
     limited = a_set(group(string("*"), string("range"), string("alpha"), string("ge"), low, string("le"), up))
-    yield "ranges with long limits", made(limited, limited)
+    yield "ranges with long limits", case_of_tags(limited, limited)
     lists = a_set(group(string("a" * 1500), string("b")), 332)
-    yield "lists with long heads", made(lists, lists)
+    yield "lists with long heads", case_of_tags(lists, lists)
     nested = string("b")
     for _ in range(55):
         nested = group(string("a"), nested)
-    yield "lists in lists", made(a_set(group(string("a")), 499), group(string("a"), *[nested] * 8))
+    yield "lists in lists", case_of_tags(a_set(group(string("a")), 499), group(string("a"), *[nested] * 8))
 
 
 def beside_openssl():
@@ -97,14 +99,15 @@ def beside_openssl():
 
 
 def main():
+    """Measures all. Ends with status 1 if a limit is passed."""
     worst = largest_growth()
     print(f"largest ratio for 4 times the certificates: {worst:.2f} (at most {LIMIT_RATIO})")
     slowest = most = 0.0
     for what, text, wanted in widest():
-        took = run(text, wanted)
+        seconds = run(text, wanted)
         memory = peak(PROGRAM, "check", text)
-        slowest, most = max(slowest, took), max(most, memory)
-        print(f"{what}, {len(text)} octets: {took:.2f} s, {memory:.1f} MiB")
+        slowest, most = max(slowest, seconds), max(most, memory)
+        print(f"{what}, {len(text)} octets: {seconds:.2f} s, {memory:.1f} MiB")
     print(f"longest: {slowest:.2f} s (at most {LIMIT_SECONDS})")
     for what, text in large_tags():
         memory = peak(PROGRAM, "check", text)

@@ -16,8 +16,8 @@ from shared import PROGRAM as BUILT, group, string  # noqa: E402
 PROGRAM = sys.argv[1] if len(sys.argv) > 1 else BUILT
 SIZES = [64 * 1024, 256 * 1024, 1024 * 1024]
 RUNS = 40
-LIMIT_RATIO = 5.0
-LIMIT_MEMORY = 128
+# At most so many times the time for 4 times the octets, and so many MiB.
+LIMIT_RATIO, LIMIT_MEMORY = 5.0, 128
 
 
 def key(name):
@@ -103,13 +103,14 @@ def no_value(size):
 def run(text, wanted, timeout=None):
     """The processor time of a decision of the text, in seconds. Ends the script if the answer does not begin with `wanted`. After `timeout` seconds
     on the clock the run is ended, and `subprocess.TimeoutExpired` is raised."""
-    done, took = processor_seconds([PROGRAM, "check"], input=text, stdout=subprocess.PIPE, timeout=timeout)
+    done, seconds = processor_seconds([PROGRAM, "check"], input=text, stdout=subprocess.PIPE, timeout=timeout)
     if not done.stdout.startswith(wanted):
         sys.exit(f"wrong answer: {done.stdout!r}, wanted {wanted!r}")
-    return took
+    return seconds
 
 
 def main():
+    """Measures all. Ends with status 1 if a limit is passed."""
     worst_ratio, worst_memory = 0.0, 0.0
     print(f"{'case':<16}" + "".join(f"{size // 1024:>9} KiB" for size in SIZES) + "   ratios      peak")
     for make in (many_entries, many_structures, many_certificates, many_members, lists_in_lists, one_string, no_value):
@@ -117,12 +118,12 @@ def main():
         for size in SIZES:
             text, wanted = make(size)
             times.append(min(run(text, wanted) for _ in range(RUNS)))
-        ratios = [b / a for a, b in zip(times, times[1:])]
+        ratios = [after / before for before, after in zip(times, times[1:])]
         memory = peak(PROGRAM, "check", make(SIZES[-1])[0])
         worst_ratio = max([worst_ratio] + ratios)
         worst_memory = max(worst_memory, memory)
-        print(f"{make.__name__:<16}" + "".join(f"{t * 1000:>10.1f} ms" for t in times)
-              + "   " + " ".join(f"{r:.2f}" for r in ratios) + f"   {memory:.1f} MiB")
+        print(f"{make.__name__:<16}" + "".join(f"{seconds * 1000:>10.1f} ms" for seconds in times)
+              + "   " + " ".join(f"{ratio:.2f}" for ratio in ratios) + f"   {memory:.1f} MiB")
     print(f"largest ratio for 4 times the octets: {worst_ratio:.2f} (at most {LIMIT_RATIO})")
     print(f"largest peak: {worst_memory:.1f} MiB (at most {LIMIT_MEMORY})")
     if worst_ratio > LIMIT_RATIO or worst_memory > LIMIT_MEMORY:

@@ -26,9 +26,8 @@ PEER = "sexp-conv"
 FORMS = ("canonical", "advanced", "transport")
 SIZES = [64 * 1024, 256 * 1024, 1024 * 1024]
 RUNS = 7
-LIMIT_PEER = 0.40
-LIMIT_RATIO = 5.0
-LIMIT_MEMORY = 256
+# At most so much of the time of `sexp-conv`, so many times the time for 4 times the octets, and so many MiB.
+LIMIT_PEER, LIMIT_RATIO, LIMIT_MEMORY = 0.40, 5.0, 256
 
 
 def filled(size, piece):
@@ -106,13 +105,13 @@ class Text:
         self.file.write(octets)
         self.file.flush()
 
-    def converted(self, command):
-        """What a command writes of the text."""
+    def conversion_by(self, command):
+        """What a command, given by its words, writes of the text. Raises CalledProcessError if it fails."""
         with open(self.file.name, "rb") as reader:
             return subprocess.run(command, stdin=reader, stdout=subprocess.PIPE, check=True).stdout
 
     def seconds(self, command):
-        """The processor time of one run."""
+        """The processor seconds of one run of a command."""
         with open(self.file.name, "rb") as reader:
             return processor_seconds(command, stdin=reader, stdout=subprocess.DEVNULL, check=True)[1]
 
@@ -127,8 +126,9 @@ def theirs(form):
     return [PEER, "-s", form]
 
 
-def measured(form, texts):
-    """The seconds of `spki` on each text, those of `sexp-conv` on the last and largest, and the MiB of `spki` on that."""
+def measure(form, texts):
+    """The seconds of `spki` on each text, those of `sexp-conv` on the last and largest, and the MiB of `spki` on that. On the largest the two
+    programs run in turn, so that other work on the machine disturbs both alike."""
     times, other = [], float("inf")
     for text in texts:
         times.append(min(text.seconds(ours(form)) for _ in range(RUNS)))
@@ -138,9 +138,10 @@ def measured(form, texts):
     return times, other, peak(PROGRAM, form, texts[-1].octets)
 
 
-def ratio_beside_peer(form, text, took, other):
-    """The ratio of the seconds of `spki` to those of `sexp-conv`. If it is over its limit, the ratio of their instructions, if that is less."""
-    ratio = took / other
+def ratio_beside_peer(form, text, seconds, other):
+    """The ratio of the seconds of `spki` to those of `sexp-conv` (`other`). If it is over its limit, the ratio of their instructions, if that is
+    less."""
+    ratio = seconds / other
     if ratio <= LIMIT_PEER:
         return ratio
     count = choose_counter()
@@ -150,12 +151,13 @@ def ratio_beside_peer(form, text, took, other):
 
 def print_target(name, worst, limit):
     """Prints the worst value beside its limit. Returns whether it is within the limit."""
-    held = worst <= limit
-    print(f"{name}: {worst:.2f} (at most {limit}): {'pass' if held else 'miss'}")
-    return held
+    is_within = worst <= limit
+    print(f"{name}: {worst:.2f} (at most {limit}): {'pass' if is_within else 'miss'}")
+    return is_within
 
 
 def main():
+    """Measures all. Ends with status 1 if a limit is passed."""
     for program in (PROGRAM, PEER):
         if shutil.which(program) is None:
             sys.exit(f"{program} is not there")
@@ -164,24 +166,24 @@ def main():
     slowest, steepest, largest = 0.0, 0.0, 0.0
     for make in SHAPES:
         texts = [Text(make(size)) for size in SIZES]
-        if texts[0].converted(ours("canonical")) != texts[0].converted(theirs("canonical")):
+        if texts[0].conversion_by(ours("canonical")) != texts[0].conversion_by(theirs("canonical")):
             sys.exit(f"{make.__name__}: the canonical forms differ")
         for form in FORMS:
-            times, other, memory = measured(form, texts)
-            ratios = [b / a for a, b in zip(times, times[1:])]
+            times, other, memory = measure(form, texts)
+            ratios = [after / before for before, after in zip(times, times[1:])]
             ratio = ratio_beside_peer(form, texts[-1], times[-1], other)
             slowest = max(slowest, ratio)
             steepest = max([steepest] + ratios)
             largest = max(largest, memory)
-            print(f"{make.__name__:<20}{form:<11}" + "".join(f"{t * 1000:>9.1f} ms" for t in times)
-                  + "   " + " ".join(f"{r:5.2f}" for r in ratios)
+            print(f"{make.__name__:<20}{form:<11}" + "".join(f"{seconds * 1000:>9.1f} ms" for seconds in times)
+                  + "   " + " ".join(f"{growth:5.2f}" for growth in ratios)
                   + f"   {other * 1000:>9.1f} ms {ratio:>11.2f}   {memory:>9.1f} MiB")
-    held = [
+    are_within = [
         print_target("slowest beside sexp-conv", slowest, LIMIT_PEER),
         print_target("steepest for 4 times the octets", steepest, LIMIT_RATIO),
         print_target("largest peak in MiB", largest, LIMIT_MEMORY),
     ]
-    if not all(held):
+    if not all(are_within):
         sys.exit(1)
 
 

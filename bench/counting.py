@@ -1,6 +1,8 @@
 """How many instructions a run of a program takes, or a call that it repeats.
 
-A counter is a function of a command and an open text, which runs the command on it and returns a number."""
+A counter is a function of a command (its words) and a text (an open file, or subprocess.DEVNULL), which runs the command on it and returns a
+number."""
+import contextlib
 import os
 import re
 import shutil
@@ -11,8 +13,8 @@ import tempfile
 def counted_by_perf(command, text):
     """The instructions that a command takes on an open text, counted by perf. None if perf cannot count them here."""
     done = subprocess.run(["perf", "stat", "-x", ",", "-e", "instructions:u"] + command, stdin=text, capture_output=True)
-    found = re.match(rb"(\d+),", done.stderr.splitlines()[-1]) if done.stderr else None
-    return int(found.group(1)) if found else None
+    line = re.match(rb"(\d+),", done.stderr.splitlines()[-1]) if done.stderr else None
+    return int(line[1]) if line else None
 
 
 def counted_by_valgrind(command, text, *flags, settings=None):
@@ -51,11 +53,10 @@ def counted(count, words, text):
 
 def choose_counter():
     """The counter of instructions that works here: by perf, else by valgrind, which may be missing too (`can_count`)."""
-    try:
+    # (perf may be missing, or not be allowed to count)
+    with contextlib.suppress(OSError):
         if counted_by_perf(["true"], subprocess.DEVNULL) is not None:
             return counted_by_perf
-    except OSError:
-        pass
     return counted_by_valgrind
 
 

@@ -22,16 +22,18 @@ sys.path.append(os.path.join(os.path.dirname(os.path.abspath(__file__)), "..", "
 from shared import LIBRARY, TOP  # noqa: E402
 
 PICTURE = os.path.join(TOP, "docs", "pictures", "dashboard.svg")
+# The connections of the load, and the mean ms that each waits before a request.
 CONNECTIONS, DELAY = 32, 4
 VALUE = re.compile(r"^spki_authd_(\w+)(?:\{(.*)\})? ([0-9.e+-]+)$", re.MULTILINE)
+# Of the panels, in pixels: width, height, the left and the top of the first, and from one row to the next.
 WIDTH, HEIGHT, LEFT, TOP_OF_PANEL, ROW = 370, 150, 60, 40, 215
 COLOURS = "#1b6ca8", "#c0392b", "#7f8c8d", "#d68910"
 
 
 def metrics(site):
-    """The values of the metrics now, by name and labels."""
-    said = subprocess.run([site.program, "-metrics", "-config", site.path("config.json")], stdout=subprocess.PIPE, text=True, check=True).stdout
-    return {(name, labels): float(value) for name, labels, value in VALUE.findall(said)}
+    """The values of the metrics now, by name without `spki_authd_` and the text of the labels, which is empty if there are none."""
+    text = subprocess.run([site.program, "-metrics", "-config", site.path("config.json")], stdout=subprocess.PIPE, text=True, check=True).stdout
+    return {(name, labels): float(value) for name, labels, value in VALUE.findall(text)}
 
 
 def changes(site, seconds):
@@ -47,24 +49,24 @@ def changes(site, seconds):
         subprocess.run([site.program, "-reload", "-config", site.path("config.json")], stdout=subprocess.DEVNULL, stderr=subprocess.DEVNULL)
 
 
-def sampled(site, seconds):
-    """Runs the load and the changes for so many seconds. Returns the metrics at each second."""
+def sample(site, seconds):
+    """Runs the load and the changes for so many seconds. Returns the metrics at each second, as `metrics` does."""
     threads = [threading.Thread(target=site.load, args=(site.nginx[2], seconds, CONNECTIONS, DELAY)),
                threading.Thread(target=changes, args=(site, seconds))]
     for each in threads:
         each.start()
-    found = []
+    samples = []
     for _ in range(seconds):
-        found.append(metrics(site))
+        samples.append(metrics(site))
         time.sleep(1)
     for each in threads:
         each.join()
-    return found
+    return samples
 
 
 def rates(samples, name, labels):
     """By how much a metric grew in each second. Its value is the sum of all values of this name whose labels contain the text `labels`."""
-    values = [sum(value for key, value in sample.items() if key[0] == name and labels in key[1]) for sample in samples]
+    values = [sum(value for key, value in metrics_then.items() if key[0] == name and labels in key[1]) for metrics_then in samples]
     return [after - before for before, after in zip(values, values[1:])]
 
 
@@ -84,11 +86,11 @@ def panels(samples):
     yield "Bound of 99 of 100 answers, ms", [("p99", quantile(samples, 0.99))]
     yield "Signatures a second", [(how, rates(samples, "signatures_total", f'how="{how}"')) for how in ("known", "verified", "spared")]
     gauges = (("entries in 1,000", "list_entries", 1000), ("last reload refused", "last_reload_refused", 1))
-    yield "List", [(title, [sample[name, ""] / unit for sample in samples[1:]]) for title, name, unit in gauges]
+    yield "List", [(title, [values[name, ""] / unit for values in samples[1:]]) for title, name, unit in gauges]
 
 
-def drawn(place, title, lines):
-    """The elements of a panel in SVG. Its place is 0 to 3, by rows of two."""
+def elements_of(place, title, lines):
+    """Yields the elements of a panel in SVG. Its place is 0 to 3, by rows of two. `lines` are those of `panels`."""
     left, top = LEFT + place % 2 * (WIDTH + 80), TOP_OF_PANEL + place // 2 * ROW
     most = max(max(values) for _, values in lines) or 1
     yield f'<text x="{left}" y="{top - 8}" font-weight="bold">{escape(title)}</text>'
@@ -103,19 +105,20 @@ def drawn(place, title, lines):
 
 
 def main():
-    asked = argparse.ArgumentParser(description=__doc__, formatter_class=argparse.RawDescriptionHelpFormatter)
-    asked.add_argument("--seconds", type=int, default=60)
-    asked.add_argument("library", nargs="?", default=LIBRARY)
-    given = asked.parse_args()
+    """Runs the daemon and draws the picture."""
+    parser = argparse.ArgumentParser(description=__doc__, formatter_class=argparse.RawDescriptionHelpFormatter)
+    parser.add_argument("--seconds", type=int, default=60)
+    parser.add_argument("library", nargs="?", default=LIBRARY)
+    given = parser.parse_args()
     with tempfile.TemporaryDirectory() as room:
         site = Site(room, os.path.abspath(given.library))
         try:
             site.build()
             site.start_all()
-            samples = sampled(site, given.seconds)
+            samples = sample(site, given.seconds)
         finally:
             site.end()
-    parts = [part for place, (title, lines) in enumerate(panels(samples)) for part in drawn(place, title, lines)]
+    parts = [part for place, (title, lines) in enumerate(panels(samples)) for part in elements_of(place, title, lines)]
     with open(PICTURE, "w", encoding="utf-8") as file:
         file.write('<svg xmlns="http://www.w3.org/2000/svg" width="900" height="450" font-family="sans-serif" font-size="12">\n'
                    '<rect width="900" height="450" fill="white"/>\n' + "\n".join(parts) + "\n</svg>\n")

@@ -18,10 +18,11 @@ from linear import LIMIT_SUM, MEMBERS, SHAPES, SIZES
 
 LIMIT_RATIO = 4
 LIMIT_OF_KEYS = 32
+# The members of a set of which two have nearly 1,000,000 as the product of their nodes.
 COPIES = 999
 
 
-def explained(count):
+def measure_one_entry(count):
     """The largest ratio of the instructions of `explain`, by the counter `count`, to those of `check` on one entry, and the most MiB."""
     texts = [("a chain by keys", by_keys(1500, asks=key("other"))), ("a chain by hashes", by_hashes(1500)),
              ("a chain through names", through_names(1500))]
@@ -29,14 +30,14 @@ def explained(count):
     texts += [(what, text) for what, text, _ in of_one_entry]
     worst, most = 0.0, 0.0
     for what, text in texts:
-        checked, taken = (counted(count, [PROGRAM, command], text) for command in ("check", "explain"))
+        of_check, of_explain = (counted(count, [PROGRAM, command], text) for command in ("check", "explain"))
         seconds, memory = used(PROGRAM, "explain", text)
-        print(f"{what:<44}{checked:>16,}{taken:>16,}   {taken / checked:.2f}   {seconds:.2f} s   {memory:.1f} MiB", flush=True)
-        worst, most = max(worst, taken / checked), max(most, memory)
+        print(f"{what:<44}{of_check:>16,}{of_explain:>16,}   {of_explain / of_check:.2f}   {seconds:.2f} s   {memory:.1f} MiB", flush=True)
+        worst, most = max(worst, of_explain / of_check), max(most, memory)
     return worst, most
 
 
-def folded(count):
+def measure_many_entries(count):
     """The largest ratio of the instructions of `explain` on many entries, by the counter `count`, to as many times those on one."""
     worst = 0.0
     for shape in (shape for shape in SHAPES if shape.is_product):
@@ -60,9 +61,9 @@ def print_reductions():
     fit = (MOST_OCTETS - len(largest(0))) // one
     for entries in (1, 2, 4):
         text = largest(entries)
-        took, memory = used(PROGRAM, "reduce", text)
+        seconds, memory = used(PROGRAM, "reduce", text)
         written = len(subprocess.run([PROGRAM, "reduce"], input=text, stdout=subprocess.PIPE, check=True).stdout)
-        print(f"{entries} such entries, {len(text)} octets: {written} octets written in {took:.2f} s with {memory:.0f} MiB")
+        print(f"{entries} such entries, {len(text)} octets: {written} octets written in {seconds:.2f} s with {memory:.0f} MiB")
     print(f"{fit} such entries fit into {MOST_OCTETS} octets: {fit * (COPIES * COPIES * 2 + 70)} octets to be written")
 
 
@@ -74,17 +75,18 @@ def most_of_long_keys():
         links = [(certificate(issuer, group(string("public-key"), group(string("rsa"), *parts))), issuer)]
         one = len(case([entry(issuer)], links, asks=other)) - len(case([], links, asks=other))
         entries = (MOST_OCTETS - len(case([], links, asks=other))) // one
-        took, memory = used(PROGRAM, "reduce", case([entry(issuer)] * entries, links, asks=other))
-        print(f"{entries:,} entries and a certificate for a key of {len(parts):,} strings: {took:.2f} s, {memory:.0f} MiB", flush=True)
+        seconds, memory = used(PROGRAM, "reduce", case([entry(issuer)] * entries, links, asks=other))
+        print(f"{entries:,} entries and a certificate for a key of {len(parts):,} strings: {seconds:.2f} s, {memory:.0f} MiB", flush=True)
         most = max(most, memory)
     return most
 
 
 def main():
+    """Measures all. Ends with status 1 if a limit is passed."""
     count = choose_counter()
-    worst, most = explained(count)
+    worst, most = measure_one_entry(count)
     print(f"largest ratio of explain to check: {worst:.2f} (at most {LIMIT_RATIO}); most memory {most:.1f} MiB")
-    together = folded(count)
+    together = measure_many_entries(count)
     print(f"largest ratio of many entries to as many of one: {together:.2f} (at most {LIMIT_SUM})")
     print_reductions()
     of_keys = most_of_long_keys()

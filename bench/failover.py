@@ -28,7 +28,7 @@ import time
 import urllib.parse
 
 import store
-from authd_site import connected, self_signed
+from authd_site import connect, self_signed
 
 sys.path.append(os.path.join(os.path.dirname(os.path.abspath(__file__)), "..", "tests"))
 from shared import LIBRARY, canonical, golang, servers  # noqa: E402
@@ -57,46 +57,46 @@ class Person:
 
     def status(self, socket):
         """The HTTP status of a daemon's answer to the request."""
-        with connected(socket) as connection:
+        with connect(socket) as connection:
             connection.sendall(self.request)
             return int(connection.makefile("rb").readline().split()[1])
 
 
 class Asker(threading.Thread):
-    """Asks a daemon for all people again and again, and notes when each request began and ended, for whom it was, and its status."""
+    """Asks a daemon for all people again and again. `answers` has, of each request, when it began and ended, for whom it was, and its status."""
 
     def __init__(self, socket, people):
         super().__init__(daemon=True)
-        self.socket, self.people, self.ends, self.met = socket, list(people.items()), threading.Event(), []
+        self.socket, self.people, self.ends, self.answers = socket, list(people.items()), threading.Event(), []
 
     def run(self):
         while not self.ends.wait(PAUSE):
-            name, person = self.people[len(self.met) % len(self.people)]
+            name, person = self.people[len(self.answers) % len(self.people)]
             begun = time.monotonic()
             status = person.status(self.socket)
-            self.met.append((begun, time.monotonic(), name, status))
+            self.answers.append((begun, time.monotonic(), name, status))
 
     def end(self):
-        """Stops asking. Returns all that was noted."""
+        """Stops asking. Returns all answers."""
         self.ends.set()
         self.join()
-        return self.met
+        return self.answers
 
     def grants(self):
         """Whether the last answer for the entry that stays is a grant."""
-        return next((status for _, _, name, status in reversed(self.met) if name == STAYS), 0) == 200
+        return next((status for _, _, name, status in reversed(self.answers) if name == STAYS), 0) == 200
 
 
-def span_of_503(met, failed):
+def span_of_503(answers, failed):
     """When the first 503 was received, and the first answer to a request after the last 503, in seconds since the failure. None if there is no
-    503."""
-    refused = [place for place, each in enumerate(met) if each[3] == 503]
-    return (met[refused[0]][1] - failed, met[refused[-1] + 1][1] - failed) if refused else None
+    503. An Asker is ended once its daemon answers again, so the last answer is none."""
+    refused = [place for place, (_, _, _, status) in enumerate(answers) if status == 503]
+    return (answers[refused[0]][1] - failed, answers[refused[-1] + 1][1] - failed) if refused else None
 
 
-def is_wrong(each, removed, stale):
-    """Whether an answer, as an Asker notes it, is wrong. `removed` is when the entry was removed, `stale` is `stale_seconds`."""
-    begun, _, name, status = each
+def is_wrong(answer, removed, stale):
+    """Whether an answer, as an Asker has it, is wrong. `removed` is when the entry was removed, `stale` is `stale_seconds`."""
+    begun, _, name, status = answer
     if name == GOES and status == 200:
         return begun > removed + stale
     return status not in (503, 200 if name == STAYS else 401)
@@ -151,7 +151,7 @@ class Site:
         execute(self.replicas[1], f"ALTER SYSTEM SET primary_conninfo = '{self.replicas[1].source(self.replicas[0])}'", "SELECT pg_reload_conf()")
         return removed, failed, begun, time.monotonic()
 
-    def measured(self, wait):
+    def measure(self, wait):
         """Measures a failover whose promotion begins after `wait` seconds, and prints it. Returns the sum of wrong answers and broken promises."""
         for each in self.askers:
             each.start()
@@ -161,28 +161,28 @@ class Site:
         time.sleep(AFTER + max(0.0, failed + self.stale - ended))
         databases.waits_for("the daemons answer again", lambda: all(each.grants() for each in self.askers))
         time.sleep(AFTER)
-        met = [each.end() for each in self.askers]
-        wrong = sum(is_wrong(each, removed, self.stale) for some in met for each in some)
-        granted = max(end for some in met for _, end, name, status in some if name == GOES and status == 200)
-        spans = [span_of_503(some, failed) for some in met]
+        by_daemon = [asker.end() for asker in self.askers]
+        wrong = sum(is_wrong(answer, removed, self.stale) for answers in by_daemon for answer in answers)
+        granted = max(end for answers in by_daemon for _, end, name, status in answers if name == GOES and status == 200)
+        spans = [span_of_503(answers, failed) for answers in by_daemon]
         counts_as = max(ended - failed, LEAVES if self.nodes[0] else 0.0)
         broken = sum(is_broken(span, self.stale, counts_as) for span in spans)
-        told = [f"503 from {span[0]:.1f} to {span[1]:.1f}, {span[1] - span[0]:.1f} s, {span[1] + failed - ended:.1f} after it" if span else "no 503"
-                for span in spans]
-        print(f"stale_seconds {self.stale}, promoted from {begun - failed:.1f} to {ended - failed:.1f}: {'; '.join(told)}; the last grant by the "
-              f"removed entry {granted - removed:.2f} s after its removal; {sum(map(len, met))} answers, {wrong} wrong, {broken} promises broken",
-              flush=True)
+        texts = [f"503 from {span[0]:.1f} to {span[1]:.1f}, {span[1] - span[0]:.1f} s, {span[1] + failed - ended:.1f} after it" if span else "no 503"
+                 for span in spans]
+        print(f"stale_seconds {self.stale}, promoted from {begun - failed:.1f} to {ended - failed:.1f}: {'; '.join(texts)}; the last grant by the "
+              f"removed entry {granted - removed:.2f} s after its removal; {sum(map(len, by_daemon))} answers, {wrong} wrong, "
+              f"{broken} promises broken", flush=True)
         return wrong + broken
 
 
 def nodes_of(stack):
-    """Four nodes of a network."""
+    """Four nodes of a new network, which ends with the context `stack`."""
     network = stack.enter_context(databases.networks.Network())
     return [network.node() for _ in range(4)]
 
 
 def is_broken(span, stale, ended):
-    """Whether the span of 503 at a daemon is longer than is promised, where the promotion ended so many seconds after the failure."""
+    """Whether the span of 503 at a daemon (`span_of_503`) is longer than is promised, where the promotion ended so many seconds after the failure."""
     lasted = span[1] - span[0] if span else 0.0
     return ended <= stale - MARGIN and lasted > 0 or ended <= 2 * stale - MARGIN and lasted > stale
 
@@ -194,12 +194,12 @@ def waits_of(stale):
 
 
 def execute(server, *statements):
-    """Runs statements, each in a transaction of its own. Returns a row of the last, if it has any."""
+    """Runs statements of SQL, each in a transaction of its own. Returns the first row of the last, None if that returns no rows."""
     import psycopg
     with psycopg.connect(server.address, autocommit=True) as connection:
-        for each in statements:
-            rows = connection.execute(each)
-    return rows.fetchone() if rows.description else None
+        for statement in statements:
+            rows = connection.execute(statement)
+        return rows.fetchone() if rows.description else None
 
 
 def received(replica):
@@ -208,18 +208,19 @@ def received(replica):
 
 
 def main():
-    asked = argparse.ArgumentParser(description=__doc__, formatter_class=argparse.RawDescriptionHelpFormatter)
-    asked.add_argument("--cut", action="store_true", help="cut the primary off, in place of killing it")
-    asked.add_argument("--stale", type=int, nargs="+", default=[3, 10], help="`stale_seconds` of the daemons")
-    asked.add_argument("--wait", type=float, nargs="+", help="seconds from the failure to the promotion")
-    asked.add_argument("--times", type=int, default=1)
-    asked.add_argument("library", nargs="?", default=LIBRARY)
-    given, wrong = asked.parse_args(), 0
+    """Measures all failovers that are asked for. Returns the exit status: 1 if an answer is wrong or a promise broken."""
+    parser = argparse.ArgumentParser(description=__doc__, formatter_class=argparse.RawDescriptionHelpFormatter)
+    parser.add_argument("--cut", action="store_true", help="cut the primary off, in place of killing it")
+    parser.add_argument("--stale", type=int, nargs="+", default=[3, 10], help="`stale_seconds` of the daemons")
+    parser.add_argument("--wait", type=float, nargs="+", help="seconds from the failure to the promotion")
+    parser.add_argument("--times", type=int, default=1)
+    parser.add_argument("library", nargs="?", default=LIBRARY)
+    given, wrong = parser.parse_args(), 0
     with tempfile.TemporaryDirectory() as room:
         program = golang.build_daemon(os.path.abspath(given.library), os.path.join(room, "spki-authd"), *store.DRIVER)
         for stale, wait in [(stale, wait) for stale in given.stale for wait in given.wait or waits_of(stale)] * given.times:
             with contextlib.ExitStack() as stack, tempfile.TemporaryDirectory(dir=room) as own:
-                wrong += Site(stack, own, program, stale, given.cut).measured(wait)
+                wrong += Site(stack, own, program, stale, given.cut).measure(wait)
     return 1 if wrong else 0
 
 

@@ -44,7 +44,7 @@ def ticks_of(process):
 
 
 def is_ours(process):
-    """Whether a process is this one, or was started by it, also through others."""
+    """Whether a process is this one, or was started by it, also through others. Raises OSError if one of these has ended meanwhile."""
     while process > 1:
         if process == os.getpid():
             return True
@@ -116,6 +116,7 @@ def table(totals, whole, clock, fixed):
 
 
 def main():
+    """Runs the fixed check and the command. Returns the status of the command."""
     command = sys.argv[1:] or [os.path.join(ROOT, ".ci", "run")]
     status, fixed = run_timed(FIXED)
     if status:
@@ -123,14 +124,17 @@ def main():
     sampled, ended, begun = Sampled(), threading.Event(), time.monotonic()
 
     def watch():
+        """Looks each second, until the command has ended."""
         while not ended.wait(1.0):
             sampled.look()
 
     watching = threading.Thread(target=watch)
     watching.start()
-    status, whole = run_timed(command)
-    ended.set()
-    watching.join()
+    try:
+        status, whole = run_timed(command)
+    finally:
+        ended.set()
+        watching.join()
     print(*table(sampled.minutes(), whole, (time.monotonic() - begun) / 60, fixed), sep="\n")
     return status
 

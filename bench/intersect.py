@@ -17,23 +17,25 @@ from shared import PROGRAM as BUILT, group, string  # noqa: E402
 
 PROGRAM = sys.argv[1] if len(sys.argv) > 1 else BUILT
 MEMBERS = [125, 250, 500, 999]
-MOST_RATIO = 12.0
-MOST_MEMORY = 256
+# For 8 times the members at most so many times the instructions; and the most MiB for an answer of 998,001 members.
+MOST_RATIO, MOST_MEMORY = 12.0, 256
 # The most memory for an answer of 250 MB: its tag has 250,001 nodes, which share the octets of one string.
 MOST_LONG = 64
 
 
 def set_of(members):
+    """The tag of a set with these members."""
     return group(string("*"), string("set"), *members)
 
 
 def prefix(octets):
+    """The tag of a prefix."""
     return group(string("*"), string("prefix"), string(octets))
 
 
-def intersection(a, b):
+def intersection(one, other):
     """The text that asks for the intersection of two tags."""
-    return group(string("intersect"), a, b)
+    return group(string("intersect"), one, other)
 
 
 def strings(n):
@@ -71,12 +73,13 @@ WIDEST = {
 }
 
 
-def instructions(count, a, b):
+def instructions(count, one, other):
     """The instructions, counted by `count`, of the intersection of two tags."""
-    return counted(count, [PROGRAM, "intersect"], intersection(a, b))
+    return counted(count, [PROGRAM, "intersect"], intersection(one, other))
 
 
 def main():
+    """Measures all. Ends with status 1 if a limit is passed."""
     count = choose_counter()
     start = instructions(count, string("a"), string("b"))
     missed = False
@@ -84,10 +87,11 @@ def main():
     for make in (strings, long_strings, other_strings, prefixes):
         counts = [instructions(count, *make(n)) - start for n in MEMBERS]
         ratio = counts[-1] / counts[0]
-        bound = make is not prefixes
-        missed = missed or (bound and ratio > MOST_RATIO)
-        verdict = ("pass" if ratio <= MOST_RATIO else "miss") if bound else "all pairs"
-        print(f"{make.__name__:<16}" + "".join(f"{c:>12,}" for c in counts) + f"   {ratio:.1f}   {verdict}")
+        # (of prefixes each is tried with each, which grows as the square)
+        is_bounded = make is not prefixes
+        missed = missed or (is_bounded and ratio > MOST_RATIO)
+        verdict = ("pass" if ratio <= MOST_RATIO else "miss") if is_bounded else "all pairs"
+        print(f"{make.__name__:<16}" + "".join(f"{number:>12,}" for number in counts) + f"   {ratio:.1f}   {verdict}")
     print(f"(instructions, by {count.__name__.split('_')[-1]}; at most {MOST_RATIO:.0f} times)")
     for name, make in WIDEST.items():
         memory = peak(PROGRAM, "intersect", intersection(*make(999 if name != "lists" else 332)))

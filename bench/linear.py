@@ -225,6 +225,7 @@ class Shape:
 
     @property
     def name(self):
+        """The name of `make`."""
         return self.make.__name__
 
     def entries(self, octets, members):
@@ -286,7 +287,7 @@ SHAPES = [
 
 
 def seconds_of(text):
-    """The least processor time of some runs, or None if a run was ended."""
+    """The least processor seconds of some runs, or None if a run was ended after MOST_SECONDS on the clock."""
     times = []
     while len(times) < RUNS and sum(times) < ENOUGH_SECONDS:
         try:
@@ -296,24 +297,24 @@ def seconds_of(text):
     return min(times)
 
 
-def timed(shape, sizes=SIZES):
-    """Prints and yields the seconds of a shape for each of these lengths. They are infinite if a run was ended."""
-    for size in sizes:
-        what, text = shape.text(size)
-        took = seconds_of(text)
-        print(f"{len(text):>9,}  " + (f"{took:>8.3f} s" if took is not None else f"over {MOST_SECONDS} s") + f"  {what}", flush=True)
-        yield float("inf") if took is None else took
+def print_and_time(what, text):
+    """Prints the seconds of a text, which `what` describes. Returns them: infinity if a run was ended."""
+    seconds = seconds_of(text)
+    print(f"{len(text):>9,}  " + (f"{seconds:>8.3f} s" if seconds is not None else f"over {MOST_SECONDS} s") + f"  {what}", flush=True)
+    return float("inf") if seconds is None else seconds
 
 
 def faults_of(shape, count):
     """Measures a shape and prints the figures. Yields a line for each limit that it exceeds. `count` is a counter of instructions (counting.py)."""
     def instructions(text):
+        """The instructions of `check` on a text."""
         return counted(count, [PROGRAM, "check"], text)
 
     def ratio_of(numbers):
+        """The largest ratio of a number to the one before it."""
         return max(after / before for before, after in zip(numbers, numbers[1:]))
 
-    times = list(timed(shape))
+    times = [print_and_time(*shape.text(size)) for size in SIZES]
     counts = [instructions(shape.text(size)[1]) for size in SIZES]
     many, ratio = counts[-1], min(ratio_of(times), ratio_of(counts))
     print(f"{'':<9}  {ratio:>8.2f}    times for 4 times the octets", flush=True)
@@ -330,11 +331,11 @@ def faults_of(shape, count):
 
 
 def main():
+    """Measures all. Ends with status 1 if a limit is passed."""
     print(f"{'octets':>9}  {'time':>10}  text")
     count = choose_counter()
     over = [fault for shape in SHAPES for fault in faults_of(shape, count)]
-    text = large_tag_and_set(1, BEHIND_LARGE, MEMBERS)
-    print(f"{len(text):>9,}  {seconds_of(text):>8.3f} s  {LARGE_TAG_AND_SET.what.format(0, BEHIND_LARGE)}", flush=True)
+    print_and_time(LARGE_TAG_AND_SET.what.format(0, BEHIND_LARGE), large_tag_and_set(1, BEHIND_LARGE, MEMBERS))
     print("over the limits:", *over or ["none"], sep="\n")
     if over:
         sys.exit(1)

@@ -44,18 +44,18 @@ static int opens_and_grants(void)
     return list_signed(&held) == SPKI_DONE && grants();
 }
 
-/* Makes the macaroon with three caveats. */
+/* Makes the macaroon with three caveats, and writes its text to `macaroon`. */
 static void mint(void)
 {
     enum macaroon_returncode fault;
-    struct macaroon *made = macaroon_create((const unsigned char *)"service", 7, key, sizeof key - 1, (const unsigned char *)"id", 2, &fault);
+    struct macaroon *minted = macaroon_create((const unsigned char *)"service", 7, key, sizeof key - 1, (const unsigned char *)"id", 2, &fault);
     for (int i = 0; i < CAVEATS; i++) {
-        struct macaroon *narrower = macaroon_add_first_party_caveat(made, (const unsigned char *)caveats[i], strlen(caveats[i]), &fault);
-        macaroon_destroy(made);
-        made = narrower;
+        struct macaroon *narrower = macaroon_add_first_party_caveat(minted, (const unsigned char *)caveats[i], strlen(caveats[i]), &fault);
+        macaroon_destroy(minted);
+        minted = narrower;
     }
-    macaroon_serialize(made, macaroon, sizeof macaroon, &fault);
-    macaroon_destroy(made);
+    macaroon_serialize(minted, macaroon, sizeof macaroon, &fault);
+    macaroon_destroy(minted);
 }
 
 /* Reads the macaroon and verifies it, and returns whether it is valid. */
@@ -85,7 +85,8 @@ static double time_of(int (*call)(void))
 
 static int (*const ways[WAYS])(void) = {decides, grants, verifies, opens_and_grants};
 
-/* Prints the least time of each way, or returns 1 if one does not say yes. */
+/* Prints the least µs of each way. The ways take turns, so that other programs disturb all alike. Returns 1, and prints nothing, if one does not
+ * grant. */
 static int print_times(void)
 {
     double least[WAYS] = {1e9, 1e9, 1e9, 1e9};
@@ -98,7 +99,7 @@ static int print_times(void)
     return 0;
 }
 
-/* Grants so many times by one way, or returns 1 if it does not say yes. */
+/* Grants so many times by one way. Returns 1 if it does not grant, or there is no such way. */
 static int repeat(unsigned long way, long calls)
 {
     for (long i = 0; i < calls; i++)

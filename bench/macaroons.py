@@ -36,8 +36,9 @@ def is_there():
     return subprocess.run(["cc", "-E", "-"], input=b"#include <macaroons.h>\n", capture_output=True).returncode == 0
 
 
-def built(folder, library=LIBRARY):
-    """Builds macaroons.c in a folder. Returns the words that start it, or None if libmacaroons is not installed."""
+def build(folder, library=LIBRARY):
+    """Builds macaroons.c in a folder. Returns the words that start it, or None if libmacaroons is not installed. Ends the script if it does not
+    compile."""
     if not is_there():
         return None
     program, case, parts = (os.path.join(folder, name) for name in ("macaroons", "case", "parts"))
@@ -50,16 +51,16 @@ def built(folder, library=LIBRARY):
     return [program, case, parts]
 
 
-def measured(words):
+def measure(words):
     """Four times in µs: a decision from a case's text, one of a question that is open already, a macaroon's verification, and a question opened
-    and decided. `words` are those of `built`."""
+    and decided. `words` are those of `build`."""
     return tuple(map(float, subprocess.run(words, stdout=subprocess.PIPE, check=True, text=True).stdout.split()))
 
 
 def main():
     with tempfile.TemporaryDirectory() as folder:
-        words = built(folder) or sys.exit("libmacaroons is not there (Debian: libmacaroons-dev)")
-        decision, through_guard, verification, opened = measured(words)
+        words = build(folder) or sys.exit("libmacaroons is not there (Debian: libmacaroons-dev)")
+        decision, through_guard, verification, opened = measure(words)
     print(f"three certificates: from a case's text {decision} µs, through a guard {through_guard} µs, of which the question is opened before, "
           f"{opened} µs with that; a macaroon with three caveats {verification} µs")
 

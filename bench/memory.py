@@ -23,7 +23,8 @@ print(os.waitstatus_to_exitcode(status), used.ru_utime + used.ru_stime, used.ru_
 
 
 def processor_seconds(words, **settings):
-    """Runs a program by `subprocess.run`. Returns how it ended, and its processor time in seconds."""
+    """Runs a program by `subprocess.run`, with these settings. Returns how it ended, and its processor time in seconds. No other child of this
+    process may end meanwhile."""
     before = resource.getrusage(resource.RUSAGE_CHILDREN)
     done = subprocess.run(words, **settings)
     after = resource.getrusage(resource.RUSAGE_CHILDREN)

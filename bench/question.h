@@ -12,7 +12,7 @@ enum { PARTS = 5 };
 
 static const struct spki_limits highest = SPKI_HIGHEST_LIMITS;
 
-/* What a program holds of a file: the list, the question, both opened, and a buffer for answers. */
+/* What a program has of a file: the texts of the list and the question, both opened, and a buffer of `room` octets for answers. */
 struct held {
     struct spki_text list;
     struct spki_question question;
@@ -22,7 +22,7 @@ struct held {
     size_t room;
 };
 
-/* Reads the next part of a file. Ends the program if it cannot. */
+/* Reads the next part of a file, into memory that is never freed. Ends the program with status 2 if it cannot. */
 static struct spki_text read_text(FILE *file)
 {
     size_t length;
@@ -34,7 +34,7 @@ static struct spki_text read_text(FILE *file)
     return (struct spki_text){octets, length};
 }
 
-/* Opens a guard of a list under the strict policy. Ends the program if the list is refused. */
+/* Opens a guard of a list under the strict policy. Ends the program with status 3 if the list is refused. */
 static spki_guard *open_guard(struct spki_text list, const struct spki_limits *limits)
 {
     spki_guard *guard;
@@ -45,7 +45,8 @@ static spki_guard *open_guard(struct spki_text list, const struct spki_limits *l
     return guard;
 }
 
-/* Opens the question, lists the signatures and marks them, as a service does that finds all of them valid. */
+/* Closes the question that is open, opens it again, lists the signatures and marks them, as a service does that finds all of them valid. Returns
+ * the status of opening it. */
 static inline enum spki_status list_signed(struct held *held)
 {
     struct spki_signed signature;
@@ -79,7 +80,8 @@ static inline enum spki_status decided(struct held *held)
     return answered(held, decision_of);
 }
 
-/* Reads a file, and opens its guard. The question is not opened yet: see `list_signed`. */
+/* Reads a file, and opens its guard. The question is not opened yet: see `list_signed`. Ends the program with status 2 if it cannot, or with 3 if
+ * the list is refused. */
 static struct held held_in(const char *path, const struct spki_limits *limits)
 {
     struct held held = {.room = 64 << 20, .question.size = sizeof held.question};
@@ -93,6 +95,8 @@ static struct held held_in(const char *path, const struct spki_limits *limits)
     fclose(file);
     held.guard = open_guard(held.list, limits);
     held.buffer = malloc(held.room);
+    if (!held.buffer)
+        exit(2);
     return held;
 }
 

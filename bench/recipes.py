@@ -17,7 +17,7 @@ KINDS = ("star", "string", "prefix", "range", "limits", "list", "set")
 LEAVES = ("string", "prefix", "range", "limits")
 
 
-def named(count: int) -> bytes:
+def subject_of(count: int) -> bytes:
     """The owner if `count` is 0, otherwise a name of the owner with `count` strings. The first string is `n`, which the certificates define, and the
     others are empty."""
     return name(OWNER, "n", *[""] * (count - 1)) if count else OWNER
@@ -65,10 +65,10 @@ class Tag:
         if self.kind in LEAVES:
             return self.leaf(self.kind)
         head = [string("*"), string("set")] if self.kind == "set" else [string("l")]
-        made = group(*head, *[self.leaf(self.of, number) for number in range(self.members)])
+        nested = group(*head, *[self.leaf(self.of, number) for number in range(self.members)])
         for _ in range(self.depth - 1):
-            made = group(*head, made)
-        return made
+            nested = group(*head, nested)
+        return nested
 
 
 @dataclass(frozen=True)
@@ -107,10 +107,9 @@ class Recipe:
 
     def list_text(self) -> bytes:
         """The access list."""
-        its = self.entries
-        subject = named(its.names)
-        one = group(string("entry"), subject, group(string("propagate")), group(string("tag"), its.tag.text()))
-        return group(string("acl"), *[one] * its.count)
+        entries = self.entries
+        one = group(string("entry"), subject_of(entries.names), group(string("propagate")), group(string("tag"), entries.tag.text()))
+        return group(string("acl"), *[one] * entries.count)
 
     def certificates(self) -> Iterator[bytes]:
         """The certificates, in order. Each continues from the subject of the one before, or of the entries."""
@@ -118,17 +117,17 @@ class Recipe:
         names = self.entries.names
         for link in self.links:
             for _ in range(link.repeats):
-                subject = named(link.names)
+                subject = subject_of(link.names)
                 is_right = names == 0
                 names = link.names + max(0, names - 1)
                 if is_right:
                     parts = [group(string("issuer"), OWNER), group(string("subject"), subject), group(string("propagate")),
                              group(string("tag"), link.tag.text())]
-                    made = group(string("cert"), *parts)
+                    certificate = group(string("cert"), *parts)
                 else:
-                    made = definition(name(OWNER, "n"), subject)
-                comment = [group(string("comment"), *[b"()"] * link.comment)] if link.comment else []
-                yield made[:-1] + b"".join(comment) + b")"
+                    certificate = definition(name(OWNER, "n"), subject)
+                comment = group(string("comment"), *[b"()"] * link.comment) if link.comment else b""
+                yield certificate[:-1] + comment + b")"
 
     def parts(self) -> list[bytes]:
         """The list, the sequence, the key, the request and the moment."""
@@ -152,19 +151,19 @@ class Recipe:
 
     def with_list(self, number: int) -> "Recipe":
         """The recipe with this as the growing number of its entries, which `entries.grows` names."""
-        its, what = self.entries, self.entries.grows
-        if what in ("count", "names"):
-            return replace(self, entries=replace(its, **{what: number}))
-        return replace(self, entries=replace(its, tag=replace(its.tag, **{what: number})))
+        entries, field = self.entries, self.entries.grows
+        if field in ("count", "names"):
+            return replace(self, entries=replace(entries, **{field: number}))
+        return replace(self, entries=replace(entries, tag=replace(entries.tag, **{field: number})))
 
     def with_links(self, number: int) -> "Recipe":
         """The recipe with this as the growing number of its certificates, or the recipe itself if none grows."""
         if not self.links or not self.grows:
             return self
-        at, what = self.grown % len(self.links), self.grows
+        at, field = self.grown % len(self.links), self.grows
         link = self.links[at]
-        is_own = what in ("repeats", "names", "comment")
-        grown = replace(link, **{what: number}) if is_own else replace(link, tag=replace(link.tag, **{what: number}))
+        is_own = field in ("repeats", "names", "comment")
+        grown = replace(link, **{field: number}) if is_own else replace(link, tag=replace(link.tag, **{field: number}))
         return replace(self, links=(*self.links[:at], grown, *self.links[at + 1:]))
 
     def is_read(self, certificates: int) -> bool:
@@ -191,21 +190,21 @@ def fitted(recipe: Recipe, listed: int, asked: int, certificates: int, entries: 
     `asked` octets and `certificates` certificates. None if even the number 1 makes more, or tags of too many nodes or too deep ones."""
     def asks(number: int) -> bool:
         """Whether the question is read and small enough with this as its growing number."""
-        made = recipe.with_links(number)
-        return made.is_read(certificates) and sum(map(len, made.parts()[1:])) <= asked
+        larger = recipe.with_links(number)
+        return larger.is_read(certificates) and sum(map(len, larger.parts()[1:])) <= asked
 
     number = greatest(asks) if recipe.links and recipe.grows else int(asks(1))
-    made = recipe.with_links(number)
     if not number:
         return None
+    with_question = recipe.with_links(number)
 
     def lists(number: int) -> bool:
         """Whether the list is read and small enough with this as the growing number of its entries."""
-        larger = made.with_list(number)
+        larger = with_question.with_list(number)
         return larger.is_read(certificates) and larger.entries.count <= entries and len(larger.list_text()) <= listed
 
     number = greatest(lists)
-    return made.with_list(number) if number else None
+    return with_question.with_list(number) if number else None
 
 
 @dataclass(frozen=True)
@@ -251,7 +250,7 @@ def near(chance: random.Random, number: int, most: int) -> int:
 
 
 def changed_tag(chance: random.Random, tag: Tag) -> Tag:
-    """A tag of which one part is another."""
+    """A tag of which one part is changed by chance."""
     what = chance.choice(("kind", "kind", "members", "octets", "depth", "of", "are_equal", "lists"))
     others = {"kind": lambda: chance.choice(KINDS), "members": lambda: near(chance, tag.members, 999),
               "octets": lambda: near(chance, tag.octets, 30_000), "depth": lambda: near(chance, tag.depth, MOST_DEPTH),
@@ -260,7 +259,7 @@ def changed_tag(chance: random.Random, tag: Tag) -> Tag:
 
 
 def changed_link(chance: random.Random, link: Link) -> Link:
-    """A certificate of which one part is another."""
+    """A certificate of which one part is changed by chance."""
     what = chance.choice(("tag", "tag", "tag", "repeats", "names", "comment"))
     if what == "tag":
         return replace(link, tag=changed_tag(chance, link.tag))
@@ -272,11 +271,11 @@ def changed_link(chance: random.Random, link: Link) -> Link:
 
 def changed(chance: random.Random, recipe: Recipe) -> Recipe:
     """The recipe with one part changed by chance: its entries, a link, which number grows, or who asks for what. It gets at most four links."""
-    its, links, what = recipe.entries, recipe.links, chance.choice(("entries", "entries", "link", "link", "links", "grows", "request", "by"))
+    entries, links, what = recipe.entries, recipe.links, chance.choice(("entries", "entries", "link", "link", "links", "grows", "request", "by"))
     if what == "entries":
-        made = chance.choice((replace(its, tag=changed_tag(chance, its.tag)), replace(its, names=chance.choice((0, 0, 1, 2, 50))),
-                              replace(its, grows=chance.choice(("count", "octets", "names")))))
-        return replace(recipe, entries=made)
+        changes = (replace(entries, tag=changed_tag(chance, entries.tag)), replace(entries, names=chance.choice((0, 0, 1, 2, 50))),
+                   replace(entries, grows=chance.choice(("count", "octets", "names"))))
+        return replace(recipe, entries=chance.choice(changes))
     if what == "link" and links:
         at = chance.randrange(len(links))
         return replace(recipe, links=(*links[:at], changed_link(chance, links[at]), *links[at + 1:]))
@@ -293,7 +292,7 @@ def changed(chance: random.Random, recipe: Recipe) -> Recipe:
 
 
 def changed_form(chance: random.Random, form: Form) -> Form:
-    """A form of which one part is another."""
+    """A form of which one part is changed by chance."""
     what = chance.choice(("kind", "count", "octets", "depth", "is_braced"))
     others = {"kind": lambda: chance.choice(FORMS), "count": lambda: near(chance, form.count, 100_000),
               "octets": lambda: near(chance, form.octets, 100_000), "depth": lambda: near(chance, form.depth, 60),

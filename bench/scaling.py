@@ -33,8 +33,8 @@ POLL = 0.25
 SEED = 1
 
 
-def drawn(count, skew, chance):
-    """The rank of a key by Zipf's law, from 1, for a `chance` from 0 to 1: the inverse of the integral of its density."""
+def rank_of(count, skew, chance):
+    """The rank of one of `count` keys by Zipf's law, from 1, for a `chance` from 0 to 1: the inverse of the integral of its density."""
     if skew == 1:
         return int(math.exp(chance * math.log(count)))
     return int(((count ** (1 - skew) - 1) * chance + 1) ** (1 / (1 - skew)))
@@ -66,7 +66,7 @@ def hits_of(count, skew, kept):
     return sum(chance * number * -math.expm1(-chance * low) for chance, number in spread) / weight
 
 
-class Kept:
+class Cache:
     """A cache of at most so many keys."""
 
     def __init__(self, most):
@@ -82,37 +82,38 @@ class Kept:
         return is_there
 
 
-def simulated_hits(chosen, count, kept, requests):
-    """The share of the second half of so many requests that a cache of `kept` of `count` keys answers. `chosen` is the source of chance."""
-    cache, found = Kept(kept), 0
+def simulated_hits(chance, count, kept, requests):
+    """The share of the second half of so many requests that a cache of `kept` of `count` keys answers. `chance` is a `random.Random`."""
+    cache, hits = Cache(kept), 0
     for turn in range(requests):
-        is_there = cache.has(drawn(count, SKEW, chosen.random()))
-        found += is_there and turn >= requests // 2
-    return found / (requests - requests // 2)
+        is_there = cache.has(rank_of(count, SKEW, chance.random()))
+        hits += is_there and turn >= requests // 2
+    return hits / (requests - requests // 2)
 
 
 def machines(rate, hits):
-    """The daemons and the replicas that so many decisions a second need, and their misses a second."""
+    """The daemons and the replicas that so many decisions a second need, and their misses a second. `hits` is the share of decisions by kept rows."""
     misses = rate * (1 - hits)
     daemon = rate * (HTTP + hits * HIT + (1 - hits) * MISS)
     return math.ceil(daemon / (CORES * BUSY)), max(LEAST, math.ceil(misses * ROWS / (CORES * BUSY))), misses
 
 
-def last_poll(chosen, daemons, replicas):
-    """The seconds after the commit of a removal at which the last daemon has read it. `chosen` is the source of chance."""
-    delays = [DELAY * math.exp(chosen.gauss(0, DELAY_SPREAD)) for _ in range(replicas)]
-    return max(delays[place % replicas] + chosen.random() * POLL + ROWS for place in range(daemons))
+def last_poll(chance, daemons, replicas):
+    """The seconds after the commit of a removal at which the last daemon has read it. `chance` is a `random.Random`."""
+    delays = [DELAY * math.exp(chance.gauss(0, DELAY_SPREAD)) for _ in range(replicas)]
+    return max(delays[place % replicas] + chance.random() * POLL + ROWS for place in range(daemons))
 
 
-def after_loss(chosen, count, kept, daemons):
+def after_loss(chance, count, kept, daemons):
     """The share of hits before a third of the daemons is lost, and a list of those in ten parts of the requests after it. Each of `count` keys has
-    its daemon, whose cache keeps at most `kept`. `chosen` is the source of chance."""
-    caches = [Kept(kept) for _ in range(daemons)]
+    its daemon, whose cache keeps at most `kept`. `chance` is a `random.Random`."""
+    caches = [Cache(kept) for _ in range(daemons)]
     lost = daemons // 3
 
     def asks(is_whole):
         """Whether a request by chance finds its key kept. `is_whole`: no daemon is lost."""
-        key = drawn(count, SKEW, chosen.random())
+        key = rank_of(count, SKEW, chance.random())
+        # (the numbers 1 and 2 give each key two daemons that do not depend on each other)
         place = hash((key, 1)) % daemons
         if not is_whole and place < lost:
             place = lost + hash((key, 2)) % (daemons - lost)
@@ -130,7 +131,8 @@ def print_row(how, what, value):
 
 
 def main():
-    chosen = random.Random(SEED)
+    """Computes and prints all numbers."""
+    chance = random.Random(SEED)
     print_row("measured", "daemon, HTTP and log of a request; decision kept, decision read",
               f"{HTTP * 1e6:.0f}, {HIT * 1e6:.0f}, {MISS * 1e6:.0f} µs")
     print_row("measured", "PostgreSQL, processor time of the rows of a decision", f"{ROWS * 1e6:.0f} µs")
@@ -139,7 +141,7 @@ def main():
     print_row("assumed", "entries, decisions a second, Zipf's exponent", f"{ENTRIES:,}, {RATE:,}, {SKEW}")
     print_row("assumed", "cores of a machine, share in use, cache of a daemon, least replicas", f"{CORES}, {BUSY}, {CACHE >> 30} GiB, {LEAST}")
     print_row("assumed", "median delay of a replica, its log-normal spread", f"{DELAY * 1e3:.0f} ms, {DELAY_SPREAD}")
-    approximate, simulated = hits_of(10 ** 6, SKEW, 10 ** 4), simulated_hits(chosen, 10 ** 6, 10 ** 4, 2_000_000)
+    approximate, simulated = hits_of(10 ** 6, SKEW, 10 ** 4), simulated_hits(chance, 10 ** 6, 10 ** 4, 2_000_000)
     print_row("simulated", "hits of 10,000 of 1,000,000 keys: Che, request by request", f"{approximate:.3f}, {simulated:.3f}")
     alone = hits_of(ENTRIES, SKEW, CACHE // KEPT)
     daemons, replicas, misses = machines(RATE, alone)
@@ -150,12 +152,12 @@ def main():
     print_row("simulated", "each key has its daemon: hits, misses a second", f"{whole:.3f}, {misses:,.0f}")
     print_row("simulated", "  daemons, replicas", f"{daemons}, {replicas}")
     print_row("simulated", "octets of the store", f"{ENTRIES * OCTETS / 1e9:,.0f} GB")
-    times = sorted(last_poll(chosen, daemons, replicas) for _ in range(300))
+    times = sorted(last_poll(chance, daemons, replicas) for _ in range(300))
     print_row("simulated", "a removal counts everywhere: median, 99th percentile", f"{times[150] * 1e3:.0f}, {times[296] * 1e3:.0f} ms")
     changes = 2 * ENTRIES / (DAYS * 86_400)
     print_row("assumed", f"changes a second where an entry stays {DAYS} days", f"{changes:.0f}")
     print_row("measured", "changes a second of one primary, each a transaction", f"{ADDS}")
-    before, hits = after_loss(chosen, 10 ** 5, 10 ** 5 // 60, 12)
+    before, hits = after_loss(chance, 10 ** 5, 10 ** 5 // 60, 12)
     print_row("simulated", "hits before and after a third of the daemons is lost",
               f"{before:.3f}; " + ", ".join(f"{each:.3f}" for each in hits[:3]) + f" .. {hits[-1]:.3f}")
     left = daemons - daemons // 3

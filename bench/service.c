@@ -78,18 +78,18 @@ static struct spki_text whole_file(const char *path)
     return text;
 }
 
-/* The number on a line of /proc/self/status, in KiB. */
+/* The number on the line of /proc/self/status that begins with a name, in KiB. 0 if there is none. */
 static long memory(const char *name)
 {
     char line[256];
-    long found = 0;
+    long kibibytes = 0;
     FILE *file = fopen("/proc/self/status", "r");
     while (file && fgets(line, sizeof line, file))
         if (!strncmp(line, name, strlen(name)))
-            found = strtol(line + strlen(name), NULL, 10);
+            kibibytes = strtol(line + strlen(name), NULL, 10);
     if (file)
         fclose(file);
-    return found;
+    return kibibytes;
 }
 
 /* Gives free memory back to the system, so that it counts when it is taken again, and has the kernel count the most memory anew. */
@@ -115,7 +115,7 @@ static enum spki_status status_of_reduction(const spki_asked *asked, void *buffe
     return spki_asked_reduce(asked, buffer, room, needed).status;
 }
 
-/* The call for an answer of this kind. */
+/* The call for an answer of this kind. Ends the program with status 2 if there is none. */
 static wish *wish_of(const char *word)
 {
     static const struct { const char *word; wish *call; } wishes[] = {
@@ -149,9 +149,9 @@ static void ask_widest(const char *word, const char *path)
 static atomic_bool stop;
 static struct held of_threads[MOST_THREADS];
 /* How often each thread did its work, and waited. `apart` keeps the numbers of two threads out of the same line of a processor's cache. */
-static struct { long count, waits; char apart[112]; } made[MOST_THREADS];
+static struct { long count, waits; char apart[112]; } tallies[MOST_THREADS];
 
-/* How often the thread that calls has waited for something else than a processor. */
+/* How often the thread that calls this has waited for something else than a processor, as for a lock. */
 static long waits(void)
 {
     struct rusage used;
@@ -167,8 +167,8 @@ static void *decide_on(void *which)
     while (!atomic_load_explicit(&stop, memory_order_relaxed))
         if (list_signed(&of_threads[thread]) == SPKI_DONE && decided(&of_threads[thread]) == SPKI_YES)
             count++;
-    made[thread].count = count;
-    made[thread].waits = waits() - before;
+    tallies[thread].count = count;
+    tallies[thread].waits = waits() - before;
     return NULL;
 }
 
@@ -178,7 +178,7 @@ static void *count_on(void *which)
     long count = 0;
     while (!atomic_load_explicit(&stop, memory_order_relaxed))
         count++;
-    made[(size_t)which].count = count;
+    tallies[(size_t)which].count = count;
     return NULL;
 }
 
@@ -201,17 +201,17 @@ static struct rate rate_of(void *(*work)(void *), size_t threads)
     atomic_store(&stop, true);
     for (size_t i = 0; i < threads; i++) {
         pthread_join(ids[i], NULL);
-        total += made[i].count;
-        waited += made[i].waits;
+        total += tallies[i].count;
+        waited += tallies[i].waits;
     }
     return (struct rate){total / (now() - begun) * 1e6, waited * 1e3 / (total + 1)};
 }
 
-/* Sets `fastest` to `met` if threads did their work more often in a second there. */
-static void keep_fastest(struct rate *fastest, struct rate met)
+/* Sets `fastest` to another rate if threads did their work more often in a second there. */
+static void keep_fastest(struct rate *fastest, struct rate other)
 {
-    if (met.by_time > fastest->by_time)
-        *fastest = met;
+    if (other.by_time > fastest->by_time)
+        *fastest = other;
 }
 
 /* The way `threads`: prints the decisions a second of one thread and of many, how many times as far many count as one, and how often many wait. */

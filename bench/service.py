@@ -30,7 +30,7 @@ import time
 from chains import MOST_OCTETS, large_tags
 from check import group, key, string
 from counting import can_count, choose_counter, counted_allocations, counted_by_valgrind, counted_inside, counted_with_cache, of_one_call
-from macaroons import DECIDE_ONLY, MACAROON, OPEN_AND_DECIDE, built, measured, written_parts
+from macaroons import DECIDE_ONLY, MACAROON, OPEN_AND_DECIDE, build, measure, written_parts
 from shapes import by_keys, case, certificate, definition, digest, entry, keys_of, name, parts_of
 from linear import (LARGE_TAG, LARGE_TAG_AND_RANGE, LARGE_TAG_AND_SET, SHAPES, Shape, large_tag, largest_count, long_issuer,
                     narrowed_ranges, ranges_and_sets_of_two, wide_sets)
@@ -41,6 +41,7 @@ from shared import BENCH, LIBRARY, TOP, braced, canonical, read  # noqa: E402
 FLAGS = ["-std=c11", "-O2", "-Wall", "-Wextra", "-Wpedantic", "-Werror", "-pthread"]
 ENTRIES = 10_000
 THREADS, CORES = 8, 4
+# Of a time through Python: the rounds of which the least counts, and the calls of each.
 ROUNDS, CALLS = 40, 50
 # How often a time is taken, at least and at most, and the seconds of a pause.
 TURNS, MOST_TURNS, PAUSE = 3, 20, 10
@@ -91,7 +92,7 @@ class Driver:
         """The instructions of one call by a way of service.c (`ask`, `reopen` or `answer`) on a file."""
         return of_one_call(choose_counter(), [self.program, way, path], calls)
 
-    def built_opening(self):
+    def build_opening(self):
         """Builds opening.c, which counts memory, and returns the path of the program."""
         program = os.path.join(self.room, "opening")
         words = ["cc", *FLAGS, "-Wl,--wrap=malloc,--wrap=realloc,--wrap=free", "-I", os.path.join(TOP, "crates", "spki_c"), "-o", program]
@@ -159,11 +160,11 @@ def from_text(driver):
 def beside_macaroons(driver):
     """Yields (name of a limit, ratio): a decision by three certificates to the verification of a macaroon, of a question that is open already, and
     with the opening. Yields nothing if libmacaroons is not there."""
-    words = built(driver.room, driver.library)
+    words = build(driver.room, driver.library)
     if words is None:
         print("libmacaroons is not there (Debian: libmacaroons-dev): the decision beside a macaroon is left out")
         return
-    _, decide_only, verification, open_and_decide = measured(words)
+    _, decide_only, verification, open_and_decide = measure(words)
     print(f"three certificates through a guard {decide_only:.1f} µs, with the question opened {open_and_decide:.1f} µs, "
           f"a macaroon with three caveats {verification:.1f} µs")
     decide_only, open_and_decide, verification = (
@@ -185,7 +186,7 @@ def beside_digests(driver):
     yield "by the digests", whole / digests
 
 
-def built_in_rust(driver):
+def build_in_rust(driver):
     """Builds service.rs, and returns the path of the program."""
     crate = os.path.join(driver.room, "rust")
     os.makedirs(crate)
@@ -215,8 +216,8 @@ def through_rust(driver):
         print("cargo or valgrind is not there (Debian: cargo, valgrind): the decision through Rust is left out")
         return
     path = driver.question("three", case_with_three(1))
-    ways = [[driver.program, "ask", path], [built_in_rust(driver), path]]
-    calls, rust = (sum(of_one_call(counted_with_cache(kept), words) for kept in CACHES) / len(CACHES) for words in ways)
+    ways = [[driver.program, "ask", path], [build_in_rust(driver), path]]
+    calls, rust = (sum(of_one_call(counted_with_cache(blocks), words) for blocks in CACHES) / len(CACHES) for words in ways)
     few, many = (of_one_call(counted_allocations, words) for words in ways)
     print(f"signatures listed and a decision: in C {calls:,.0f} instructions and {few:.0f} blocks, through Rust {rust:,.0f} and {many:.0f}",
           flush=True)
@@ -246,7 +247,7 @@ def turns(is_kept_now):
 
 
 def time_through_python(driver, text):
-    """The least µs of a decision through Python."""
+    """The least µs of a decision through Python, with all signatures valid. `text` is a case whose question is granted."""
     os.environ["SPKI_LIBRARY"] = driver.library.removesuffix(".a") + ".so"
     sys.path.insert(1, os.path.join(TOP, "bindings", "python"))
     import spki
@@ -280,7 +281,7 @@ def question_of(text):
 
 
 def widest_of(shape, most_certificates=MOST_OCTETS):
-    """What the widest case of a shape is, in words, and the case: its list has at most 1 MiB, its question at most 64 KiB and so many
+    """What the widest case of a shape is, in words, and the case: its list has at most 1 MiB, and its question at most 64 KiB and `most_certificates`
     certificates."""
     entries = shape.entries(MOST_OCTETS, QUESTION_MEMBERS)
     certificates = min(most_certificates, largest_count(lambda count: question_of(shape.make(1, count, QUESTION_MEMBERS)), QUESTION_OCTETS))
@@ -309,13 +310,13 @@ def one_question(driver, what, text):
     path = driver.question("wide", text)
     listed, asked = len(parts_of(text)[0]), question_of(text)
     print(f"{what}: list of {listed:,} octets, question of {asked:,}")
-    met = {}
+    costs = {}
     for wish in ("decide", "explain", "reduce"):
         limit = MOST["a decision, ms" if wish == "decide" else "an explanation or a reduction, ms"]
         status, milliseconds, listing, mebibytes = one_answer(driver, wish, path, limit)
-        met[wish] = milliseconds, mebibytes
+        costs[wish] = milliseconds, mebibytes
         print(f"    {wish}: {ANSWERS[status]}, {milliseconds:.1f} ms, of which {listing:.1f} list the signatures, {mebibytes:.1f} MiB", flush=True)
-    return met
+    return costs
 
 
 def key_of_lists(entries, lists):
@@ -327,9 +328,9 @@ def key_of_lists(entries, lists):
 
 def only_entry(*parts):
     """A case of one entry, which has these further fields, each as nested lists of octets (`read` returns such). Its key asks."""
-    made = read(entry(keys_of(0)[0]))
-    made.extend(parts)
-    return case([canonical(made)], [], asks=keys_of(0)[0])
+    fields = read(entry(keys_of(0)[0]))
+    fields.extend(parts)
+    return case([canonical(fields)], [], asks=keys_of(0)[0])
 
 
 def entry_for_parts(count):
@@ -383,13 +384,13 @@ def wide_shapes():
 
 def by_default(driver):
     """Yields (name of a limit, the most milliseconds) of a decision of a guard without limits, which takes 16 certificates."""
-    limit, met = MOST["a decision by default, ms"], 0.0
+    limit, most = MOST["a decision by default, ms"], 0.0
     for shape, text in (widest_of(shape, USUAL_CERTIFICATES) for shape in wide_shapes()):
-        _, took, *_ = one_answer(driver, "decide", driver.question("usual", text), limit)
-        if took > met:
-            met = took
-            print(f"by default {shape}: {took:.1f} ms", flush=True)
-    yield "a decision by default, ms", met
+        _, milliseconds, *_ = one_answer(driver, "decide", driver.question("usual", text), limit)
+        if milliseconds > most:
+            most = milliseconds
+            print(f"by default {shape}: {milliseconds:.1f} ms", flush=True)
+    yield "a decision by default, ms", most
 
 
 def widest(driver):
@@ -403,19 +404,18 @@ def widest(driver):
               ("an entry for a name of 349,000 strings", entry_for_name(349_000)),
               ("an entry with a comment of 520,000 lists", only_entry([b"comment", *[[]] * 520_000]))]
     texts += map(lists_of_strings, (20, 100, 600))
-    met = [one_question(driver, what, text) for what, text in texts]
-    yield "a decision, ms", max(each["decide"][0] for each in met)
-    yield "a decision, MiB", max(each["decide"][1] for each in met)
+    costs = [one_question(driver, what, text) for what, text in texts]
     for place, unit in enumerate(("ms", "MiB")):
-        yield f"an explanation or a reduction, {unit}", max(each[wish][place] for each in met for wish in ("explain", "reduce"))
+        yield f"a decision, {unit}", max(each["decide"][place] for each in costs)
+        yield f"an explanation or a reduction, {unit}", max(each[wish][place] for each in costs for wish in ("explain", "reduce"))
 
 
 def in_transport_form(count):
     """The parts of a question that shows a chain of so many certificates. Its sequence is in transport form, so that it is decoded first."""
-    return chained(count, lambda octets: braced(octets))
+    return in_a_chain(count, braced)
 
 
-def chained(count, form=bytes):
+def in_a_chain(count, form=bytes):
     """The parts of a question that shows a chain of so many certificates. `form` makes the sequence's text of its canonical form."""
     acl, sequence, asker, request, moment = parts_of(by_keys(count))
     return acl, form(sequence), asker, request, moment
@@ -424,16 +424,16 @@ def chained(count, form=bytes):
 def small_lists(count):
     """The parts of a question whose certificate has a comment of so many empty lists: nothing has fewer octets for each value."""
     keys = keys_of(1)
-    made = read(certificate(*keys))
-    made.append([b"comment", *[[]] * count])
-    return parts_of(case([entry(keys[0])], [(canonical(made), keys[0])], asks=keys[1]))
+    fields = read(certificate(*keys))
+    fields.append([b"comment", *[[]] * count])
+    return parts_of(case([entry(keys[0])], [(canonical(fields), keys[0])], asks=keys[1]))
 
 
 def long_subject(count):
     """The parts of a question whose certificate defines a name as a name of so many strings."""
     keys = keys_of(1)
-    made = definition(name(keys[0], "n"), name(keys[1], *["n"] * count))
-    return parts_of(case([entry(name(keys[0], "n"))], [(made, keys[0])], asks=keys[1]))
+    long = definition(name(keys[0], "n"), name(keys[1], *["n"] * count))
+    return parts_of(case([entry(name(keys[0], "n"))], [(long, keys[0])], asks=keys[1]))
 
 
 def many_words(count):
@@ -470,7 +470,7 @@ def of_shape(make):
     return lambda count: parts_of(make(1, count, QUESTION_MEMBERS))
 
 
-WIDE = {"{:,} certificates in a chain": chained, "the same of {:,} in transport form": in_transport_form,
+WIDE = {"{:,} certificates in a chain": in_a_chain, "the same of {:,} in transport form": in_transport_form,
         "{:,} certificates for sets of 100 nodes": of_shape(wide_sets),
         "{:,} times a certificate for the hash of one long key": of_shape(long_issuer), "{:,} for the hashes of two": two_long_keys,
         "a subject of {:,} names": long_subject,
@@ -478,59 +478,60 @@ WIDE = {"{:,} certificates in a chain": chained, "the same of {:,} in transport 
         "a request of {:,} times 60 lists in one another": lists_of_one}
 
 
-def opening(driver, program, what, make):
+def measure_opening(driver, program, what, make):
     """Opens the largest question up to 1 MiB that `make` makes by a count, and prints it as `what`. Returns the octets of memory that are kept and
     the most that are taken meanwhile, both divided by those of the question, and the ms."""
     count = largest_count(lambda count: sum(map(len, make(count)[1:])), MOST_OCTETS)
     path = driver.file("opened", b"".join(b"%d\n%s" % (len(part), part) for part in make(count)))
-    octets, taken, kept, took = map(float, subprocess.run([program, path], stdout=subprocess.PIPE, check=True).stdout.split())
-    print(f"{what.format(count)}: question of {octets:,.0f} octets, {taken:,.0f} octets of memory at most, {kept:,.0f} kept, {took:.1f} ms",
+    octets, taken, kept, milliseconds = map(float, subprocess.run([program, path], stdout=subprocess.PIPE, check=True).stdout.split())
+    print(f"{what.format(count)}: question of {octets:,.0f} octets, {taken:,.0f} octets of memory at most, {kept:,.0f} kept, {milliseconds:.1f} ms",
           flush=True)
-    return kept / octets, taken / octets, took
+    return kept / octets, taken / octets, milliseconds
 
 
 def opening_of_widest(driver):
     """Yields (name of a limit, value): the most memory that is kept of a question of 1 MiB, and that is taken while it is opened, both divided by its
     octets, and the most time."""
-    program = driver.built_opening()
-    held, met, times = zip(*[opening(driver, program, what, make) for what, make in WIDE.items()])
-    sets = opening(driver, program, "{:,} certificates for sets of 1,000 empty strings", empty_strings)
-    yield "memory kept of a question by its octets", max(*held, sets[0])
-    yield "memory while it is opened", max(met)
-    yield "memory while sets of empty strings are opened", sets[1]
-    yield "opening a question of 1 MiB, ms", max(*times, sets[2])
+    program = driver.build_opening()
+    kept, taken, times = zip(*[measure_opening(driver, program, what, make) for what, make in WIDE.items()])
+    kept_of_sets, taken_by_sets, time_of_sets = measure_opening(driver, program, "{:,} certificates for sets of 1,000 empty strings", empty_strings)
+    yield "memory kept of a question by its octets", max(*kept, kept_of_sets)
+    yield "memory while it is opened", max(taken)
+    yield "memory while sets of empty strings are opened", taken_by_sets
+    yield "opening a question of 1 MiB, ms", max(*times, time_of_sets)
 
 
 def threads(driver):
     """Yields (name of a limit, value): the ratio of the decisions of 8 threads to those of one, as on four free cores, and how often a thread waits.
     Each is the best of some turns, since other programs that run in one of them make the threads wait for a processor."""
-    met = []
+    results = []
     for _ in range(TURNS):
         one, many, counting, waits = driver.run("threads", THREADS, driver.question("three", case_with_three(1)))
         print(f"one thread {one:,.0f} decisions a second, {THREADS} threads {many:,.0f}; "
               f"{THREADS} threads count {counting:.2f} times as far as one")
-        met.append((CORES * many / one / counting, waits))
-    most, waits = (each(values) for each, values in zip((max, min), zip(*met)))
-    yield "threads", most
-    yield "waits of 1,000 decisions", waits
+        results.append((CORES * many / one / counting, waits))
+    ratios, waits_of_turns = zip(*results)
+    yield "threads", max(ratios)
+    yield "waits of 1,000 decisions", min(waits_of_turns)
 
 
-def print_and_check(what, met):
-    """Prints a measured value beside its limit. Returns whether the limit is kept."""
+def print_and_check(what, value):
+    """Prints a measured value beside its limit. Returns whether it is within the limit. `what` is the name of a limit in MOST or LEAST."""
     least, most = LEAST.get(what, 0), MOST.get(what, float("inf"))
-    kept = least <= met <= most
+    is_within = least <= value <= most
     limit = f"at least {least:,.2f}" if what in LEAST else f"at most {most:,.2f}"
-    print(f"{what}: {met:,.2f} ({limit}){'' if kept else ': LIMIT PASSED'}")
-    return kept
+    print(f"{what}: {value:,.2f} ({limit}){'' if is_within else ': LIMIT PASSED'}")
+    return is_within
 
 
 def main():
+    """Measures all. Ends with status 1 if a limit is passed."""
     library = os.path.abspath(sys.argv[1] if len(sys.argv) > 1 else LIBRARY)
     with tempfile.TemporaryDirectory() as room:
         driver = Driver(room, library)
         parts = (by_instructions, through_python, opening_of_widest, by_default, widest, threads)
-        met = [each for part in parts for each in part(driver)]
-    if not all([print_and_check(*each) for each in met]):
+        values = [pair for part in parts for pair in part(driver)]
+    if not all([print_and_check(*pair) for pair in values]):
         sys.exit(1)
 
 

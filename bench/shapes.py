@@ -81,7 +81,7 @@ def a_set(member, members=999):
 
 
 def parts_of(text):
-    """The list, the sequence, the key, the request and the moment of a case, each in canonical form."""
-    # (some lists here are longer than a text may be)
+    """The list, the sequence, the key, the request and the moment of a case, each in canonical form. A case is given in canonical form."""
+    # (some lists here are longer than a text may be: so they are read by the parser of `spki-cert` and not by the model)
     _, acl, _, sequence, asker, request, moment, *_ = Parser(text, True).value(0, "a value").value
     return [canonical(it) for it in (acl, sequence, asker[1], request[1], moment[1])]

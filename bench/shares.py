@@ -25,6 +25,7 @@ class Share:
         return self
 
     def __exit__(self, *fault):
+        # (the kernel may still count a process that has ended)
         for _ in range(100):
             try:
                 return os.rmdir(self.path)
@@ -43,7 +44,7 @@ class Share:
 
 
 def fault():
-    """Why no shares can be made here, None if they can."""
+    """Why no shares can be made here, in words; None if they can."""
     try:
         with Share(0.5):
             return None

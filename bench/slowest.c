@@ -10,6 +10,7 @@
 #include "taken.h"
 #include <time.h>
 
+/* The most runs, and the ms of all runs after which no further one begins. */
 enum { RUNS = 5 };
 static const double ENOUGH = 300;
 
@@ -45,18 +46,18 @@ static enum spki_status time_call(struct held *held, const char *call, const str
     size_t needed;
     spki_guard *guard = NULL;
     enum spki_status status = SPKI_DONE;
-    bool is_read = is(call, "explain") || is(call, "reduce");
-    if (is_read)
+    bool is_opened_before = is(call, "explain") || is(call, "reduce");
+    if (is_opened_before)
         status = ask(held, every);
     begin_counting();
     double begun = used();
     if (is(call, "list"))
         status = spki_guard_open(held->list.octets, held->list.length, SPKI_STRICT, limits, &guard, held->buffer, held->room, &needed);
-    else if (!is_read)
+    else if (!is_opened_before)
         status = ask(held, every);
     if (status == SPKI_DONE && is(call, "decide"))
         status = spki_asked_decide(held->asked, held->buffer, held->room, &needed).status;
-    else if (status == SPKI_DONE && is_read)
+    else if (status == SPKI_DONE && is_opened_before)
         status = (is(call, "explain") ? spki_asked_explain : spki_asked_reduce)(held->asked, held->buffer, held->room, &needed).status;
     *took = used() - begun;
     spki_asked_close(held->asked);
@@ -72,9 +73,12 @@ int main(int count, char **words)
     static const struct spki_limits usual = SPKI_USUAL_LIMITS;
     const struct spki_limits *limits = is(words[2], "highest") ? &highest : &usual;
     struct held held = held_in(words[4], limits);
+    /* The buffer is as large as an answer may be. */
     free(held.buffer);
     held.room = limits->answer ? limits->answer : SPKI_USUAL_ANSWER;
     held.buffer = malloc(held.room);
+    if (!held.buffer)
+        return 2;
     enum spki_status status = SPKI_DONE;
     double least = 0, all = 0, took;
     for (int run = 0; run < RUNS && all < ENOUGH; run++) {

@@ -170,10 +170,10 @@ class Measure:
 
     @cached_property
     def driver(self) -> str:
-        """Builds slowest.c once, and returns the path of the program."""
-        made, folder = os.path.join(self.room, "slowest"), os.path.join(TOP, "crates", "spki_c")
-        subprocess.run(["cc", *FLAGS, "-I", folder, "-o", made, os.path.join(BENCH, "slowest.c"), self.library], check=True)
-        return made
+        """The path of the program of slowest.c, which is built once. Raises CalledProcessError if it does not compile."""
+        program, folder = os.path.join(self.room, "slowest"), os.path.join(TOP, "crates", "spki_c")
+        subprocess.run(["cc", *FLAGS, "-I", folder, "-o", program, os.path.join(BENCH, "slowest.c"), self.library], check=True)
+        return program
 
     def write(self, octets: bytes) -> None:
         """Writes the file of the call."""
@@ -189,14 +189,16 @@ class Measure:
         return done
 
     def guard(self, call: Call, recipe: Recipe, seconds: float) -> Cost:
-        """What a guard's call takes on the parts of a recipe."""
+        """What a guard's call takes on the parts of a recipe. Raises ChildProcessError if the driver fails, as for a list that is refused."""
         self.write(b"".join(b"%d\n%s" % (len(part), part) for part in recipe.parts()))
         done = self.run([self.driver, call.word, call.limits, call.marks, self.file], seconds, stdout=subprocess.PIPE)
+        if done.returncode:
+            raise ChildProcessError(f"slowest {call.word} ended with status {done.returncode} on {recipe}")
         status, milliseconds, octets = done.stdout.split()
         return Cost(int(status), float(milliseconds) / 1000, int(octets) / MIB)
 
     def command(self, word: str, text: bytes, seconds: float) -> Cost:
-        """What a command of the program, named by a word, takes on a text. Its memory is measured apart."""
+        """What a command of the program, named by a word, takes on a text. Its memory is measured apart: it is 0 here."""
         self.write(text)
         before = resource.getrusage(resource.RUSAGE_CHILDREN)
         with open(self.file, "rb") as given:
@@ -211,15 +213,16 @@ class Measure:
         return int(counting.stdout)
 
     def cost_of(self, call: Call, recipe: Any, seconds: float = MOST_SECONDS, is_whole: bool = False) -> Cost:
-        """What a call takes on the text of a recipe: infinite time if the run was ended. `is_whole`: also the memory and output of a command."""
+        """What a call takes on the text of a recipe: infinite time if it takes more than so many seconds. `is_whole`: also the memory and the output
+        of a command. The recipe is a Form for a conversion."""
         try:
             if call.limits:
                 return self.guard(call, recipe, seconds)
             text = recipe.text() if call.word in FORMED else recipe.tags() if call.word == "intersect" else recipe.case()
-            took = self.command(call.word, text, seconds)
+            cost = self.command(call.word, text, seconds)
             if not is_whole:
-                return took
-            return took._replace(mebibytes=used(self.program, call.word, text)[1], written=self.written(call.word))
+                return cost
+            return cost._replace(mebibytes=used(self.program, call.word, text)[1], written=self.written(call.word))
         except TooSlow:
             return Cost(-1, float("inf"), 0.0)
 
@@ -238,8 +241,10 @@ def sized(call: Call, recipe: Any, listed: int, asked: int, entries: int = MANY)
     listed, asked = min(listed, call.listed), min(asked, call.asked)
     if call.word in FORMED:
         return formed(recipe, listed)
-    made = fitted(recipe, listed, asked, call.certificates, entries)
-    return made if made is None or call.limits or len(made.tags() if call.word == "intersect" else made.case()) <= MIB else None
+    larger = fitted(recipe, listed, asked, call.certificates, entries)
+    # (a command's text has more than the list and the question, and may have 1 MiB)
+    is_small = larger is None or call.limits or len(larger.tags() if call.word == "intersect" else larger.case()) <= MIB
+    return larger if is_small else None
 
 
 def found_size(call: Call, recipe: Any, listed: int, asked: int) -> Any:
@@ -253,29 +258,29 @@ def searched(measure: Measure, call: Call, first: Any, chance: random.Random, st
     at, most = first, 0.0
     for step in range(steps + 1):
         # (mostly one change, and sometimes two that help only together)
-        tried = at if step == 0 else change(chance, at)
-        tried = change(chance, tried) if step and chance.random() < 0.3 else tried
-        made = found_size(call, tried, SEARCHED_LIST, SEARCHED_QUESTION if call.word != "question" else SEARCHED_LIST)
-        if made is None:
+        candidate = at if step == 0 else change(chance, at)
+        candidate = change(chance, candidate) if step and chance.random() < 0.3 else candidate
+        recipe = found_size(call, candidate, SEARCHED_LIST, SEARCHED_QUESTION if call.word != "question" else SEARCHED_LIST)
+        if recipe is None:
             continue
         # (a short text takes what does not depend on its octets)
-        by_octet = measure.cost_of(call, made).seconds / max(size_of(call, made), SEARCHED_QUESTION)
+        by_octet = measure.cost_of(call, recipe).seconds / max(size_of(call, recipe), SEARCHED_QUESTION)
         if by_octet > most:
-            at, most = tried, by_octet
-            yield by_octet, tried
+            at, most = candidate, by_octet
+            yield by_octet, candidate
 
 
 def recipes_of(measure: Measure, call: Call, steps: int, seed: int) -> Iterator[tuple[str, Any]]:
     """The recipes on which a call is measured in full, each with its name: the named ones, and the slowest that are found. A recipe is None where
     no text of it is small enough."""
-    named = [each for each in NAMED if call.what.startswith(each.words)]
-    for each in named:
-        yield each.what, sized(call, each.recipe, each.listed, each.asked)
-    chance, found = random.Random(f"{seed} {call.what}"), list[tuple[float, Any]]()
-    begins: list[Any] = [Form()] * STARTS if call.word in FORMED else [each.recipe for each in named] + [Recipe()] * STARTS
+    of_call = [named for named in NAMED if call.what.startswith(named.words)]
+    for named in of_call:
+        yield named.what, sized(call, named.recipe, named.listed, named.asked)
+    chance, slowest = random.Random(f"{seed} {call.what}"), list[tuple[float, Any]]()
+    begins: list[Any] = [Form()] * STARTS if call.word in FORMED else [named.recipe for named in of_call] + [Recipe()] * STARTS
     for first in begins if steps else []:
-        found += [*searched(measure, call, first, chance, steps // len(begins))][-1:]
-    for _, recipe in sorted(found, key=lambda it: -it[0])[:IN_FULL]:
+        slowest += [*searched(measure, call, first, chance, steps // len(begins))][-1:]
+    for _, recipe in sorted(slowest, key=lambda it: -it[0])[:IN_FULL]:
         yield "found", found_size(call, recipe, MIB, MIB)
 
 
@@ -320,18 +325,21 @@ def faults_of(measure: Measure, call: Call, steps: int, seed: int) -> Iterator[s
 
 
 def main() -> None:
-    asked = argparse.ArgumentParser(description="Searches for the slowest texts of each call.")
-    asked.add_argument("--named", action="store_true", help="measure the named texts alone")
-    asked.add_argument("--steps", type=int, default=STEPS, help="of the search for one call")
-    asked.add_argument("--seed", type=int, default=SEED)
-    asked.add_argument("--program", default=PROGRAM)
-    asked.add_argument("--library", default=LIBRARY)
-    asked.add_argument("calls", nargs="*", metavar="CALL", help="how the names of the calls begin that are measured")
-    given = asked.parse_args()
+    """Measures all calls that are asked for. Ends with status 1 if a limit is passed, 2 if no call has such a name."""
+    parser = argparse.ArgumentParser(description="Searches for the slowest texts of each call.")
+    parser.add_argument("--named", action="store_true", help="measure the named texts alone")
+    parser.add_argument("--steps", type=int, default=STEPS, help="of the search for one call")
+    parser.add_argument("--seed", type=int, default=SEED)
+    parser.add_argument("--program", default=PROGRAM)
+    parser.add_argument("--library", default=LIBRARY)
+    parser.add_argument("calls", nargs="*", metavar="CALL", help="how the names of the calls begin that are measured")
+    given = parser.parse_args()
+    chosen = [call for call in CALLS if call.what.startswith(tuple(given.calls or [""]))]
+    if not chosen:
+        parser.error(f"no call begins so; they are: {', '.join(call.what for call in CALLS)}")
     resource.setrlimit(resource.RLIMIT_AS, (MOST_MEMORY, MOST_MEMORY))
     with tempfile.TemporaryDirectory() as room:
         measure = Measure(room, given.program, given.library)
-        chosen = [call for call in CALLS if call.what.startswith(tuple(given.calls or [""]))]
         over = [fault for call in chosen for fault in faults_of(measure, call, 0 if given.named else given.steps, given.seed)]
     print("over the limits:", *over or ["none"], sep="\n")
     if over:

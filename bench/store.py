@@ -43,8 +43,11 @@ import shares  # noqa: E402
 databases = servers()
 
 SCHEMA = "spki"
+# How many names each group has.
 GROUP = 50
+# How many times the medians may grow from the smallest number of entries to the largest: of misses, and when cold.
 MOST_GROWTH, MOST_COLD = 1.5, 3.0
+# How many daemons are asked, how often a second each (0: as often as it answers), and for how many seconds.
 DAEMONS, RATES, SECONDS = (1, 2, 4), (0, 10_000), 8
 # Of daemons with a share of a processor: how much of it they use, how much of the machine all that is measured uses, and how much more the last of
 # DAEMONS answer than one.
@@ -71,12 +74,12 @@ def entries(count):
 
 def arguments():
     """What the command line asks for."""
-    words = argparse.ArgumentParser(description=__doc__, formatter_class=argparse.RawDescriptionHelpFormatter)
-    words.add_argument("--entries", type=int, nargs="+", default=[1_000, 1_000_000])
-    words.add_argument("--share", type=float, default=0.0, help="measure daemons that have so much of a processor each")
-    words.add_argument("--times", type=int, default=3, help="how often daemons with a share are measured")
-    words.add_argument("library", nargs="?", default=LIBRARY)
-    return words.parse_args()
+    parser = argparse.ArgumentParser(description=__doc__, formatter_class=argparse.RawDescriptionHelpFormatter)
+    parser.add_argument("--entries", type=int, nargs="+", default=[1_000, 1_000_000])
+    parser.add_argument("--share", type=float, default=0.0, help="measure daemons that have so much of a processor each")
+    parser.add_argument("--times", type=int, default=3, help="how often daemons with a share are measured")
+    parser.add_argument("library", nargs="?", default=LIBRARY)
+    return parser.parse_args()
 
 
 def restart_cold(server):
@@ -122,37 +125,40 @@ def heartbeat(address, *before):
 
 def start_daemon(program, server, room, number, **more):
     """Starts a daemon with the store of a server, and waits for the first line that it writes, by which it listens. Returns its process and the path
-    of its socket. `number` distinguishes its files in the folder `room`, and `more` are further settings of its store."""
+    of its socket. `number` distinguishes its files in the folder `room`, and `more` are further settings of its store. Ends the script if the daemon
+    ends before that line."""
     rules = [{"prefix": "/", "methods": {"GET": "read"}, "request": ["files", "{method}", "{path}"]}]
     path, config = os.path.join(room, f"daemon-{number}"), os.path.join(room, f"config-{number}")
     with open(config, "w", encoding="utf-8") as file:
         json.dump({"listen": f"unix:{path}", "socket_mode": "0600", "server": "nginx", "log": f"{path}.log", "requests": rules,
                    "list": {"postgres": {"host": server.folder, "database": "postgres", "user": "postgres", "schema": SCHEMA, **more}}}, file)
     process = subprocess.Popen([program, "-config", config], stdout=subprocess.DEVNULL, stderr=subprocess.PIPE)
-    process.stderr.readline()
+    if not process.stderr.readline():
+        sys.exit(f"{program} ended with status {process.wait()} and said nothing")
     return process, path
 
 
-def asked_by_people(server, library, count, program, number, rate, share=0.0):
+def ask_by_people(server, library, count, program, number, rate, share=0.0):
     """Has people ask `number` daemons with a store of `count` entries. Returns the line about what these answer, and the MiB of one and of
     PostgreSQL. `rate` is the number of questions to each in a second, 0 for as many as it answers, and `share` the part of a processor that each
     has, 0 for no limit."""
-    with added_entries_removed(server), contextlib.ExitStack() as running:
-        made, room = [], running.enter_context(tempfile.TemporaryDirectory())
-        for each in range(number):
+    with removing_added_entries(server), contextlib.ExitStack() as running:
+        daemons, sockets, room = [], [], running.enter_context(tempfile.TemporaryDirectory())
+        for place in range(number):
             group = running.enter_context(shares.Share(share)) if share else None
-            made.append(start_daemon(program, server, room, each))
-            running.enter_context(databases.killed_at_end(made[-1][0]))
+            process, socket = start_daemon(program, server, room, place)
+            running.enter_context(databases.killed_at_end(process))
+            daemons.append(process.pid)
+            sockets.append(socket)
             if group:
-                group.take(made[-1][0].pid)
-        found = figures(server, "served", count, library, SPKI_STORE_SOCKETS=",".join(path for _, path in made),
-                        SPKI_STORE_DAEMONS=",".join(str(process.pid) for process, _ in made), SPKI_STORE_RATE=str(rate),
-                        SPKI_STORE_SERVER=str(server.process.pid), SPKI_STORE_SECONDS=str(SECONDS))
-        return found["served"], resident(made[0][0].pid), sum(map(resident, processes_of(server.process.pid)))
+                group.take(process.pid)
+        lines = figures(server, "served", count, library, SPKI_STORE_SOCKETS=",".join(sockets), SPKI_STORE_DAEMONS=",".join(map(str, daemons)),
+                        SPKI_STORE_RATE=str(rate), SPKI_STORE_SERVER=str(server.process.pid), SPKI_STORE_SECONDS=str(SECONDS))
+        return lines["served"], resident(daemons[0]), sum(map(resident, processes_of(server.process.pid)))
 
 
 @contextlib.contextmanager
-def added_entries_removed(server):
+def removing_added_entries(server):
     """A context that removes the entries that are added within it."""
     from spki_store_tool.tables import Store
     with contextlib.closing(Store(server.address, SCHEMA)) as store:
@@ -167,42 +173,43 @@ def print_served(server, library, count):
         program = golang.build_daemon(library, os.path.join(room, "spki-authd"), *DRIVER)
         for number in DAEMONS:
             for rate in RATES:
-                text, daemon, database = asked_by_people(server, library, count, program, number, rate)
+                text, daemon, database = ask_by_people(server, library, count, program, number, rate)
                 print(f"{count:>10,} entries, {number} daemons, {f'{rate} a second each' if rate else 'at most'}: {text}, memory {daemon:.0f} and "
                       f"{database:.0f} MiB", flush=True)
 
 
 def faults_of_shares(server, library, count, share, times):
     """Prints what daemons answer of which each has a share of a processor. Returns a line for each limit that is passed."""
-    wrong = []
+    faults = []
     with tempfile.TemporaryDirectory() as room, heartbeat(server.address):
         program = golang.build_daemon(library, os.path.join(room, "spki-authd"), *DRIVER)
         for _ in range(times):
             rates = []
             for number in DAEMONS:
-                text, *_ = asked_by_people(server, library, count, program, number, 0, share)
+                text, *_ = ask_by_people(server, library, count, program, number, 0, share)
                 words = text.split()
-                found = {name: float(value) for name, value in zip(words[::2], words[1::2])}
-                used = {name: found[name] * found["second"] / 1e6 for name in ("daemon", "server", "clients")}
-                rates.append(found["second"])
+                values = {name: float(value) for name, value in zip(words[::2], words[1::2])}
+                # (µs of a processor for one decision, and decisions a second: how many processors each used)
+                used = {name: values[name] * values["second"] / 1e6 for name in ("daemon", "server", "clients")}
+                rates.append(values["second"])
                 what = f"{count:>10,} entries, {number} daemons of {share} of a processor"
                 print(f"{what}: {text}; processors used by daemons {used['daemon']:.2f}, PostgreSQL {used['server']:.2f}, clients "
                       f"{used['clients']:.2f}; {rates[-1] / rates[0]:.2f} times one", flush=True)
                 if used["daemon"] < LEAST_USED * share * number:
-                    wrong.append(f"{what} used {used['daemon']:.2f} processors")
+                    faults.append(f"{what} used {used['daemon']:.2f} processors")
                 if sum(used.values()) > MOST_USED * os.cpu_count():
-                    wrong.append(f"{what}, PostgreSQL and clients used {sum(used.values()):.2f} of {os.cpu_count()} processors")
+                    faults.append(f"{what}, PostgreSQL and clients used {sum(used.values()):.2f} of {os.cpu_count()} processors")
             if rates[-1] < LEAST_MORE * rates[0]:
-                wrong.append(f"{count:>10,} entries: {DAEMONS[-1]} daemons answer {rates[-1] / rates[0]:.2f} times one, less than {LEAST_MORE}")
-    return wrong
+                faults.append(f"{count:>10,} entries: {DAEMONS[-1]} daemons answer {rates[-1] / rates[0]:.2f} times one, less than {LEAST_MORE}")
+    return faults
 
 
 def new_store(server):
-    """Makes a store at a server."""
+    """Makes the tables of a store at a server. Returns the store, which the caller closes."""
     from spki_store_tool.tables import Store
-    made = Store(server.address, SCHEMA)
-    made.make()
-    return made
+    store = Store(server.address, SCHEMA)
+    store.make()
+    return store
 
 
 def fill(store, count, room):
@@ -215,11 +222,12 @@ def fill(store, count, room):
     from spki_store_tool.transfer import import_list
     begun = time.monotonic()
     import_list(store, path, sys.stderr.isatty())
-    took = time.monotonic() - begun
+    seconds = time.monotonic() - begun
     store.connection.execute("VACUUM ANALYZE")
     (octets,), = store.rows("SELECT sum(pg_total_relation_size(oid))::bigint FROM pg_class WHERE relnamespace = %s::regnamespace AND relkind = 'r'",
                             SCHEMA)
-    print(f"{count:>10,} entries: import {took:.1f} s, {count / took:.0f} a second; {octets / count:.0f} octets an entry in all tables", flush=True)
+    print(f"{count:>10,} entries: import {seconds:.1f} s, {count / seconds:.0f} a second; {octets / count:.0f} octets an entry in all tables",
+          flush=True)
 
 
 def adds_a_second(store):
@@ -231,7 +239,7 @@ def adds_a_second(store):
 
 
 @contextlib.contextmanager
-def stored(count):
+def server_with_store(count):
     """A context with a server, and a store there with so many entries."""
     with databases.Server(**SERVER) as server, tempfile.TemporaryDirectory() as room:
         with contextlib.closing(new_store(server)) as store:
@@ -239,25 +247,26 @@ def stored(count):
             yield server, store
 
 
-def measured(count, library):
-    """Prints the figures of a store with so many entries. Returns the medians in µs by their names."""
-    with stored(count) as (server, store):
-        found = figures(server, "single", count, library) | figures(server, "load", count, library)
+def measure(count, library):
+    """Prints the figures of a store with so many entries. Returns the first number of each by its name: of hit, miss and cold that is the median
+    in µs."""
+    with server_with_store(count) as (server, store):
+        lines = figures(server, "single", count, library) | figures(server, "load", count, library)
         print(f"{count:>10,} entries: {adds_a_second(store):.0f} adds a second", flush=True)
         store.close()
         print_served(server, library, count)
         restart_cold(server)
-        found |= figures(server, "cold", count, library)
-        for name, text in found.items():
+        lines |= figures(server, "cold", count, library)
+        for name, text in lines.items():
             print(f"{count:>10,} entries: {name} {text}", flush=True)
-        return {name: float(text.split()[1]) for name, text in found.items()}
+        return {name: float(text.split()[1]) for name, text in lines.items()}
 
 
 def faults_of_growth(counts, library):
     """Measures stores of these numbers of entries. Returns a line for each median that grows too much from the first to the last."""
-    found = [measured(count, library) for count in counts]
-    return [f"{name} grows by {found[-1][name] / found[0][name]:.2f}" for name, most in (("miss", MOST_GROWTH), ("cold", MOST_COLD))
-            if found[-1][name] > most * found[0][name]]
+    medians = [measure(count, library) for count in counts]
+    return [f"{name} grows by {medians[-1][name] / medians[0][name]:.2f}" for name, most in (("miss", MOST_GROWTH), ("cold", MOST_COLD))
+            if medians[-1][name] > most * medians[0][name]]
 
 
 def faults_of_scaling(counts, library, share, times):
@@ -265,20 +274,21 @@ def faults_of_scaling(counts, library, share, times):
     if why := shares.fault():
         print(f"skipped: here no daemon can have a share of a processor: {why}")
         return []
-    wrong = []
+    faults = []
     for count in counts:
-        with stored(count) as (server, _):
-            wrong += faults_of_shares(server, library, count, share, times)
-    return wrong
+        with server_with_store(count) as (server, _):
+            faults += faults_of_shares(server, library, count, share, times)
+    return faults
 
 
 def main():
+    """Measures all. Returns the exit status: 1 if a limit is passed."""
     given = arguments()
     library = os.path.abspath(given.library)
     os.environ["SPKI_LIBRARY"] = library.removesuffix(".a") + ".so"
-    wrong = faults_of_scaling(given.entries, library, given.share, given.times) if given.share else faults_of_growth(given.entries, library)
-    print("".join(f"{line}\n" for line in wrong), end="")
-    return 1 if wrong else 0
+    faults = faults_of_scaling(given.entries, library, given.share, given.times) if given.share else faults_of_growth(given.entries, library)
+    print("".join(f"{line}\n" for line in faults), end="")
+    return 1 if faults else 0
 
 
 if __name__ == "__main__":

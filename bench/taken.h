@@ -31,12 +31,12 @@ void *__wrap_malloc(size_t size)
 void *__wrap_realloc(void *block, size_t size)
 {
     size_t before = malloc_usable_size(block);
-    void *made = __real_realloc(block, size);
-    if (!made)
+    void *other = __real_realloc(block, size);
+    if (!other)
         return NULL;
-    counted(made);
+    counted(other);
     taken -= before;
-    return made;
+    return other;
 }
 
 void __wrap_free(void *block)

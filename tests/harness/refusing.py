@@ -44,8 +44,8 @@ def compiled(folder):
 
 
 def descriptor_of(text):
-    """A descriptor from which a text is read, and which the caller closes: a pipe if the text fits into one, so that writing it does not block, else a
-    file."""
+    """A descriptor from which a text is read, and which the caller closes: of a pipe if the text fits into one, so that writing it does not block,
+    else of a file."""
     if len(text) <= PIPE:
         reader, writer = os.pipe()
         os.write(writer, text)
@@ -126,8 +126,8 @@ class Program:
         return Ended(child.returncode, out, err, {}, 0)
 
     def reader_gone(self, command, text, taken, dies):
-        """A run whose output is closed after `taken` octets, or at its end if it writes fewer. `dies`: the signal of a closed pipe ends it, as it ends a
-        program by default. Otherwise it gets the error EPIPE."""
+        """A run whose output is closed after `taken` octets, or at its end if it writes fewer. `dies`: the signal of a closed pipe ends it, as by
+        default. Otherwise it gets the error EPIPE."""
         reader, writer = os.pipe()
         if taken == 0:
             os.close(reader)
