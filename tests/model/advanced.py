@@ -111,7 +111,7 @@ def string_at(text: bytes, at: int, place: str) -> tuple[bytes, int]:
 
 
 def string_of_length(text: bytes, at: int, digits: bytes) -> tuple[bytes, int]:
-    """The octets of a string with a length, and the offset behind it. The digits of the length end at offset `at`."""
+    """The octets of a string with a length, and the offset behind it. `digits` are those of the length, and end at offset `at`."""
     length, octet = written_length(digits), octet_at(text, at)
     if octet == ord(":"):
         if at + 1 + length > len(text):
@@ -176,26 +176,26 @@ def escape_at(text: bytes, at: int) -> tuple[bytes, int]:
 
 def hexadecimal_at(text: bytes, at: int) -> tuple[bytes, int]:
     """The octets of hexadecimal digits from an offset on, and the offset of the closing `#`."""
-    found = HEXADECIMAL.match(text, at)
-    assert found
-    if octet_at(text, found.end()) != ord("#"):
-        raise bad("between # and #", found.end())
-    digits = found[0].translate(None, WHITESPACE)
+    body = HEXADECIMAL.match(text, at)
+    assert body
+    if octet_at(text, body.end()) != ord("#"):
+        raise bad("between # and #", body.end())
+    digits = body[0].translate(None, WHITESPACE)
     if len(digits) % 2:
-        raise bad_closing("an odd number of digits", found.end())
-    return bytes.fromhex(digits.decode()), found.end()
+        raise bad_closing("an odd number of digits", body.end())
+    return bytes.fromhex(digits.decode()), body.end()
 
 
 def base64_at(text: bytes, at: int) -> tuple[bytes, int]:
     """The octets of base64 from an offset on, and the offset of the closing mark."""
-    found = BASE64.match(text, at)
-    assert found
-    if octet_at(text, found.end()) != ord("|"):
-        raise bad("between | and |", found.end())
-    octets = from_base64(found[0])
+    body = BASE64.match(text, at)
+    assert body
+    if octet_at(text, body.end()) != ord("|"):
+        raise bad("between | and |", body.end())
+    octets = from_base64(body[0])
     if octets is None:
-        raise bad_closing("no base64", found.end())
-    return octets, found.end()
+        raise bad_closing("no base64", body.end())
+    return octets, body.end()
 
 
 # By the mark that begins a string: the row of WAYS, and what reads the octets behind the mark.

@@ -21,6 +21,7 @@ Answer = tuple[int, bytes]
 Steps = list[tuple[int, evidence.Tuple]]
 COMMANDS = ("canonical", "advanced", "transport", "intersect", "reduce", "check", "explain")
 YES, NO, REFUSED = 0, 1, 2
+# In a chain of up to so many certificates each bracketing is tried: their number grows quickly.
 SHORT_CHAIN = 6
 
 LINES = Rows("line", [
@@ -53,11 +54,11 @@ class Refused(Exception):
 def answer(command: str, text: bytes) -> Answer:
     """The status and what the program writes, for a command and a text."""
     try:
-        status, said = answer_of_text(command, text)
+        status, octets = answer_of_text(command, text)
     except Refused as why:
-        status, said = refused(why)
+        status, octets = refused(why)
     STATUSES.count_use(f"{command}: {status}")
-    return status, said
+    return status, octets
 
 
 def check_accepted(text: bytes, rows_text: bytes) -> Answer:
@@ -65,11 +66,11 @@ def check_accepted(text: bytes, rows_text: bytes) -> Answer:
     try:
         case = read_case(text)
         with case_limits():
-            status, said = check(case, read_rows(rows_text))
+            status, octets = check(case, read_rows(rows_text))
     except Refused as why:
-        status, said = refused(why)
+        status, octets = refused(why)
     STATUSES.count_use(f"check_accepted: {status}")
-    return status, said
+    return status, octets
 
 
 def refused(why: Refused) -> Answer:
@@ -77,10 +78,10 @@ def refused(why: Refused) -> Answer:
     return REFUSED, b"refused %s\n" % str(why).encode()
 
 
-def refusal(row: str, said: object) -> Refused:
+def refusal(row: str, words: object) -> Refused:
     """The Refused to raise, with the words that follow `refused`. Counts a row of REFUSALS."""
     REFUSALS.count_use(row)
-    return Refused(said)
+    return Refused(words)
 
 
 def too_large(command: str, why: TooLarge) -> Refused:
@@ -90,7 +91,7 @@ def too_large(command: str, why: TooLarge) -> Refused:
 
 
 def answer_of_text(command: str, text: bytes) -> Answer:
-    """The answer to a text. Raises Refused."""
+    """The answer of a command to a text. Raises Refused."""
     if command in ("canonical", "advanced", "transport"):
         value = read_text(text, within_limit=False)
         LINES.count_use(command)
@@ -149,11 +150,11 @@ def intersect(value: Value) -> bytes:
         except TagFault as fault:
             raise refusal(f"tag {number}", f"tag {number} {fault}") from None
     try:
-        left = intersection(*both)
+        common = intersection(*both)
     except TooLarge as why:
         raise too_large("intersect", why) from None
     LINES.count_use("intersect")
-    return printed(tags.written(left)) + b"\n"
+    return printed(tags.written(common)) + b"\n"
 
 
 # ---- cases
@@ -183,11 +184,10 @@ def decide(case: Case, rows: list[Row]) -> Answer:
         LINES.count_use("no: evidence")
         return NO, b"no\n"
     for number, entry in enumerate(case.entries, 1):
-        own = reduction.of_entry(entry)
-        leaves = [own, *steps]
-        is_granted = derivations.grants_from_left(leaves, case.key, case.request, case.moment, case.strict)
+        of_entry = reduction.of_entry(entry)
+        is_granted = derivations.grants_from_left([of_entry, *steps], case.key, case.request, case.moment, case.strict)
         if len(steps) <= SHORT_CHAIN:
-            try_brackets(own, steps, case, is_granted)
+            try_brackets(of_entry, steps, case, is_granted)
         if is_granted:
             LINES.count_use("yes entry")
             return YES, b"yes entry %d\n" % number
@@ -237,26 +237,29 @@ def explain(case: Case, rows: list[Row]) -> Answer:
     """The answer of `explain`, a line for each entry: that it grants the request, or why it does not. YES if some entry grants it."""
 
     def reason(authorization: Authorization) -> bytes:
-        lacking = why_not_granted(authorization, case) or "grants"
-        LINES.count_use(lacking)
-        return lacking.split(":")[0].encode()
+        """`grants`, or the word for why it does not grant."""
+        row = why_not_granted(authorization, case) or "grants"
+        LINES.count_use(row)
+        return row.split(":")[0].encode()
 
-    return entry_lines("explain", case, rows, reason, lambda said: said == b"grants")
+    return entry_lines("explain", case, rows, reason, lambda word: word == b"grants")
 
 
 def reduce(case: Case, rows: list[Row]) -> Answer:
     """The answer of `reduce`, a line for each entry: the authorization that it becomes, or where its chain stops. YES if one is not stopped."""
 
     def five(authorization: Authorization) -> bytes:
+        """The printed text of the authorization, a 5-tuple."""
         LINES.count_use("entry N FIVE")
         return printed(five_value(authorization))
 
-    return entry_lines("reduce", case, rows, five, lambda said: True)
+    return entry_lines("reduce", case, rows, five, lambda text: True)
 
 
 def entry_lines(command: str, case: Case, rows: list[Row], text_of: Callable[[Authorization], bytes],
                 is_good: Callable[[bytes], bool]) -> Answer:
-    """The line of each entry: `text_of` its authorization, or where its chain stops. YES if `is_good` is true of one such text, else NO."""
+    """The line of each entry: `text_of` its authorization, or where its chain stops. YES if `is_good` is true of one such text, else NO. Where the
+    evidence fails there is one line, about the certificate. `command` is the word in a refusal's row. Raises Refused if tags are too large."""
     try:
         steps = evidence.proved_tuples(case.items, rows, case.strict)
     except evidence.Stopped as stopped:
@@ -270,11 +273,11 @@ def entry_lines(command: str, case: Case, rows: list[Row], text_of: Callable[[Au
         result, _ = folded(command, case, entry, steps)
         if isinstance(result, reduction.Stopped):
             LINES.count_use("entry N item J CAUSE")
-            said = b"item %d %s" % (result.item, result.cause.encode())
+            text = b"item %d %s" % (result.item, result.cause.encode())
         else:
-            said = text_of(result)
-            status = YES if is_good(said) else status
-        lines.append(b"entry %d %s\n" % (number, said))
+            text = text_of(result)
+            status = YES if is_good(text) else status
+        lines.append(b"entry %d %s\n" % (number, text))
     return status, b"".join(lines)
 
 

@@ -5,6 +5,7 @@ from .answers import COMMANDS, NO, REFUSED, YES, Answer
 from .coverage import Rows
 from .values import Atom, FormFault
 
+# Statuses of the library that the program does not have.
 TOO_SMALL, MISUSED, DONE, NONE, GRANTED = 4, 5, 6, 7, 9
 NAMES = {GRANTED: "SPKI_YES", NO: "SPKI_NO", REFUSED: "SPKI_REFUSED", TOO_SMALL: "SPKI_TOO_SMALL", MISUSED: "SPKI_MISUSED", DONE: "SPKI_DONE",
          NONE: "SPKI_NONE"}
@@ -22,10 +23,10 @@ STRINGS = Rows("string inside a value", [
 Pointer = tuple[bool, int]
 
 
-def of_library(command: str, said: Answer) -> Answer:
-    """The answer of the library, where the program's is `said`. For a command that decides YES becomes GRANTED, and NO stays. For other commands
-    both become DONE. Other statuses stay."""
-    status, octets = said
+def of_library(command: str, answered: Answer) -> Answer:
+    """The answer of the library to a command that the program has answered so. For a command that decides YES becomes GRANTED, and NO stays. For
+    other commands both become DONE. Other statuses stay. Counts a row of STATUSES."""
+    status, octets = answered
     if status in (YES, NO):
         status = DONE if command not in DECISIONS else GRANTED if status == YES else NO
     STATUSES.count_use(NAMES[status])
@@ -57,11 +58,12 @@ def call(number: int | None, texts: tuple[Pointer, ...], buffer: Pointer) -> Ans
     is_null, length = buffer
     if length > LONGEST_TEXT or is_null and length:
         return misused("a buffer of a length over 2^63 - 1" if length > LONGEST_TEXT else "a null buffer with a length")
-    said = answers.check_accepted(b"", b"") if number is None else answers.answer(COMMANDS[number], b"")
-    if len(said[1]) > length:
+    answered = answers.check_accepted(b"", b"") if number is None else answers.answer(COMMANDS[number], b"")
+    if len(answered[1]) > length:
         CALLS.count_use("no buffer")
         return too_small(), b""
-    return of_library("check", said)
+    # (an empty text is refused by every command, so that any command serves here)
+    return of_library("check", answered)
 
 
 def string_at(text: bytes, path: tuple[int, ...]) -> Answer:

@@ -98,10 +98,11 @@ def issuer_key(issuer: Principal, number: int, items: list[Item], strict: bool) 
     if isinstance(issuer, Key):
         ISSUERS.count_use("as written")
         return issuer
-    found = [(at, item) for at, item in enumerate(items, 1) if isinstance(item, Key) and names(issuer, item, strict)]
-    if not found:
+    keys = [(at, item) for at, item in enumerate(items, 1) if isinstance(item, Key) and names(issuer, item, strict)]
+    if not keys:
         return None
-    ISSUERS.count_use("shown before" if found[0][0] < number else "shown behind")
-    if len(found) > 1:
+    first, key = keys[0]
+    ISSUERS.count_use("shown before" if first < number else "shown behind")
+    if len(keys) > 1:
         ISSUERS.count_use("the first of several")
-    return found[0][1]
+    return key

@@ -92,7 +92,7 @@ class Parts:
 
 
 def open_guard(text: bytes, strict: bool, limits: Limits) -> Guard:
-    """The guard of a list's text. Raises Refused."""
+    """The guard of a list's text. `strict`: no hash by SHA-1 names a key. Raises Refused."""
     try:
         entries = structures.read_access_list(forms.read_within_limit(text))
     except FormFault as fault:
@@ -194,16 +194,15 @@ def octets_of(question: Parts) -> int:
 def signatures_to_verify(case: Case) -> list[Signed]:
     """What a verifier is asked about: the key, the message and the signature value of each certificate, up to the first certificate that fails
     one of the first three tests of evidence."""
-    found: list[Signed] = []
-    certificates = list(evidence.signed_certificates(case.items))
-    for number, certificate, signature in certificates:
+    listed: list[Signed] = []
+    for number, certificate, signature in evidence.signed_certificates(case.items):
         key = issuer_key_if_fit(number, certificate, signature, case)
         if key is None:
             SIGNED.count_use("up to one that does not stand")
-            return found
-        found.append((key.octets, certificate.octets, signature.value))
-    SIGNED.count_use("of each certificate" if found else "none")
-    return found
+            return listed
+        listed.append((key.octets, certificate.octets, signature.value))
+    SIGNED.count_use("of each certificate" if listed else "none")
+    return listed
 
 
 def issuer_key_if_fit(number: int, certificate: Certificate, signature: Signature, case: Case) -> Key | None:
@@ -214,13 +213,14 @@ def issuer_key_if_fit(number: int, certificate: Certificate, signature: Signatur
     return None
 
 
-def until(list_text: bytes, question: Parts, policy: int, limits: Limits, said: Answer) -> int:
+def until(list_text: bytes, question: Parts, policy: int, limits: Limits, answered: Answer) -> int:
     """The last second at which a yes to the same question holds: the least not-after of its entry and of all certificates. NO_END if there is
-    none, NEVER if the answer `said` is not yes."""
-    if said[0] != GRANTED:
+    none, NEVER if the library's answer `answered` is not yes."""
+    status, line = answered
+    if status != GRANTED:
         return NEVER
     guard = open_guard(list_text, policy == STRICT, limits)
-    entry = guard.entries[int(said[1].split()[-1]) - 1]
+    entry = guard.entries[int(line.split()[-1]) - 1]
     certificates = [it for it in case_of(guard, question, []).items if isinstance(it, Certificate)]
     windows = [entry.window, *(it.window for it in certificates)]
     ends = [it.not_after for it in windows if it.not_after]
@@ -241,7 +241,7 @@ def last_second(date: bytes) -> int:
 
 
 def compare_with_check(case: Case, decided: Answer) -> None:
-    """Raises ModelDisagrees unless the guard's decision is that of `check`, or check is refused as TooLarge."""
+    """Raises ModelDisagrees unless the guard's decision is that of `check`, or check is refused as TooLarge. It is by the limits of the guard."""
     try:
         checked = answers.check(case, case.rows)
     except Refused:
@@ -290,18 +290,18 @@ def answer(wish: str, list_text: bytes, question: Parts, rows: list[Row], policy
         if oddity in (*LISTED, *ANSWERED, *MARKED):
             return misused(oddity)
         with intersection.limited(limits.nodes, None if wish == "decide" else limits.work):
-            status, said = WISHES[wish](case, case.rows)
+            status, octets = WISHES[wish](case, case.rows)
             if wish == "decide":
-                compare_with_check(case, (status, said))
-            elif len(said) > limits.answer:
+                compare_with_check(case, (status, octets))
+            elif len(octets) > limits.answer:
                 REFUSED.count_use(f"{wish}, octets of the answer")
                 raise Refused("TooLarge")
     except Refused as why:
-        status, said = refused(why)
+        status, octets = refused(why)
     STATUSES.count_use(f"{wish}: {status}")
     if oddity in ALLOWED.counts:
         ALLOWED.count_use(oddity)
-    return of_library(f"guard {wish}", (status, said)), listed
+    return of_library(f"guard {wish}", (status, octets)), listed
 
 
 def is_possible(list_text: bytes, question: Parts, policy: int, limits: Limits) -> bool:

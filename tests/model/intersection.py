@@ -31,8 +31,8 @@ uncounted = 0
 
 
 class TooLarge(Exception):
-    """The product of the nodes is over the limit, or the work is (`is_work`). `is_of_guard`: the limit is the lower one of a guard. A case
-    would allow this product, or, for work, the context is that of a guard."""
+    """The product of the nodes is over the limit, or the work is (`is_work`). `is_of_guard`: the limit is that of a guard. For a product that is, a
+    case would allow it. For work, the context counts the work of small chains too."""
 
     def __init__(self, product: int = 0, is_work: bool = False) -> None:
         super().__init__(product)
@@ -45,20 +45,21 @@ def limited(most: int, work: int | None = None, small: int = 0) -> Iterator[None
     """A context in which a product of nodes is at most `most`, and all steps together cost at most `work` (None: no limit). A chain that
     `is_small` by the product `small` costs nothing."""
     global most_product, most_work, uncounted
-    before, most_product, most_work, uncounted = most_product, most, work, small
+    before = most_product, most_work, uncounted
+    most_product, most_work, uncounted = most, work, small
     try:
         yield
     finally:
-        most_product, most_work, uncounted = before, None, 0
+        most_product, most_work, uncounted = before
 
 
 @contextmanager
-def counting_work(own: Tag, others: list[Tag | None]) -> Iterator[None]:
+def counting_work(of_entry: Tag, others: list[Tag | None]) -> Iterator[None]:
     """A context in which an entry's tag and those of certificates (None: a name's definition) are folded. The work of a small chain is not counted:
     within the context it has no limit."""
     global most_work
     before = most_work
-    if is_small(own, others):
+    if is_small(of_entry, others):
         most_work = None
     try:
         yield
@@ -66,14 +67,14 @@ def counting_work(own: Tag, others: list[Tag | None]) -> Iterator[None]:
         most_work = before if most_work is None else most_work
 
 
-def is_small(own: Tag, others: list[Tag | None]) -> bool:
+def is_small(of_entry: Tag, others: list[Tag | None]) -> bool:
     """Whether the numbers of nodes alone show that no intersection in a chain is too large, so that its work need not be counted. The product of all
     numbers is at most `uncounted`. Or no tag has a set, and the sum of all, times the largest of a certificate, is at most `uncounted`. A name's
     definition counts as one node."""
-    sizes = [1 if it is None else nodes(it) for it in others]
-    if nodes(own) * math.prod(sizes) <= uncounted:
+    size, sizes = nodes(of_entry), [1 if it is None else nodes(it) for it in others]
+    if size * math.prod(sizes) <= uncounted:
         return True
-    return not any(has_set(it) for it in (own, *others) if it is not None) and (nodes(own) + sum(sizes)) * max([1, *sizes]) <= uncounted
+    return not any(has_set(it) for it in (of_entry, *others) if it is not None) and (size + sum(sizes)) * max([1, *sizes]) <= uncounted
 
 
 def intersection(a: Tag, b: Tag) -> Tag:
@@ -128,15 +129,16 @@ def members_of(tag: Tag) -> tuple[Tag, ...]:
 
 
 def of_sets(first: tuple[Tag, ...], second: tuple[Tag, ...]) -> Tag:
-    """The set of the intersections of each member of the first with each of the second, in this order, without those that are empty."""
-    left = [it for it in (together(a, b) for a in first for b in second) if it != NOTHING]
-    if not left:
+    """The set of the intersections of each member of the first with each of the second, in this order, without those that are `(* set)`. A single one
+    is returned itself."""
+    members = [it for it in (together(a, b) for a in first for b in second) if it != NOTHING]
+    if not members:
         RULES.count_use("a set and any: none is left")
         return NOTHING
-    RULES.count_use("a set and any: one is left" if len(left) == 1 else "a set and any: a set is left")
-    if min(len(first), len(second), len(left)) > 1:
+    RULES.count_use("a set and any: one is left" if len(members) == 1 else "a set and any: a set is left")
+    if min(len(first), len(second), len(members)) > 1:
         RULES.count_use("two sets of several members: several are left")
-    return left[0] if len(left) == 1 else AnyOf(tuple(left))
+    return members[0] if len(members) == 1 else AnyOf(tuple(members))
 
 
 def of_string(string: Text, other: Tag) -> Tag:
@@ -166,11 +168,11 @@ def as_range(prefix: Prefix) -> Range:
     """The range that a prefix counts as: the strings from the prefix itself up to, and without, the least string that is greater than all that begin
     with it. That one is the prefix with its last octet raised by one. FF has no successor, so octets FF at the end are left out, and the octet before
     them is raised. A prefix of octets FF alone, or of none, has no upper limit."""
-    kept = prefix.start.rstrip(b"\xff")
-    if kept != prefix.start:
+    start = prefix.start.rstrip(b"\xff")
+    if start != prefix.start:
         RULES.count_use("a prefix and a range: octets FF at the end")
-    RULES.count_use("a prefix and a range" if kept else "a prefix and a range: no upper limit")
-    above = kept[:-1] + bytes([kept[-1] + 1]) if kept else None
+    RULES.count_use("a prefix and a range" if start else "a prefix and a range: no upper limit")
+    above = start[:-1] + bytes([start[-1] + 1]) if start else None
     return Range(b"alpha", Limit(False, prefix.start), None if above is None else Limit(True, above))
 
 
@@ -214,10 +216,10 @@ def of_lists(a: tuple[Tag, ...], b: tuple[Tag, ...]) -> Tag:
     """The intersection of two lists, member by member, their heads first. The further members of the longer one stay."""
     members: list[Tag] = []
     for first, second in zip(a, b):
-        left = together(first, second)
-        if left == NOTHING:
+        common = together(first, second)
+        if common == NOTHING:
             RULES.count_use("two lists: (* set)")
             return NOTHING
-        members.append(left)
+        members.append(common)
     RULES.count_use("two lists: of one length" if len(a) == len(b) else "two lists: one is longer")
     return Plain((*members, *max(a, b, key=len)[len(members):]))

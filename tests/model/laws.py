@@ -19,12 +19,12 @@ TRIED = Rows("law that was tried", [
 def check_laws(command: str, text: bytes, answer: Answer, requests: Callable[[tuple[Tag, ...]], Iterable[Value]]) -> None:
     """Raises ModelDisagrees if an answer of the model breaks a law: what is written is read again, and an intersection has the requests of both tags.
     Refusals, other commands and long answers are not tried. `requests` gives some requests that are near some tags."""
-    status, said = answer
-    if status or command not in ("canonical", "advanced", "transport", "intersect") or len(said) > LONGEST // 2:
+    status, octets = answer
+    if status or command not in ("canonical", "advanced", "transport", "intersect") or len(octets) > LONGEST // 2:
         return
     value = forms.read(text)
     try:
-        again = forms.read(said)
+        again = forms.read(octets)
     except FormFault as fault:
         if command == "intersect" and fault.kind == "TooDeep":
             TRIED.count_use("an intersection that is too deep to be read again")
@@ -47,5 +47,6 @@ def check_laws(command: str, text: bytes, answer: Answer, requests: Callable[[tu
 def tag_of_any_size(value: Value) -> Tag:
     """The tag that an answer has written, read without the limit of nodes: an intersection may have more."""
     reader = tags.Reader()
+    # (so many nodes are not counted)
     reader.nodes = -10**9
     return reader.tag(value)

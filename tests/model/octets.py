@@ -13,10 +13,10 @@ NO_BASE64 = Rows("base64, fault", ["a symbol behind padding", "too much padding"
 
 
 def past_whitespace(text: bytes, at: int) -> int:
-    """The offset of the first octet past whitespace."""
-    found = SPACES.match(text, at)
-    assert found
-    return found.end()
+    """The offset of the first octet past the whitespace that begins at `at`, if any does."""
+    spaces = SPACES.match(text, at)
+    assert spaces
+    return spaces.end()
 
 
 def from_base64(body: bytes) -> bytes | None:
@@ -25,11 +25,11 @@ def from_base64(body: bytes) -> bytes | None:
     The body consists of symbols, `=` and whitespace, which is ignored. Some or all of the padding may be left out. Bits that the last
     symbol has to spare are zero.
     """
-    found = BODY.fullmatch(body.translate(None, WHITESPACE))
-    if not found:
+    parts = BODY.fullmatch(body.translate(None, WHITESPACE))
+    if not parts:
         NO_BASE64.count_use("a symbol behind padding")
         return None
-    symbols, padding = found.groups()
+    symbols, padding = parts.groups()
     padding_length = -len(symbols) % 4
     if padding_length == 3:
         NO_BASE64.count_use("one symbol too many")

@@ -14,11 +14,11 @@ def plain(value: Value) -> Any:
     return [plain(member) for member in value]
 
 
-def value_of(it: Any) -> Value:
+def value_of(own: Any) -> Value:
     """The value of what Python has: the inverse of `plain`."""
-    if isinstance(it, list):
-        return tuple(map(value_of, it))
-    return Atom(it[1], it[0]) if isinstance(it, tuple) else Atom(it)
+    if isinstance(own, list):
+        return tuple(map(value_of, own))
+    return Atom(own[1], own[0]) if isinstance(own, tuple) else Atom(own)
 
 
 def read(text: bytes) -> Any:

@@ -45,7 +45,7 @@ class StructureFault(Exception):
 
 
 class ItemFault(Exception):
-    """A fault of an item of a list, by its number. 0 is the list itself."""
+    """A fault of an item of an access list, a sequence or a list of rows, by its number from 1. 0 is the list itself, by its version."""
 
     def __init__(self, item: int, kind: str) -> None:
         super().__init__(item, kind)
@@ -120,7 +120,8 @@ class Entry:
 
 @dataclass(frozen=True, slots=True)
 class Certificate:
-    """A certificate. It defines a name of the issuer if it has one, and is one of an authorization if it has none."""
+    """A certificate. If it has a `name`, it defines this name of the issuer. Otherwise it is one of an authorization, and has a tag. `octets` is its
+    canonical text."""
 
     issuer: Principal
     name: bytes | None
@@ -186,7 +187,7 @@ def read_key(value: Value) -> Key:
 
 
 def read_algorithm(value: Value, place: str) -> bytes:
-    """The algorithm of a hash. `place` names the structure in PLACES."""
+    """The algorithm of a hash. `place` names the structure in PLACES. Raises Shape for a list, and HashAlg for a string that names none."""
     if isinstance(value, tuple):
         raise shape("an algorithm is a list")
     if value.hint is not None or value.body not in DIGESTS:
@@ -265,11 +266,11 @@ def why_no_date(value: Value) -> str:
     """The row of PLACES for a value that is no date: it has another form, or which of its numbers is the first out of its range."""
     if not isinstance(value, Atom) or value.hint is not None:
         return "a hint" if isinstance(value, Atom) else "a list"
-    found = re.fullmatch(rb"[0-9]{4}-([0-9]{2})-([0-9]{2})_([0-9]{2}):([0-9]{2}):([0-9]{2})", value.body)
-    if not found:
+    numbers = re.fullmatch(rb"[0-9]{4}-([0-9]{2})-([0-9]{2})_([0-9]{2}):([0-9]{2}):([0-9]{2})", value.body)
+    if not numbers:
         return "another form"
     least_and_most = {"month": (1, 12), "day": (1, 31), "hour": (0, 23), "minute": (0, 59), "second": (0, 60)}
-    return next(name for (name, (least, most)), number in zip(least_and_most.items(), found.groups()) if not least <= int(number) <= most)
+    return next(name for (name, (least, most)), number in zip(least_and_most.items(), numbers.groups()) if not least <= int(number) <= most)
 
 
 def read_tag(value: Value) -> Tag:
@@ -299,9 +300,9 @@ def reader_of_one(read: Callable[[Value], Any]) -> Callable[[Value], Any]:
 
     def reader(value: Value) -> Any:
         members = Members(value, head_of(value) or b"")
-        said = read(members.next())
+        content = read(members.next())
         members.end()
-        return said
+        return content
 
     return reader
 
@@ -352,34 +353,34 @@ CERTIFICATE: Readers = {
 def read_fields(fields: Iterable[Value], readers: Readers) -> dict[bytes, Any]:
     """What the reader of each field returns, by the field's head. Fields may have any order, each at most once. Raises Shape for a field that
     has no reader or comes twice, and Online for `(online ..)`."""
-    said: dict[bytes, Any] = {}
+    contents: dict[bytes, Any] = {}
     for value in fields:
         head = head_of(value)
         if head == b"online":
             raise StructureFault("Online")
         if head not in readers:
             raise shape("no field")
-        if head in said:
+        if head in contents:
             raise shape("a field twice")
-        said[head] = readers[head](value)
-    return said
+        contents[head] = readers[head](value)
+    return contents
 
 
-def require_fields(said: dict[bytes, Any], *heads: bytes) -> None:
-    """Raises Shape if one of these fields is missing."""
-    if any(head not in said for head in heads):
+def require_fields(contents: dict[bytes, Any], *heads: bytes) -> None:
+    """Raises Shape if one of these fields is missing in what `read_fields` returned."""
+    if any(head not in contents for head in heads):
         raise shape("a field is missing")
 
 
-def window_of(said: dict[bytes, Any]) -> Window:
-    """The window of the fields, whose limits are fields themselves or are in `(valid ..)`. Raises Shape if there are both."""
-    directly = {head: said[head] for head in LIMITS if head in said}
-    if b"valid" not in said:
+def window_of(contents: dict[bytes, Any]) -> Window:
+    """The window of what `read_fields` returned: its limits are fields themselves or are in `(valid ..)`. Raises Shape if there are both."""
+    directly = {head: contents[head] for head in LIMITS if head in contents}
+    if b"valid" not in contents:
         limits, form = directly, "limits directly" if directly else "no limit"
     elif directly:
         raise shape("validity both ways")
     else:
-        limits, form = said[b"valid"], "limits in valid" if said[b"valid"] else "an empty valid"
+        limits, form = contents[b"valid"], "limits in valid" if contents[b"valid"] else "an empty valid"
     FORMS.count_use(form)
     window = Window(limits.get(b"not-before"), limits.get(b"not-after"))
     if len(limits) == 2 and limits[b"not-before"] > limits[b"not-after"]:
@@ -396,9 +397,9 @@ def read_entry(value: Value) -> Entry:
     subject = read_subject(members.next())
     if subject.principal is None:
         raise StructureFault("RelativeInEntry")
-    said = read_fields(members.left, ENTRY)
-    require_fields(said, b"tag")
-    return Entry(subject, b"propagate" in said, said[b"tag"], window_of(said))
+    contents = read_fields(members.left, ENTRY)
+    require_fields(contents, b"tag")
+    return Entry(subject, b"propagate" in contents, contents[b"tag"], window_of(contents))
 
 
 def read_access_list(value: Value) -> list[Entry]:
@@ -420,23 +421,23 @@ def numbered(number: int, read: Callable[[Value], Any], value: Value) -> Any:
 
 
 def read_certificate(value: Value) -> Certificate:
-    """Reads `(cert field*)`."""
-    said = read_fields(Members(value, b"cert").left, CERTIFICATE)
-    require_fields(said, b"issuer", b"subject")
-    issuer, subject = said[b"issuer"], said[b"subject"]
+    """Reads `(cert field*)`. A relative name as its subject becomes one of the issuer."""
+    contents = read_fields(Members(value, b"cert").left, CERTIFICATE)
+    require_fields(contents, b"issuer", b"subject")
+    issuer, subject = contents[b"issuer"], contents[b"subject"]
     if issuer.names:
-        if b"tag" in said or b"propagate" in said:
+        if b"tag" in contents or b"propagate" in contents:
             raise shape("tag or propagate beside a name")
     else:
-        require_fields(said, b"tag")
-    window = window_of(said)
+        require_fields(contents, b"tag")
+    window = window_of(contents)
     if subject.principal is None:
         subject = Subject(issuer.principal, subject.names)
     FORMS.count_use("certificate of a name" if issuer.names else "certificate of an authorization")
     if isinstance(issuer.principal, Hash):
         FORMS.count_use("a hash as an issuer")
     name = issuer.names[0] if issuer.names else None
-    return Certificate(issuer.principal, name, subject, b"propagate" in said, said.get(b"tag"), window, canonical(value))
+    return Certificate(issuer.principal, name, subject, b"propagate" in contents, contents.get(b"tag"), window, canonical(value))
 
 
 def read_signature(value: Value) -> Signature:

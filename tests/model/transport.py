@@ -37,8 +37,8 @@ def read(text: bytes) -> Value:
         raise fault("Bad at the }, no base64", "Bad", ends)
     try:
         value = canonical.read(octets)
-    except FormFault as found:
-        if found.kind == "TooDeep":
+    except FormFault as inner:
+        if inner.kind == "TooDeep":
             raise fault("TooDeep at the }", "TooDeep") from None
         raise fault("Bad at the }, no canonical form", "Bad", ends) from None
     behind = past_whitespace(text, ends + 1)
