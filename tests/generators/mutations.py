@@ -259,8 +259,7 @@ def with_other_start(text: bytes, rng: random.Random) -> bytes:
 
 
 TEXT_MUTATIONS: tuple[Callable[[bytes, random.Random], bytes], ...] = (
-    changed_octets, changed_octets, changed_length, with_snippet, with_snippet, cut, continued,
-    with_other_start)
+    changed_octets, changed_octets, changed_length, with_snippet, with_snippet, cut, continued, with_other_start)
 
 
 def mutated_text(text: bytes, rng: random.Random) -> bytes:

@@ -193,49 +193,39 @@ GET = Request()
 POST = Request("POST", fields=[digest(BODY), ("Content-Length", "18")], body=BODY, components=(*PLAIN, "content-digest"))
 CHAINED = Request(fields=[("X-Spki-Sequence", CHAIN)], components=(*PLAIN, "x-spki-sequence"))
 AUTHORIZED = Request(fields=[("Authorization", "SPKI " + CHAIN)], components=(*PLAIN, "authorization"))
-LEAVE = Request("PUT", "/.well-known/spki-chain", fields=[digest(CHAIN), ("Content-Length", str(len(CHAIN)))], body=CHAIN,
-                components=POST.components)
+LEAVE = Request("PUT", "/.well-known/spki-chain", fields=[digest(CHAIN), ("Content-Length", str(len(CHAIN)))], body=CHAIN, components=POST.components)
 WITH_TYPE = Request(fields=[("Accept", "text/html")], components=(*PLAIN, "accept"))
 WHOLE = Request(components=("@method", "@authority", "@target-uri", KEY))
 
 
 def valid() -> None:
     """What is valid."""
-    row("Ed25519", "valid", GET)
-    row("ECDSA", "valid", Request(key=CURVE))
-    row("ECDSA with P-384", "valid", Request(key=LONGER))
-    row("ECDSA with P-384 and a body", "valid", replace(POST, key=LONGER))
-    row("RSA", "valid", Request(key=MODULUS))
-    row("target-uri", "valid", WHOLE)
-    row("a body with its digest", "valid", POST)
-    row("a body that is not known", "valid", replace(POST, body=None))
-    row("a digest by SHA-512", "valid", replace(POST, fields=[digest(BODY, "sha-512")]))
-    row("DELETE with the digest of nothing", "valid", Request("DELETE", fields=[digest("")], components=POST.components))
-    row("a chain in its own field", "valid", CHAINED)
-    row("a chain in Authorization", "valid", AUTHORIZED)
-    row("another field is covered", "valid", WITH_TYPE)
-    row("no query", "valid", Request(target="/foo"))
+    more = [f"x-{it}" for it in range(27)]
+    for name, request in {
+        "Ed25519": GET, "ECDSA": Request(key=CURVE), "ECDSA with P-384": Request(key=LONGER), "RSA": Request(key=MODULUS), "target-uri": WHOLE,
+        "ECDSA with P-384 and a body": replace(POST, key=LONGER), "a body with its digest": POST, "a body that is not known": replace(POST, body=None),
+        "a digest by SHA-512": replace(POST, fields=[digest(BODY, "sha-512")]),
+        "DELETE with the digest of nothing": Request("DELETE", fields=[digest("")], components=POST.components),
+        "a chain in its own field": CHAINED, "a chain in Authorization": AUTHORIZED, "another field is covered": WITH_TYPE,
+        "no query": Request(target="/foo"), "the root": Request(target="/"), "a path in percent-encoding": Request(target="/%7efoo%2Fbar"),
+        "created 60 seconds ahead": Request(created=str(NOW + 60)), "a second before its end": Request(now=NOW + 299),
+        "components in another order": Request(components=PLAIN[::-1]), "certificates that are left": LEAVE,
+        "certificates that are left, of which the digest alone is known": replace(LEAVE, body=None),
+        "certificates that are left by P-384": replace(LEAVE, key=LONGER),
+        "32 components": Request(fields=[(it, "1") for it in more], components=(*PLAIN, *more)),
+    }.items():
+        row(name, "valid", request)
     row("an empty query is none", "valid", replace(GET, target="/foo?"), signed(Request(target="/foo")))
-    row("the root", "valid", Request(target="/"))
-    row("a path in percent-encoding", "valid", Request(target="/%7efoo%2Fbar"))
     row("the scheme's port", "valid", replace(GET, authority="example.com:443"), signed(GET))
     row("a name in capitals", "valid", replace(GET, authority="Example.COM"), signed(GET))
     row("names of fields in other letters", "valid", replace(CHAINED, fields=[("x-spki-SEQUENCE", CHAIN)]),
         [(name.upper(), value) for name, value in signed(CHAINED)])
     row("spaces around values", "valid", replace(CHAINED, fields=[("X-Spki-Sequence", f" \t{CHAIN} ")]),
         [(name, f" {value}\t") for name, value in signed(CHAINED)])
-    row("created 60 seconds ahead", "valid", Request(created=str(NOW + 60)))
-    row("a second before its end", "valid", Request(now=NOW + 299))
-    row("components in another order", "valid", Request(components=PLAIN[::-1]))
     row("a space and a tab around the key", "valid", Request(keys=(f" {in_braces(ALICE.text)}\t",)), signed(GET))
     row("parameters in another order", "valid", Request(
         parameters=f'("@method" "@authority" "@path" "@query" "{KEY}");tag="spki";alg="ed25519";keyid="{hash_of(ALICE.text)}"'
-        ';nonce="sFzj0lYlX0wQm6ZCXPBvTw"'
-        f";expires={NOW + 1};created={NOW}"))
-    row("certificates that are left", "valid", LEAVE)
-    row("certificates that are left, of which the digest alone is known", "valid", replace(LEAVE, body=None))
-    row("certificates that are left by P-384", "valid", replace(LEAVE, key=LONGER))
-    row("32 components", "valid", Request(fields=[(f"x-{it}", "1") for it in range(27)], components=(*PLAIN, *(f"x-{it}" for it in range(27)))))
+        f';nonce="sFzj0lYlX0wQm6ZCXPBvTw";expires={NOW + 1};created={NOW}'))
 
 
 def changed_requests() -> None:
@@ -282,13 +272,13 @@ def changed_bodies() -> None:
     row("a digest taken away", "absent-field", replace(POST, fields=[]), signed(POST))
     row("a digest not covered", "uncovered-field", replace(POST, components=PLAIN))
     row("a digest twice", "repeated-field", replace(POST, fields=[digest(BODY), digest("")]), signed(POST))
-    row("POST without a digest", "body-without-digest", Request("POST"))
-    row("PUT without a digest", "body-without-digest", Request("PUT"))
-    row("DELETE without a digest", "body-without-digest", Request("DELETE"))
-    row("an unknown method without a digest", "body-without-digest", Request("FROB"))
-    row("GET with a length", "body-without-digest", replace(GET, fields=[("Content-Length", "18")]))
-    row("GET with chunks", "body-without-digest", replace(GET, fields=[("Transfer-Encoding", "chunked")]))
-    row("GET with an empty length", "body-without-digest", replace(GET, fields=[("Content-Length", "")]))
+    for name, request in {
+        "POST without a digest": Request("POST"), "PUT without a digest": Request("PUT"), "DELETE without a digest": Request("DELETE"),
+        "an unknown method without a digest": Request("FROB"), "GET with a length": replace(GET, fields=[("Content-Length", "18")]),
+        "GET with chunks": replace(GET, fields=[("Transfer-Encoding", "chunked")]),
+        "GET with an empty length": replace(GET, fields=[("Content-Length", "")]),
+    }.items():
+        row(name, "body-without-digest", request)
     row("GET with a length of nothing", "valid", replace(GET, fields=[("Content-Length", "0")]))
     body = in_base64(hashlib.sha256(BODY.encode()).digest())
     for name, value in {
@@ -324,8 +314,7 @@ def changed_fields() -> None:
     row("a chain put in", "uncovered-field", replace(CHAINED, components=PLAIN))
     row("a chain twice", "repeated-field", replace(CHAINED, fields=2 * CHAINED.fields), signed(CHAINED))
     row("a second chain put in", "uncovered-field", replace(CHAINED, fields=[*CHAINED.fields, *AUTHORIZED.fields]), signed(CHAINED))
-    row("another chain in Authorization", "invalid-signature", replace(AUTHORIZED, fields=[("Authorization", "SPKI {KDE6YSk=}")]),
-        signed(AUTHORIZED))
+    row("another chain in Authorization", "invalid-signature", replace(AUTHORIZED, fields=[("Authorization", "SPKI {KDE6YSk=}")]), signed(AUTHORIZED))
     row("Authorization put in", "uncovered-field", replace(AUTHORIZED, components=PLAIN))
     row("a covered field changed", "invalid-signature", replace(WITH_TYPE, fields=[("Accept", "text/plain")]), signed(WITH_TYPE))
     row("a covered field in other letters", "invalid-signature", replace(WITH_TYPE, fields=[("Accept", "Text/html")]), signed(WITH_TYPE))
@@ -361,23 +350,21 @@ def changed_inputs() -> None:
     sent("labels that differ", "other-label", text, octets.replace("spki", "spkj"))
     sent("an empty Signature-Input", "malformed", "")
     sent("an empty Signature", "malformed", text, "")
-    sent("no list of components", "malformed", "spki;created=1")
-    sent("text behind the parameters", "malformed", text + " x")
-    sent("a space behind a semicolon", "malformed", text.replace(";expires", "; expires"))
-    sent("a space before a semicolon", "malformed", text.replace(";expires", " ;expires"))
-    sent("spaces around an equals sign", "malformed", text.replace("nonce=", "nonce = "))
-    sent("two spaces between components", "malformed", text.replace('" "', '"  "', 1))
-    sent("a tab between components", "malformed", text.replace('" "', '"\t"', 1))
-    sent("a space in the list", "malformed", text.replace("(", "( "))
-    sent("a component without quotes", "malformed", text.replace('"@path"', "@path"))
-    sent("a line feed in Signature-Input", "malformed", text.replace('" "', '"\n"', 1))
-    sent("an octet over ASCII in a parameter", "malformed", text.replace("sFzj", "s\xe9zj"))
-    sent("a list that does not end", "malformed", text.partition(")")[0])
-    sent("a string that does not end", "malformed", text[:-1])
-    sent("a name of a parameter in capitals", "malformed", text.replace(";alg", ";Alg"))
+    for name, changed in {
+        "no list of components": "spki;created=1", "text behind the parameters": text + " x", "a space in the list": text.replace("(", "( "),
+        "a space behind a semicolon": text.replace(";expires", "; expires"), "a space before a semicolon": text.replace(";expires", " ;expires"),
+        "spaces around an equals sign": text.replace("nonce=", "nonce = "), "two spaces between components": text.replace('" "', '"  "', 1),
+        "a tab between components": text.replace('" "', '"\t"', 1), "a component without quotes": text.replace('"@path"', "@path"),
+        "a line feed in Signature-Input": text.replace('" "', '"\n"', 1), "an octet over ASCII in a parameter": text.replace("sFzj", "s\xe9zj"),
+        "a list that does not end": text.partition(")")[0], "a string that does not end": text[:-1],
+        "a name of a parameter in capitals": text.replace(";alg", ";Alg"),
+        "33 components": text.replace('("', "(" + "".join(f'"x-{it}" ' for it in range(28)) + '"'),
+        "a Signature-Input of over 8,192 octets": text.replace('";alg', "A" * 8192 + '";alg'),
+    }.items():
+        sent(name, "malformed", changed)
     sent("components changed in order", "invalid-signature", text.replace('"@method" "@authority"', '"@authority" "@method"'))
     sent("another value of a parameter", "invalid-signature", text.replace("sFzj", "tFzj"))
-    sent("a later end", "invalid-signature", text.replace(f"expires={NOW + 300}", f"expires={NOW + 299}"))
+    sent("an earlier end", "invalid-signature", text.replace(f"expires={NOW + 300}", f"expires={NOW + 299}"))
     sent("parameters changed in order", "invalid-signature", bare.join(["spki=", ""]).replace(';tag="spki"', "").replace(
         ";created", ';tag="spki";created'))
     for name in PLAIN:
@@ -393,8 +380,6 @@ def changed_inputs() -> None:
     sent("a component in capitals", "unknown-component", text.replace("@path", "@PATH"))
     sent("an empty component", "unknown-component", text.replace("@path", ""))
     sent("the component signature", "unknown-component", text.replace("@path", "signature"))
-    sent("33 components", "malformed", text.replace('("', "(" + "".join(f'"x-{it}" ' for it in range(28)) + '"'))
-    sent("a Signature-Input of over 8,192 octets", "malformed", text.replace('";alg', "A" * 8192 + '";alg'))
 
 
 def changed_parameters() -> None:

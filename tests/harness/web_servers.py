@@ -148,8 +148,7 @@ class HAProxy(Behind):
         "error pages": [("haproxy.cfg", "defaults\n", ERRORFILES)],
         "a cache": [("haproxy.cfg", "backend files\n", "    http-request cache-use site\n    http-response cache-store site\n"),
                     ("haproxy.cfg", "# spki.lua is beside it.\n", "cache site\n    total-max-size 4\n    max-age 60\n")],
-        "another frontend": [("haproxy.cfg", "timeout server 30s\n",
-                              "frontend other\n    bind unix@{room}/run/other\n    default_backend files\n")],
+        "another frontend": [("haproxy.cfg", "timeout server 30s\n", "frontend other\n    bind unix@{room}/run/other\n    default_backend files\n")],
         "retries": [("haproxy.cfg", "defaults\n", "    retry-on all-retryable-errors\n    option redispatch\n    retries 3\n")],
         "rules before": [("haproxy.cfg", "frontend files\n", "    http-request set-var(txn.other) str(yes)\n    option http-ignore-probes\n")],
         "a first lock that fails": [("haproxy.cfg", "frontend files\n", "    http-request allow\n")],
@@ -230,17 +229,28 @@ class Apache(Behind):
         return ["apache2", "-f", self.at("etc/main.conf"), "-DFOREGROUND"]
 
 
-class OfFiles(http.server.BaseHTTPRequestHandler):
-    """Reads and writes each file that is asked for."""
+class Handler(http.server.BaseHTTPRequestHandler):
+    """Answers by HTTP/1.1, and writes no log."""
 
     protocol_version = "HTTP/1.1"
 
-    def answer(self, status: int, octets: bytes = b"") -> None:
-        """Sends an answer, with fields by which a cache may keep it."""
+    def send_head(self, status: int, *lines: str) -> None:
+        """Sends the head of an answer, with these lines."""
         self.send_response(status)
-        for line in (f"Content-Length: {len(octets)}", "Cache-Control: max-age=60", "Last-Modified: Thu, 01 Jan 2026 00:00:00 GMT"):
+        for line in lines:
             self.send_header(*line.split(": "))
         self.end_headers()
+
+    def log_message(self, format: str, *args: object) -> None:
+        pass
+
+
+class OfFiles(Handler):
+    """Reads and writes each file that is asked for."""
+
+    def answer(self, status: int, octets: bytes = b"") -> None:
+        """Sends an answer, with fields by which a cache may keep it."""
+        self.send_head(status, f"Content-Length: {len(octets)}", "Cache-Control: max-age=60", "Last-Modified: Thu, 01 Jan 2026 00:00:00 GMT")
         if self.command != "HEAD" and octets:
             self.wfile.write(octets)
 
@@ -269,12 +279,6 @@ class OfFiles(http.server.BaseHTTPRequestHandler):
         assert isinstance(server, FileServer)
         path = os.path.join(server.folder, unquote(self.path.partition("?")[0]).lstrip("/"))
         return path if os.path.realpath(path) == path else os.path.join(server.folder, "none")
-
-    def address_string(self) -> str:
-        return "unix"
-
-    def log_message(self, format: str, *args: object) -> None:
-        pass
 
 
 class FileServer(socketserver.ThreadingUnixStreamServer):
@@ -308,22 +312,14 @@ class Impostor(http.server.ThreadingHTTPServer):
         """Says nothing of a web server that does not trust it."""
 
 
-class SaysYes(http.server.BaseHTTPRequestHandler):
+class SaysYes(Handler):
     """The answers of an impostor."""
-
-    protocol_version = "HTTP/1.1"
 
     def do_GET(self) -> None:
         server = self.server
         assert isinstance(server, Impostor)
         server.secrets.append(self.headers["X-Spki-Secret"])
-        self.send_response(200)
-        for line in ("X-Spki-Answer: yes", "Content-Length: 0"):
-            self.send_header(*line.split(": "))
-        self.end_headers()
-
-    def log_message(self, format: str, *args: object) -> None:
-        pass
+        self.send_head(200, "X-Spki-Answer: yes", "Content-Length: 0")
 
 
 SERVERS: list[type[Behind]] = [Nginx, Caddy, HAProxy, Apache]

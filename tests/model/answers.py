@@ -28,11 +28,10 @@ LINES = Rows("line", [
     "canonical", "advanced", "transport", "intersect", "yes entry", "no: evidence", "no: no entry grants", "item J STOP", "no entries",
     "entry N FIVE", "entry N item J CAUSE", "grants", "NotTheKey: names left", "NotTheKey: another key", "TagLacks", "WindowLacks"])
 REFUSALS = Rows("line, refused", [
-    "form TooLong", "form TooDeep", "form Short", "form Bad", "form Trailing", "intersect Shape", "tag 1", "tag 2",
-    "TooLarge: intersect", "TooLarge: check", "TooLarge: explain", "TooLarge: reduce", "TooLarge: check, by a guard's product",
-    "TooLarge: explain, by a guard's product", "TooLarge: reduce, by a guard's product",
-    "TooLarge: explain, by a guard's work", "TooLarge: reduce, by a guard's work", "case",
-    "rows TooLong", "rows TooDeep", "rows Short", "rows Bad", "rows Trailing", "rows Shape", "rows"])
+    "form TooLong", "form TooDeep", "form Short", "form Bad", "form Trailing", "intersect Shape", "tag 1", "tag 2", "TooLarge: intersect",
+    "TooLarge: check", "TooLarge: explain", "TooLarge: reduce", "TooLarge: check, by a guard's product", "TooLarge: explain, by a guard's product",
+    "TooLarge: reduce, by a guard's product", "TooLarge: explain, by a guard's work", "TooLarge: reduce, by a guard's work", "case", "rows TooLong",
+    "rows TooDeep", "rows Short", "rows Bad", "rows Trailing", "rows Shape", "rows"])
 STATUSES = Rows("status", [f"{command}: {status}" for command in (*COMMANDS, "check_accepted") for status in (YES, NO, REFUSED)
                            if status != NO or COMMANDS.index(command if command in COMMANDS else "check") > 3])
 FIVES = Rows("five", ["a principal", "a hash", "a name", "(propagate)", "no valid", "valid with not-before", "valid with not-after",
@@ -256,8 +255,7 @@ def reduce(case: Case, rows: list[Row]) -> Answer:
     return entry_lines("reduce", case, rows, five, lambda text: True)
 
 
-def entry_lines(command: str, case: Case, rows: list[Row], text_of: Callable[[Authorization], bytes],
-                is_good: Callable[[bytes], bool]) -> Answer:
+def entry_lines(command: str, case: Case, rows: list[Row], text_of: Callable[[Authorization], bytes], is_good: Callable[[bytes], bool]) -> Answer:
     """The line of each entry: `text_of` its authorization, or where its chain stops. YES if `is_good` is true of one such text, else NO. Where the
     evidence fails there is one line, about the certificate. `command` is the word in a refusal's row. Raises Refused if tags are too large."""
     try:

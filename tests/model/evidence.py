@@ -75,8 +75,7 @@ def signed_certificates(items: list[Item]) -> Iterator[tuple[int, Certificate, S
             yield number, item, next(it for it in items[number:] if isinstance(it, Signature))
 
 
-def tuple_of(number: int, certificate: Certificate, signature: Signature, items: list[Item], accepted: set[Row],
-             strict: bool) -> Tuple:
+def tuple_of(number: int, certificate: Certificate, signature: Signature, items: list[Item], accepted: set[Row], strict: bool) -> Tuple:
     """The tuple of a certificate that passes the four tests, in their order. Raises Stopped with the first that it fails."""
     key = issuer_key(certificate.issuer, number, items, strict)
     if key is None:

@@ -10,13 +10,11 @@ MOST_PRODUCT = 1_000_000
 MOST_WORK = 2_300_000_000
 RULES = Rows("intersection, rule", [
     "(*) and any", "a set and any: none is left", "a set and any: one is left", "a set and any: a set is left",
-    "two sets of several members: several are left", "two strings: equal",
-    "two strings: (* set)", "a string and a prefix: contained", "a string and a prefix: (* set)", "a string and a range: contained",
-    "a string and a range: (* set)", "two prefixes: the longer", "two prefixes: (* set)", "two ranges: a range",
-    "two ranges: the lower string is above", "two ranges: equal strings, one limit strict", "two ranges: alpha and another ordering",
-    "two ranges: time and date", "a prefix and a range", "a prefix and a range: no upper limit",
-    "a prefix and a range: octets FF at the end", "two lists: of one length", "two lists: one is longer", "two lists: (* set)",
-    "all else"])
+    "two sets of several members: several are left", "two strings: equal", "two strings: (* set)", "a string and a prefix: contained",
+    "a string and a prefix: (* set)", "a string and a range: contained", "a string and a range: (* set)", "two prefixes: the longer",
+    "two prefixes: (* set)", "two ranges: a range", "two ranges: the lower string is above", "two ranges: equal strings, one limit strict",
+    "two ranges: alpha and another ordering", "two ranges: time and date", "a prefix and a range", "a prefix and a range: no upper limit",
+    "a prefix and a range: octets FF at the end", "two lists: of one length", "two lists: one is longer", "two lists: (* set)", "all else"])
 LIMITS = Rows("intersection, limits", [
     f"{which}: {case}" for which in ("lower", "upper")
     for case in ("none", "one is missing", "another string", "equal strings, strict and not", "equal strings and words")])

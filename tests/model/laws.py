@@ -12,8 +12,7 @@ from .tags import Tag, contains
 from .values import LONGEST, FormFault, Value, canonical
 
 TRIED = Rows("law that was tried", [
-    "what is written is read again", "a request of both tags", "a request of one tag or none",
-    "an intersection that is too deep to be read again"])
+    "what is written is read again", "a request of both tags", "a request of one tag or none", "an intersection that is too deep to be read again"])
 
 
 def check_laws(command: str, text: bytes, answer: Answer, requests: Callable[[tuple[Tag, ...]], Iterable[Value]]) -> None:

@@ -6,7 +6,6 @@ from .coverage import Rows
 from .values import WHITESPACE
 
 SPACES = re.compile(rb"[ \t\n\v\f\r]*")
-ALPHABET = b"ABCDEFGHIJKLMNOPQRSTUVWXYZabcdefghijklmnopqrstuvwxyz0123456789+/"
 BODY = re.compile(rb"([A-Za-z0-9+/]*)(=*)")
 PADDING = Rows("base64, padding", ["none is wanted", "whole", "in part", "left out"])
 NO_BASE64 = Rows("base64, fault", ["a symbol behind padding", "too much padding", "one symbol too many", "spare bits"])
@@ -41,6 +40,5 @@ def from_base64(body: bytes) -> bytes | None:
     if base64.b64encode(octets).rstrip(b"=") != symbols:
         NO_BASE64.count_use("spare bits")
         return None
-    PADDING.count_use("none is wanted" if not padding_length else "whole" if len(padding) == padding_length else "in part" if padding
-                      else "left out")
+    PADDING.count_use("none is wanted" if not padding_length else "whole" if len(padding) == padding_length else "in part" if padding else "left out")
     return octets

@@ -20,9 +20,8 @@ FAULTS = Rows("structure, fault", KINDS + [
     f"Tag {kind}" for kind in ("EmptyList", "ListHead", "Hint", "UnknownStar", "RangeOrdering", "RangeLimit", "TooManyNodes")])
 SHAPES = Rows("structure, Shape", [
     "a list of another head", "a member is missing", "a member too many", "an algorithm that is no plain string", "an algorithm is a list",
-    "a digest that is no plain string", "neither a key nor a hash", "a name that is no plain string", "no subject",
-    "a version is a list", "no field", "a field twice", "a field is missing", "validity both ways", "tag or propagate beside a name",
-    "an issuer of two names", "no item"])
+    "a digest that is no plain string", "neither a key nor a hash", "a name that is no plain string", "no subject", "a version is a list", "no field",
+    "a field twice", "a field is missing", "validity both ways", "tag or propagate beside a name", "an issuer of two names", "no item"])
 PLACES = Rows("structure, other faults by their place", [
     *(f"HashAlg: {place}, {what}" for place in ("a hash", "a hash without a digest", "an operation") for what in ("another string", "a hint")),
     *(f"UnknownVersion: {place}, {what}" for place in ("a list", "a certificate") for what in ("another string", "a hint")),

@@ -15,9 +15,8 @@ ORDERINGS = (b"alpha", b"time", b"date")
 FAULTS = Rows("tag, fault", [
     "TooManyNodes", "a string: Hint", "EmptyList", "ListHead", "a list's head: Hint", "behind the star a list: UnknownStar",
     "behind the star another word: UnknownStar", "behind the star: Hint", "behind prefix nothing: UnknownStar",
-    "behind prefix more than one: UnknownStar", "behind prefix a list: UnknownStar", "behind prefix: Hint",
-    "behind range nothing: RangeOrdering", "behind range a list: RangeOrdering", "behind range another string: RangeOrdering",
-    "behind range: Hint", "among the limits: Hint", "RangeLimit"])
+    "behind prefix more than one: UnknownStar", "behind prefix a list: UnknownStar", "behind prefix: Hint", "behind range nothing: RangeOrdering",
+    "behind range a list: RangeOrdering", "behind range another string: RangeOrdering", "behind range: Hint", "among the limits: Hint", "RangeLimit"])
 REQUEST_FAULTS = Rows("request, fault", ["Hint", "EmptyList", "ListHead", "StarInRequest"])
 NORMAL = Rows("tag, normal form", ["a set in a set", "a set with a member (*)", "a set with one member", "a list with a member (* set)"])
 CONTAINED = Rows("tag contains a request", [
@@ -306,8 +305,7 @@ def contained(tag: Tag, request: Value) -> tuple[str, bool]:
     if isinstance(tag, Text):
         return "a string", isinstance(request, Atom) and request.body == tag.body
     if isinstance(tag, Plain):
-        return "a list", (isinstance(request, tuple) and len(request) >= len(tag.members)
-                          and all(map(contains, tag.members, request)))
+        return "a list", isinstance(request, tuple) and len(request) >= len(tag.members) and all(map(contains, tag.members, request))
     if isinstance(tag, AnyOf):
         return "a set", any(contains(member, request) for member in tag.members)
     if isinstance(tag, Prefix):

@@ -10,8 +10,7 @@ from .values import canonical as canonical_text
 
 INSIDE = re.compile(rb"[A-Za-z0-9+/= \t\n\v\f\r]*")
 FAULTS = Rows("transport form, fault", [
-    "TooLong", "Bad at an octet inside", "Short", "TooDeep at the }", "Bad at the }, no base64", "Bad at the }, no canonical form",
-    "Trailing"])
+    "TooLong", "Bad at an octet inside", "Short", "TooDeep at the }", "Bad at the }, no base64", "Bad at the }, no canonical form", "Trailing"])
 
 
 def fault(row: str, kind: str, at: int | None = None) -> FormFault:

@@ -258,91 +258,98 @@ def malformed():
 
 # ---- what `reduce` and `explain` write
 
-B_MAY_ALL = "(five (subject (public-key (test b))) (tag (*)))"
-NONE = (1, "no entries\n")
+GRANTS, NONE = (0, "entry 1 grants\n"), (1, "no entries\n")
 
 
-def shown(*certificates):
-    """The rows and the items of certificates, each with its signer."""
-    return " ".join(row(*c) for c in certificates), " ".join(signed(*c) for c in certificates)
+def five(subject, fields="(tag (*))"):
+    """What `reduce` answers to a case of one entry that is not stopped: the authorization for a subject. `fields` is the text behind the subject."""
+    return 0, f"entry 1 (five (subject {subject}) {fields})\n"
+
+
+def rows_and_items(*pairs):
+    """The rows and the items of certificates, each given with its signer."""
+    return " ".join(row(*pair) for pair in pairs), " ".join(signed(*pair) for pair in pairs)
 
 
 def explained():
-    """Cases: the name, the text, what `reduce` answers, and what `explain` answers, each a status and lines."""
+    """Yields (name, text, what `reduce` answers, what `explain` answers): cases of one entry and its certificates. Both answers are equal where the
+    chain stops."""
     a, b, c = key("a"), key("b"), key("c")
-    all_of_it = entry("a")
+    host, all_of_it = f"(entry {a} (tag (ftp host)))", entry("a")
     c1, c2 = cert(a, b, "(tag (*))"), cert(b, c, "(tag (*))")
-    first = shown((c1, a))
-    yield "first run", case(f"(entry {a} (tag (ftp host)))", asks=a, request="(ftp host dir)"), (
-        0, "entry 1 (five (subject (public-key (test a))) (tag (ftp host)))\n"), (0, "entry 1 grants\n")
-    yield "shorter request", case(f"(entry {a} (tag (ftp host)))", asks=a), (
-        0, "entry 1 (five (subject (public-key (test a))) (tag (ftp host)))\n"), (1, "entry 1 TagLacks\n")
+    yield "first run", case(host, asks=a, request="(ftp host dir)"), five(a, "(tag (ftp host))"), GRANTS
+    yield "shorter request", case(host, asks=a), five(a, "(tag (ftp host))"), (1, "entry 1 TagLacks\n")
     packed = base64.b64encode(hashlib.sha256(canonical(a)).digest()).decode()
-    yield "entry for a hash", case(f"(entry {digest(a)[:-1]} (uri http://keys.example/a)) (tag (*)))", asks=a), (
-        0, f"entry 1 (five (subject (hash sha256 |{packed}|)) (tag (*)))\n"), (0, "entry 1 grants\n")
-    yield "delegation", case(all_of_it, *first, b), (0, f"entry 1 {B_MAY_ALL}\n"), (0, "entry 1 grants\n")
+    of_hash = f"(entry {digest(a)[:-1]} (uri http://keys.example/a)) (tag (*)))"
+    yield "entry for a hash", case(of_hash, asks=a), five(f"(hash sha256 |{packed}|)"), GRANTS
+    yield "delegation", case(all_of_it, *rows_and_items((c1, a)), b), five(b), GRANTS
     stopped = 1, "entry 1 item 3 NoDelegation\n"
-    yield "delegation: one too many", case(all_of_it, *shown((c1, a), (c2, b)), c), stopped, stopped
-    passed_on = cert(a, b)
-    yield "delegation passed on", case(all_of_it, *shown((passed_on, a)), b), (
-        0, "entry 1 (five (subject (public-key (test b))) (propagate) (tag (*)))\n"), (0, "entry 1 grants\n")
+    yield "delegation: one too many", case(all_of_it, *rows_and_items((c1, a), (c2, b)), c), stopped, stopped
+    yield "delegation passed on", case(all_of_it, *rows_and_items((cert(a, b), a)), b), five(b, "(propagate) (tag (*))"), GRANTS
+    both = entry("a", "(propagate) (tag (* set read write))")
+    narrowed, apart = cert(a, b, "(tag (* set write (* prefix re)))"), cert(a, b, "(tag x)")
+    yield "reduced sets", case(both, *rows_and_items((narrowed, a)), b, "read"), five(b, "(tag (* set read write))"), GRANTS
+    no_tag = 1, "entry 1 item 1 NoTag\n"
+    yield "reduced sets: none", case(both, *rows_and_items((apart, a)), b, "read"), no_tag, no_tag
+    sha1 = five(f"(hash sha1 |{base64.b64encode(hashlib.sha1(canonical(a)).digest()).decode()}|)")
+    by_sha1 = f"(entry {digest(a, 'sha1')} (tag (*)))"
+    yield "open: subject by sha1", case(by_sha1, asks=a), sha1, GRANTS
+    yield "strict: subject by sha1", case(by_sha1, asks=a, policy="(policy strict)"), sha1, (1, "entry 1 NotTheKey\n")
+    yield from explained_windows()
+    yield from explained_names()
+    yield from explained_evidence()
+
+
+def explained_windows():
+    """Cases as those of `explained`, in which a window decides."""
+    a, b, c = key("a"), key("b"), key("c")
     alone = f"(entry {a} (tag (*)) (not-after \"2024-12-31_23:59:59\"))"
-    valid = '(valid (not-after "2024-12-31_23:59:59"))'
-    yield "windows: too late", case(alone, asks=a, at='"2025-01-01_00:00:00"'), (
-        0, f"entry 1 (five (subject {a}) (tag (*)) {valid})\n"), (1, "entry 1 WindowLacks\n")
+    lacks = 1, "entry 1 WindowLacks\n"
+    reduced = five(a, '(tag (*)) (valid (not-after "2024-12-31_23:59:59"))')
+    yield "windows: too late", case(alone, asks=a, at='"2025-01-01_00:00:00"'), reduced, lacks
     until = entry("a", '(propagate) (tag (*)) (not-after "2024-06-01_00:00:00")')
-    for start, reduced, why in (
-        ("2024-06-01_00:00:00", (0, 'entry 1 (five (subject (public-key (test b))) (tag (*)) '
-                                    '(valid (not-before "2024-06-01_00:00:00") (not-after "2024-06-01_00:00:00")))\n'), "WindowLacks"),
-        ("2024-06-01_00:00:01", (1, "entry 1 item 1 NoValidity\n"), "item 1 NoValidity"),
-    ):
+    limits = '(valid (not-before "2024-06-01_00:00:00") (not-after "2024-06-01_00:00:00"))'
+    stopped = 1, "entry 1 item 1 NoValidity\n"
+    for start, reduced, why in (("2024-06-01_00:00:00", five(b, f"(tag (*)) {limits}"), lacks), ("2024-06-01_00:00:01", stopped, stopped)):
         limited = cert(a, b, f'(tag (*)) (valid (not-before "{start}"))')
-        yield f"windows: certificate from {start}", case(until, *shown((limited, a)), b), reduced, (1, f"entry 1 {why}\n")
+        yield f"windows: certificate from {start}", case(until, *rows_and_items((limited, a)), b), reduced, why
+    limits = '(not-before "2024-06-01_00:00:00") (not-after "2024-01-01_00:00:00")'
+    yield "limits: a window without moments", case(f"(entry {a} (tag (*)) {limits})", asks=a, at='"2024-03-01_00:00:00"'), \
+        five(a, f"(tag (*)) (valid {limits})"), lacks
+    tests, reduced = f"(entry {c} (tag (http)) (not-after \"2000-01-01_00:00:00\"))", five(c, '(tag (http)) (valid (not-after "2000-01-01_00:00:00"))')
+    for asks, request, why in ((a, "(ftp)", "NotTheKey"), (c, "(ftp)", "TagLacks"), (c, "(http)", "WindowLacks")):
+        yield f"three tests: {why}", case(tests, asks=asks, request=request), reduced, (1, f"entry 1 {why}\n")
+
+
+def explained_names():
+    """Cases as those of `explained`, with names."""
+    a, b, c = key("a"), key("b"), key("c")
     friends, bob = f"(cert (issuer (name {a} friends)) (subject {b}))", f"(cert (issuer (name {b} bob)) (subject {c}))"
     of_friends = f"(entry (name {a} friends bob) (tag (*)))"
-    yield "linked names", case(of_friends, *shown((friends, a), (bob, b)), c), (
-        0, f"entry 1 (five (subject {c}) (tag (*)))\n"), (0, "entry 1 grants\n")
+    yield "linked names", case(of_friends, *rows_and_items((friends, a), (bob, b)), c), five(c), GRANTS
     turned = 1, "entry 1 item 1 NotTheName\n"
-    yield "linked names: in the other order", case(of_friends, *shown((bob, b), (friends, a)), c), turned, turned
-    yield "linked names: one left", case(of_friends, *shown((friends, a)), c), (
-        0, f"entry 1 (five (subject (name {b} bob)) (tag (*)))\n"), (1, "entry 1 NotTheKey\n")
-    by_hash = cert(digest(a), b, "(tag (*))")
-    for name, items, line in (
-        ("no key shown", signed(by_hash, a), "item 1 KeyNotShown\n"),
-        ("digest of another text", signed(by_hash, a, of=c1) + a, "item 1 DigestDiffers\n"),
-        ("signed by another", signed(by_hash, b) + a, "item 1 SignerDiffers\n"),
-    ):
-        yield f"hash issuer: {name}", case(all_of_it, row(by_hash, a), items, b), (1, line), (1, line)
-    yield "not accepted", case(all_of_it, "", first[1], b), (1, "item 1 NotAccepted\n"), (1, "item 1 NotAccepted\n")
-    later = 1, "item 4 NotAccepted\n"
-    yield "evidence behind a key", case(all_of_it, first[0], first[1] + a + signed(c2, b), c), later, later
-    yield "no entries where evidence fails", case("", "", first[1], b), (1, "item 1 NotAccepted\n"), (1, "item 1 NotAccepted\n")
-    yield "no entries", case("", *first, b), NONE, NONE
-    yield "second entry", case(f"(entry {c} (tag (*)))" + all_of_it, *first, a), (
-        0, f"entry 1 item 1 NotIssuer\nentry 2 {B_MAY_ALL}\n"), (1, "entry 1 item 1 NotIssuer\nentry 2 NotTheKey\n")
-    both = entry("a", "(propagate) (tag (* set read write))")
-    narrowed = cert(a, b, "(tag (* set write (* prefix re)))")
-    yield "reduced sets", case(both, *shown((narrowed, a)), b, "read"), (
-        0, f"entry 1 (five (subject {b}) (tag (* set read write)))\n"), (0, "entry 1 grants\n")
-    apart = cert(a, b, "(tag x)")
-    none = 1, "entry 1 item 1 NoTag\n"
-    yield "reduced sets: none", case(both, *shown((apart, a)), b, "read"), none, none
-    relative = cert(a, "(name bob)", "(tag (*))"), f"(cert (issuer (name {a} bob)) (subject {b}))"
-    yield "relative name", case(all_of_it, *shown((relative[0], a), (relative[1], a)), b), (
-        0, f"entry 1 {B_MAY_ALL}\n"), (0, "entry 1 grants\n")
-    hashed = f"(hash sha1 |{base64.b64encode(hashlib.sha1(canonical(a)).digest()).decode()}|)"
-    by_sha1 = f"(entry {digest(a, 'sha1')} (tag (*)))"
-    yield "open: subject by sha1", case(by_sha1, asks=a), (0, f"entry 1 (five (subject {hashed}) (tag (*)))\n"), (0, "entry 1 grants\n")
-    yield "strict: subject by sha1", case(by_sha1, asks=a, policy="(policy strict)"), (
-        0, f"entry 1 (five (subject {hashed}) (tag (*)))\n"), (1, "entry 1 NotTheKey\n")
-    backwards = f"(entry {a} (tag (*)) (not-before \"2024-06-01_00:00:00\") (not-after \"2024-01-01_00:00:00\"))"
-    yield "limits: a window without moments", case(backwards, asks=a, at='"2024-03-01_00:00:00"'), (
-        0, f'entry 1 (five (subject {a}) (tag (*)) (valid (not-before "2024-06-01_00:00:00") (not-after "2024-01-01_00:00:00")))\n'), (
-        1, "entry 1 WindowLacks\n")
-    tests = f"(entry {c} (tag (http)) (not-after \"2000-01-01_00:00:00\"))"
-    for asks, request, why in ((a, "(ftp)", "NotTheKey"), (c, "(ftp)", "TagLacks"), (c, "(http)", "WindowLacks")):
-        yield f"three tests: {why}", case(tests, asks=asks, request=request), (
-            0, f'entry 1 (five (subject {c}) (tag (http)) (valid (not-after "2000-01-01_00:00:00")))\n'), (1, f"entry 1 {why}\n")
+    yield "linked names: in the other order", case(of_friends, *rows_and_items((bob, b), (friends, a)), c), turned, turned
+    yield "linked names: one left", case(of_friends, *rows_and_items((friends, a)), c), five(f"(name {b} bob)"), (1, "entry 1 NotTheKey\n")
+    relative, definition = cert(a, "(name bob)", "(tag (*))"), f"(cert (issuer (name {a} bob)) (subject {b}))"
+    yield "relative name", case(entry("a"), *rows_and_items((relative, a), (definition, a)), b), five(b), GRANTS
+
+
+def explained_evidence():
+    """Cases as those of `explained`, with certificates that fail a test of evidence, and cases with no entry or with two."""
+    a, b, c = key("a"), key("b"), key("c")
+    c1, c2, by_hash = cert(a, b, "(tag (*))"), cert(b, c, "(tag (*))"), cert(digest(a), b, "(tag (*))")
+    rows, items = rows_and_items((c1, a))
+    for name, shown, why in (("no key shown", signed(by_hash, a), "KeyNotShown"), ("signed by another", signed(by_hash, b) + a, "SignerDiffers"),
+                             ("digest of another text", signed(by_hash, a, of=c1) + a, "DigestDiffers")):
+        yield f"hash issuer: {name}", case(entry("a"), row(by_hash, a), shown, b), (1, f"item 1 {why}\n"), (1, f"item 1 {why}\n")
+    first, later = (1, "item 1 NotAccepted\n"), (1, "item 4 NotAccepted\n")
+    yield "not accepted", case(entry("a"), "", items, b), first, first
+    yield "evidence behind a key", case(entry("a"), rows, items + a + signed(c2, b), c), later, later
+    yield "no entries where evidence fails", case("", "", items, b), first, first
+    yield "no entries", case("", rows, items, b), NONE, NONE
+    _, second = five(b)
+    yield "second entry", case(f"(entry {c} (tag (*)))" + entry("a"), rows, items, a), \
+        (0, f"entry 1 item 1 NotIssuer\n{second.replace('entry 1', 'entry 2')}"), (1, "entry 1 item 1 NotIssuer\nentry 2 NotTheKey\n")
 
 
 def answer_of_check(lines):
