@@ -209,8 +209,7 @@ class Comparison:
 
 def work(comparison: Comparison, numbers: range, at: MutableSequence[int], job: int, results: Connection) -> None:
     """Compares the cases of these numbers, in a process of its own, and keeps the present number in `at[job]`. Sends to `results` the numbers of the
-    cases that differ, the counts of the rows, and how many cases the program answered. A case that takes over SECONDS ends the process: then nothing
-    is sent."""
+    cases that differ, the counts of the rows, and how many cases the program answered. A case that takes over SECONDS ends it: nothing is sent."""
     coverage.reset_counts()
     differ = []
     for number in numbers:

@@ -133,8 +133,7 @@ def part(value: Value, path: Path) -> Value:
 
 
 def replaced(value: Value, path: Path, parts: tuple[Value, ...]) -> Value:
-    """The value with the part at a path replaced by these parts, side by side, or left out if there are none. The path () replaces the whole, by the
-    one part or by the list of them."""
+    """The value with the part at a path replaced by these parts, side by side. The whole (the path ()) becomes the one part, or the list of them."""
     if not path:
         return parts[0] if len(parts) == 1 else tuple(parts)
     assert isinstance(value, tuple)
@@ -169,8 +168,7 @@ def with_faulty_first(value: Value, rng: random.Random) -> Value | None:
 
 
 def mutated(value: Value, rng: random.Random) -> Value:
-    """A value that mostly differs from the given one at one place: a structure, a member behind a head, or a part that is left out, doubled,
-    replaced, followed by another or changed inside."""
+    """A value that mostly differs from the given one at one place. By chance that place is a structure, a first member, or any part."""
     kind = rng.random()
     if kind < 0.15 and (faulty := with_faulty_first(value, rng)):
         return faulty
@@ -224,8 +222,7 @@ def changed_octets(text: bytes, rng: random.Random) -> bytes:
 
 
 def changed_length(text: bytes, rng: random.Random) -> bytes:
-    """A text with one of its lengths off by one, with a leading zero or a space behind it, or much too large. One without a length has an octet
-    changed."""
+    """A text with a length off by one, with a leading zero, with a space behind it, or much too large. Without a length: with an octet changed."""
     lengths = list(LENGTH.finditer(text))
     if not lengths:
         return changed_octets(text, rng)

@@ -21,8 +21,8 @@ LENGTHS = (9, 10, 63, 64, 65, 99, 100, 255, 256, 1000, 4096)
 
 
 def question(seed: str, number: int) -> Asked:
-    """The question of a seed and a number. Of each EVERY numbers the first are those of MAKERS, and the last those of long texts. The others are of
-    the kinds below, by chance: the number beside a kind is the share of all kinds up to it."""
+    """The question of a seed and a number. Of each EVERY numbers the first are those of MAKERS, and the last those of long texts. Others are of some
+    kind by chance: the number beside a kind below is the share of all kinds up to it."""
     rng = random.Random(f"{seed}/{number}")
     at = number % rare.EVERY
     if at < len(MAKERS):

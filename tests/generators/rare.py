@@ -21,8 +21,7 @@ def too_long_in_braces(rng: random.Random) -> bytes:
 
 
 def text_that_grows(rng: random.Random) -> bytes:
-    """A text within the limit whose canonical form has one octet too many, or just as many as are read: `[a]b` has 4 octets, and 8 there. The octets
-    at the end belong to the last string."""
+    """A text within the limit whose canonical form has one octet too many, or just as many as are read: 4 octets `[a]b` are 8 there."""
     return b"(" + 131_071 * b"[a]b" + (7 if rng.randrange(8) else 6) * b"b" + b")"
 
 

@@ -58,7 +58,7 @@ def everything_nearly() -> Iterator[Value]:
         head = head_of(structure) or b""
         yield from (replaced(EVERYTHING, path, (form,)) for form in NEARLY.get(head, ()))
         yield from (replaced(EVERYTHING, path, ((*members[:1], member, *members[1:]),)) for member in FIRST.get(head, ()))
-    # (the tag of the entry has too many nodes; the list has no entry)
+    # the tag of the entry with too many nodes, and a list without entries
     yield replaced(EVERYTHING, (1, 2, 3, 1), (many_strings(b"set", 1025),))
     yield replaced(EVERYTHING, (1,), ((Atom(b"acl"),),))
 
@@ -147,8 +147,7 @@ def makers_of_cases() -> Iterator[Maker]:
 
 
 def makers_of_guards() -> Iterator[Maker]:
-    """Makers of questions to guards: at and past limits that are set, with tags that are too large, with parts that are wrong or given otherwise,
-    and with an oddity in the calls."""
+    """Makers of questions to guards: at limits and past them, with tags that are too large, with other parts, and with an oddity in the calls."""
     for wish in WISHES:
         question = guard_question_of(case_of_two_lists(4, 4), wish)
         yield from (always(replace(question, limits=Limits(nodes=nodes))) for nodes in (15, 16))

@@ -96,8 +96,8 @@ LONGER, BY_SHORT_DIGEST = ecdsa(OTHER, 384, SHA384()), ecdsa(OTHER, 384, SHA256(
 
 @dataclass
 class Request:
-    """A request, and how it is signed. `components` are the names that the signature covers, `created` and `expires` seconds since 1970, and `now`
-    the second at which it comes. If `keyid` or `algorithm` is None, it is that of `key`, by which the request is signed."""
+    """A request, signed by `key`. The signature covers `components`. Times are seconds since 1970, and `now` is that at which the request comes. If
+    `keyid` or `algorithm` is None, it is that of `key`."""
 
     method: str = "GET"
     target: str = "/foo?param=Value&Pet=dog"
@@ -203,8 +203,8 @@ def valid() -> None:
     more = [f"x-{it}" for it in range(27)]
     for name, request in {
         "Ed25519": GET, "ECDSA": Request(key=CURVE), "ECDSA with P-384": Request(key=LONGER), "RSA": Request(key=MODULUS), "target-uri": WHOLE,
-        "ECDSA with P-384 and a body": replace(POST, key=LONGER), "a body with its digest": POST, "a body that is not known": replace(POST, body=None),
-        "a digest by SHA-512": replace(POST, fields=[digest(BODY, "sha-512")]),
+        "ECDSA with P-384 and a body": replace(POST, key=LONGER), "a body with its digest": POST,
+        "a body that is not known": replace(POST, body=None), "a digest by SHA-512": replace(POST, fields=[digest(BODY, "sha-512")]),
         "DELETE with the digest of nothing": Request("DELETE", fields=[digest("")], components=POST.components),
         "a chain in its own field": CHAINED, "a chain in Authorization": AUTHORIZED, "another field is covered": WITH_TYPE,
         "no query": Request(target="/foo"), "the root": Request(target="/"), "a path in percent-encoding": Request(target="/%7efoo%2Fbar"),

@@ -18,8 +18,7 @@ LARGE = 20_000
 
 
 def smaller(question: Asked, shows: Callable[[Asked], bool], seconds: float = 20) -> Asked:
-    """A smaller question for which `shows` is still true, or the question itself if none was found. It is replaced by its first candidate that shows,
-    until no candidate does, or the time is over."""
+    """A smaller question for which `shows` is true: each time the first candidate for which it is, until there is none or the time is over."""
     ends = time.monotonic() + seconds
     is_smaller = True
     while is_smaller:

@@ -21,8 +21,7 @@ def settings(library: str) -> dict[str, str]:
 
 
 def go(folder: str, words: list[str], library: str, given: bytes | None = None, **more: str) -> subprocess.CompletedProcess[bytes]:
-    """Runs `go` with these words in a folder, with a static library that is linked, some input, and more variables of the environment. Returns how it
-    ended, also if it failed. Raises TimeoutExpired after SECONDS."""
+    """Runs `go` in a folder, with a static library to link, some input, and more variables of the environment. Returns how it ended or failed."""
     return subprocess.run(["go", *words], cwd=folder, input=given, stdout=subprocess.PIPE, stderr=subprocess.PIPE, timeout=SECONDS,
                           env={**settings(library), **more})
 

@@ -195,8 +195,7 @@ class GuardDoor:
         return status, line.raw[:needed.value]
 
     def open_question(self, question: GuardQuestion, handle: c_void_p, asked: c_void_p, room: int) -> Answer:
-        """What `spki_guard_ask` answers, with a buffer of `room` octets for the line. `asked` gets the opened question. The structures that are given
-        are freed when this returns."""
+        """What `spki_guard_ask` answers, with a buffer of `room` octets for the line. `asked` gets the opened question."""
         line, needed, odd = ctypes.create_string_buffer(room + 1), c_size_t(), question.oddity
         parts = asked_of(question)
         given = None if odd == "no question" else byref(parts)
@@ -220,8 +219,7 @@ class GuardDoor:
         return LISTED_WRONGLY if self.signature(asked, len(signatures), byref(Listed())) == DONE else signatures
 
     def answer(self, question: GuardQuestion, asked: c_void_p | None) -> Answer:
-        """What the call that the question is for answers to an opened one by its marks. It asks for the length first, and then with a buffer of that
-        length."""
+        """What the question's call answers to the opened question by its marks. It asks for the length, and then with a buffer of that length."""
         call, odd, needed = self.by_wish[question.command.removeprefix("guard ")], question.oddity, c_size_t()
         if odd == "a buffer that is null with a length":
             return call(asked, None, 1, byref(needed)), b""

@@ -4,7 +4,7 @@ import resource
 import signal
 import subprocess
 import tempfile
-from dataclasses import dataclass
+from dataclasses import dataclass, field, replace
 
 from harness.support import TESTS
 
@@ -23,8 +23,8 @@ class Ended:
     status: int
     out: bytes
     err: bytes
-    asked: dict
-    refused: int
+    asked: dict = field(default_factory=dict)
+    refused: int = 0
     before_reads: int = 0
 
     @property
@@ -44,8 +44,7 @@ def compiled(folder):
 
 
 def descriptor_of(text):
-    """A descriptor from which a text is read, and which the caller closes: of a pipe if the text fits into one, so that writing it does not block,
-    else of a file."""
+    """A descriptor from which a text is read, which the caller closes: of a pipe if the text fits into one, so that writing ends, else of a file."""
     if len(text) <= PIPE:
         reader, writer = os.pipe()
         os.write(writer, text)
@@ -57,13 +56,14 @@ def descriptor_of(text):
         return os.open(file.name, os.O_RDONLY)
 
 
-def outputs_of(child):
-    """Waits for a run, which is killed after SECONDS, and returns its two outputs."""
+def ended(child, out=b""):
+    """Waits for a run, which is killed after SECONDS, and returns how it ended: its output is `out` and what its pipe still has, if it has one."""
     try:
-        return child.communicate(timeout=SECONDS)
+        rest, err = child.communicate(timeout=SECONDS)
     except subprocess.TimeoutExpired:
         child.kill()
-        return child.communicate()
+        rest, err = child.communicate()
+    return Ended(child.returncode, out + (rest or b""), err)
 
 
 def read_to_end(reader):
@@ -108,9 +108,9 @@ class Program:
         """A run for which the system limits a resource to `most`. `what` is a constant, as `resource.RLIMIT_AS`. The run writes into a file."""
         with tempfile.TemporaryFile() as out:
             child = self.started(command, descriptor_of(text), out, preexec_fn=lambda: self.limit(what, most))
-            err = outputs_of(child)[1]
+            how = ended(child)
             out.seek(0)
-            return Ended(child.returncode, out.read(), err, {}, 0)
+            return replace(how, out=out.read())
 
     @staticmethod
     def limit(what, most):
@@ -121,13 +121,10 @@ class Program:
     def redirected(self, command, words):
         """A run by the shell. `words` are the redirections behind the command, as `>&-`. Without one its input is empty."""
         shell = ["sh", "-c", f'exec "$0" "$1" {words}', self.path, command]
-        child = subprocess.Popen(shell, stdin=subprocess.DEVNULL, stdout=subprocess.PIPE, stderr=subprocess.PIPE)
-        out, err = outputs_of(child)
-        return Ended(child.returncode, out, err, {}, 0)
+        return ended(subprocess.Popen(shell, stdin=subprocess.DEVNULL, stdout=subprocess.PIPE, stderr=subprocess.PIPE))
 
     def reader_gone(self, command, text, taken, dies):
-        """A run whose output is closed after `taken` octets, or at its end if it writes fewer. `dies`: the signal of a closed pipe ends it, as by
-        default. Otherwise it gets the error EPIPE."""
+        """A run whose output is closed after `taken` octets, or at its end if there are fewer. `dies`: the signal of a closed pipe ends it."""
         reader, writer = os.pipe()
         if taken == 0:
             os.close(reader)
@@ -138,8 +135,7 @@ class Program:
             while len(out) < taken and (piece := os.read(reader, taken - len(out))):
                 out += piece
             os.close(reader)
-        err = outputs_of(child)[1]
-        return Ended(child.returncode, out, err, {}, 0)
+        return ended(child, out)
 
     def in_packets(self, command, text):
         """A run that gets one octet at each read, from a pipe in which each octet is a packet. The text must fit into the pipe."""
@@ -148,8 +144,7 @@ class Program:
         for place in range(len(text)):
             os.write(writer, text[place:place + 1])
         os.close(writer)
-        out, err = outputs_of(child)
-        return Ended(child.returncode, out, err, {}, 0)
+        return ended(child)
 
     def without_waiting(self, command, text):
         """A run on a pipe that does not block: it writes to one that gets full, or if the text is empty reads from one that has nothing yet."""
@@ -158,9 +153,7 @@ class Program:
         if text:
             child = self.started(command, descriptor_of(text), writer)
             os.close(writer)
-            err = outputs_of(child)[1]
-            return Ended(child.returncode, read_to_end(reader), err, {}, 0)
-        child = self.started(command, reader, subprocess.PIPE)
-        out, err = outputs_of(child)
+            return replace(ended(child), out=read_to_end(reader))
+        how = ended(self.started(command, reader, subprocess.PIPE))
         os.close(writer)
-        return Ended(child.returncode, out, err, {}, 0)
+        return how

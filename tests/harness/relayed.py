@@ -152,15 +152,13 @@ class Relayed:
         return call
 
     def pipes(self) -> tuple[BinaryIO, BinaryIO]:
-        """The pipe to the process of the other machine, and the one from it. That process is started at the first call of each process here: one that
-        was forked must not share its pipes."""
+        """The pipe to the other machine, and the one from it. It is started at the first call of each process here, since no fork may share pipes."""
         if self.process is None or self.owner != os.getpid():
             self.process, self.owner = subprocess.Popen(self.words, stdin=subprocess.PIPE, stdout=subprocess.PIPE), os.getpid()
         return cast(BinaryIO, self.process.stdin), cast(BinaryIO, self.process.stdout)
 
     def relay(self, call: int, request: Request) -> tuple[int, list[tuple[int, bytes]]]:
-        """Has the other machine do the call of this number in CALLS. Returns what it returns, and for each block its address there and its octets
-        afterwards."""
+        """Has the other machine do the call of a number. Returns what it returns, and of each block its address there and its octets afterwards."""
         to_other, from_other = self.pipes()
         to_other.write(request.octets_for(call))
         to_other.flush()

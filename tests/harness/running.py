@@ -79,11 +79,10 @@ class Result(unittest.TestResult):
             self.add(test, f"it was skipped although tests/harness/needs.py says that nothing is missing: {reason}")
 
     def addFailure(self, test, err) -> None:
-        text = str(err[1]) if isinstance(err[1], AssertionError) else "".join(traceback.format_exception(*err))
-        self.add(test, text)
+        self.add(test, str(err[1]) if isinstance(err[1], AssertionError) else "".join(traceback.format_exception(*err)))
 
     def addError(self, test, err) -> None:
-        self.add(test, "".join(traceback.format_exception(*err)))
+        self.addFailure(test, err)
 
     def addSubTest(self, test, subtest, err) -> None:
         if err is not None:
@@ -144,8 +143,7 @@ def flattened(suite: unittest.TestSuite | unittest.TestCase) -> Iterator[unittes
 
 
 def tests_of(words: list[str], modules: Sequence[str] = ()) -> list[unittest.TestCase]:
-    """The tests of these modules, or of all if none is given. If there are words, only the tests whose names have one of them, or match it if it has
-    a star."""
+    """The tests of these modules, or of all if none is given. If there are words, only tests whose names have one, or match one with a star."""
     loader = unittest.TestLoader()
     if words:
         loader.testNamePatterns = [word if "*" in word else f"*{word}*" for word in words]
@@ -160,8 +158,7 @@ def is_whole_module(test: unittest.TestCase) -> bool:
 
 
 def parts_of(tests: Iterable[unittest.TestCase]) -> list[tuple[str, list[unittest.TestCase]]]:
-    """The tests in parts (name of the class, tests), those that take longest first. A class of a module of APART has several parts, of at most
-    MOST_TOGETHER tests."""
+    """The tests in parts (name of the class, tests), those that take longest first. A class in a module of APART has several parts."""
     by_class: dict[str, list[unittest.TestCase]] = {}
     for test in tests:
         name = test.id().rpartition(".")[2] if is_whole_module(test) else f"{module_of(test)}.{type(test).__qualname__}"

@@ -127,8 +127,7 @@ def members_of(tag: Tag) -> tuple[Tag, ...]:
 
 
 def of_sets(first: tuple[Tag, ...], second: tuple[Tag, ...]) -> Tag:
-    """The set of the intersections of each member of the first with each of the second, in this order, without those that are `(* set)`. A single one
-    is returned itself."""
+    """The set of the intersections of each member of the first with each of the second, in this order, without `(* set)`, or the only one."""
     members = [it for it in (together(a, b) for a in first for b in second) if it != NOTHING]
     if not members:
         RULES.count_use("a set and any: none is left")

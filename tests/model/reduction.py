@@ -51,8 +51,7 @@ def fold(entry: Entry, steps: list[tuple[int, Tuple]], strict: bool) -> Authoriz
 
 
 def joined(left: Authorization, right: Authorization, strict: bool) -> Authorization:
-    """The authorization that follows from one and the next, which the subject of the first must have issued. Raises NoJoin with the first cause, and
-    TooLarge."""
+    """The authorization that follows from one and the next, which the subject of the first must have issued. Raises NoJoin and TooLarge."""
     assert right.issuer is not None
     if left.subject.names:
         raise no_join("NotIssuer: names left")
@@ -63,7 +62,6 @@ def joined(left: Authorization, right: Authorization, strict: bool) -> Authoriza
     window = common_window(left.window, right.window)
     if window is None:
         raise no_join("NoValidity: an authorization")
-    # (as the row "work" says)
     spend_work(nodes(left.tag) * (32 + node_cost(right.tag)) + len(right.subject.names))
     tag = intersection(left.tag, right.tag)
     if tag == NOTHING:

@@ -119,8 +119,7 @@ class Entry:
 
 @dataclass(frozen=True, slots=True)
 class Certificate:
-    """A certificate. If it has a `name`, it defines this name of the issuer. Otherwise it is one of an authorization, and has a tag. `octets` is its
-    canonical text."""
+    """A certificate: with a `name` it defines this name of the issuer, otherwise it is an authorization with a tag. `octets`: its canonical text."""
 
     issuer: Principal
     name: bytes | None

@@ -22,7 +22,9 @@ from harness.support import COMMANDS, TOP, run
 
 GRANTS = re.compile(rb"entry (\d+) grants")
 TOO_LARGE = (2, b"refused TooLarge\n")
+# Each way to write an octet, by a group; the last, empty one is a `%` that begins none of them.
 ESCAPE = re.compile(rb"%(?:([0-9A-F]{2})|(n)|(-)|<(\d+)\*([^>]*)>|\[([^]]+)\]|())")
+# So many octets of a text are shown.
 SHOWN = 1000
 
 
@@ -36,9 +38,9 @@ class Row(NamedTuple):
     answer: bytes
 
 
-def octets_of(found: re.Match[bytes]) -> bytes:
+def octets_of(escape: re.Match[bytes]) -> bytes:
     """The octets that an escape, a match of ESCAPE, stands for. Raises ValueError if it has no meaning."""
-    code, line_feed, nothing, times, repeated, path, _ = found.groups()
+    code, line_feed, nothing, times, repeated, path, _ = escape.groups()
     if code:
         return bytes.fromhex(code.decode())
     if line_feed:
@@ -50,7 +52,7 @@ def octets_of(found: re.Match[bytes]) -> bytes:
     if path:
         with open(os.path.join(TOP, path.decode()), "rb") as file:
             return file.read()
-    raise ValueError(f"{found.string!r} has an unknown escape")
+    raise ValueError(f"{escape.string!r} has an unknown escape")
 
 
 def unescaped(field: bytes) -> bytes:
@@ -81,10 +83,10 @@ def shown(octets: bytes) -> str:
 
 def fault_of(program: str, row: Row) -> str | None:
     """What is wrong with the program's answer to a row, None if nothing is."""
-    met = run(program, row.command, row.text)
-    wrong = fault_beside(program, row) if met == (row.status, row.answer) else (
-        f"wanted {row.status} {shown(row.answer)}\ncame   {met[0]} {shown(met[1])}")
-    return wrong and f"{row.place}: {row.command}\ntext   {shown(row.text)}\n{wrong}"
+    status, answer = run(program, row.command, row.text)
+    fault = fault_beside(program, row) if (status, answer) == (row.status, row.answer) else (
+        f"wanted {row.status} {shown(row.answer)}\ncame   {status} {shown(answer)}")
+    return fault and f"{row.place}: {row.command}\ntext   {shown(row.text)}\n{fault}"
 
 
 def fault_beside(program: str, row: Row) -> str | None:
@@ -105,11 +107,12 @@ def fault_of_check(program: str, row: Row) -> str | None:
     """What is wrong with what `reduce` and `explain` say of a text beside the answer of `check`, None if nothing is."""
     decided = row.status, row.answer
     reduced, explained = (run(program, command, row.text) for command in ("reduce", "explain"))
-    said = f"check     {decided[0]} {shown(row.answer)}\nreduce    {reduced[0]} {shown(reduced[1])}\nexplain   {explained[0]} {shown(explained[1])}"
+    all_three = (("check", decided), ("reduce", reduced), ("explain", explained))
+    answers = "\n".join(f"{command:<9} {status} {shown(octets)}" for command, (status, octets) in all_three)
     if row.status == 2:
-        return None if reduced == explained == decided else f"wanted reduce and explain to refuse it by the same line\n{said}"
+        return None if reduced == explained == decided else f"wanted reduce and explain to refuse it by the same line\n{answers}"
     if explained[0] == 2:
-        return None if explained == reduced == TOO_LARGE else f"wanted explain to decide it\n{said}"
+        return None if explained == reduced == TOO_LARGE else f"wanted explain to decide it, or to refuse it as TooLarge\n{answers}"
     first = GRANTS.search(explained[1])
     line = b"yes entry %s\n" % first[1] if first else b"no\n"
-    return None if decided == (explained[0], line) else f"wanted explain to agree with check\n{said}"
+    return None if decided == (explained[0], line) else f"wanted explain to agree with check\n{answers}"

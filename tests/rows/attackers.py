@@ -44,13 +44,13 @@ def changes_of(site: Site, answer: bytes) -> Iterator[str]:
 
 
 def faults_of(site: Site, asked: Asked, must: set[int]) -> list[str]:
-    """What is wrong with the answer to a plain request: a status that is not in `must`, or what `changes_of` finds."""
+    """What is wrong with the answer to a plain request: a status that is not in `must` (0 stands for no answer), or what `changes_of` finds."""
     who, method, path = asked
     body = "made" if method == "PUT" else ""
     header = f"{method} {path} HTTP/1.1\r\nHost: localhost\r\nConnection: close\r\nContent-Length: {len(body)}\r\n\r\n"
     answer = site.answer(who, (header + body).encode())
-    wrong = [f"{who} {method} {path} is {each}" for each in statuses(answer) or [0] if each not in must]
-    return wrong + [f"{who} {method} {path}: {each}" for each in changes_of(site, answer)]
+    faults = [f"{who} {method} {path} is {each}" for each in statuses(answer) or [0] if each not in must]
+    return faults + [f"{who} {method} {path}: {each}" for each in changes_of(site, answer)]
 
 
 def statuses(answer: bytes) -> list[int]:
@@ -121,5 +121,5 @@ class Attackers:
         site.sh("openssl", "x509", "-req", "-in", "tmp/old.csr", "-key", "keys/ben", "-days", "-1", "-out", "keys/old.crt")
 
     def filled(self, octets: bytes) -> bytes:
-        """The octets of an attack, with each name in braces replaced by its text."""
-        return re.sub(rb"\{(\w+)\}", lambda found: self.sent.get(found[1].decode(), found[0].decode()).encode(), octets)
+        """The octets of an attack, with each name in braces replaced by its text. Other braces stay."""
+        return re.sub(rb"\{(\w+)\}", lambda name: self.sent.get(name[1].decode(), name[0].decode()).encode(), octets)

@@ -8,9 +8,14 @@ from model import forms, values
 NOW = '"2024-01-01_00:00:00"'
 
 
+def octets_of(text: str | bytes) -> bytes:
+    """A text as octets, which it may be already."""
+    return text.encode() if isinstance(text, str) else text
+
+
 def canonical(text: str | bytes) -> bytes:
     """The canonical form of any text."""
-    return values.canonical(forms.read(text.encode() if isinstance(text, str) else text))
+    return values.canonical(forms.read(octets_of(text)))
 
 
 def digest(text, alg="sha256"):
@@ -36,6 +41,11 @@ def signed(certificate, signer, value="sig", of=None):
 def row(certificate, signer, value="sig"):
     """The row that accepts a signature of a certificate by a key, as it is written."""
     return f"(by {signer} {digest(certificate)} {value})"
+
+
+def rows_and_items(*pairs):
+    """The rows and the items of certificates, each given with its signer."""
+    return " ".join(row(*pair) for pair in pairs), " ".join(signed(*pair) for pair in pairs)
 
 
 def case(entries, rows="", items="", asks=key("d"), request="(ftp)", at=NOW, policy=""):
@@ -66,12 +76,12 @@ def chain(changed=None, how=None):
     rows, items = [], []
     for place, (issuer, subject) in enumerate(CHAIN):
         fails = how if place == changed else None
-        shown = cert(digest(issuer) if fails == "key not shown" else issuer, subject)
+        certificate = cert(digest(issuer) if fails == "key not shown" else issuer, subject)
         signer = key("x") if fails == "signer differs" else issuer
         other = cert(issuer, key("x")) if fails == "digest differs" else None
-        items.append(signed(shown, signer, of=other))
+        items.append(signed(certificate, signer, of=other))
         if fails != "not accepted":
-            rows.append(row(shown, issuer))
+            rows.append(row(certificate, issuer))
     return " ".join(rows), " ".join(items)
 
 
@@ -92,39 +102,36 @@ def chains():
     yield "row of another key", case(entry("a"), rows.replace("test c", "test x"), items), NO
     yield "entry that does not delegate", case(entry("a", "(tag (*))"), rows, items), NO
     last = cert(key("a"), key("d"), "(tag (*))")
-    yield "last certificate need not delegate", case(entry("a"), row(last, key("a")), signed(last, key("a"))), YES
+    yield "last certificate need not delegate", case(entry("a"), *rows_and_items((last, key("a")))), YES
 
 
 def windows_and_tags():
     """Yields (name, text, what `check` answers): cases with a certificate whose window or tag decides."""
     for limit, answer in (('(not-after "2024-01-01_00:00:00")', YES), ('(not-after "2023-12-31_23:59:59")', NO),
                           ('(valid (not-before "2024-01-01_00:00:01"))', NO)):
-        c = cert(key("a"), key("d"), f"(tag (*)) {limit}")
-        yield f"window {limit}", case(entry("a"), row(c, key("a")), signed(c, key("a"))), answer
+        limited = cert(key("a"), key("d"), f"(tag (*)) {limit}")
+        yield f"window {limit}", case(entry("a"), *rows_and_items((limited, key("a")))), answer
     for tag, answer in (("(ftp)", YES), ("(ftp host)", NO), ("(http)", NO), ("(* set (http) (ftp))", YES)):
-        c = cert(key("a"), key("d"), f"(tag {tag})")
-        yield f"tag {tag}", case(entry("a"), row(c, key("a")), signed(c, key("a"))), answer
+        narrowed = cert(key("a"), key("d"), f"(tag {tag})")
+        yield f"tag {tag}", case(entry("a"), *rows_and_items((narrowed, key("a")))), answer
 
 
 def sizes():
     """Yields (name, text, what `check` answers): products of nodes from both sides of 1,000,000, and an entry before and behind a larger one. A set
     of N strings has N + 1 nodes, so 999 and 1,000 strings make 1,000 * 1,001. Equal strings are all kept: 99 and 99 leave 9,801, so 9,802 nodes.
     Times the 102 nodes of 101 strings that is 999,804, and times 103 it is 1,009,606."""
-    def set_of(n):
-        return "(* set " + " ".join(f"n{i}" for i in range(n)) + ")"
+    def set_of(count):
+        """A set of so many different strings."""
+        return "(* set " + " ".join(f"n{place}" for place in range(count)) + ")"
 
-    big = cert(key("a"), key("d"), f"(tag {set_of(1000)})")
+    shown = rows_and_items((cert(key("a"), key("d"), f"(tag {set_of(1000)})"), key("a")))
     large, small = entry("a", f"(propagate) (tag {set_of(999)})"), entry("a", "(propagate) (tag n0)")
-    shown = row(big, key("a")), signed(big, key("a"))
     yield "too large", case(large + small, *shown, request="n0"), refused("TooLarge")
     yield "granted before too large", case(small + large, *shown, request="n0"), YES
     for third, answer in ((101, YES), (102, refused("TooLarge"))):
-        def copies(n):
-            return "(* set " + " ".join(["a"] * n) + ")"
-
-        first, second = cert(key("a"), key("b"), f"(propagate) (tag {copies(99)})"), cert(key("b"), key("d"), f"(tag {copies(third)})")
-        both = row(first, key("a")) + row(second, key("b")), signed(first, key("a")) + signed(second, key("b"))
-        yield f"chain with {third} strings", case(entry("a", f"(propagate) (tag {copies(99)})"), *both, request="a"), answer
+        tag = f"(propagate) (tag (* set {'a ' * 99}))"
+        first, second = cert(key("a"), key("b"), tag), cert(key("b"), key("d"), f"(tag (* set {'a ' * third}))")
+        yield f"chain with {third} strings", case(entry("a", tag), *rows_and_items((first, key("a")), (second, key("b"))), request="a"), answer
 
 
 def long_lists():
@@ -139,17 +146,15 @@ def long_lists():
         yield f"nine entries {why}", case(other * 9, rows, items), NO
     yield "nine entries, and another key asks", case(entry("a") * 9, rows, items, asks=key("x")), NO
     yield "nine entries, and a certificate twice", case(entry("a") * 9, rows, items + signed(cert(*CHAIN[2]), key("c"))), NO
-    big = cert(key("a"), key("d"), f"(tag (* set {'n ' * 1000}))")
     large, small = (entry("a", f"(propagate) (tag {tag}) {over}") for tag in (f"(* set {'n ' * 999})", "n"))
-    granted, shown = entry("a", "(propagate) (tag n)"), (row(big, key("a")), signed(big, key("a")))
+    granted, shown = entry("a", "(propagate) (tag n)"), rows_and_items((cert(key("a"), key("d"), f"(tag (* set {'n ' * 1000}))"), key("a")))
     yield "eight entries whose window is over, and one too large", case(small * 8 + large, *shown, request="n"), refused("TooLarge")
     yield "eight entries whose window is over, and one that grants, before one too large", \
         case(small * 8 + granted + large, *shown, request="n"), ninth
     named = [f"(entry (name {key('a')} {names}) (tag (*)))" for names in ("friends", "friends friends", "others")]
     first, second = (f"(cert (issuer (name {key(issuer)} friends)) (subject {key(subject)}))" for issuer, subject in ("ab", "bd"))
-    both = row(first, key("a")) + row(second, key("b")), signed(first, key("a")) + signed(second, key("b"))
+    both, one = rows_and_items((first, key("a")), (second, key("b"))), rows_and_items((first, key("a")))
     yield "eight entries for a name, and one for two names", case(named[0] * 8 + named[1], *both), ninth
-    one = row(first, key("a")), signed(first, key("a"))
     yield "eight entries for another name, and one for the name", case(named[2] * 8 + named[0], *one, asks=key("b")), ninth
     yield "nine entries for a name that is another key's", case(named[0] * 9, *one), NO
 
@@ -160,8 +165,7 @@ def long_lists_of_tags():
     def behind(entries, tag):
         """A case of entries and of two certificates with a tag."""
         first, second = cert(key("a"), key("b"), f"(propagate) (tag {tag})"), cert(key("b"), key("d"), f"(tag {tag})")
-        both = row(first, key("a")) + row(second, key("b")), signed(first, key("a")) + signed(second, key("b"))
-        return case(entries, *both, request="n")
+        return case(entries, *rows_and_items((first, key("a")), (second, key("b"))), request="n")
 
     over, granted = entry("a", '(propagate) (tag n) (not-after "2023-12-31_23:59:59")'), entry("a", "(propagate) (tag n)")
     one, copies = "(* set n " + " ".join(f"a{i}" for i in range(999)) + ")", f"(* set {'n ' * 1000})"
@@ -171,29 +175,25 @@ def long_lists_of_tags():
 
 
 def moments():
-    """Yields (name, text, what `check` answers): a window that holds its own last moment, and two windows that share one moment or none."""
+    """Yields (name, text, what `check` answers): a window that contains its last moment, and two windows that share one moment or none."""
     alone = f"(entry {key('a')} (tag (*)) (not-after \"2024-12-31_23:59:59\"))"
     for at, answer in (("2024-12-31_23:59:59", YES), ("2025-01-01_00:00:00", NO)):
         yield f"windows: entry alone at {at}", case(alone, asks=key("a"), at=f'"{at}"'), answer
     until = entry("a", '(propagate) (tag (*)) (not-after "2024-06-01_00:00:00")')
     for start, answer in (("2024-06-01_00:00:00", YES), ("2024-06-01_00:00:01", NO)):
-        c = cert(key("a"), key("b"), f'(tag (*)) (valid (not-before "{start}"))')
-        both = row(c, key("a")), signed(c, key("a"))
-        yield f"windows: certificate from {start}", case(until, *both, asks=key("b"), at='"2024-06-01_00:00:00"'), answer
-    turned = f"(entry {key('a')} (tag (*)) (not-before \"2024-06-01_00:00:00\") (not-after \"2024-01-01_00:00:00\"))"
-    yield "limits: a window without moments", case(turned, asks=key("a"), at='"2024-03-01_00:00:00"'), NO
+        shown = rows_and_items((cert(key("a"), key("b"), f'(tag (*)) (valid (not-before "{start}"))'), key("a")))
+        yield f"windows: certificate from {start}", case(until, *shown, asks=key("b"), at='"2024-06-01_00:00:00"'), answer
 
 
 def policies():
-    """Yields (name, text, what `check` answers): what the strict policy refuses, which is hashes by SHA-1 as subject, issuer and signer, and
-    not as a message's digest."""
+    """Yields (name, text, what `check` answers): what the strict policy refuses, which is hashes by SHA-1 as issuer and signer (and as subject, in
+    `explained`), and not as a message's digest."""
     a, b = key("a"), key("b")
     c1 = cert(a, b, "(tag (*))")
     hashed = {alg: cert(digest(a, alg), b, "(tag (*))") for alg in ("sha1", "sha256", "sha512")}
     sha1_digest = f"{c1} (signature {digest(c1, 'sha1')} {a} sig)"
     sha1_signer = f"{c1} (signature {digest(c1)} {digest(a, 'sha1')} sig)"
     examples = [
-        ("subject by sha1", f"(entry {digest(a, 'sha1')} (tag (*)))", "", "", a, NO),
         ("subject by sha512", f"(entry {digest(a, 'sha512')} (tag (*)))", "", "", a, YES),
         ("issuer by sha1", entry("a"), row(hashed["sha1"], a), signed(hashed["sha1"], a) + a, b, NO),
         ("issuer by sha256", entry("a"), row(hashed["sha256"], a), signed(hashed["sha256"], a) + a, b, YES),
@@ -201,9 +201,9 @@ def policies():
         ("digest by sha1", entry("a"), row(c1, a), sha1_digest, b, YES),
         ("signer by sha1", entry("a"), row(c1, a), sha1_signer, b, NO),
     ]
-    for name, entries, rows, items, asks, answer in examples:
+    for name, entries, rows, items, asks, by_strict in examples:
         yield f"open: {name}", case(entries, rows, items, asks), YES
-        yield f"strict: {name}", case(entries, rows, items, asks, policy="(policy strict)"), answer
+        yield f"strict: {name}", case(entries, rows, items, asks, policy="(policy strict)"), by_strict
     for name in ("sha1", "sha256", "sha512"):
         yield f"issuer by {name}, no key shown", case(entry("a"), row(hashed[name], a), signed(hashed[name], a), b), NO
     short = f"(entry (hash sha512 #{hashlib.sha256(canonical(a)).hexdigest()}#) (tag (*)))"
@@ -266,14 +266,8 @@ def five(subject, fields="(tag (*))"):
     return 0, f"entry 1 (five (subject {subject}) {fields})\n"
 
 
-def rows_and_items(*pairs):
-    """The rows and the items of certificates, each given with its signer."""
-    return " ".join(row(*pair) for pair in pairs), " ".join(signed(*pair) for pair in pairs)
-
-
 def explained():
-    """Yields (name, text, what `reduce` answers, what `explain` answers): cases of one entry and its certificates. Both answers are equal where the
-    chain stops."""
+    """Yields (name, text, what `reduce` answers, what `explain` answers): cases, mostly of one entry. Both are equal where its chain stops."""
     a, b, c = key("a"), key("b"), key("c")
     host, all_of_it = f"(entry {a} (tag (ftp host)))", entry("a")
     c1, c2 = cert(a, b, "(tag (*))"), cert(b, c, "(tag (*))")
@@ -316,7 +310,8 @@ def explained_windows():
     limits = '(not-before "2024-06-01_00:00:00") (not-after "2024-01-01_00:00:00")'
     yield "limits: a window without moments", case(f"(entry {a} (tag (*)) {limits})", asks=a, at='"2024-03-01_00:00:00"'), \
         five(a, f"(tag (*)) (valid {limits})"), lacks
-    tests, reduced = f"(entry {c} (tag (http)) (not-after \"2000-01-01_00:00:00\"))", five(c, '(tag (http)) (valid (not-after "2000-01-01_00:00:00"))')
+    over = '(not-after "2000-01-01_00:00:00")'
+    tests, reduced = f"(entry {c} (tag (http)) {over})", five(c, f"(tag (http)) (valid {over})")
     for asks, request, why in ((a, "(ftp)", "NotTheKey"), (c, "(ftp)", "TagLacks"), (c, "(http)", "WindowLacks")):
         yield f"three tests: {why}", case(tests, asks=asks, request=request), reduced, (1, f"entry 1 {why}\n")
 
@@ -360,8 +355,7 @@ def answer_of_check(lines):
 
 def rows():
     """The fields of each row: its place, command, text, status and answer."""
-    for examples in (chains, windows_and_tags, moments, policies, order, sizes, long_lists, long_lists_of_tags,
-                     malformed):
+    for examples in (chains, windows_and_tags, moments, policies, order, sizes, long_lists, long_lists_of_tags, malformed):
         for name, text, (status, answer) in examples():
             yield f"chains:{name}", "check", text.encode(), status, answer.encode()
     for name, text, reduced, why in explained():

@@ -34,9 +34,8 @@ def case(entries: str, rows: str = "", items: str = "", asks: str = KB, request:
 
 def signed_wrongly(certificate: str) -> str:
     """A certificate and a signature of KA, with one bit of the digest changed."""
-    digest = chains.digest(certificate)
-    other = digest.replace("#" + digest.split("#")[1][:2], f"#{int(digest.split('#')[1][:2], 16) ^ 1:02x}")
-    return f"{certificate} (signature {other} {KA} sig)"
+    head, digits, tail = chains.digest(certificate).split("#")
+    return f"{certificate} (signature {head}#{int(digits[:2], 16) ^ 1:02x}{digits[2:]}#{tail} {KA} sig)"
 
 
 def case_by_hash(behind: str, is_changed: bool = False) -> bytes:
@@ -149,17 +148,16 @@ def answer_of(wish: str, parts: list[bytes], rows: bytes) -> tuple[guard.Answer,
     """What the model answers to the parts of a case (`parts_of`) by the text of its rows, and the signatures that it lists. `wish` is `decide`,
     `explain` or `reduce`."""
     asked = guard.Parts(*parts[1:5])
-    said, listed = guard.answer(wish, parts[0], asked, cases.read_rows(forms.read(rows)), int(parts[5] == b"open"), guard.USUAL, "")
-    return said, listed
+    return guard.answer(wish, parts[0], asked, cases.read_rows(forms.read(rows)), int(parts[5] == b"open"), guard.USUAL, "")
 
 
-def in_debug(wish: str, said: bytes) -> bytes:
+def in_debug(wish: str, answer: bytes) -> bytes:
     """The lines of an answer as `test_one_call` writes the result of the call: as a value of the language, or of `reduce` in canonical form."""
     if wish == "decide":
-        return b"No" if said == b"no\n" else b"Yes(%s)" % said.split()[2]
-    if said.startswith(b"item "):
-        return said[len(b"item "):-1]
-    lines = [ENTRY.sub(b"", line, count=1) for line in said.split(b"\n")[:-1] if line != b"no entries"]
+        return b"No" if answer == b"no\n" else b"Yes(%s)" % answer.split()[2]
+    if answer.startswith(b"item "):
+        return answer[len(b"item "):-1]
+    lines = [ENTRY.sub(b"", line, count=1) for line in answer.split(b"\n")[:-1] if line != b"no entries"]
     if wish == "reduce":
         return b"".join((written(forms.read(line)) if line.startswith(b"(") else line.removeprefix(b"item ")) + b"\n" for line in lines)
     return b"[%s]" % b", ".join(reason(line) for line in lines)
@@ -167,8 +165,8 @@ def in_debug(wish: str, said: bytes) -> bytes:
 
 def reason(line: bytes) -> bytes:
     """What an explanation says of an entry, written as a value of the language."""
-    found = re.fullmatch(rb"item (\d+) (\w+)", line)
-    return b"Stopped { item: %s, cause: %s }" % found.groups() if found else line.replace(b"grants", b"Grants")
+    stop = re.fullmatch(rb"item (\d+) (\w+)", line)
+    return b"Stopped { item: %s, cause: %s }" % stop.groups() if stop else line.replace(b"grants", b"Grants")
 
 
 def questions() -> Iterator[tuple[str, bytes]]:
@@ -196,39 +194,38 @@ def of_questions() -> Iterator[CallRow]:
     for name, text in questions():
         rows, parts = rows_of(text), parts_of(text)
         for wish, call in (("decide", "decide"), ("explain", "explain"), ("reduce", "reduce_case")):
-            (status, said), listed = answer_of(wish, parts, rows)
-            yield CallRow(f"calls/questions:{name}: {call}", call, (text, rows), in_debug(wish, said))
-            for form, spelled in SHAPES.items():
-                given = [*map(spelled, parts[:5])]
-                yield from of_question(f"calls/questions:{name}: {form}", wish, [*given, parts[5]], rows, said, listed)
+            (_, answer), listed = answer_of(wish, parts, rows)
+            yield CallRow(f"calls/questions:{name}: {call}", call, (text, rows), in_debug(wish, answer))
+            for form, in_form in SHAPES.items():
+                given = [*map(in_form, parts[:5]), parts[5]]
+                yield from of_question(f"calls/questions:{name}: {form}", wish, given, rows, answer, listed)
 
 
-def of_question(place: str, wish: str, parts: list[bytes], rows: bytes, said: bytes, listed: list[guard.Signed]) -> Iterator[CallRow]:
-    """The rows of one question, by each call that can be asked it. `said` and `listed` are the model's answer."""
-    at, asked = (parts[0], parts[5], b"", b""), tuple(parts[1:5])
-    marks = marks_of(rows, listed)
-    yield CallRow(f"{place} {wish}", f"PreparedQuestion::{wish}", (*at, *asked, rows), in_debug(wish, said))
-    yield CallRow(f"{place} {wish}_by", f"PreparedQuestion::{wish}_by", (*at, *asked, marks), in_debug(wish, said))
+def of_question(place: str, wish: str, parts: list[bytes], rows: bytes, answer: bytes, listed: list[guard.Signed]) -> Iterator[CallRow]:
+    """The rows of one question, by each call that can be asked it. `answer` and `listed` are the model's lines and signatures."""
+    at, asked, marks, result = (parts[0], parts[5], b"", b""), tuple(parts[1:5]), marks_of(rows, listed), in_debug(wish, answer)
+    yield CallRow(f"{place} {wish}", f"PreparedQuestion::{wish}", (*at, *asked, rows), result)
+    yield CallRow(f"{place} {wish}_by", f"PreparedQuestion::{wish}_by", (*at, *asked, marks), result)
     if wish == "reduce":
-        yield CallRow(f"{place} reduce_into", "PreparedQuestion::reduce_into", (*at, *asked, marks), in_debug(wish, said))
-    verdict = b"Done" if is_done(said) else b"No"
-    yield CallRow(f"{place} {wish} in lines", "answer_opened", (*at, wish.encode(), *asked, marks), verdict + b" " + said)
+        yield CallRow(f"{place} reduce_into", "PreparedQuestion::reduce_into", (*at, *asked, marks), result)
+    verdict = b"Done" if is_done(answer) else b"No"
+    yield CallRow(f"{place} {wish} in lines", "answer_opened", (*at, wish.encode(), *asked, marks), verdict + b" " + answer)
     if wish == "decide":
         is_possible = guard.is_possible(parts[0], guard.Parts(*asked), int(parts[5] == b"open"), guard.USUAL)
         for call in ("PreparedQuestion::is_possible", "OwnedQuestion::is_possible"):
             for given in sorted({marks, b""}):
                 yield CallRow(f"{place} {call}, {len(given)} marks", call, (*at, *asked, given), b"yes" if is_possible else b"no")
         yield CallRow(f"{place} other marks", "answer_opened", (*at, b"decide", *asked, marks + b"1"), b"other marks")
-        yield CallRow(f"{place} opened", "OwnedQuestion::decide_by", (*at, *asked, marks), in_debug(wish, said))
+        yield CallRow(f"{place} opened", "OwnedQuestion::decide_by", (*at, *asked, marks), result)
         yield CallRow(f"{place} signed", "OwnedQuestion::signed", (*at, *asked), b"".join(part + b"\n" for one in listed for part in one))
 
 
-def is_done(said: bytes) -> bool:
+def is_done(answer: bytes) -> bool:
     """Whether the lines of an answer say that an entry grants, or becomes an authorization."""
-    return re.search(rb"^(yes entry \d+|entry \d+ grants|entry \d+ \(five .*)$", said, re.MULTILINE) is not None
+    return re.search(rb"^(yes entry \d+|entry \d+ grants|entry \d+ \(five .*)$", answer, re.MULTILINE) is not None
 
 
 def marks_of(rows: bytes, listed: list[guard.Signed]) -> bytes:
     """The marks of a question's signatures: `1` for each that a row accepts, `0` for each other."""
     accepted = {(it.key.octets, it.digest, it.value) for it in cases.read_rows(forms.read(rows))}
-    return b"".join(b"1" if (one, hashlib.sha256(message).digest(), value) in accepted else b"0" for one, message, value in listed)
+    return b"".join(b"1" if (signer, hashlib.sha256(message).digest(), value) in accepted else b"0" for signer, message, value in listed)

@@ -1,7 +1,7 @@
 """Texts at the limits from both sides, with the answers that docs/FORMATS.md has for them."""
 from harness.support import braced
 from rows import chains
-from rows.chains import NO, YES, case, cert, entry, key, refused, row, signed
+from rows.chains import NO, YES, case, cert, entry, key, octets_of, refused, rows_and_items
 
 MOST_OCTETS = 1048576
 MOST_DEPTH = 64
@@ -31,8 +31,7 @@ def one_string(size, form):
 
 
 def lengths():
-    """Yields (name, command, text, answer): a string, and a case with whitespace behind it, of 1,048,576 octets; and one octet more, two, or as many
-    again."""
+    """Yields (name, command, text, answer): a string and a case with whitespace behind it, of 1,048,576 octets, and of 1, 2 or as many again more."""
     for form in FORMS:
         text, canonical = one_string(MOST_OCTETS, form)
         name = f"{len(text)} octets in {form} form"
@@ -81,9 +80,9 @@ def deep_parts():
     for depth, answer in ((62, YES), (63, refused("form TooDeep"))):
         yield f"a request of {depth} lists", "check", case(entry("a"), asks=key("a"), request=nested(depth)), answer
     for depth, answer in ((60, YES), (61, refused("form TooDeep"))):
-        c, other = cert(key("a"), key("d"), f"(tag {nested(depth)})"), entry("a", f"(tag {nested(depth)})")
-        yield f"an entry's tag of {depth} lists", "check", case(other, asks=key("a"), request=nested(depth)), answer
-        yield f"a certificate's tag of {depth} lists", "check", case(entry("a"), row(c, key("a")), signed(c, key("a")), request=nested(depth)), answer
+        of_entry, shown = entry("a", f"(tag {nested(depth)})"), rows_and_items((cert(key("a"), key("d"), f"(tag {nested(depth)})"), key("a")))
+        yield f"an entry's tag of {depth} lists", "check", case(of_entry, asks=key("a"), request=nested(depth)), answer
+        yield f"a certificate's tag of {depth} lists", "check", case(entry("a"), *shown, request=nested(depth)), answer
     for depth, answer in ((63, (0, nested(63) + "\n")), (64, refused("form TooDeep"))):
         yield f"two tags of {depth} lists", "intersect", f"(intersect {nested(depth)} {nested(depth)})", answer
 
@@ -98,9 +97,9 @@ def nodes():
         yield "the second tag", "intersect", f"(intersect (*) {larger})", refused("tag 2 TooManyNodes")
         request = "a" if how == "* set" else fits
         for tag, in_entry, in_certificate in ((fits, YES, YES), (larger, refused("acl 1 Tag TooManyNodes"), refused("sequence 1 Tag TooManyNodes"))):
-            c = cert(key("a"), key("d"), f"(tag {tag})")
+            shown = rows_and_items((cert(key("a"), key("d"), f"(tag {tag})"), key("a")))
             yield "an entry's tag", "check", case(entry("a", f"(tag {tag})"), asks=key("a"), request=request), in_entry
-            yield "a certificate's tag", "check", case(entry("a"), row(c, key("a")), signed(c, key("a")), request=request), in_certificate
+            yield "a certificate's tag", "check", case(entry("a"), *shown, request=request), in_certificate
 
 
 def products():
@@ -115,11 +114,9 @@ def products():
     yield "1,001 nodes and 1,000", "intersect", sets(numbered(1000), numbered(999)), refused("TooLarge")
     yield "1,001 nodes twice", "intersect", sets(numbered(1000), numbered(1000)), refused("TooLarge")
 
-    def list_of(count):
-        return f"({strings(count, 'x')})"
-
-    yield "lists of 1,000 nodes", "intersect", f"(intersect {list_of(999)} {list_of(999)})", (0, list_of(999) + "\n")
-    yield "lists of 1,001 nodes", "intersect", f"(intersect {list_of(1000)} {list_of(1000)})", refused("TooLarge")
+    fits, larger = (f"({strings(count, 'x')})" for count in (999, 1000))
+    yield "lists of 1,000 nodes", "intersect", f"(intersect {fits} {fits})", (0, fits + "\n")
+    yield "lists of 1,001 nodes", "intersect", f"(intersect {larger} {larger})", refused("TooLarge")
     for name, text, answer in chains.sizes():
         yield name, "check", text, answer
 
@@ -131,8 +128,7 @@ def work():
     def chain_of(more, *tags):
         """The rows and the items of the first certificate, whose tag has so many octets more, and of a further one for each of these tags."""
         first = cert(key("a"), key("b"), f"(propagate) (tag (* set r {'x' * 49_951} {'y' * (49_952 + more)}))")
-        shown = [(first, "a")] + [(cert(key("b"), key("b"), f"(propagate) (tag {tag})"), "b") for tag in tags]
-        return "".join(row(it, key(by)) for it, by in shown), "".join(signed(it, key(by)) for it, by in shown)
+        return rows_and_items((first, key("a")), *((cert(key("b"), key("b"), f"(propagate) (tag {tag})"), key("b")) for tag in tags))
 
     each, grants = entry("a", f"(propagate) (tag (* set {numbered(999)}))"), entry("a", "(propagate) (tag (*))")
     second = f"(* set r {numbered(334)})"
@@ -144,11 +140,6 @@ def work():
         yield "the work of 23 entries, 1 octet more", command, case(each * 23, *chain_of(1, second), **asked), refused("TooLarge")
     yield "24 entries whose product of nodes is 4,000", "check", case(each * 24, *chain_of(1), **asked), NO
     yield "24 entries and a certificate for all requests", "check", case(each * 24, *chain_of(1, "(*)"), **asked), NO
-
-
-def octets_of(text):
-    """A text as octets, which it may be already."""
-    return text if isinstance(text, bytes) else text.encode()
 
 
 def rows():

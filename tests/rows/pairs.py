@@ -30,8 +30,8 @@ def rows(intersected):
     """Yields (place, command, text, status, answer) of each pair of sets. The wanted answer is composed of what the program answers to each pair of
     members. `intersected` starts the program on a text, and returns a future of its status and answer."""
     started = {pair: intersected(intersection(*pair)) for pair in product(MEMBERS, MEMBERS)}
-    met = {pair: run.result()[1].rstrip(b"\n") for pair, run in started.items()}
+    by_pair = {pair: run.result()[1].rstrip(b"\n") for pair, run in started.items()}
     for ones, others in product(sets(), sets()):
-        left = tuple(met[pair] for pair in product(ones, others) if met[pair] != NOTHING)
+        common = tuple(by_pair[pair] for pair in product(ones, others) if by_pair[pair] != NOTHING)
         text = intersection(written(ones), written(others))
-        yield f"pairs: {text.decode()}", "intersect", text, 0, normal_form(left) + b"\n"
+        yield f"pairs: {text.decode()}", "intersect", text, 0, normal_form(common) + b"\n"

@@ -5,7 +5,7 @@ from collections.abc import Iterator
 
 from harness.support import group, string
 from rows.call_rows import CallRow, number
-from rows.chains import cert, entry, row, signed
+from rows.chains import cert, entry, octets_of, row, signed
 from rows.guard_rows import KA, KB, KC, NOW, canonical, case, parts_of, rows_of
 
 A = canonical(KA)
@@ -33,19 +33,14 @@ REFUSED = [
 PART = {"Acl": "access list", "Sequence": "sequence", "Key": "key", "Request": "request", "At": "moment"}
 
 
-def as_text(text: str | bytes) -> bytes:
-    """A text as octets, which it may be already."""
-    return text.encode() if isinstance(text, str) else text
-
-
 def of_refused_parts() -> Iterator[CallRow]:
     """A case and a guard refuse the same parts for the same faults (case-faults)."""
     for place, (parts, part, item, kind) in enumerate(REFUSED, 1):
-        texts = [as_text(part) for part in parts]
+        texts = [octets_of(text) for text in parts]
         text = canonical(b"(case %s (accepted) %s (key %s) (request %s) (at %s))" % tuple(texts))
         fault = kind if item is None else f"CertFault {{ item: {item}, kind: {kind} }}"
-        said = TEXT_OF[kind] if item is None else f"item {item}: {TEXT_OF[kind]}"
-        yield CallRow(f"calls/parts:{place}: case", "Case::read", (text,), f"Case({part}({fault})): {PART[part]}: {said}".encode())
+        message = TEXT_OF[kind] if item is None else f"item {item}: {TEXT_OF[kind]}"
+        yield CallRow(f"calls/parts:{place}: case", "Case::read", (text,), f"Case({part}({fault})): {PART[part]}: {message}".encode())
         for form, given in (("advanced", texts), ("canonical", [*map(canonical, texts)])):
             yield from of_refused_part(f"calls/parts:{place}: {form}", given, part, item, kind)
 
@@ -53,17 +48,17 @@ def of_refused_parts() -> Iterator[CallRow]:
 def of_refused_part(place: str, texts: list[bytes], part: str, item: int | None, kind: str) -> Iterator[CallRow]:
     """The rows in which a guard refuses the texts of a list, sequence, key, request and moment, for the fault of one of them: `part`, as PART
     names it. `item` and `kind` are the fault, as in REFUSED."""
-    fault, said = f"CertFault {{ item: {item}, kind: {kind} }}", f"item {item}: {TEXT_OF[kind]}"
-    at, words = (texts[0], b"open", b"", b""), kind.replace("(", " ").replace(")", "")
+    fault, message = f"CertFault {{ item: {item}, kind: {kind} }}", f"item {item}: {TEXT_OF[kind]}"
+    guard, words = (texts[0], b"open", b"", b""), kind.replace("(", " ").replace(")", "")
     if part == "Acl":
-        yield CallRow(place, "Guard::read", at, f"Acl(Acl({fault})): access list: {said}".encode())
-        yield CallRow(f"{place}, line", "refused_list", at, f"Refused refused acl {item} {words}\n".encode())
+        yield CallRow(place, "Guard::read", guard, f"Acl(Acl({fault})): access list: {message}".encode())
+        yield CallRow(f"{place}, line", "refused_list", guard, f"Refused refused acl {item} {words}\n".encode())
         return
     name = "Moment" if part == "At" else part
-    fault, said = (fault, said) if part == "Sequence" else (kind, TEXT_OF[kind])
+    fault, message = (fault, message) if part == "Sequence" else (kind, TEXT_OF[kind])
     line = f"sequence {item}" if part == "Sequence" else part.lower()
-    yield CallRow(place, "PreparedQuestion::decide", (*at, *texts[1:], b"all"), f"Ask({name}({fault})): {PART[part]}: {said}".encode())
-    yield CallRow(f"{place}, line", "answer_opened", (*at, b"decide", *texts[1:], b""), f"Refused refused {line} {words}\n".encode())
+    yield CallRow(place, "PreparedQuestion::decide", (*guard, *texts[1:], b"all"), f"Ask({name}({fault})): {PART[part]}: {message}".encode())
+    yield CallRow(f"{place}, line", "answer_opened", (*guard, b"decide", *texts[1:], b""), f"Refused refused {line} {words}\n".encode())
 
 
 # ---- requests by strings, and moments in seconds
@@ -92,9 +87,9 @@ def of_strings() -> Iterator[CallRow]:
     """Several strings are granted by the tag that is their list, and not by one with one more member. One string is granted by that string, and
     not by a list of it. No strings, and several of which the first is `*`, are refused. Each octet of a string counts as it is."""
     for place, words in enumerate(STRINGS):
-        own = [*map(string, words)]
-        yield row_by_strings(f"strings {place}", list_of(group(*own)), 0, words, b"Yes(1)")
-        yield row_by_strings(f"strings {place} and more", list_of(group(*own, b"(1:*)")), 0, words, b"No")
+        members = [*map(string, words)]
+        yield row_by_strings(f"strings {place}", list_of(group(*members)), 0, words, b"Yes(1)")
+        yield row_by_strings(f"strings {place} and more", list_of(group(*members, b"(1:*)")), 0, words, b"No")
     for octet in range(256):
         words = b"ftp", bytes([octet])
         yield row_by_strings(f"octet {octet}", list_of(group(*map(string, words))), 0, words, b"Yes(1)")
@@ -157,10 +152,10 @@ def of_counts() -> Iterator[CallRow]:
     for count, strings, refusal in ((16, 64, None), (17, 64, "Certificates"), (17, 65, "Certificates"), (16, 65, "Words")):
         asked_for = (f"(sequence {item * count})".encode(), KB.encode(), f"({'a ' * (strings - 2)}(a b))".encode(), NOW)
         # (a second certificate of A is not one of B)
-        no = b"Refused refused question TooMany%s\n" % refusal.encode() if refusal else b"No no\n"
-        for octets, said in ((b"usual", no), (b"", b"No no\n")):
+        by_default = b"Refused refused question TooMany%s\n" % refusal.encode() if refusal else b"No no\n"
+        for octets, answer in ((b"usual", by_default), (b"", b"No no\n")):
             given = (listed, b"strict", octets, b"", b"decide", *asked_for, b"1" * count)
-            yield CallRow(f"calls/limits:{count} certificates, {strings} strings, {octets.decode()}", "answer_opened", given, said)
+            yield CallRow(f"calls/limits:{count} certificates, {strings} strings, {octets.decode()}", "answer_opened", given, answer)
 
 
 def sets_case() -> bytes:

@@ -30,8 +30,7 @@ MAINS = {
 
 @dataclass(frozen=True)
 class Row:
-    """A wrong use: its language and place in the file, its outcome, a text that the compiler must print or none, its
-    name and its code."""
+    """A wrong use: its language and place in the file, its outcome, `said`, which the compiler must print, or empty, its name and its code."""
 
     language: str
     place: int
@@ -67,11 +66,12 @@ def program_of(shared: str, rows: list[Row]) -> tuple[str, dict[int, Row]]:
     return text + begin + "".join(call.format(row.place) for row in rows) + end, lines
 
 
-def faults_in(said: str, path: str, lines: dict[int, Row]) -> Iterator[tuple[Row, str]]:
-    """Each row whose lines a compiler names, and what the compiler says there. That begins behind the line named before, and ends at the next."""
-    found = list(re.finditer(rf"{re.escape(os.path.basename(path))}:(\d+)", said))
-    for place, (at, end) in enumerate(zip(found, [*(it.start() for it in found[1:]), len(said)])):
+def faults_in(output: str, path: str, lines: dict[int, Row]) -> Iterator[tuple[Row, str]]:
+    """Each row whose lines a compiler names in its output, and what it says there: from the line that it names before, up to the next. `path` is that
+    of the source, and `lines` are those of `program_of`."""
+    named = list(re.finditer(rf"{re.escape(os.path.basename(path))}:(\d+)", output))
+    for place, (at, end) in enumerate(zip(named, [*(it.start() for it in named[1:]), len(output)])):
         if int(at[1]) in lines:
             # (the fault of a template precedes the line that uses it)
-            before = found[place - 1].start() if place else 0
-            yield lines[int(at[1])], said[before:end]
+            before = named[place - 1].start() if place else 0
+            yield lines[int(at[1])], output[before:end]
