@@ -215,10 +215,8 @@ def changed_list(old: tuple[Value, ...], rng: random.Random) -> Value:
 def changed_octets(text: bytes, rng: random.Random) -> bytes:
     """A text with one octet changed, dropped, doubled, put in or swapped with the next one."""
     at = rng.randrange(len(text) + 1)
-    octet = bytes([rng.choice(OCTETS)])
-    return rng.choice((
-        text[:at] + octet + text[at + 1:], text[:at] + text[at + 1:], text[:at] + text[at:at + 1] + text[at:], text[:at] + octet + text[at:],
-        text[:at] + text[at + 1:at + 2] + text[at:at + 1] + text[at + 2:]))
+    before, old, following, new = text[:at], text[at:at + 1], text[at + 1:], bytes([rng.choice(OCTETS)])
+    return before + rng.choice((new + following, following, 2 * old + following, new + old + following, following[:1] + old + following[1:]))
 
 
 def changed_length(text: bytes, rng: random.Random) -> bytes:

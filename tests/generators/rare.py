@@ -62,8 +62,7 @@ class LargeTags(Builder):
 
     def tag(self) -> Value:
         """A field with a large tag."""
-        count = self.rng.choice((1000, 1000, 1001, 1001, 1025 if self.wrong(0.5) else 1001))
-        return (Atom(b"tag"), many_strings(b"list", count))
+        return (Atom(b"tag"), many_strings(b"list", self.rng.choice((1000, 1000, 1001, 1001, 1025 if self.wrong(0.5) else 1001))))
 
 
 class GrowingTags(LargeTags):

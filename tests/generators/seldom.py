@@ -80,13 +80,8 @@ def case_of_two_lists(first: int, second: int) -> Value:
 
 def too_deep_intersection() -> Value:
     """`(intersect A B)` of two tags whose intersection is deeper than a text that is read may be."""
-    lists: Value = Atom(b"a")
-    sets: Value = (Atom(b"*"), Atom(b"prefix"), Atom(b"a"))
-    for _ in range(60):
-        lists = (Atom(b"f"), lists)
-    for _ in range(30):
-        sets = (Atom(b"*"), Atom(b"set"), (Atom(b"f"), sets), (Atom(b"f"),))
-    return (Atom(b"intersect"), lists, sets)
+    lists, sets = b"(f " * 60 + b"a" + 60 * b")", b"(* set (f " * 30 + b"(* prefix a)" + 30 * b") (f))"
+    return advanced.read(b"(intersect %s %s)" % (lists, sets))
 
 
 def guard_question_of(case: Value, wish: str) -> GuardQuestion:

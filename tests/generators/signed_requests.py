@@ -243,24 +243,20 @@ def changed_requests() -> None:
         row(name, "body-without-digest" if name == "a method in small letters" else "invalid-signature", replace(sent, fields=[]), signed(GET))
     row("digits of percent-encoding in small letters", "invalid-signature", Request(target="/%7efoo"), signed(Request(target="/%7Efoo")))
     row("a query with target-uri", "invalid-signature", replace(WHOLE, target="/foo?"), signed(replace(WHOLE, target="/foo")))
-    row("http in target-uri", "invalid-signature", WHOLE, signed(replace(WHOLE, target=WHOLE.target, authority="example.com:80")))
+    row("http's port in target-uri", "invalid-signature", WHOLE, signed(replace(WHOLE, authority="example.com:80")))
     row("made for another name", "other-authority", replace(GET, authority="evil.example"))
     row("made for another name, sent with ours", "invalid-signature", GET, signed(replace(GET, authority="evil.example")))
-    row("made for ours, sent with another name", "other-authority", replace(GET, authority="evil.example"), signed(GET))
-    row("another port", "other-authority", replace(GET, authority="example.com:8443"), signed(GET))
-    row("http's port", "other-authority", replace(GET, authority="example.com:80"), signed(GET))
-    row("a dot behind the name", "other-authority", replace(GET, authority="example.com."), signed(GET))
-    row("no name", "other-authority", replace(GET, authority=""), signed(GET))
+    for name, authority in {"made for ours, sent with another name": "evil.example", "another port": "example.com:8443",
+                            "http's port": "example.com:80", "a dot behind the name": "example.com.", "no name": ""}.items():
+        row(name, "other-authority", replace(GET, authority=authority), signed(GET))
     for name, method in {"a method of nothing": "", "a method with a space": "GET ", "a method with an octet over ASCII": "G\xe9T",
                          "a method with a line feed": 'GET\n"@authority": example.com'}.items():
         row(name, "bad-method", replace(GET, method=method), signed(GET))
-    row("the whole address in the first line", "bad-target", replace(GET, target="https://example.com/foo"))
     row("a star in the first line", "bad-target", Request("OPTIONS", target="*"))
-    row("a target of nothing", "bad-target", replace(GET, target=""))
-    row("a fragment", "bad-target", replace(GET, target="/foo#bar"))
-    row("a space in the target", "bad-target", replace(GET, target="/foo bar"))
-    row("a line feed in the target", "bad-target", replace(GET, target='/foo\n"@query": ?'))
-    row("an octet over ASCII in the target", "bad-target", replace(GET, target="/f\xe9"))
+    for name, target in {"the whole address in the first line": "https://example.com/foo", "a target of nothing": "", "a fragment": "/foo#bar",
+                         "a space in the target": "/foo bar", "a line feed in the target": '/foo\n"@query": ?',
+                         "an octet over ASCII in the target": "/f\xe9"}.items():
+        row(name, "bad-target", replace(GET, target=target))
 
 
 def changed_bodies() -> None:
@@ -321,10 +317,9 @@ def changed_fields() -> None:
     row("a covered field taken away", "absent-field", replace(WITH_TYPE, fields=[]), signed(WITH_TYPE))
     row("a covered field in two lines", "repeated-field", replace(WITH_TYPE, fields=[("Accept", "text/html"), ("Accept", "b")]))
     row("a space put into a covered field", "invalid-signature", replace(WITH_TYPE, fields=[("Accept", "text/ html")]), signed(WITH_TYPE))
-    row("a folded field", "bad-value", replace(WITH_TYPE, fields=[("Accept", "text/html,\r\n b")]))
-    row("a line feed in a field", "bad-value", replace(WITH_TYPE, fields=[("Accept", 'text/html\n"x": y')]))
-    row("an octet over ASCII in a field", "bad-value", replace(WITH_TYPE, fields=[("Accept", "text/h\xe9")]))
-    row("a null octet in a field", "bad-value", replace(WITH_TYPE, fields=[("Accept", "text\0")]))
+    for name, value in {"a folded field": "text/html,\r\n b", "a line feed in a field": 'text/html\n"x": y',
+                        "an octet over ASCII in a field": "text/h\xe9", "a null octet in a field": "text\0"}.items():
+        row(name, "bad-value", replace(WITH_TYPE, fields=[("Accept", value)]))
 
 
 def changed_inputs() -> None:

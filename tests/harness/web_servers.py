@@ -113,10 +113,8 @@ class Caddy(Behind):
         "error pages by their names": [("Caddyfile", SITE, "handle_errors {\ntry_files {path}.html {path}\nfile_server {\nstatus 200\n}\n}\n")],
         "a first lock that lets denials pass": [("Caddyfile", "uri /\n",
                                                  "@denied status 401 403\nhandle_response @denied {\nheader X-Denied yes\n}\n")],
-        "templates": [("Caddyfile", SITE, "templates\n")],
-        "a choice of files": [("Caddyfile", SITE, "try_files {path} /web/index.html\n")],
-        "a folder of its own": [("Caddyfile", SITE, "file_server /secret/*\n")],
-        "all files": [("Caddyfile", SITE, "file_server browse\n")],
+        "templates": [("Caddyfile", SITE, "templates\n")], "a choice of files": [("Caddyfile", SITE, "try_files {path} /web/index.html\n")],
+        "a folder of its own": [("Caddyfile", SITE, "file_server /secret/*\n")], "all files": [("Caddyfile", SITE, "file_server browse\n")],
         "the root of all": [("Caddyfile", SITE, "root * {room}/files\nfile_server\n")]}
 
     hole = [("Caddyfile", "\troute {\n", "respond *.css 404\n")]

@@ -65,8 +65,7 @@ def string_at(text: bytes, at: int, place: str) -> tuple[bytes, int]:
         raise bad(place, at)
     begins = length.end() + 1
     if octet_at(text, length.end()) != ord(":"):
-        zero = length[0] == b"0"
-        raise bad("in a length, after a first digit 0" if zero else "in a length, after another digit", length.end())
+        raise bad("in a length, after a first digit 0" if length[0] == b"0" else "in a length, after another digit", length.end())
     ends = begins + written_length(length[0])
     if ends > len(text):
         raise FormFault("Short")

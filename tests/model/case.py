@@ -67,10 +67,9 @@ def read(value: Value) -> Case:
     assert isinstance(key, tuple) and isinstance(request, tuple) and isinstance(at, tuple)
     strict = len(value) == 8
     POLICIES.count_use("strict" if strict else "none")
-    return Case(
-        part("acl", structures.read_access_list, acl), part("accepted", read_rows, accepted),
-        part("sequence", structures.read_sequence, sequence), part("key", read_key, key[1]),
-        part("request", tags.read_request, request[1]), part("at", read_date, at[1]), strict)
+    return Case(part("acl", structures.read_access_list, acl), part("accepted", read_rows, accepted),
+                part("sequence", structures.read_sequence, sequence), part("key", read_key, key[1]),
+                part("request", tags.read_request, request[1]), part("at", read_date, at[1]), strict)
 
 
 def part(name: str, read_part: Callable[[Value], Any], value: Value) -> Any:

@@ -64,9 +64,8 @@ def roots(leaves: list[Node], strict: bool) -> set[Node]:
     for length in range(2, count + 1):
         for begin in range(count - length + 1):
             end = begin + length
-            within[begin, end] = {
-                root for middle in range(begin + 1, end) for left in within[begin, middle] for right in within[middle, end]
-                for root in rules(left, right, strict)}
+            within[begin, end] = {root for middle in range(begin + 1, end) for left in within[begin, middle] for right in within[middle, end]
+                                  for root in rules(left, right, strict)}
     return within[0, count]
 
 

@@ -17,8 +17,6 @@ from spki_cert_tool.sexp import Value
 READ = "(files read (* prefix /web/))"
 CONTENTS = {"web/index.html": b"<p>the web</p>", "web/out/main.js": b"main();", "secret/plan.txt": b"a plan"}
 STATUS = re.compile(rb"^HTTP/1\.[01] (\d{3})", re.MULTILINE)
-
-
 # Who asks, None without a certificate for TLS; by which method; for which path.
 Asked = tuple[Optional[str], str, str]
 # What nobody gets of these, of which the gate asks for the first ones, and what Ann is granted.
@@ -89,9 +87,8 @@ class Attackers:
             "tag": text.replace(b"4:read", b"5:write"), "value": text[:-8] + bytes([text[-8] ^ 1]) + text[-7:],
             "subject": text.replace(self.key("ben"), self.key("eve")), "own": sequence(site, "ben", "ben", READ),
             "signer": canonical(sequence(site, "ben", "ben", READ)).replace(b"6:issuer" + self.key("ben"), b"6:issuer" + self.key("ann")),
-            "secret": sequence(site, "ann", "ben", "(files read (* prefix /secret/))"),
-            "other": sequence(site, "ann", "ben", "(files read /web/other)"),
-            "passed": sequence(site, "ben", "eve", READ, chain=good), "unsigned": [b"sequence", good[1]], "none": [b"sequence"],
+            "secret": sequence(site, "ann", "ben", "(files read (* prefix /secret/))"), "unsigned": [b"sequence", good[1]], "none": [b"sequence"],
+            "other": sequence(site, "ann", "ben", "(files read /web/other)"), "passed": sequence(site, "ben", "eve", READ, chain=good),
             "many": [b"sequence", *good[1:] * 17], "bare": self.key("ben"), "deep": b"(1:a" * 65 + b")" * 65, "name": self.name()}
         certificate = site.text("keys/ann.crt")
         ann = certificate.translate({ord(it): f"%{ord(it):02X}" for it in "\n +/=%"})

@@ -166,8 +166,7 @@ def of_certificates() -> Iterator[Plain]:
     for name, what in [
             ("ended", "a certificate that has ended"), ("early", "a certificate that is not yet valid"), ("tag", "a tag that was changed"),
             ("value", "a signature that was changed"), ("subject", "a subject that was changed"), ("own", "a certificate by Ben himself"),
-            ("signer", "Ben's signature under a certificate in Ann's name"),
-            ("secret", "a right that Ann does not have"),
+            ("signer", "Ben's signature under a certificate in Ann's name"), ("secret", "a right that Ann does not have"),
             ("other", "a certificate for another file"), ("name", "a name without its right"), ("unsigned", "a certificate without its signature"),
             ("none", "a sequence of nothing"), ("many", "17 certificates"), ("bare", "a key in place of a sequence"),
             ("deep", "65 lists in one another")]:

@@ -101,21 +101,20 @@ def of_strings() -> Iterator[CallRow]:
         yield row_by_strings(f"no request {b' '.join(words).decode()}", list_of(b"(1:*)"), 0, words, fault)
 
 
-DATES = {
-    0: b"1970-01-01_00:00:00", 1: b"1970-01-01_00:00:01", 951_782_400: b"2000-02-29_00:00:00",
-    951_868_799: b"2000-02-29_23:59:59", 4_107_542_400: b"2100-03-01_00:00:00", 4_107_542_399: b"2100-02-28_23:59:59",
-    2_147_483_648: b"2038-01-19_03:14:08", 1_795_428_000: b"2026-11-23_10:00:00", 253_402_300_799: b"9999-12-31_23:59:59"}
+DATES = {0: b"1970-01-01_00:00:00", 1: b"1970-01-01_00:00:01", 951_782_400: b"2000-02-29_00:00:00", 951_868_799: b"2000-02-29_23:59:59",
+         4_107_542_400: b"2100-03-01_00:00:00", 4_107_542_399: b"2100-02-28_23:59:59", 2_147_483_648: b"2038-01-19_03:14:08",
+         1_795_428_000: b"2026-11-23_10:00:00", 253_402_300_799: b"9999-12-31_23:59:59"}
 NO_DATES = (-1, 253_402_300_800, -62_167_219_200, -62_167_219_201, 2**63 - 1, -2**63, -377_705_116_800, 1_000_000_000_000)
 
 
 def of_seconds() -> Iterator[CallRow]:
     """Seconds are the moment of their date. They are refused if they are negative, or after the year 9999."""
     for seconds, date in DATES.items():
-        for limit, text, answer in ((date, string(date), b"Yes(1)"), (b"1971-01-01_00:00:00", string(date), b"No")):
+        for limit, answer in ((date, b"Yes(1)"), (b"1971-01-01_00:00:00", b"No")):
             listed = list_of(b"(1:*)", group(string("not-before"), string(limit)) + group(string("not-after"), string(limit)))
             yield row_by_strings(f"seconds {seconds} {answer.decode()}", listed, seconds, (b"a",), answer)
-            yield CallRow(f"calls/words:text {seconds} {answer.decode()}", "PreparedQuestion::decide_by",
-                          (listed, b"open", b"", b"", NOTHING, A, b"1:a", text, b""), answer)
+            given = (listed, b"open", b"", b"", NOTHING, A, b"1:a", string(date), b"")
+            yield CallRow(f"calls/words:text {seconds} {answer.decode()}", "PreparedQuestion::decide_by", given, answer)
     for seconds in NO_DATES:
         yield row_by_strings(f"no date {seconds}", list_of(b"(1:*)"), seconds, (b"a",), b"Ask(Moment(BadDate)): moment: not a date")
 

@@ -11,10 +11,9 @@ FOLDER = os.path.join(TESTS, "wrong_uses")
 HEAD = re.compile(r"^--- (does not compile|is refused|is denied|is granted)(?:, (.+?))?: (.*)$", re.MULTILINE)
 LANGUAGES = ("c", "cpp", "rust", "go", "python")
 # The head of the function of a row, what each line of it has in front, and its end.
-FUNCTIONS = {
-    "c": ("static const char *row_{}(void)\n{{", "    ", "}"), "cpp": ("static const char *row_{}()\n{{", "    ", "}"),
-    "rust": ("fn row_{}() -> Outcome {{", "    ", "}"), "go": ("func row_{}() string {{", "\t", "}"),
-    "python": ("\n\ndef row_{}() -> str:", "    ", "")}
+FUNCTIONS = {"c": ("static const char *row_{}(void)\n{{", "    ", "}"), "cpp": ("static const char *row_{}()\n{{", "    ", "}"),
+             "rust": ("fn row_{}() -> Outcome {{", "    ", "}"), "go": ("func row_{}() string {{", "\t", "}"),
+             "python": ("\n\ndef row_{}() -> str:", "    ", "")}
 # The program behind the functions, and one of its calls: each writes the name of a row and what came of it.
 MAINS = {
     "c": ("int main(void)\n{\n", '    printf("%d %s\\n", {0}, row_{0}());\n', "    return 0;\n}\n"),
