@@ -50,9 +50,10 @@ def guard_question(rng: random.Random) -> GuardQuestion:
     key, request, moment = (part[1] for part in case[4:7] if isinstance(part, tuple))
     strings = strings_of(request, rng)
     wish = rng.choice(list(WISHES))
-    texts = [part_text(part, rng) for part in (acl, sequence, key, request, moment)]
-    seconds = rng.choice(SECONDS) if rng.random() < 0.15 else None
-    return GuardQuestion("guard " + wish, *texts, canonical(rows), strings, seconds, int(len(case) != 8), limits_for(wish, rng))
+    return GuardQuestion(
+        "guard " + wish, part_text(acl, rng), part_text(sequence, rng), part_text(key, rng), part_text(request, rng),
+        part_text(moment, rng), canonical(rows), strings, rng.choice(SECONDS) if rng.random() < 0.15 else None, int(len(case) != 8),
+        limits_for(wish, rng))
 
 
 def limits_for(wish: str, rng: random.Random) -> Limits:

@@ -144,9 +144,8 @@ class NothingToTry(unittest.TestCase):
     """Command lines by which nothing would be tried: such a run must not pass."""
 
     def test_tests(self) -> None:
-        for words in ("run --pages -k no-such-test", "run --as-built --jobs 0", "differential.py --jobs 0 --cases 9"):
-            done = subprocess.run(f"{TESTS}/{words}", shell=True, capture_output=True)
-            self.assertNotEqual(done.returncode, 0, words)
+        for name, *words in ("run", "--pages", "-k", "no such test"), ("run", "--as-built", "--jobs", "0"), ("differential.py", "--jobs", "0"):
+            self.assertNotEqual(subprocess.run([os.path.join(TESTS, name), *words, "--cases", "9"], capture_output=True).returncode, 0, words)
 
     def test_wrong_bodies(self) -> None:
         with contextlib.redirect_stderr(io.StringIO()), mock.patch.object(sys, "argv", ["deep", "--alone"]):
