@@ -66,8 +66,8 @@ class Call(NamedTuple):
         """The most that it takes, in words."""
         seconds = f"{1000 * self.seconds:g} ms" if self.seconds < 1 else f"{self.seconds:g} s"
         more = f" and {1000 * SECONDS_AN_ENTRY:g} ms an entry" if self.is_by_entry else ""
-        kept = f" and {self.entry_mebibytes} MiB an entry" if self.entry_mebibytes else ""
-        return f"{seconds}{more} | {self.mebibytes:g} MiB{kept}"
+        more_memory = f" and {self.entry_mebibytes} MiB an entry" if self.entry_mebibytes else ""
+        return f"{seconds}{more} | {self.mebibytes:g} MiB{more_memory}"
 
 
 # The table of docs/PERFORMANCE.md.

@@ -33,8 +33,8 @@ def try_bodies(names: list[str], counts: Counts) -> None:
 
     with concurrent.futures.ThreadPoolExecutor(2) as pool:
         for crate, chosen, results in pool.map(verdicts, crates.values()):
-            for is_refused, said in results:
-                counts.add(is_refused, said)
+            for is_refused, line in results:
+                counts.add(is_refused, line)
             if crate.name in names and all(is_refused for is_refused, _ in results):
                 records.write(crate)
 
@@ -57,9 +57,9 @@ def run_all(counts: Counts) -> None:
             counts.left_out.append(f"{' '.join(words)} (there is no {needs})")
             continue
         with Parts(plan.DEEP_MINUTES) as parts:
-            said, status = parts.wait_and_print(parts.begin(*words))
-        counts.add_log(said, status, has_counts=words[0] == "tests/run")
-        seed = next(iter(SEED.findall(said)), seed)
+            output, status = parts.wait_and_print(parts.begin(*words))
+        counts.add_log(output, status, has_counts=words[0] == "tests/run")
+        seed = next(iter(SEED.findall(output)), seed)
     used = os.times()
     print(f"Last run of `.ci/deep`: commit {commit}, {counts.passed} passed, {counts.failed} failed, {(time.monotonic() - begun) / 60:.0f} minutes "
           f"on {len(os.sched_getaffinity(0))} processors, {(used.children_user + used.children_system) / 60:.0f} processor minutes; "

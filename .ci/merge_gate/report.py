@@ -1,4 +1,4 @@
-"""What commands passed and failed, by the last lines of what they say."""
+"""What commands passed and failed, by the last lines of their outputs."""
 import re
 
 # The last line of a command. `rt ci` may have a remark in parentheses behind it.
@@ -7,9 +7,9 @@ LAST = re.compile(r"^(\d+) passed, (\d+) failed(?:$| \()")
 LEFT_OUT = re.compile(r"^(?:skipped: (.*)|(.*) (?:is|are) left out)$", re.MULTILINE)
 
 
-def last_counts(said: str) -> re.Match[str] | None:
-    """The counts in the last line of what a command says, if it is 'N passed, M failed'."""
-    return LAST.match(said.rstrip("\n").rpartition("\n")[2])
+def last_counts(output: str) -> re.Match[str] | None:
+    """The counts in the last line of a command's output, which are `[1]` and `[2]`. None if the line is not 'N passed, M failed'."""
+    return LAST.match(output.rstrip("\n").rpartition("\n")[2])
 
 
 class Counts:
@@ -20,20 +20,20 @@ class Counts:
         self.passed = self.failed = 0
         self.left_out: list[str] = []
 
-    def add(self, is_passed: bool, said: str) -> None:
-        """Counts one trial, and prints the line `said` about it."""
-        print(said, flush=True)
+    def add(self, is_passed: bool, line: str) -> None:
+        """Counts one trial, and prints the line about it."""
+        print(line, flush=True)
         self.passed += is_passed
         self.failed += not is_passed
 
-    def add_log(self, said: str, status: int, has_counts: bool = True) -> None:
-        """Counts the output `said` of a command that ended with this status, by its last line 'N passed, M failed'. A command without this line
+    def add_log(self, output: str, status: int, has_counts: bool = True) -> None:
+        """Counts the output of a command that ended with this status, by its last line 'N passed, M failed'. A command without this line
         has failed. But if it never writes one (`has_counts` is false), its status says whether it passed."""
-        counts = last_counts(said)
+        counts = last_counts(output)
         passed, failed = (int(counts[1]), int(counts[2])) if counts else (int(not has_counts and status == 0), int(has_counts))
         self.passed += passed
         self.failed += failed or int(status != 0)
-        self.left_out += [tests or part for tests, part in LEFT_OUT.findall(said)]
+        self.left_out += [tests or part for tests, part in LEFT_OUT.findall(output)]
 
     def end(self) -> int:
         """Prints what was left out and the last line. Returns the exit status."""

@@ -113,8 +113,8 @@ def wait_until_proved(crates: set[str], log: str) -> set[str]:
     the gate may take. Returns the crates that are not proved."""
     until = time.monotonic() + 60 * plan.MINUTES
     while True:
-        said = text_of_log(log)
-        left = crates - set(PROVED.findall(said))
-        if not left or last_counts(said) or time.monotonic() > until:
+        lines = text_of_log(log)
+        left = crates - set(PROVED.findall(lines))
+        if not left or last_counts(lines) or time.monotonic() > until:
             return left
         time.sleep(SECONDS_BETWEEN)

@@ -22,8 +22,8 @@ OTHERS, BY_WORD = ("python3-venv",), {"Python": "python3", "Go 1.": "golang-go",
 def packages_of(page: str) -> list[str]:
     """The packages of Debian that the text of a page names: in backticks, or as words if it has no backticks."""
     words = re.findall(r"`([^`\n]+)`", page) or re.split(r"[^\w.+-]+", page.replace("\\-", "-"))
-    known = {*(need.package for need in needs.NEEDS), *OTHERS}
-    return sorted(known & set(words) | {package for word, package in BY_WORD.items() if word in page})
+    packages = {*(need.package for need in needs.NEEDS), *OTHERS}
+    return sorted(packages & set(words) | {package for word, package in BY_WORD.items() if word in page})
 
 
 def release() -> str:

@@ -36,7 +36,7 @@ class Outcome:
     failed: dict[str, str] = field(default_factory=dict)
     skipped: list[tuple[str, str]] = field(default_factory=list)
     seconds: float = 0.0
-    said: str = ""
+    output: str = ""
 
 
 def module_of(test: unittest.TestCase) -> str:
@@ -103,14 +103,14 @@ class Result(unittest.TestResult):
 @contextlib.contextmanager
 def catching_outputs() -> Iterator[io.StringIO]:
     """A context that catches what this process and those that it starts write to the two outputs. The text has it when the context ends."""
-    said, originals = io.StringIO(), [os.dup(1), os.dup(2)]
+    caught, originals = io.StringIO(), [os.dup(1), os.dup(2)]
     with tempfile.TemporaryFile() as file:
         sys.stdout.flush()
         sys.stderr.flush()
         for place in (1, 2):
             os.dup2(file.fileno(), place)
         try:
-            yield said
+            yield caught
         finally:
             sys.stdout.flush()
             sys.stderr.flush()
@@ -118,15 +118,15 @@ def catching_outputs() -> Iterator[io.StringIO]:
                 os.dup2(original, place)
                 os.close(original)
             file.seek(0)
-            said.write(file.read().decode(errors="replace"))
+            caught.write(file.read().decode(errors="replace"))
 
 
 def run_part(name: str, tests: list[unittest.TestCase], is_fast: bool) -> Outcome:
     """Runs some tests of the class of this name. `is_fast`: it begins none after the first that fails."""
     outcome, begun = Outcome(name), time.monotonic()
-    with catching_outputs() as said:
+    with catching_outputs() as caught:
         unittest.TestSuite(tests).run(Result(outcome, is_fast))
-    outcome.seconds, outcome.said = time.monotonic() - begun, said.getvalue()
+    outcome.seconds, outcome.output = time.monotonic() - begun, caught.getvalue()
     return outcome
 
 
@@ -175,9 +175,9 @@ def print_faults(outcome: Outcome, command: str) -> None:
     """Prints all about what failed in a part, and the notes of its tests. `command`, with the name of a test behind it, runs this test alone."""
     for name, text in outcome.failed.items():
         print(f"\nFAILED {name}\n{text[:FAULT_LENGTH]}alone  {command} '{name}'\n", flush=True)
-    if outcome.failed and outcome.said:
-        print(f"what {outcome.name} wrote:\n{outcome.said[-FAULT_LENGTH:]}", flush=True)
-    print("".join(f"{line}\n" for line in outcome.said.splitlines() if line.startswith(NOTE)), end="", flush=True)
+    if outcome.failed and outcome.output:
+        print(f"what {outcome.name} wrote:\n{outcome.output[-FAULT_LENGTH:]}", flush=True)
+    print("".join(f"{line}\n" for line in outcome.output.splitlines() if line.startswith(NOTE)), end="", flush=True)
 
 
 def line_of_class(name: str, outcomes: list[Outcome]) -> str:

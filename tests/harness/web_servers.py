@@ -39,9 +39,9 @@ class Behind(served.Site):
     on_port: list[tuple[str, str, str]] = []
 
     def prepare(self) -> None:
-        """Writes the files that the server reads: those of its example, for this site. `kept` has the texts of the files that are changed now, as
-        they were before."""
-        self.kept: dict[str, str] = {}
+        """Writes the files that the server reads: those of its example, for this site. `originals` has the former texts of the files that are changed
+        now, by their names."""
+        self.originals: dict[str, str] = {}
         self.write(f"files{SORRY}", SORRY_TEXT)
         self.write("etc/authd.json", self.text("etc/authd.json").replace('"server": "nginx"', f'"server": "{self.name}"'))
         for name in self.files:
@@ -70,9 +70,9 @@ class Behind(served.Site):
     def restart_replacing(self, changes: list[tuple[str, str, str]]) -> None:
         """Starts the server again, with the files of its example but for these changes: a file, a text of it, and the text in its place. `{room}` in
         both texts is the folder of the site."""
-        for name, text in self.kept.items():
+        for name, text in self.originals.items():
             self.write(f"etc/{name}", text)
-        self.kept = {name: self.text(f"etc/{name}") for name, _, _ in changes}
+        self.originals = {name: self.text(f"etc/{name}") for name, _, _ in changes}
         for name, place, lines in changes:
             text, place = self.text(f"etc/{name}"), place.replace("{room}", self.room)
             if place not in text:

@@ -53,7 +53,7 @@ def faults_of(site: Site, asked: Asked, must: set[int]) -> list[str]:
 
 def statuses(answer: bytes) -> list[int]:
     """The HTTP statuses of all answers in the octets that a connection has received."""
-    return [int(found) for found in STATUS.findall(answer)]
+    return [int(digits) for digits in STATUS.findall(answer)]
 
 
 def in_braces(value: Any) -> str:

@@ -183,17 +183,17 @@ LEAVING = "/.well-known/spki-chain"
 def of_leaving() -> Iterator[Plain]:
     """The one path that some servers pass on without asking, with a client's headers: nothing is decided there, and no certificates are left without
     a signature."""
-    said = ("X-Original-Method: GET", f"X-Original-URI: {WEB}", "X-Original-Host: localhost", "X-Forwarded-Method: GET", f"X-Forwarded-Uri: {WEB}",
-            "X-Forwarded-Host: localhost", "X-Client-Cert: {ann}")
+    claims = ("X-Original-Method: GET", f"X-Original-URI: {WEB}", "X-Original-Host: localhost", "X-Forwarded-Method: GET", f"X-Forwarded-Uri: {WEB}",
+              "X-Forwarded-Host: localhost", "X-Client-Cert: {ann}")
     for method in ("PUT", "GET", "POST", "DELETE", "HEAD", "OPTIONS", "COPY"):
-        yield f"a question by {method} where certificates are left", None, request(LEAVING, *said, method=method)
+        yield f"a question by {method} where certificates are left", None, request(LEAVING, *claims, method=method)
     for path in (f"{LEAVING}/", "/.well-known/spki%2dchain", f"/web/..{LEAVING}", f"/{LEAVING}", "/.well-known/SPKI-chain", f"{LEAVING}/../..{WEB}"):
-        yield f"a question at {path}", None, request(path, *said, method="PUT")
-        yield f"a question by GET at {path}", None, request(path, *said)
+        yield f"a question at {path}", None, request(path, *claims, method="PUT")
+        yield f"a question by GET at {path}", None, request(path, *claims)
     for what, *lines in [("without a signature", ""), ("with half a signature", "Signature: spki=:AAAA:"),
                          ("with a key of TLS in a header", "X-Client-Cert: {ann}"), ("with a method that overrides", "X-HTTP-Method-Override: GET")]:
         yield f"certificates that are left {what}", "ben", request(LEAVING, *lines, method="PUT", body="(sequence)")
-    yield "certificates that are left with a query", "ben", request(f"{LEAVING}?GET={WEB}", *said, method="PUT", body="(sequence)")
+    yield "certificates that are left with a query", "ben", request(f"{LEAVING}?GET={WEB}", *claims, method="PUT", body="(sequence)")
     yield "certificates that are left in chunks", "ben", raw(
         f"PUT {LEAVING} HTTP/1.1\nHost: localhost\nConnection: close\nTransfer-Encoding: chunked\n\na\n(sequence)\n0\n\n")
     yield "certificates of 9,000 octets", "ben", request(LEAVING, method="PUT", body="(sequence)".ljust(9000))
