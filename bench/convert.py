@@ -35,21 +35,25 @@ def filled(size, piece):
     return b"(" + piece * ((size - 2) // len(piece)) + b")"
 
 
-# Each of the next functions makes a text of at most `size` octets, of the kind that its name says.
+# Each of the next functions makes a text of at most `size` octets.
 
 def short_tokens(size):
+    """Tokens of one octet."""
     return filled(size, b"a ")
 
 
 def tokens(size):
+    """Two longer tokens in turn."""
     return filled(size, b"public-key ftp.example.org ")
 
 
 def quoted_strings(size):
+    """Quoted strings, every second one with escapes."""
     return filled(size, b'"2024-01-01_00:00:00" "say \\"yes\\"" ')
 
 
 def one_string(size):
+    """One quoted string."""
     return b'"' + b"x y " * ((size - 2) // 4) + b'"'
 
 
@@ -64,6 +68,7 @@ def short_lists(size):
 
 
 def hints(size):
+    """Strings with display hints."""
     return filled(size, b'[text/plain]"two words" [x]3:fgh ')
 
 
@@ -80,10 +85,12 @@ def one_binary_string(size):
 
 
 def base64_strings(size):
+    """Strings of 96 octets in base64."""
     return filled(size, b"|" + base64.b64encode(random.Random(0).randbytes(96)) + b"|\n")
 
 
 def hexadecimal_strings(size):
+    """Strings of 64 octets in hexadecimal digits."""
     return filled(size, b"#" + random.Random(0).randbytes(64).hex().encode() + b"#\n")
 
 

@@ -70,6 +70,7 @@ class Asker(threading.Thread):
         self.socket, self.people, self.ends, self.answers = socket, list(people.items()), threading.Event(), []
 
     def run(self):
+        """Asks until `end` is called. The people take turns."""
         while not self.ends.wait(PAUSE):
             name, person = self.people[len(self.answers) % len(self.people)]
             begun = time.monotonic()

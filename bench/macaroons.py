@@ -58,6 +58,7 @@ def measure(words):
 
 
 def main():
+    """Prints the four times."""
     with tempfile.TemporaryDirectory() as folder:
         words = build(folder) or sys.exit("libmacaroons is not there (Debian: libmacaroons-dev)")
         decision, through_guard, verification, opened = measure(words)

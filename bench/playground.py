@@ -53,6 +53,7 @@ class Timed(InChromium):
 
 
 def main():
+    """Prints the three times. Returns the exit status: 1 if a limit is exceeded."""
     Timed.setUpClass()
     try:
         timed = Timed()

@@ -30,6 +30,7 @@ def parts_in(folder):
 
 
 def main():
+    """Proves the crate and prints the table. Ends with status 1, and what the check says, if the crate is not proved."""
     if len(sys.argv) < 2:
         sys.exit(__doc__)
     name, rows = sys.argv[1], int(sys.argv[2]) if len(sys.argv) > 2 else 20

@@ -313,6 +313,7 @@ def faults_of_run(cases: int, rows: Counter, by_program: int) -> list[str]:
 
 
 def main() -> int:
+    """Compares all cases, and prints what differs and the tables. Returns 1 if anything is wrong, else 0."""
     asked, begun = arguments(), time.monotonic()
     archive = None if asked.program_alone else asked.library
     for name in (asked.program, *([archive] if archive else [])):

@@ -66,6 +66,7 @@ class Site:
         return os.path.join(self.room, name)
 
     def text(self, name: str) -> str:
+        """The text of a file of the site."""
         with open(self.at(name), encoding="utf-8", errors="replace") as file:
             return file.read()
 

@@ -159,39 +159,38 @@ def intersect(value: Value) -> bytes:
 # ---- cases
 
 
-def check(case: Case, rows: list[Row]) -> Answer:
-    """The answer of `check`: the first entry that grants the request, or no. Raises Refused if tags are too large."""
+def first_granted(case: Case, rows: list[Row], grants: Callable[[Entry, Steps], bool]) -> Answer:
+    """The line with the first entry that grants the request, or no. `grants` says whether an entry with all certificates does."""
     try:
         steps = evidence.proved_tuples(case.items, rows, case.strict)
     except evidence.Stopped:
         LINES.count_use("no: evidence")
         return NO, b"no\n"
     for number, entry in enumerate(case.entries, 1):
-        _, is_granted = folded("check", case, entry, steps)
-        if is_granted:
+        if grants(entry, steps):
             LINES.count_use("yes entry")
             return YES, b"yes entry %d\n" % number
     LINES.count_use("no: no entry grants")
     return NO, b"no\n"
+
+
+def check(case: Case, rows: list[Row]) -> Answer:
+    """The answer of `check`: the first entry that grants the request, or no. Raises Refused if tags are too large."""
+    return first_granted(case, rows, lambda entry, steps: folded("check", case, entry, steps)[1])
 
 
 def decide(case: Case, rows: list[Row]) -> Answer:
     """The answer of a guard: the first entry that grants the request, or no. Unlike `check` it intersects no tags, so it never refuses a case."""
-    try:
-        steps = [step for _, step in evidence.proved_tuples(case.items, rows, case.strict)]
-    except evidence.Stopped:
-        LINES.count_use("no: evidence")
-        return NO, b"no\n"
-    for number, entry in enumerate(case.entries, 1):
-        of_entry = reduction.of_entry(entry)
-        is_granted = derivations.grants_from_left([of_entry, *steps], case.key, case.request, case.moment, case.strict)
+
+    def grants(entry: Entry, steps: Steps) -> bool:
+        """Whether the tree that joins all from the left grants the request."""
+        of_entry, tuples = reduction.of_entry(entry), [step for _, step in steps]
+        is_granted = derivations.grants_from_left([of_entry, *tuples], case.key, case.request, case.moment, case.strict)
         if len(steps) <= SHORT_CHAIN:
-            try_brackets(of_entry, steps, case, is_granted)
-        if is_granted:
-            LINES.count_use("yes entry")
-            return YES, b"yes entry %d\n" % number
-    LINES.count_use("no: no entry grants")
-    return NO, b"no\n"
+            try_brackets(of_entry, tuples, case, is_granted)
+        return is_granted
+
+    return first_granted(case, rows, grants)
 
 
 def folded(command: str, case: Case, entry: Entry, steps: Steps) -> tuple[Authorization | reduction.Stopped, bool]:

@@ -274,13 +274,12 @@ def explained():
     of_hash = f"(entry {digest(a)[:-1]} (uri http://keys.example/a)) (tag (*)))"
     yield "entry for a hash", case(of_hash, asks=a), five(f"(hash sha256 |{packed}|)"), GRANTS
     yield "delegation", case(all_of_it, *rows_and_items((c1, a)), b), five(b), GRANTS
-    stopped = 1, "entry 1 item 3 NoDelegation\n"
+    stopped, no_tag = (1, "entry 1 item 3 NoDelegation\n"), (1, "entry 1 item 1 NoTag\n")
     yield "delegation: one too many", case(all_of_it, *rows_and_items((c1, a), (c2, b)), c), stopped, stopped
     yield "delegation passed on", case(all_of_it, *rows_and_items((cert(a, b), a)), b), five(b, "(propagate) (tag (*))"), GRANTS
     both = entry("a", "(propagate) (tag (* set read write))")
     narrowed, apart = cert(a, b, "(tag (* set write (* prefix re)))"), cert(a, b, "(tag x)")
     yield "reduced sets", case(both, *rows_and_items((narrowed, a)), b, "read"), five(b, "(tag (* set read write))"), GRANTS
-    no_tag = 1, "entry 1 item 1 NoTag\n"
     yield "reduced sets: none", case(both, *rows_and_items((apart, a)), b, "read"), no_tag, no_tag
     sha1 = five(f"(hash sha1 |{base64.b64encode(hashlib.sha1(canonical(a)).digest()).decode()}|)")
     by_sha1 = f"(entry {digest(a, 'sha1')} (tag (*)))"

@@ -3,9 +3,7 @@ from harness.support import braced
 from rows import chains
 from rows.chains import NO, YES, case, cert, entry, key, octets_of, refused, rows_and_items
 
-MOST_OCTETS = 1048576
-MOST_DEPTH = 64
-MOST_NODES = 1024
+MOST_OCTETS, MOST_DEPTH, MOST_NODES = 1048576, 64, 1024
 FORMS = ("canonical", "advanced", "braces")
 CONVERSIONS = ("canonical", "advanced", "transport")
 STRUCTURES = {"intersect": "intersect Shape", "check": "case Shape", "reduce": "case Shape", "explain": "case Shape"}
