@@ -11,9 +11,10 @@ from .mutations import mutated
 DIGESTS = {b"sha1": hashlib.sha1, b"sha256": hashlib.sha256, b"sha512": hashlib.sha512}
 MOMENTS = [b"2023-12-31_23:59:60", b"2024-01-01_00:00:00", b"2024-02-31_12:00:00", b"2024-06-15_08:30:00", b"2025-01-01_00:00:00"]
 NAMES = [b"bob", b"friends", b"n", b"", b"a b"]
-KEYS: list[Value] = [(Atom(b"public-key"), parts) for parts in (
+PARTS_OF_KEYS: list[Value] = [
     (Atom(b"test"), Atom(b"a")), (Atom(b"test"), Atom(b"b")), (Atom(b"test"), Atom(b"b", b"h")), (Atom(b"test"),),
-    (Atom(b"rsa"), (Atom(b"n"), Atom(b"\x00\xc3\x01")), (Atom(b"e"), Atom(b"\x03"))), (Atom(b"*"), ()))]
+    (Atom(b"rsa"), (Atom(b"n"), Atom(b"\x00\xc3\x01")), (Atom(b"e"), Atom(b"\x03"))), (Atom(b"*"), ())]
+KEYS: list[Value] = [(Atom(b"public-key"), parts) for parts in PARTS_OF_KEYS]
 # The chance of a mistake at one step, where no other is given.
 FAULTY = 0.025
 

@@ -15,7 +15,6 @@ from .seldom import MAKERS, OF_CASES, ROOM
 CONVERSIONS = COMMANDS[:3]
 BODIES = [b"a", b"ftp", b"", b"my host", b"\x00\xff", b"0a", b'"\\', b"\n\r", b"a\nb", b"?'", b"*", b"\x07\x0b\x7f",
           b"a\x7f", b"~ ", b"a\x1f", b"a\x80", b"3:abc", b"ABC=", bytes(range(256))]
-
 LONG_QUESTIONS = len(rare.LONG) * len((*COMMANDS, "rows"))
 LENGTHS = (9, 10, 63, 64, 65, 99, 100, 255, 256, 1000, 4096)
 
