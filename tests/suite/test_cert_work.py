@@ -208,7 +208,7 @@ class OfMessages(unittest.TestCase):
     def test_long_words(self) -> None:
         """For a misspelt word of more than 60 octets no similar word is looked for, which would take long."""
         from spki_cert_tool import forms
-        self.assertEqual([forms.meant(b"tah" * times, [b"tag" * times]) != "" for times in (1, 20, 21)], [True, True, False])
+        self.assertEqual([forms.suggestion(b"tah" * times, [b"tag" * times]) != "" for times in (1, 20, 21)], [True, True, False])
 
 
 @needs.needs("import cryptography")

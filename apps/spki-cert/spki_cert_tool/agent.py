@@ -12,17 +12,19 @@ REQUEST_IDENTITIES, IDENTITIES, SIGN_REQUEST, SIGN_RESPONSE = 11, 12, 13, 14
 RSA_SHA2_256 = 2
 # How many octets each of the two numbers of a signature has, by the algorithm.
 CURVES = {b"ecdsa-sha2-nistp256": 32, b"ecdsa-sha2-nistp384": 48}
-# The most octets of an answer, and how long one is waited for.
+# The most octets of an answer, as OpenSSH's agent has it, and how many seconds one is waited for: its user may have to touch a token.
 MOST_OCTETS, SECONDS = 262144, 60
 
 
-def string(octets: bytes) -> bytes:
+def ssh_string(octets: bytes) -> bytes:
     """The octets behind their length in four octets, as SSH encodes a string."""
     return struct.pack(">I", len(octets)) + octets
 
 
-def ask_agent(kind: int, body: bytes, wanted: int) -> bytes:
-    """Sends the agent a message of a kind. Returns the body of its answer, which must be of the kind `wanted`. Raises BadKey."""
+def ask_agent(kind: int, body: bytes, wanted: int, refusal: str) -> bytes:
+    """Sends the agent a message of a kind. Returns the body of its answer, which must be of the kind `wanted`. Raises BadKey: with the words
+    `refusal` for an answer of another kind, and if there is no agent, if it does not answer in time, or if its answer is not whole or is
+    longer than MOST_OCTETS."""
     path = os.environ.get("SSH_AUTH_SOCK")
     if not path:
         raise BadKey("this is a public key, and there is no ssh-agent to sign by it: SSH_AUTH_SOCK is not set. Give the private key's file")
@@ -30,51 +32,55 @@ def ask_agent(kind: int, body: bytes, wanted: int) -> bytes:
         with socket.socket(socket.AF_UNIX, socket.SOCK_STREAM) as agent:
             agent.settimeout(SECONDS)
             agent.connect(path)
-            agent.sendall(string(bytes([kind]) + body))
+            agent.sendall(ssh_string(bytes([kind]) + body))
             with agent.makefile("rb") as file:
                 length = file.read(4)
                 answer, _ = split_string(length + file.read(min(int.from_bytes(length, "big"), MOST_OCTETS)))
     except OSError as why:
         raise BadKey(f"ssh-agent at {path} does not answer: {why}") from None
     if answer[:1] != bytes([wanted]):
-        raise BadKey("ssh-agent refuses to sign by this key")
+        raise BadKey(refusal)
     return answer[1:]
 
 
-def keys_held() -> list[bytes]:
-    """The public keys that the agent holds, as SSH encodes them."""
-    body = ask_agent(REQUEST_IDENTITIES, b"", IDENTITIES)
-    count, body, held = int.from_bytes(body[:4], "big"), body[4:], []
+def keys_of_agent() -> list[bytes]:
+    """The public keys that the agent holds, as SSH encodes them. Raises BadKey."""
+    body = ask_agent(REQUEST_IDENTITIES, b"", IDENTITIES, "ssh-agent does not say which keys it holds")
+    count, rest, blobs = int.from_bytes(body[:4], "big"), body[4:], []
     for _ in range(count):
-        blob, body = split_string(body)
-        _comment, body = split_string(body)
-        held.append(blob)
-    return held
+        blob, rest = split_string(rest)
+        _comment, rest = split_string(rest)
+        blobs.append(blob)
+    return blobs
 
 
 class AgentSigner:
-    """Signs by a key that the agent holds. Raises BadKey if it does not hold it."""
+    """Signs by an SPKI key that the agent holds. Raises BadKey if the agent does not hold it, or if SSH has no such key."""
 
     def __init__(self, key: Value) -> None:
         public = public_of(key)
         if public is None:
             raise BadKey("a key in a form that ssh-agent does not know")
         self.key, self.blob = key, base64.b64decode(openssh_line(public).split()[1])
-        if self.blob not in keys_held():
+        if self.blob not in keys_of_agent():
             raise BadKey("this is a public key, and ssh-agent does not hold it: add the private key by ssh-add, or give its file")
 
     def sign(self, message: bytes) -> Value:
-        """The value `(sig-val ..)` of a signature of these octets. Raises BadKey."""
-        flags = struct.pack(">I", RSA_SHA2_256)
-        answer, _ = split_string(ask_agent(SIGN_REQUEST, string(self.blob) + string(message) + flags, SIGN_RESPONSE))
-        name, rest = split_string(answer)
+        """The value `(sig-val ..)` of a signature of these octets. Whether it is valid is not tested. Raises BadKey."""
+        body = ssh_string(self.blob) + ssh_string(message) + struct.pack(">I", RSA_SHA2_256)
+        answer = ask_agent(SIGN_REQUEST, body, SIGN_RESPONSE, "ssh-agent refuses to sign by this key")
+        signature, _ = split_string(answer)
+        algorithm, rest = split_string(signature)
         octets, _ = split_string(rest)
-        if name == b"ssh-ed25519":
+        if algorithm == b"ssh-ed25519":
             return value_of_octets(ED25519, octets)
-        if name == b"rsa-sha2-256":
+        if algorithm == b"rsa-sha2-256":
             return value_of_octets(RSA, octets)
-        if name in CURVES:
+        if algorithm in CURVES:
             r, rest = split_string(octets)
             s, _ = split_string(rest)
-            return value_of_numbers(int.from_bytes(r, "big"), int.from_bytes(s, "big"), CURVES[name])
-        raise BadKey(f"ssh-agent signs by {name.decode(errors='replace')}, which is not used")
+            try:
+                return value_of_numbers(int.from_bytes(r, "big"), int.from_bytes(s, "big"), CURVES[algorithm])
+            except OverflowError:
+                raise BadKey("ssh-agent sent a signature with a number that is too large") from None
+        raise BadKey(f"ssh-agent signs by {algorithm.decode(errors='replace')}, which is not used")

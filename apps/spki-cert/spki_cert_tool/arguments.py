@@ -9,7 +9,7 @@ from typing import IO, Any, NoReturn
 
 from . import __version__
 from .files import DAY_ENDS, Refused, moment_of, put
-from .forms import meant
+from .forms import suggestion
 from .keys import KINDS
 
 # (`key new` is a command of its own to argparse)
@@ -34,8 +34,11 @@ class Once(argparse._StoreAction):
     """The action of an option with one value, which may be given once. To argparse alone, the last of several values would count."""
 
     def __call__(self, parser: argparse.ArgumentParser, namespace: argparse.Namespace, values: Any, option: str | None = None) -> None:
-        if option and getattr(namespace, self.dest, None) not in (None, self.default):
+        """Stores the value. Raises Refused, by `parser.error`, for an option that was given before, also with its default value."""
+        options_given = vars(namespace).setdefault("options_given", set())
+        if option and self.dest in options_given:
             parser.error(f"{option} is given twice")
+        options_given.add(self.dest)
         setattr(namespace, self.dest, values)
 
 
@@ -49,28 +52,37 @@ class CommandParser(argparse.ArgumentParser):
             self.register("action", name, Once)
 
     def parse_known_args(self, args: Sequence[str] | None = None, namespace: Any = None) -> Any:
-        """Parses the words as argparse does. Raises Refused for a word that is not known, and says which option or command may be meant."""
-        options = [os.fsencode(it[2:]) for each in self._actions for it in each.option_strings]
-        commands = [it for each in self._actions if isinstance(each, argparse._SubParsersAction) for it in each.choices]
+        """Parses the words as argparse does, which calls this also for the words of a command, by the command's own parser. Raises Refused for a word
+        that is not known, and says which option or command may be meant."""
+        options = [name[2:] for action in self._actions for name in action.option_strings if name.startswith("--")]
+        commands = [name for action in self._actions if isinstance(action, argparse._SubParsersAction) for name in action.choices]
         for word in itertools.takewhile(lambda it: it != "--", args or []):
-            name = os.fsencode(word.partition("=")[0])
-            if not commands and word.startswith("--") and " " not in word and name[2:] not in options:
-                # (the other commands that have this option)
-                having = ", ".join(it for it, those in commands_with_options().items() if word.partition("=")[0] in those)
-                others = f" of {self.prog.split()[-1]}, but of {having}" if having else ""
-                others += "; to define a name: `spki-cert name`; a note: `--comment`" if word.startswith("--name") and having else ""
-                self.error(f"{word}: no such option{others}{meant(name[2:], options).replace('`', '`--', 1)}")
+            if not commands and word.startswith("--") and " " not in word:
+                self.refuse_unknown_option(word, options)
             if commands and not word.startswith("-"):
                 if word not in commands:
-                    self.error(f"{word}: no such command{meant(name, map(os.fsencode, commands))}")
+                    self.error(f"{word}: no such command{suggestion(os.fsencode(word), map(os.fsencode, commands))}")
                 break
-        found, left = super().parse_known_args(args, namespace)
-        if left:
-            # (a dash that was made longer, or one of two that is missing)
-            bare, why = left[0].lstrip("-\N{EN DASH}\N{EM DASH}"), "one word too many; put quotes around what has spaces or parentheses"
-            near = f"; is `--{bare}` meant?" if os.fsencode(bare) in options else ""
-            self.error(f"{left[0]}: {why if bare == left[0] else f'no such option{near}'}")
-        return found, left
+        values, left_over = super().parse_known_args(args, namespace)
+        if left_over:
+            # (a dash that a word processor made longer, or one of two that is missing)
+            word, bare = left_over[0], left_over[0].lstrip("-\N{EN DASH}\N{EM DASH}")
+            near = f"; is `--{bare}` meant?" if bare in options else ""
+            self.error(f"{word}: " + ("one word too many; put quotes around what has spaces or parentheses" if bare == word
+                                      else f"no such option{near}"))
+        return values, left_over
+
+    def refuse_unknown_option(self, word: str, options: list[str]) -> None:
+        """Raises Refused if the word `--NAME` or `--NAME=VALUE` is none of the options of this command, whose names are given without the dashes.
+        Says which other commands have this option, and which one may be meant."""
+        option = word.partition("=")[0]
+        if option[2:] in options:
+            return
+        having = ", ".join(command for command, names in commands_with_options().items() if option in names)
+        others = f" of {self.prog.split()[-1]}, but of {having}" if having else ""
+        others += "; to define a name: `spki-cert name`; a note: `--comment`" if word.startswith("--name") and having else ""
+        near = suggestion(os.fsencode(option[2:]), map(os.fsencode, options)).replace("`", "`--", 1)
+        self.error(f"{word}: no such option{others}{near}")
 
     # (argparse writes the text of --help and --version by this)
     def _print_message(self, message: str, file: IO[str] | None = None) -> None:
@@ -82,11 +94,11 @@ class CommandParser(argparse.ArgumentParser):
 
 
 def count_of(text: str) -> int:
-    """The number of 1 or more that a word of the command line is. Raises ArgumentTypeError for another word."""
-    if re.fullmatch(r"\d{4}\D.*", text):
+    """The number from 1 to 999,999,999 that a word of the command line is. Raises ArgumentTypeError for another word."""
+    if re.fullmatch(r"[0-9]{4}[-/.][0-9].*", text):
         raise argparse.ArgumentTypeError(f"{text} is a date, and a number is wanted; a date is given by --until {text[:10]}")
     if not re.fullmatch(r"[0-9]{1,9}", text) or int(text) == 0:
-        raise argparse.ArgumentTypeError(f"{text or 'nothing'} is no number of 1 or more")
+        raise argparse.ArgumentTypeError(f"{text or 'nothing'} is no number from 1 to 999,999,999")
     return int(text)
 
 
@@ -104,6 +116,7 @@ def plain(text: str) -> str:
     return not_empty(text)
 
 
+# What options have alike, in the words of `add_argument`. MANY is for those that may be given several times.
 FLAG: dict[str, Any] = {"action": "store_true"}
 FILE: dict[str, Any] = {"metavar": "FILE", "type": not_empty}
 DATE: dict[str, Any] = {"metavar": "DATE", "type": lambda text: moment_of(not_empty(text))}
@@ -113,7 +126,7 @@ OPTIONS: dict[str, dict[str, Any]] = {
     "files": {"metavar": "FILE", "nargs": "+"},
     "key files": {"metavar": "FILE", "nargs": "+", "help": "a key"},
     "end files": {"metavar": "FILE", "nargs": "*", "help": "a sequence, whose last certificate is meant, or a certificate"},
-    "file": {**FILE, "help": "the private key to make; the public key is FILE.pub"},
+    "file": {**FILE, "type": plain, "help": "the private key to make; the public key is FILE.pub"},
     "paths": {"metavar": "PATH", "nargs": "+"},
     "words": {"metavar": "WORD", "nargs": "*", "help": "the strings of the request"},
     "--hash": {**FLAG, "help": "write the hash of the key, which may name it"},
@@ -168,8 +181,9 @@ OPTIONS: dict[str, dict[str, Any]] = {
     "--undo": {**FLAG, "help": "take the digests out again: spki-authd then needs -reload -fewer"},
     "--list": {**FLAG, "help": "print the digests with date and reason, and the last line of the file"},
     "--adopt": {**FLAG, "help": "take the lines of a file without a last line, or with a wrong one, as they are"}}
+# The options that all commands have which make a certificate or an entry.
 FIELDS = "--to --key --named --from --comment --yes --force --days|--until"
-# What each command does, in one line and in several, an example, and its options and words. Of those between `|` one may be given.
+# What each command does, in one line and in several, an example, and its options and words. Of those joined by `|` at most one may be given.
 COMMANDS: dict[str, tuple[str | None, str | None, str, str]] = {
     "key": ("write a key as SPKI has it, or make one: key new FILE", """\
 Writes the SPKI key of a key of OpenSSH, PEM (SPKI, PKCS#8, PKCS#1) or an S-expression: Ed25519, RSA, ECDSA P-256 or P-384.
@@ -228,13 +242,16 @@ def parser_of_commands() -> argparse.ArgumentParser:
     # (for commands without these options, whose functions are shared with others)
     parser.set_defaults(name=None, tag=None, propagate=False, tries=[])
     commands = parser.add_subparsers(dest="command", required=True, metavar="COMMAND")
-    for name, (told, long, example, words) in COMMANDS.items():
-        is_listed: dict[str, Any] = {"help": told} if told else {"prog": "spki-cert key new"}
-        command = commands.add_parser(name, description=long, epilog=f"example: spki-cert {example}" if example else None, **is_listed)
-        for group in words.split():
-            place = command.add_mutually_exclusive_group() if "|" in group else command
-            for word in group.split("|"):
-                place.add_argument(*(["-o"] if word == "--output" else []), word, **OPTIONS.get(f"{name} {word}", OPTIONS.get(word, {})))
+    for name, (summary, description, example, groups) in COMMANDS.items():
+        # (a command without a summary is not listed in the help)
+        settings: dict[str, Any] = {"help": summary} if summary else {"prog": "spki-cert key new"}
+        epilog = f"example: spki-cert {example}" if example else None
+        command = commands.add_parser(name, description=description, epilog=epilog, **settings)
+        for group in groups.split():
+            adder = command.add_mutually_exclusive_group() if "|" in group else command
+            for option in group.split("|"):
+                shorter = ["-o"] if option == "--output" else []
+                adder.add_argument(*shorter, option, **OPTIONS.get(f"{name} {option}", OPTIONS.get(option, {})))
     return parser
 
 
@@ -254,9 +271,10 @@ complete -o default -F _spki_cert spki-cert"""
 
 @functools.cache
 def commands_with_options() -> dict[str, list[str]]:
-    """The options of each command, by the command's name."""
-    commands = next(it for it in parser_of_commands()._actions if isinstance(it, argparse._SubParsersAction)).choices
-    return {name: [option for it in each._actions for option in it.option_strings] for name, each in commands.items() if name != NEW_KEY}
+    """The options of each command but NEW_KEY, by the command's name."""
+    commands = next(action for action in parser_of_commands()._actions if isinstance(action, argparse._SubParsersAction)).choices
+    return {name: [option for action in parser._actions for option in action.option_strings]
+            for name, parser in commands.items() if name != NEW_KEY}
 
 
 def completion() -> str:

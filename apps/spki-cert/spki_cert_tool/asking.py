@@ -17,7 +17,7 @@ from .certificates import (Keys, Signed, Steps, Terms, certificates_in, chains, 
                            string_of)
 from .certificates import field as field_of
 from .files import Refused, now
-from .forms import Parser, meant
+from .forms import Parser, suggestion
 from .keys import hash_of, principal_of
 from .making import sequence_with
 from .sexp import Value, canonical, on_one_line
@@ -27,6 +27,7 @@ from .tag_words import covers, lacks
 if TYPE_CHECKING:
     from spki import Explanation, Guard, Question, Reason
 
+# How many chains the library is asked about at most.
 MOST_CHAINS = 64
 # The most certificates and strings of a question. A service may allow fewer.
 MOST_SHOWN = 65536
@@ -42,6 +43,7 @@ class Asked:
     # The key that requests.
     key: Value
     request: Value
+    # A date, as certificates have it.
     moment: bytes
     labels: Labels
     # The sequences that are given. A chain is searched among all their certificates.
@@ -63,7 +65,7 @@ class Asked:
 
     @cached_property
     def rows(self) -> set[tuple[bytes, bytes, bytes]]:
-        """The rows of a case: keys and values in canonical form, and digests of certificates."""
+        """The rows of a case, each as the key in canonical form, the SHA-256 digest of the certificate, and the value in canonical form."""
         parts = [members(row) for row in self.accepted or []]
         return {(canonical(key), string_of(members(digest)[1]) or b"", canonical(value)) for key, digest, value in parts}
 
@@ -71,14 +73,15 @@ class Asked:
 @dataclass
 class Answer:
     """The decision about one sequence, and the library's reasons: the lines of `explain`. `entry` is the number of the entry that grants, or None.
-    `reduced` has for each entry the line of `reduce`: `entry N (five ..)`, or what stops the chain."""
+    `reduced` has the lines of `reduce`: for each entry `entry N (five ..)` or what stops its chain. It has only one line if a certificate does not
+    pass, or if there are no entries."""
 
     sequence: Value
     entry: int | None
     reasons: list[Reason]
     reduced: list[str]
     unused: int = 0
-    """How many certificates are at hand, if none of their chains leads from an entry to the key."""
+    """How many certificates are at hand, if no chain of them was found that leads from an entry to the key. Otherwise 0."""
     is_cut: bool = False
     """Whether the search for chains ended at its bound."""
 
@@ -88,7 +91,7 @@ class Answer:
         return furthest(self.reasons)
 
     def left(self, entry: int) -> Value:
-        """The right `(five ..)` that is left of an entry, by its number, at the end of the chain. The chain must join to its end."""
+        """The right `(five ..)` that is left of an entry, by its number from 1, at the end of the chain. The chain must join to its end."""
         return Parser(self.reduced[entry - 1].split(" ", 2)[2].encode()).whole().value
 
 
@@ -127,21 +130,23 @@ def answer_of(guard: Guard, asked: Asked, sequence: Value) -> Answer:
 
 
 def best_answer(asked: Asked) -> Answer:
-    """The answer that is told: the first that grants, of the one sequence that is given, as it is, or of a chain. If none grants, that of the one
-    sequence, if it has certificates, else of the chain that goes furthest, or of an empty sequence if there is no chain."""
+    """The answer that `ask` says: the first that grants, of the one sequence that is given, as it is, of no certificates if several are given, or
+    of a chain. If none grants, that of the one sequence, if it has certificates, else of the chain that goes furthest, or of an empty sequence if
+    there is no chain. Raises Refused."""
     with guard_of(asked) as guard:
-        given = asked.sequences[0] if len(asked.sequences) == 1 else [b"sequence"]
-        first = answer_of(guard, asked, given)
-        if first.entry is not None or not asked.sequences:
-            return first
-        steps, others = Steps(), list[Answer]()
+        sequence_given = asked.sequences[0] if len(asked.sequences) == 1 else [b"sequence"]
+        answer_as_given = answer_of(guard, asked, sequence_given)
+        if answer_as_given.entry is not None or not asked.sequences:
+            return answer_as_given
+        steps, answers = Steps(), list[Answer]()
         for sequence in sequences_to(asked, steps):
-            others.append(answer_of(guard, asked, sequence))
-            if others[-1].entry is not None:
-                return others[-1]
-    is_first = len(asked.sequences) == 1 and bool(certificates_in(given)) or not others
-    unused = 0 if others or certificates_in(given) else sum(len(certificates_in(it)) for it in asked.sequences)
-    return replace(first if is_first else max(others, key=rank), unused=unused, is_cut=steps.is_cut)
+            answers.append(answer_of(guard, asked, sequence))
+            if answers[-1].entry is not None:
+                return answers[-1]
+    has_certificates = bool(certificates_in(sequence_given))
+    unused = 0 if answers or has_certificates else sum(len(certificates_in(sequence)) for sequence in asked.sequences)
+    best = answer_as_given if has_certificates or not answers else max(answers, key=rank)
+    return replace(best, unused=unused, is_cut=steps.is_cut)
 
 
 def rank(answer: Answer) -> tuple[bool, int]:
@@ -155,9 +160,9 @@ def sequences_to(asked: Asked, steps: Steps) -> Iterator[Value]:
     """The sequences of the chains that lead from an entry to the key, from the certificates at hand whose signatures are valid. If there is no such
     chain, one of all certificates, so that it can be said what stops it. Sets `steps.is_cut` if some are left out."""
     keys = keys_at_hand(asked)
-    certificates = [it for one in asked.sequences for it in certificates_in(one)]
+    certificates = [signed for sequence in asked.sequences for signed in certificates_in(sequence)]
     # (in a case the rows decide about signatures, and each certificate may be in a chain)
-    valid = [it for it in certificates if asked.accepted is not None or fault_of_signature(it, keys) is None]
+    valid = [signed for signed in certificates if asked.accepted is not None or fault_of_signature(signed, keys) is None]
     entries, count = entries_of(asked.access_list), 0
     for chain in chains(entries, valid, keys, asked.key, steps):
         if count == MOST_CHAINS:
@@ -166,12 +171,12 @@ def sequences_to(asked: Asked, steps: Steps) -> Iterator[Value]:
         count += 1
         yield sequence_of(chain, keys)
     if not count and len(valid) < len(certificates):
-        yield from (sequence_of(it, keys) for it in itertools.islice(chains(entries, certificates, keys, asked.key, steps), 1))
+        yield from (sequence_of(chain, keys) for chain in itertools.islice(chains(entries, certificates, keys, asked.key, steps), 1))
 
 
 def keys_at_hand(asked: Asked) -> Keys:
     """The keys that hashes may name: the one that requests, those of the sequences that are given, and those with labels."""
-    return Keys([asked.key, *(key for one in asked.sequences for key in keys_in(one)), *asked.labels.keys.by_hash.values()])
+    return Keys([asked.key, *(key for sequence in asked.sequences for key in keys_in(sequence)), *asked.labels.keys.by_hash.values()])
 
 
 def case_of(asked: Asked, sequence: Value) -> Value:
@@ -201,7 +206,7 @@ class Words:
         self.asker = self.labels.of(asked.key)
 
     def lines(self) -> Iterator[str]:
-        """The lines that say the answer: the decision, the chain, and what grants or stops the request."""
+        """Yields the lines that say the answer: the decision, the chain, and what grants or stops the request."""
         chosen = self.answer.chosen
         wants = f"{self.asker} requests {on_one_line(self.asked.request)} at {self.asked.moment.decode()}"
         yield f"{'yes' if self.answer.entry is not None else 'no'}: {wants}"
@@ -209,7 +214,7 @@ class Words:
             yield "the access list has no entries"
             return
         if chosen.entry is not None:
-            yield from (f"  {name}: {self.step(terms)}" for name, terms in self.way(chosen, is_whole=True))
+            yield from (f"  {name}: {self.statement_of(terms)}" for name, terms in self.links_of(chosen, with_stop=True))
         yield from self.lines_of_cause(chosen)
         if self.answer.unused:
             leads = "no chain was found that leads" if self.answer.is_cut else "no chain leads"
@@ -217,14 +222,14 @@ class Words:
         if self.answer.is_cut:
             yield f"  the search for chains ended after {Steps.most:,} steps or {MOST_CHAINS} chains: give only the certificates of the chain"
 
-    def way(self, chosen: Reason, is_whole: bool = False) -> list[tuple[str, Terms]]:
-        """The entry of a reason, if it has one, and the certificates before the item that stops it, or all if none does: each as name and terms. With
-        `is_whole` the item that stops it is there too."""
-        last = (chosen.item or sys.maxsize) - (not is_whole)
+    def links_of(self, chosen: Reason, with_stop: bool = False) -> list[tuple[str, Terms]]:
+        """The entry of a reason, if it has one, and the certificates before the item that stops the chain, or all if none does: each as its name, as
+        "entry 1" or "item 3", and its terms. With `with_stop` the item that stops the chain is there too."""
+        last = (chosen.item or sys.maxsize) - (not with_stop)
         entry = [(f"entry {chosen.entry}", self.entries[chosen.entry - 1])] if chosen.entry else []
-        return entry + [(f"item {it.number}", it.terms) for it in self.chain if it.number <= last]
+        return entry + [(f"item {signed.number}", signed.terms) for signed in self.chain if signed.number <= last]
 
-    def step(self, terms: Terms) -> str:
+    def statement_of(self, terms: Terms) -> str:
         """What an entry or a certificate says, in one line."""
         subject = self.labels.of_subject(terms.subject)
         if terms.name is not None:
@@ -233,11 +238,11 @@ class Words:
         return f"{self.labels.of(terms.issuer)} lets {subject} {on_one_line(terms.tag or b'')}{delegates}, {terms.window}"
 
     def lines_of_cause(self, chosen: Reason) -> Iterator[str]:
-        """The lines that say what the word of a reason means in these files: that its entry grants the request, or why it does not."""
+        """Yields the lines that say what the word of a reason means in these files: that its entry grants the request, or why it does not."""
         if chosen.word == "grants":
             yield f"  so entry {chosen.entry} grants it"
             return
-        item = next((it for it in self.chain if it.number == chosen.item), None)
+        item = next((signed for signed in self.chain if signed.number == chosen.item), None)
         lines_of = {"TagLacks": self.tag_lacks, "WindowLacks": self.window_lacks, "NotTheKey": self.not_the_key}.get(chosen.word)
         if lines_of is not None:
             yield from (f"  {line} ({chosen.word})" for line in lines_of(chosen))
@@ -245,15 +250,15 @@ class Words:
             yield f"  item {item.number}: {self.why_it_stops(item, chosen)} ({chosen.word})"
 
     def tag_lacks(self, chosen: Reason) -> Iterator[str]:
-        """For each tag of the chain that does not contain the request, why."""
-        for name, terms in self.way(chosen):
+        """Yields for each tag of the chain that does not contain the request, why. `chosen` is the reason TagLacks."""
+        for name, terms in self.links_of(chosen):
             why = lacks(terms.tag, self.asked.request) if terms.tag is not None else None
             if why:
                 yield f"the tag of {name} does not contain the request: {why}"
 
     def window_lacks(self, chosen: Reason) -> Iterator[str]:
-        """Each window of the chain that does not contain the moment."""
-        for name, terms in self.way(chosen):
+        """Yields for each window of the chain that does not contain the moment, when it ended or will begin. `chosen` is the reason WindowLacks."""
+        for name, terms in self.links_of(chosen):
             if terms.ends is not None and terms.ends < self.asked.moment:
                 yield f"{name} ended on {terms.ends.decode()}"
             if terms.begins is not None and terms.begins > self.asked.moment:
@@ -269,28 +274,32 @@ class Words:
             yield f"the right ends at {holder}, and {self.asker} is another key"
             return
         keys, name = keys_at_hand(self.asked), string_of(names[0])
-        at_hand = [it.terms for one in self.asked.sequences for it in certificates_in(one) if it.terms.name is not None]
-        same = [it for it in at_hand if it.name == name and keys.are_one(it.issuer, principal)]
+        definitions = [signed.terms for sequence in self.asked.sequences for signed in certificates_in(sequence) if signed.terms.name is not None]
+        same = [terms for terms in definitions if terms.name == name and keys.are_one(terms.issuer, principal)]
         if same:
             yield f"the right ends at {holder}, and that is a name, which a certificate at hand defines for {self.labels.of_subject(same[0].subject)}"
             return
-        # (`meant` returns an empty string where nothing is similar)
-        similar = [it for it in at_hand if it.name == name] or [it for it in at_hand if meant(name, [it.name or b""]) != ""]
-        there = "".join(f"; there is {on_one_line(it.name or b'')} of {self.labels.of(it.issuer)}, which is another name" for it in similar[:1])
-        yield f"the right ends at {holder}, and that is a name, and no certificate says who it is{there}"
+        similar = ([terms for terms in definitions if terms.name == name]
+                   or [terms for terms in definitions if suggestion(name, [terms.name or b""]) != ""])
+        other = "".join(f"; there is {on_one_line(terms.name or b'')} of {self.labels.of(terms.issuer)}, which is another name"
+                        for terms in similar[:1])
+        yield f"the right ends at {holder}, and that is a name, and no certificate says who it is{other}"
 
     def holder(self, chosen: Reason) -> tuple[Value, list[Value]]:
         """Who has the right where the chain of a reason stops: the principal of that subject, and those of its names which no certificate before has
         defined. The certificates before must join."""
         principal: Value = b""
-        # (the last name first. A right begins anew, and a definition takes the first name away; then come the names of the new subject)
-        left: list[Value] = []
-        for _, terms in self.way(chosen):
-            left = left[:0] if terms.name is None else left
-            del left[-1:]
-            left += reversed(terms.names)
+        # (the names that are not defined yet, the last one first: at its end a list is changed without being copied)
+        reversed_names: list[Value] = []
+        for _, terms in self.links_of(chosen):
+            # (an authorization gives the right to a new subject, and a definition replaces the first name of the subject before)
+            if terms.name is None:
+                reversed_names.clear()
+            else:
+                del reversed_names[-1:]
+            reversed_names += reversed(terms.names)
             principal = terms.principal
-        return principal, left[::-1]
+        return principal, reversed_names[::-1]
 
     def why_it_stops(self, item: Signed, chosen: Reason) -> str:
         """Why a certificate stops the chain, in words, by the cause in a reason. A cause in FAULTS is about its signature alone."""
@@ -298,9 +307,9 @@ class Words:
             return FAULTS[chosen.word]
         issuer, (principal, names) = self.labels.of(item.terms.issuer), self.holder(chosen)
         holder = self.labels.of_subject(subject_of(principal, names))
-        is_meant = meant(item.terms.name, [string_of(it) or b"" for it in names[:1]])
+        is_meant = suggestion(item.terms.name, [string_of(name) or b"" for name in names[:1]])
         if chosen.word == "NoTag":
-            tags = [terms.tag for _, terms in self.way(chosen)] + [item.terms.tag]
+            tags = [terms.tag for _, terms in self.links_of(chosen)] + [item.terms.tag]
             return f"its tag and the tags before it have no request in common: {' and '.join(on_one_line(tag) for tag in tags if tag is not None)}"
         return {
             "NotIssuer": f"{issuer} issues it, and the right is with {holder} there",
@@ -327,26 +336,26 @@ def asked_of_case(case: Value, labels: Labels) -> Asked:
 
 def what_cannot_be_given(chain: Value, certificate: Value, key: Value, label: str) -> list[str]:
     """What its issuer cannot give of a certificate that is to be signed, in words. The issuer has `key`, is called `label`, and has the right by a
-    chain, which is a sequence. An empty list if all can be given."""
-    found = certificates_in(chain)
-    if not found:
+    chain, which is a sequence. An empty list if all can be given. Raises Refused."""
+    certificates = certificates_in(chain)
+    if not certificates:
         return ["the chain has no certificate"]
-    first = found[0].terms
+    first = certificates[0].terms
     begin: Value = [b"name", first.issuer or b"", first.name] if first.name is not None else first.issuer or b""
     labels = Labels()
     labels.add(key, label)
     # (`-` is in place of the value of the signature, which is not made yet)
-    left, why = left_of(begin, sequence_with(chain, key, certificate, b"-"), certificate, key, labels)
+    tag_by_chain, why = tag_after(begin, sequence_with(chain, key, certificate, b"-"), certificate, key, labels)
     if why or field_of(certificate, b"tag") is None:
         return why
     # (the tag of the certificate in the form of the library, as it remains where the issuer has every right)
-    alone, _ = left_of(principal_of(key), sequence_with(None, key, certificate, b"-"), certificate, key, labels)
-    return [] if covers(left, alone) else [f"of this tag the chain gives only `{on_one_line(left)}`: sign that"]
+    own_tag, _ = tag_after(principal_of(key), sequence_with(None, key, certificate, b"-"), certificate, key, labels)
+    return [] if covers(tag_by_chain, own_tag) else [f"of this tag the chain gives only `{on_one_line(tag_by_chain)}`: sign that"]
 
 
-def left_of(subject: Value, sequence: Value, certificate: Value, key: Value, labels: Labels) -> tuple[Value, list[str]]:
+def tag_after(subject: Value, sequence: Value, certificate: Value, key: Value, labels: Labels) -> tuple[Value, list[str]]:
     """The tag that remains after a sequence whose access list would give everything to a subject, and an empty list. Or an empty string and why none
-    remains, in the words of `ask`. The certificate, which `key` issues, counts as signed."""
+    remains, in the words of `ask`. The certificate, which `key` issues, counts as signed. Raises Refused."""
     access_list: Value = [b"acl", [b"entry", subject, [b"propagate"], [b"tag", [b"*"]]]]
     asked = Asked(access_list, key, b"", now(), labels, [sequence], unsigned=canonical(certificate))
     with guard_of(asked) as guard:

@@ -8,9 +8,9 @@ from dataclasses import dataclass
 from datetime import datetime
 from typing import ClassVar, NamedTuple
 
-from .keys import hash_of
 from .sexp import Value, canonical
 
+# A moment as `strftime` writes it.
 DATE_FORMAT = "%Y-%m-%d_%H:%M:%S"
 
 
@@ -41,11 +41,12 @@ def string_of(value: Value | None) -> bytes | None:
 
 @dataclass(frozen=True)
 class Terms:
-    """What an entry or a certificate says. An entry is issued by the owner of the list, which is None."""
+    """What an entry or a certificate says."""
 
     value: Value
+    """The entry or the certificate itself."""
     issuer: Value | None
-    """The principal that issues it."""
+    """The principal that issues it. None for an entry, which the owner of the list issues."""
     name: bytes | None
     """The name that a certificate defines, or None if it gives a right."""
     subject: Value
@@ -57,6 +58,7 @@ class Terms:
     ends: bytes | None
     # Whether it has `(propagate)`, so that its subject may delegate the right.
     delegates: bool
+    # The strings of its comment in one, or an empty string.
     comment: str
 
     @property
@@ -84,7 +86,7 @@ class Terms:
 
 def terms_of(value: Value) -> Terms:
     """The terms of an entry or a certificate. A relative name as subject becomes one of the issuer. A limit of the window may be in `(valid ..)`.
-    The readers of `structures` say what is wrong in a value, and nothing here does."""
+    The readers of `structures` must have accepted the value."""
     issuer, name, subject = None, None, members(value)[0]
     if headed(value, b"cert"):
         issuer, subject = only(field(value, b"issuer")) or b"", only(field(value, b"subject")) or b""
@@ -96,11 +98,12 @@ def terms_of(value: Value) -> Terms:
     begins, ends = (string_of(only(field(value, head) or field(valid, head))) for head in (b"not-before", b"not-after"))
     comments = map(string_of, members(field(value, b"comment") or b""))
     return Terms(value, issuer, name, subject, only(field(value, b"tag")), begins, ends, field(value, b"propagate") is not None,
-                 " ".join(it.decode(errors="replace") for it in comments if it is not None))
+                 " ".join(comment.decode(errors="replace") for comment in comments if comment is not None))
 
 
 def remarks_on_window(begins: bytes | None, ends: bytes | None, moment: bytes, what: str = "it") -> Iterator[tuple[bytes, str]]:
-    """What is probably a mistake in a window: for each the head of its field, and a remark. `what` is what has the window."""
+    """Yields what is probably a mistake in a window, as of a moment: for each the head of its field, and a remark, which calls what has the window
+    `what`."""
     for head, limit in ((b"not-before", begins), (b"not-after", ends)):
         if limit and not is_in_calendar(limit):
             yield head, f"no calendar has the moment {limit.decode()}"
@@ -137,15 +140,15 @@ def keys_in(sequence: Value) -> list[Value]:
 
 def certificates_in(sequence: Value) -> list[Signed]:
     """The certificates of a sequence, each with the signature that follows it."""
-    found: list[Signed] = []
-    waits: tuple[Value, int] | None = None
+    certificates: list[Signed] = []
+    unsigned: tuple[Value, int] | None = None
     for number, item in enumerate(members(sequence), 1):
         if headed(item, b"cert"):
-            waits = item, number
-        elif headed(item, b"signature") and waits:
-            found.append(Signed(terms_of(waits[0]), item, waits[1]))
-            waits = None
-    return found
+            unsigned = item, number
+        elif headed(item, b"signature") and unsigned:
+            certificates.append(Signed(terms_of(unsigned[0]), item, unsigned[1]))
+            unsigned = None
+    return certificates
 
 
 class Keys:
@@ -192,24 +195,24 @@ class Keys:
 
 def fault_of_signature(signed: Signed, keys: Keys) -> str | None:
     """The word of `explain` for the first test that a certificate's signature does not pass, one of FAULTS in `showing`. None if it is valid.
-    `keys` are those that a hash may name."""
-    issuer = signed.terms.issuer or b""
+    `keys` are those that a hash may name, by SHA-1 too, as under the open policy."""
+    issuer, certificate = signed.terms.issuer or b"", canonical(signed.terms.value)
     if keys.named(issuer) is None:
         return "KeyNotShown"
-    digest, signer, value = members(signed.signature)
-    expected = hash_of(signed.terms.value)
-    if string_of(members(digest)[0]) == b"sha256" and digest != expected:
+    hash_signed, signer, value = members(signed.signature)
+    algorithm, digest = (string_of(member) or b"" for member in members(hash_signed)[:2])
+    if hashlib.new(algorithm.decode(), certificate).digest() != digest:
         return "DigestDiffers"
     if not keys.are_one(signer, issuer):
         return "SignerDiffers"
     from spki_verify import verify_texts
-    is_valid = verify_texts(key=keys.text_of(issuer)[0], message=canonical(signed.terms.value), value=canonical(value))
-    return None if is_valid else "NotAccepted"
+    return None if verify_texts(key=keys.text_of(issuer)[0], message=certificate, value=canonical(value)) else "NotAccepted"
 
 
 @dataclass
 class Steps:
-    """How many steps a search for chains may still take: one for each certificate that it puts behind others, and one for each string of a name."""
+    """How many steps a search for chains may still take. To put a certificate behind others takes one step, and one for each string of the name to
+    which the chain then leads."""
 
     most: ClassVar[int] = 20_000
     left: int = most
@@ -217,7 +220,7 @@ class Steps:
     """Whether chains were left out."""
 
 
-# Whom a chain leads to: the digest of a key, and names in canonical form.
+# Whom a chain leads to: the SHA-256 digest of the canonical text of a key, and the strings of a name in canonical form.
 Holder = tuple[bytes, ...]
 
 
@@ -227,38 +230,43 @@ def holder_of(principal: Value, names: Iterable[Value], keys: Keys) -> Holder:
 
 
 def chains(entries: Iterable[Terms], certificates: list[Signed], keys: Keys, key: Value, steps: Steps, most: int = 16) -> Iterator[list[Signed]]:
-    """The chains of at most `most` certificates that lead from an entry to a key, the shortest first. No chain passes a holder twice: without the
-    certificates in between it would give at least as much. The search ends when no steps are left, and then sets `steps.is_cut`."""
+    """Yields the chains of at most `most` certificates that lead from an entry to a key, the shortest first. No chain passes a holder twice: without
+    the certificates in between it would give at least as much. The search ends when no steps are left, and then sets `steps.is_cut`."""
     # (the certificates by their issuers as holders, a key or a key and the name that is defined, each with its subject as a holder)
     wanted, by_issuer = holder_of(key, [], keys), dict[Holder, list[tuple[Signed, Holder]]]()
-    for each in certificates:
-        terms = each.terms
-        begins = holder_of(terms.issuer or b"", [terms.name] if terms.name is not None else [], keys)
-        by_issuer.setdefault(begins, []).append((each, holder_of(terms.principal, terms.names, keys)))
-    begins_at = dict.fromkeys(holder_of(it.principal, it.names, keys) for it in entries)
-    waiting = deque[tuple[list[Holder], list[Signed]]](([it], []) for it in begins_at)
+    for signed in certificates:
+        terms = signed.terms
+        issuer = holder_of(terms.issuer or b"", [terms.name] if terms.name is not None else [], keys)
+        by_issuer.setdefault(issuer, []).append((signed, holder_of(terms.principal, terms.names, keys)))
+    begins = dict.fromkeys(holder_of(entry.principal, entry.names, keys) for entry in entries)
+    # (each chain that is not ended yet: the holders that it passes, and its certificates)
+    waiting = deque[tuple[list[Holder], list[Signed]]](([holder], []) for holder in begins)
     while waiting and steps.left >= 0:
         holders, chain = waiting.popleft()
-        if holders[-1] == wanted:
+        holder = holders[-1]
+        if holder == wanted:
             yield chain
+            continue
         # (the subject of a certificate replaces its issuer, the key and the first name of a holder; further names stay behind it)
-        for each, after in by_issuer.get(holders[-1][:2], []) if len(chain) < most and holders[-1] != wanted else []:
-            steps.left -= len(after) + max(0, len(holders[-1]) - 2)
-            leads_to = (*after, *holders[-1][2:]) if steps.left >= 0 else ()
-            if leads_to not in holders and steps.left >= 0:
-                waiting.append(([*holders, leads_to], [*chain, each]))
+        for signed, subject in by_issuer.get(holder[:2], []) if len(chain) < most else []:
+            next_holder = (*subject, *holder[2:])
+            steps.left -= len(next_holder)
+            if steps.left < 0:
+                break
+            if next_holder not in holders:
+                waiting.append(([*holders, next_holder], [*chain, signed]))
     steps.is_cut = steps.is_cut or steps.left < 0
 
 
 def sequence_of(chain: Iterable[Signed], keys: Keys) -> Value:
     """The sequence of a chain: the keys of those issuers that are named by hashes, and each certificate with its signature. `keys` has the keys; one
     that is not known is left out."""
-    shown: list[Value] = []
+    keys_shown: list[Value] = []
     items: list[Value] = []
-    for each in chain:
-        issuer = each.terms.issuer or b""
+    for signed in chain:
+        issuer = signed.terms.issuer or b""
         key = keys.named(issuer)
-        if key is not None and key != issuer and key not in shown:
-            shown.append(key)
-        items += [each.terms.value, each.signature]
-    return [b"sequence", *shown, *items]
+        if key is not None and key != issuer and key not in keys_shown:
+            keys_shown.append(key)
+        items += [signed.terms.value, signed.signature]
+    return [b"sequence", *keys_shown, *items]

@@ -7,7 +7,7 @@ from typing import NamedTuple
 
 from .certificates import Keys, certificates_in, fault_of_signature, keys_in, remarks_on_window, terms_of
 from .files import Refused, octets_of, remark_on_mode
-from .forms import Node, Wrong, meant, shape
+from .forms import Node, Wrong, shape_fault, suggestion
 from .keys import ENCRYPTED, BadKey, is_key_file, is_private, is_text, kind_of, no_passphrase, pieces_of, public_of, read_public
 from .places import ALONE, BY_HEAD, Lines, places_of, read_text, refusal
 from .sexp import canonical
@@ -104,8 +104,8 @@ def remarks_on_text(path: str, octets: bytes, moment: bytes) -> tuple[str, list[
 
 def fault_of_tag(node: Node) -> Wrong | None:
     """Why a value is no tag: the fault in it, or a head that is probably misspelled. None if it is one."""
-    if node.head is not None and meant(node.head, HEADS):
-        return shape(node, f"no kind of text begins with `({node.head.decode(errors='replace')} ..)`{meant(node.head, HEADS)}")
+    if node.head is not None and suggestion(node.head, HEADS):
+        return shape_fault(node, f"no kind of text begins with `({node.head.decode(errors='replace')} ..)`{suggestion(node.head, HEADS)}")
     try:
         read_tag(tag_of(node))
     except Wrong as wrong:

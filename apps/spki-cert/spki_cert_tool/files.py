@@ -16,7 +16,7 @@ from typing import Any, TextIO, Union
 
 from .agent import AgentSigner
 from .certificates import DATE_FORMAT, is_in_calendar
-from .forms import MOST_OCTETS, Node, Wrong, meant
+from .forms import MOST_OCTETS, Node, Wrong, suggestion
 from .keys import BadKey, FileSigner, is_key_file, is_private, read_private, read_public
 from .places import lines_of_fault, may_be_secret, name_foreign, read_text, value_in
 from .sexp import Value
@@ -134,7 +134,7 @@ def refusal_to_read(path: str, why: OSError) -> Refused:
     with contextlib.suppress(OSError):
         names += map(os.fsencode, os.listdir(folder or "."))
     is_folder = isinstance(why, IsADirectoryError)
-    return Refused(f"{path}: {'this is a folder, and a file is wanted' if is_folder else f'{why.strerror}{meant(os.fsencode(name), names)}'}")
+    return Refused(f"{path}: {'this is a folder, and a file is wanted' if is_folder else f'{why.strerror}{suggestion(os.fsencode(name), names)}'}")
 
 
 def text_at(path: str, given: str = "") -> tuple[bytes, Node]:

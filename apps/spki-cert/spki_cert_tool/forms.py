@@ -27,7 +27,7 @@ ESCAPED = {b"a": b"\a", b"b": b"\b", b"t": b"\t", b"n": b"\n", b"v": b"\v", b"f"
 DIGITS = re.compile(rb"[0-9A-Fa-f]{16}")
 SYMBOLS = re.compile(rb"([A-Za-z0-9+/]*)(=*)")
 # Remarks on octets that begin no value.
-SAID = {b";": "`;` begins no comment: there are no comments, only the field `(comment \"..\")`",
+REMARKS = {b";": "`;` begins no comment: there are no comments, only the field `(comment \"..\")`",
         b",": "there are no commas: spaces are between members, and what contains each of several words is `(* set read write)`",
         b"'": "`'` is no quotation mark here: leave it out, or write `\"`",
         b"?": "there are no patterns: what begins so is `(* prefix /web/)`, and a string with `?` needs quotes"}
@@ -84,7 +84,7 @@ class Wrong(Exception):
         """The place that is shown first, if it is not the one where the fault is found."""
 
 
-def said_of(text: bytes, at: int) -> str | None:
+def remark_on_octet(text: bytes, at: int) -> str | None:
     """A remark on the octet at the offset `at`, where a value should begin and none does: what its author probably meant, and what to write instead.
     None if there is nothing to say of it."""
     octet, character = text[at:at + 1], text[at:at + 4].decode(errors="ignore")[:1]
@@ -99,12 +99,12 @@ def said_of(text: bytes, at: int) -> str | None:
     # (as in `@FILE` of other commands)
     if octet == b"@" and at == 0:
         return "no file is read here, and \"$(cat FILE)\" gives what is in it"
-    return SAID.get(octet, f"a string with `{octet.decode()}` needs quotes" if octet in b"!$%&@~<>\\^`" else None)
+    return REMARKS.get(octet, f"a string with `{octet.decode()}` needs quotes" if octet in b"!$%&@~<>\\^`" else None)
 
 
 def spaces_end(text: bytes, at: int) -> int:
     """The offset after the whitespace that begins at an offset."""
-    return found_at(SPACES, text, at).end()
+    return match_at(SPACES, text, at).end()
 
 
 def column(text: bytes, at: int) -> int:
@@ -112,12 +112,12 @@ def column(text: bytes, at: int) -> int:
     return at - text.rfind(b"\n", 0, at) - 1
 
 
-def shape(node: Node, why: str, others: Iterable[Place] = ()) -> Wrong:
+def shape_fault(node: Node, why: str, others: Iterable[Place] = ()) -> Wrong:
     """The fault `Shape` of a value that has not the form that it must have, with a remark. `others` are further places."""
     return Wrong("Shape", node.begin, why, others)
 
 
-def meant(word: bytes | None, allowed: Iterable[bytes]) -> str:
+def suggestion(word: bytes | None, allowed: Iterable[bytes]) -> str:
     """The end of a remark, which asks whether the most similar of the allowed words is meant. Empty if the word is allowed, or none is similar."""
     allowed = list(allowed)
     if word in allowed or len(word or b"") > MOST_MEANT:
@@ -126,7 +126,7 @@ def meant(word: bytes | None, allowed: Iterable[bytes]) -> str:
     return f"; is `{near[0]}` meant?" if near else ""
 
 
-def shown(octets: bytes) -> str:
+def excerpt(octets: bytes) -> str:
     """Octets for people to read, cut off where they are many."""
     return repr(octets[:40])[2:-1] + (".." if len(octets) > 40 else "")
 
@@ -200,7 +200,7 @@ class Parser:
         if octet == b"(":
             return self.list_at(at)
         if octet == b"[":
-            return self.hinted(at)
+            return self.string_with_hint(at)
         body, end = self.string(at, wanted)
         return Node(at, end, body)
 
@@ -222,7 +222,7 @@ class Parser:
         self.opened.pop()
         return Node(at, next_at + 1, members=members)
 
-    def hinted(self, at: int) -> Node:
+    def string_with_hint(self, at: int) -> Node:
         """The string whose display hint begins at an offset."""
         hint, end = self.string(self.skip(at + 1), "a display hint, which is a string")
         end = self.skip(end)
@@ -237,16 +237,16 @@ class Parser:
         if token:
             return token[0], token.end()
         if octet in BODIES and not self.is_canonical:
-            return self.marked(at, at, None)
+            return self.string_in_marks(at, at, None)
         length = LENGTH.match(self.text, at)
         if not length:
-            said, of_form = None if self.is_canonical else said_of(self.text, at), "canonical " if self.is_canonical else ""
+            said, of_form = None if self.is_canonical else remark_on_octet(self.text, at), "canonical " if self.is_canonical else ""
             raise Wrong("Bad", at, f"{said}; here {wanted} is expected" if said else f"no {of_form}text has this octet where {wanted} is expected")
         return self.of_length(at, length.end(), length[0])
 
     def of_length(self, begin: int, at: int, digits: bytes) -> tuple[bytes, int]:
         """The octets of a string with a length, and the offset after it. It begins at `begin` with the digits of its length, which end at `at`.
-        Behind them is a colon, or in advanced form the mark of a string as `marked` reads it. Raises Wrong."""
+        Behind them is a colon, or in advanced form the mark of a string as `string_in_marks` reads it. Raises Wrong."""
         octet = self.octet(at, begin)
         length = int(digits) if len(digits) < 10 else 10**9
         if octet == b":":
@@ -256,19 +256,19 @@ class Parser:
                             [(begin, "the string begins here"), *((it, "this list is not closed") for it in reversed(self.opened[:-1]))])
             return self.text[at + 1:at + 1 + length], at + 1 + length
         if octet in BODIES and not self.is_canonical:
-            return self.marked(begin, at, length)
+            return self.string_in_marks(begin, at, length)
         if self.is_canonical or digits == b"0" and octet.isdigit() and not DIGITS.match(self.text, begin):
             why = "a length is followed by a colon" if self.is_canonical else "a length has no leading zero"
             raise Wrong("Bad", at, why, [(begin, "the length begins here")])
         why = "put hexadecimal digits between two `#`" if DIGITS.match(self.text, begin) else "put quotes around a string that begins with a digit"
         raise Wrong("Bad", at, f"{why}; otherwise the digits are the length of a string", [(at, "no length is followed by this")], begin)
 
-    def marked(self, begin: int, at: int, length: int | None) -> tuple[bytes, int]:
+    def string_in_marks(self, begin: int, at: int, length: int | None) -> tuple[bytes, int]:
         """The octets of a string between two marks, which are quotes, `#` or `|`, and the offset after it. The first mark is at `at`. The string
         begins at `begin`: with its length, if one is given, which must be right."""
         mark = self.octet(at)
-        body = found_at(BODIES[mark], self.text, at + 1)
-        octets: bytes | None = self.unquoted(begin, at + 1) if mark == b'"' else b""
+        body = match_at(BODIES[mark], self.text, at + 1)
+        octets: bytes | None = self.quoted_octets(begin, at + 1) if mark == b'"' else b""
         if self.octet(body.end(), begin) != mark:
             raise Wrong("Bad", body.end(), f"this octet is not allowed between two `{mark.decode()}`", [(begin, "the string begins here")])
         if mark == b"#":
@@ -277,7 +277,7 @@ class Parser:
                 raise Wrong("Bad", body.end(), "the number of hexadecimal digits is odd", [(begin, "the string begins here")])
             octets = bytes.fromhex(digits.decode())
         elif mark == b"|":
-            octets = of_base64(body[0])
+            octets = octets_of_base64(body[0])
             if octets is None:
                 raise Wrong("Bad", body.end(), "the text before this mark is no base64", [(begin, "the string begins here")])
         assert octets is not None
@@ -285,7 +285,7 @@ class Parser:
             raise Wrong("Bad", body.end(), f"the length says {length} octets, and the string has {len(octets)}", [(begin, "the string begins here")])
         return octets, body.end() + 1
 
-    def unquoted(self, begin: int, at: int) -> bytes:
+    def quoted_octets(self, begin: int, at: int) -> bytes:
         """The octets of the quoted string that begins at `begin`, and whose first octet behind the mark is at `at`. Raises Wrong if an escape is
         wrong or cut off."""
         pieces = []
@@ -307,14 +307,14 @@ class Parser:
                 raise Wrong("Bad", place, "no escape has this octet here", [(at, "the escape begins here"), (begin, "the string begins here")])
 
 
-def found_at(pattern: re.Pattern[bytes], text: bytes, at: int) -> re.Match[bytes]:
+def match_at(pattern: re.Pattern[bytes], text: bytes, at: int) -> re.Match[bytes]:
     """What a pattern finds at an offset, where it always finds something."""
     found = pattern.match(text, at)
     assert found is not None
     return found
 
 
-def of_base64(body: bytes) -> bytes | None:
+def octets_of_base64(body: bytes) -> bytes | None:
     """The octets of a text in base64, or None if it is none. Whitespace is ignored, and padding may be left out."""
     found = SYMBOLS.fullmatch(b"".join(body.split()))
     if not found:
@@ -334,12 +334,12 @@ def without_braces(text: bytes) -> tuple[bytes, list[int] | None, int]:
         return text, None, len(text)
     if len(text) > MOST_OCTETS:
         raise Wrong("TooLong", MOST_OCTETS, f"the text has {len(text):,} octets, and may have {MOST_OCTETS:,}")
-    body = found_at(BODIES[b"|"], text, begin + 1)
+    body = match_at(BODIES[b"|"], text, begin + 1)
     if body.end() == len(text):
         raise Wrong("Short", body.end(), "the text ends before `}`", [(begin, "the braces begin here")])
     if text[body.end():body.end() + 1] != b"}":
         raise Wrong("Bad", body.end(), "this octet is not allowed in braces", [(begin, "the braces begin here")])
-    octets = of_base64(body[0])
+    octets = octets_of_base64(body[0])
     if octets is None:
         raise Wrong("Bad", body.end(), "the text in the braces is no base64", [(begin, "the braces begin here")])
     symbols = [body.start() + place for place, octet in enumerate(body[0]) if not bytes([octet]).isspace()]

@@ -7,7 +7,7 @@ import re
 from functools import partial
 from typing import Optional
 
-from .forms import FORM_FAULTS, MOST_OCTETS, Node, Parser, Place, Wrong, meant, without_braces
+from .forms import FORM_FAULTS, MOST_OCTETS, Node, Parser, Place, Wrong, suggestion, without_braces
 from .sexp import canonical
 from .structures import (Members, Reader, but_is, read_certificate, read_date, read_entry, read_hash, read_item, read_key, read_request, read_row,
                          read_signature, read_tag, read_version)
@@ -176,7 +176,7 @@ def read_outline(node: Node) -> None:
         policy = member.rest
         if place or member.head != b"policy" or len(policy) != 1 or not policy[0].is_plain(b"strict"):
             raise Wrong("case Shape", member.begin, "the moment is followed by `(policy strict)` or nothing" + (
-                "; for the open policy leave it out" if not place and member.head == b"policy" else meant(member.head, (b"policy",))))
+                "; for the open policy leave it out" if not place and member.head == b"policy" else suggestion(member.head, (b"policy",))))
 
 
 def read_intersect(node: Node) -> None:

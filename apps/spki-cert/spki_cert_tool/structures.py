@@ -3,7 +3,7 @@ dates, entries, certificates" and "Tags"."""
 import re
 from collections.abc import Callable
 
-from .forms import MOST_NODES, Node, Wrong, meant, shape, shown
+from .forms import MOST_NODES, Node, Wrong, excerpt, shape_fault, suggestion
 
 MOMENT = re.compile(rb"\d{4}-(0[1-9]|1[0-2])-(0[1-9]|[12]\d|3[01])_([01]\d|2[0-3]):[0-5]\d:([0-5]\d|60)")
 # How many octets a digest has, by its algorithm.
@@ -22,10 +22,10 @@ Said = dict[bytes, tuple[Node, object]]
 def but_is(node: Node, *heads: bytes) -> str:
     """The end of a remark: which heads a list must have, and what a value is instead."""
     wanted = [f"`({head.decode()} ..)`" for head in heads]
-    is_instead = f"the string `{shown(node.body or b'')}`" if node.members is None else "a list without a word as its head"
+    is_instead = f"the string `{excerpt(node.body or b'')}`" if node.members is None else "a list without a word as its head"
     if node.head is not None:
-        is_instead = f"`({shown(node.head)} ..)`"
-    return f"{', '.join(wanted[:-1])}{' or ' if wanted[1:] else ''}{wanted[-1]}, but is {is_instead}{meant(node.head, heads)}"
+        is_instead = f"`({excerpt(node.head)} ..)`"
+    return f"{', '.join(wanted[:-1])}{' or ' if wanted[1:] else ''}{wanted[-1]}, but is {is_instead}{suggestion(node.head, heads)}"
 
 
 class Members:
@@ -34,7 +34,7 @@ class Members:
 
     def __init__(self, node: Node, head: bytes, what: str) -> None:
         if node.head != head:
-            raise shape(node, f"{what} must be {but_is(node, head)}")
+            raise shape_fault(node, f"{what} must be {but_is(node, head)}")
         self.node, self.left = node, node.rest
 
     def next(self, what: str) -> Node:
@@ -47,7 +47,7 @@ class Members:
         """Raises Wrong if there is one more member."""
         if self.left:
             head = (self.node.head or b"").decode(errors="replace")
-            raise shape(self.left[0], f"this is one member too many in `({head} ..)`", [(self.node.begin, "which begins here")])
+            raise shape_fault(self.left[0], f"this is one member too many in `({head} ..)`", [(self.node.begin, "which begins here")])
 
 
 def list_of(head: bytes | None, what: str, *readers: tuple[str, Reader]) -> Reader:
@@ -67,7 +67,7 @@ def read_key(node: Node) -> None:
     members = Members(node, b"public-key", "a key")
     inner = members.next("(ALGORITHM PART ..)")
     if inner.head is None:
-        raise shape(inner, "a key contains a list that begins with the name of an algorithm")
+        raise shape_fault(inner, "a key contains a list that begins with the name of an algorithm")
     if members.left and members.left[0].head == b"uri":
         raise Wrong("KeyUris", members.left[0].begin, "a key has no `(uri ..)` here")
     members.end()
@@ -76,10 +76,10 @@ def read_key(node: Node) -> None:
 def read_algorithm(node: Node) -> bytes:
     """Reads the algorithm of a hash, and returns it. Raises Wrong if it is none."""
     if node.members is not None:
-        raise shape(node, "the algorithm of a hash is a string")
+        raise shape_fault(node, "the algorithm of a hash is a string")
     if node.hint is not None or node.body not in DIGESTS:
         without = ", without a display hint" if node.hint is not None else ""
-        raise Wrong("HashAlg", node.begin, f"the algorithm is sha1, sha256 or sha512{without}{meant(node.body, DIGESTS)}")
+        raise Wrong("HashAlg", node.begin, f"the algorithm is sha1, sha256 or sha512{without}{suggestion(node.body, DIGESTS)}")
     return node.body or b""
 
 
@@ -89,7 +89,7 @@ def read_hash(node: Node) -> bytes:
     algorithm = read_algorithm(members.next("the algorithm"))
     digest = members.next("the digest")
     if not digest.is_plain():
-        raise shape(digest, "the digest is a string without a display hint")
+        raise shape_fault(digest, "the digest is a string without a display hint")
     if len(digest.body or b"") != DIGESTS[algorithm]:
         said = f"a digest by {algorithm.decode()} has {2 * DIGESTS[algorithm]} hexadecimal digits, here {2 * len(digest.body or b'')}"
         raise Wrong("DigestLength", digest.begin, f"{said}, between two `#`: copy it again, or take that of `spki-cert key --hash FILE`")
@@ -102,7 +102,7 @@ def read_hash(node: Node) -> bytes:
 def read_principal(node: Node) -> None:
     """Reads a principal, which is a key or a hash. Raises Wrong if it is none."""
     if node.head not in PRINCIPALS:
-        raise shape(node, f"a principal must be {but_is(node, *PRINCIPALS)}")
+        raise shape_fault(node, f"a principal must be {but_is(node, *PRINCIPALS)}")
     (read_key if node.head == b"public-key" else read_hash)(node)
 
 
@@ -115,7 +115,7 @@ def read_name(node: Node) -> tuple[bool, int]:
     names = [members.next("a name's string"), *members.left]
     for name in names:
         if not name.is_plain():
-            raise shape(name, "a name consists of strings without display hints")
+            raise shape_fault(name, "a name consists of strings without display hints")
     return has_principal, len(names)
 
 
@@ -127,7 +127,7 @@ def read_subject(node: Node) -> bool:
     if node.head == b"name":
         return read_name(node)[0]
     if node.head not in PRINCIPALS:
-        raise shape(node, f"a subject must be {but_is(node, *PRINCIPALS, b'name')}")
+        raise shape_fault(node, f"a subject must be {but_is(node, *PRINCIPALS, b'name')}")
     read_principal(node)
     return True
 
@@ -141,7 +141,7 @@ def read_date(node: Node) -> None:
 def read_version_number(node: Node) -> None:
     """Reads the string of a version. Raises Wrong unless it is 0."""
     if node.members is not None:
-        raise shape(node, "a version is a string")
+        raise shape_fault(node, "a version is a string")
     if not node.is_plain(b"0"):
         raise Wrong("UnknownVersion", node.begin, "the version is 0")
 
@@ -153,7 +153,7 @@ def read_issuer(node: Node) -> bool:
         return False
     has_principal, count = read_name(node)
     if not has_principal or count != 1:
-        raise shape(node, "an issuer is a principal, or `(name PRINCIPAL n)` with one string")
+        raise shape_fault(node, "an issuer is a principal, or `(name PRINCIPAL n)` with one string")
     return True
 
 
@@ -173,8 +173,8 @@ FIELDS: dict[bytes, Reader] = {
 def remark_on_no_field(node: Node, allowed: tuple[bytes, ...]) -> str:
     """The remark on a value that is no field where only the fields with the heads `allowed` may be."""
     if node.head is not None:
-        return f"`{shown(node.head)}` is no field here{meant(node.head, allowed)}"
-    word = shown(node.body or b"") if node.body in allowed else "tag"
+        return f"`{excerpt(node.head)}` is no field here{suggestion(node.head, allowed)}"
+    word = excerpt(node.body or b"") if node.body in allowed else "tag"
     return f"a field is in parentheses and begins with a word, as `({word} ..)`"
 
 
@@ -187,15 +187,15 @@ def read_fields(owner: Node, nodes: list[Node], allowed: tuple[bytes, ...]) -> S
         if head == b"online":
             raise Wrong("Online", node.begin, "an online test is not supported; give a short validity by `(not-after ..)`")
         if head is None or head not in allowed:
-            raise shape(node, remark_on_no_field(node, allowed))
+            raise shape_fault(node, remark_on_no_field(node, allowed))
         if head in said:
-            both = f"one `(tag (* set A B))` contains both, or write a second `({shown(owner.head or b'')} ..)`"
-            raise shape(node, f"the field `{head.decode()}` is here a second time: {both if head == b'tag' else 'remove one of them'}",
+            both = f"one `(tag (* set A B))` contains both, or write a second `({excerpt(owner.head or b'')} ..)`"
+            raise shape_fault(node, f"the field `{head.decode()}` is here a second time: {both if head == b'tag' else 'remove one of them'}",
                         [(said[head][0].begin, "the first one"), (owner.begin, "in the list that begins here")])
         said[head] = node, FIELDS.get(head, lambda _: None)(node)
     for head in LIMITS:
         if b"valid" in said and head in said:
-            raise shape(said[head][0], f"`{head.decode()}` is given directly, and there is `(valid ..)` too", [(said[b'valid'][0].begin, "here")])
+            raise shape_fault(said[head][0], f"`{head.decode()}` is given directly, and there is `(valid ..)` too", [(said[b'valid'][0].begin, "here")])
     return said
 
 
@@ -203,13 +203,13 @@ def require_fields(owner: Node, said: Said, *heads: bytes) -> None:
     """Raises Wrong if one of these fields is not among those that were read."""
     for head in heads:
         if head not in said:
-            raise shape(owner, f"the field `({head.decode()} ..)` is missing in the list that begins here")
+            raise shape_fault(owner, f"the field `({head.decode()} ..)` is missing in the list that begins here")
 
 
 def read_entry(node: Node) -> None:
     """Reads an entry of an access list. Raises Wrong if it is none."""
     if node.head == b"deny":
-        raise shape(node, "there are no denials: what no entry gives is denied, so leave this out")
+        raise shape_fault(node, "there are no denials: what no entry gives is denied, so leave this out")
     members = Members(node, b"entry", "an entry")
     subject = members.next("the subject")
     if not read_subject(subject):
@@ -224,7 +224,7 @@ def read_certificate(node: Node) -> None:
     if said[b"issuer"][1]:
         for head in (b"tag", b"propagate"):
             if head in said:
-                raise shape(said[head][0], f"its issuer is a name, so it defines a name and must have no `{head.decode()}`: remove the "
+                raise shape_fault(said[head][0], f"its issuer is a name, so it defines a name and must have no `{head.decode()}`: remove the "
                             f"`{head.decode()}`, or write the key alone as issuer", [(said[b"issuer"][0].begin, "its issuer is a name")])
     else:
         require_fields(node, said, b"tag")
@@ -251,7 +251,7 @@ ITEMS: dict[bytes, Reader] = {b"public-key": read_key, b"do": read_operation, b"
 def read_item(node: Node) -> None:
     """Reads an item of a sequence: a key, an operation, a certificate or a signature. Raises Wrong if it is none."""
     if node.head is None or node.head not in ITEMS:
-        raise shape(node, f"an item must be {but_is(node, *ITEMS)}")
+        raise shape_fault(node, f"an item must be {but_is(node, *ITEMS)}")
     ITEMS[node.head](node)
 
 
@@ -290,7 +290,7 @@ def read_tag(node: Node, nodes: list[int] | None = None) -> None:
         if word.members is None:
             refuse_hint(word)
         if word.body not in STARS:
-            raise Wrong("UnknownStar", word.begin, "the star is followed by `set`, `prefix` or `range`" + meant(word.body, STARS))
+            raise Wrong("UnknownStar", word.begin, "the star is followed by `set`, `prefix` or `range`" + suggestion(word.body, STARS))
         behind = behind[2:]
         if word.body != b"set":
             return (read_prefix if word.body == b"prefix" else read_range)(node, behind)
@@ -311,7 +311,7 @@ def read_range(node: Node, behind: list[Node]) -> None:
     if ordering.members is None:
         refuse_hint(ordering)
     if ordering.body not in ORDERINGS:
-        raise Wrong("RangeOrdering", ordering.begin, "`range` is followed by `alpha`, `time` or `date`" + meant(ordering.body, ORDERINGS))
+        raise Wrong("RangeOrdering", ordering.begin, "`range` is followed by `alpha`, `time` or `date`" + suggestion(ordering.body, ORDERINGS))
     for member in behind[1:]:
         if member.members is None:
             refuse_hint(member)
