@@ -1,5 +1,5 @@
 """The commands of `spki-cert`. Each is a function of the words that were given, and returns the exit status. `given.WORD` is the value of the
-option or word WORD in `arguments`."""
+option or word WORD in `arguments`. Each raises Refused or BadKey for what it does not take, which `main` tells."""
 import argparse
 import base64
 import contextlib
@@ -39,20 +39,21 @@ NOT_SHOWN = "only an access list, a certificate, a sequence or a case is shown; 
 def key(given: argparse.Namespace) -> int:
     """Writes the SPKI keys of files, or with --hash their hashes. Of a private key it writes the public one."""
     keys = [(path, key_at(path, given.number, True)) for path in given.files]
-    rows = [{"file": path, "key": on_one_line(it), "hash": on_one_line(hash_of(it)), "algorithm": kind_of(it)} for path, it in keys]
-    text = b"".join(text_of(hash_of(it) if given.hash else it) for _, it in keys)
+    rows = [{"file": path, "key": on_one_line(key), "hash": on_one_line(hash_of(key)), "algorithm": kind_of(key)} for path, key in keys]
+    text = b"".join(text_of(hash_of(key) if given.hash else key) for _, key in keys)
     write((given.output, json.dumps(rows, indent=1).encode() + b"\n" if given.json else text), force=given.force)
     return DONE
 
 
 def new_key(given: argparse.Namespace) -> int:
-    """Makes a key pair as two files, and writes over none: `given.file` is the private key, and `given.file`.pub the public one."""
+    """Makes a key pair as two files, and writes over none: `given.file` is the private key, and `given.file`.pub the public one. If the public one
+    cannot be written, the private one stays."""
     path = given.file
     if path.endswith(".pub"):
         raise Refused(f"{path}: a private key is not called .pub; give {path[:-4]}, and the public key is {path}")
-    there = [it for it in (path, f"{path}.pub") if os.path.lexists(it)]
-    if there or path == "-":
-        raise Refused(f"{there[0]} is there already, and a key is not written over" if there else "a new key needs the name of a file")
+    existing = [name for name in (path, f"{path}.pub") if os.path.lexists(name)]
+    if existing or path == "-":
+        raise Refused(f"{existing[0]} is there already, and a key is not written over" if existing else "a new key needs the name of a file")
     passphrase = b"" if given.no_passphrase else passphrase_for(f"the new {path} (empty: none)")
     if passphrase and passphrase_for(f"the new {path} again") != passphrase:
         raise Refused("the passphrases differ; nothing was written")
@@ -77,15 +78,15 @@ def sign(given: argparse.Namespace) -> int:
     certificate = certificate_of(signer.key, subject, fields, os.fsencode(given.name) if given.name is not None else None)
     terms = terms_of(certificate)
     # (until when the chain must be valid: --days 30 means whole days, and a chain that ends some hours before gives them)
-    needed = now(given.days - 1) if given.days is not None else terms.ends
-    warnings = [*remark_on_mode(given.by), *warnings_of_certificate(terms, given.tag, needed, chain, [*map(request_of, given.tries)])]
+    chain_until = now(given.days - 1) if given.days is not None else terms.ends
+    warnings = [*remark_on_mode(given.by), *warnings_of_certificate(terms, given.tag, chain_until, chain, [*map(request_of, given.tries)])]
     try:
-        cannot = what_cannot_be_given(chain, certificate, signer.key, os.path.basename(given.by)) if chain is not None else []
+        lacking = what_cannot_be_given(chain, certificate, signer.key, os.path.basename(given.by)) if chain is not None else []
     except Refused as why:
         # (the library refuses the chain, or cannot be loaded: then --anyway is needed too)
-        cannot = list(why.lines)
+        lacking = list(why.lines)
     # (a list, so that both are called, and all warnings are told)
-    if not all([confirm(given.anyway, "--anyway", cannot), confirm(given.yes, "--yes", warnings)]):
+    if not all([confirm(given.anyway, "--anyway", lacking), confirm(given.yes, "--yes", warnings)]):
         return UNCONFIRMED
     write((given.output, text_of(signed_sequence(certificate, signer, chain))), force=given.force)
     return DONE
@@ -96,8 +97,8 @@ def entry(given: argparse.Namespace) -> int:
     meanwhile."""
     if given.to is None:
         raise Refused("an entry needs --to, a key, a hash or a name")
-    others = (given.tag, given.propagate or None, given.tries or None, given.begins, given.days, given.until, given.comment)
-    if given.remove and (given.acl is None or any(it is not None for it in others)):
+    fields = (given.tag, given.propagate or None, given.tries or None, given.begins, given.days, given.until, given.comment)
+    if given.remove and (given.acl is None or any(field is not None for field in fields)):
         raise Refused("--remove needs --acl, and goes with no --tag and no other field: it removes all entries of --to")
     with locked(given.acl) if given.acl not in (None, "-") else contextlib.nullcontext():
         return (remove if given.remove else add)(given)
@@ -105,24 +106,24 @@ def entry(given: argparse.Namespace) -> int:
 
 def add(given: argparse.Namespace) -> int:
     """Writes an entry for the subject of --to: into the list of --acl, into the store of --store, or else alone. Returns UNCONFIRMED if it is
-    probably a mistake, and there is no --yes."""
-    made: Value = [b"entry", subject_of(given), *fields_given(given)]
+    probably a mistake, and there is no --yes. With --store it returns the exit status of `spki-store`."""
+    new_entry: Value = [b"entry", subject_of(given), *fields_given(given)]
     is_there = given.acl == "-" or given.acl is not None and os.path.exists(given.acl)
     before = list_at(given.acl) if is_there else b"(acl)"
     # (also without --acl: it raises Refused for an entry that a service would refuse)
-    text = list_with(made, before)
-    warnings = [*warnings_of(terms_of(made), given.tag, [*map(request_of, given.tries)]), *warnings_of_list(made, before)]
+    text = list_with(new_entry, before)
+    warnings = [*warnings_of(terms_of(new_entry), given.tag, [*map(request_of, given.tries)]), *warnings_of_list(new_entry, before)]
     if not confirm(given.yes, "--yes", warnings):
         return UNCONFIRMED
     if given.store is not None:
-        return add_to_store(text_of(made), given.store)
-    write((given.acl or given.output, text if given.acl else text_of(made)), force=given.force, edits=is_there)
+        return add_to_store(text_of(new_entry), given.store)
+    write((given.acl or given.output, text if given.acl else text_of(new_entry)), force=given.force, edits=is_there)
     return say(*([] if is_there else [f"made {given.acl}"]), "entries added: 1", is_aside=given.acl == "-") if given.acl else DONE
 
 
 def add_to_store(text: bytes, settings: str) -> int:
-    """Has `spki-store`, from the folder beside that of this command or as it is installed, add an entry to the store at some settings of libpq.
-    Returns its exit status, or FAILED if a signal ended it."""
+    """Has `spki-store`, from the folder beside that of this command or as it is installed, add an entry to a store. `text` is the entry, and
+    `settings` are those of libpq. Returns the exit status of `spki-store`, or FAILED if a signal ended it. Raises Refused if it is not there."""
     beside = os.path.join(os.path.dirname(os.path.realpath(__file__)), "..", "..", "spki-store", "spki-store")
     program = beside if os.path.exists(beside) else "spki-store"
     try:
@@ -135,12 +136,12 @@ def add_to_store(text: bytes, settings: str) -> int:
 def remove(given: argparse.Namespace) -> int:
     """Removes the entries for the subject of --to from an access list. Returns NO if there are none. The list of a stream is written in any case,
     since its reader waits for it, and that of a file only if it changes."""
-    text, gone = list_without(subject_of(given), list_at(given.acl))
-    if gone or given.acl == "-":
+    text, removed = list_without(subject_of(given), list_at(given.acl))
+    if removed or given.acl == "-":
         write((given.acl, text), edits=True)
-    none = f"; {given.to} has none; `spki-cert show {given.acl}` lists them" if not gone else ""
-    say(*(f"entry {number}, {tag}: removed" for number, tag in gone), f"entries removed: {len(gone)}{none}", is_aside=given.acl == "-")
-    return DONE if gone else NO
+    advice = f"; {given.to} has none; `spki-cert show {given.acl}` lists them" if not removed else ""
+    say(*(f"entry {number}, {tag}: removed" for number, tag in removed), f"entries removed: {len(removed)}{advice}", is_aside=given.acl == "-")
+    return DONE if removed else NO
 
 
 def list_at(path: str) -> bytes:
@@ -152,15 +153,16 @@ def list_at(path: str) -> bytes:
 
 def confirm(is_given: bool, option: str, warnings: Iterable[str]) -> bool:
     """Tells the warnings about something that is to be made. Returns whether to make it: there are no warnings, or the option that overrules them,
-    which is called `option`, is given."""
-    said = list(warnings)
-    nothing = [f"nothing was written; {option} makes it as it is"] if said and not is_given else []
-    tell(*(f"spki-cert: {it}" for it in [*said, *nothing]))
-    return is_given or not said
+    which is called `option`, is given (`is_given`)."""
+    lines = list(warnings)
+    is_made = is_given or not lines
+    tell(*(f"spki-cert: {line}" for line in lines), *([] if is_made else [f"spki-cert: nothing was written; {option} makes it as it is"]))
+    return is_made
 
 
 def fields_given(given: argparse.Namespace) -> list[Value]:
-    """The fields that the options give a certificate or an entry: tag, validity, delegation and comment. Raises Refused for a right without --tag."""
+    """The fields that the options give a certificate or an entry: tag, validity, delegation and comment. Raises Refused for a right without --tag, or
+    for a tag that cannot be read."""
     if given.tag is None and given.name is None:
         raise Refused("a right needs --tag")
     tag = node_of(os.fsencode(given.tag), "--tag", read_tag).value if given.tag is not None else None
@@ -197,8 +199,9 @@ def request_of(words: list[str]) -> Value:
 def labels_of(given: argparse.Namespace, *paths: str) -> Labels:
     """The labels of keys, from the files and folders of --labels, of SPKI_LABELS, and of `paths`. The first label of a key stays."""
     labels = Labels()
-    for path in (it for it in (*given.labels, os.environ.get("SPKI_LABELS", ""), *paths) if it):
-        labels.add_path(path)
+    for path in (*given.labels, os.environ.get("SPKI_LABELS", ""), *paths):
+        if path:
+            labels.add_path(path)
     return labels
 
 
@@ -253,7 +256,8 @@ def ask(given: argparse.Namespace) -> int:
 
 
 def sequences_below(paths: list[str]) -> Iterator[str]:
-    """The paths of the sequences: each file that is given itself, whatever it has, and the files in given folders that are headed by `sequence`."""
+    """Yields the paths of the sequences: each file that is given itself, whatever it has, and the files in given folders that are headed by
+    `sequence`."""
     from .checking import files_below
     for path, is_given in files_below(paths):
         with contextlib.suppress(Wrong):
@@ -266,13 +270,15 @@ def check(given: argparse.Namespace) -> int:
     from .checking import files_below, remarks_on
     moment = now()
     # (for each file whether its own path is given, what the file is, or None if it is left out, and the remarks on it)
-    found = [(path, is_given, *remarks_on(path, moment, is_given)) for path, is_given in files_below(given.paths)]
-    kinds, remarks = [(path, kind) for path, is_given, kind, _ in found if is_given and kind], [it for *_, said in found for it in said]
-    left_out = sum(kind is None for _, _, kind, _ in found)
-    read = len(found) - left_out
-    refused = len({it.path for it in remarks if it.is_refused})
+    files = [(path, is_given, *remarks_on(path, moment, is_given)) for path, is_given in files_below(given.paths)]
+    kinds = [(path, kind) for path, is_given, kind, _ in files if is_given and kind]
+    remarks = [remark for *_, of_file in files for remark in of_file]
+    left_out = sum(kind is None for _, _, kind, _ in files)
+    read = len(files) - left_out
+    refused = len({remark.path for remark in remarks if remark.is_refused})
     if given.json:
-        rows = [{"file": it.path, "line": it.line, "column": it.column, "refused": it.is_refused, "text": it.text} for it in remarks]
+        rows = [{"file": remark.path, "line": remark.line, "column": remark.column, "refused": remark.is_refused, "text": remark.text}
+                for remark in remarks]
         say(json.dumps({"files": read, "left_out": left_out, "kinds": dict(kinds), "remarks": rows}, indent=1))
     else:
         say(*(f"{path}: {kind}" for path, kind in kinds), *map(str, remarks))
@@ -314,17 +320,19 @@ def main() -> int:
 
 
 def end_by_signal(number: int, frame: object) -> NoReturn:
-    """Handles a signal: ends the program. No file is half written, since a signal waits until a file is in its place."""
+    """Handles a signal: ends the program with status FAILED. No file is half written, since a signal waits until a file is in its place."""
     for descriptor, attributes in TERMINAL:
-        termios.tcsetattr(descriptor, termios.TCSAFLUSH, attributes)
+        # (a terminal that was closed, the reason of SIGHUP, has no settings any more)
+        with contextlib.suppress(termios.error):
+            termios.tcsetattr(descriptor, termios.TCSAFLUSH, attributes)
     with contextlib.suppress(OSError):
         os.write(2, f"spki-cert: ended by {signal.Signals(number).name}\n".encode())
     os._exit(FAILED)
 
 
 def run() -> NoReturn:
-    """The program: runs `main`, with an end by each signal of ENDING, and exits with its status. `os._exit` does it: all output is flushed when it is
-    written, so nothing is left to be written. Warnings of libraries are not shown."""
+    """The program: runs `main`, with an end by each signal of ENDING that is not ignored, and exits with its status. `os._exit` does it, which is
+    faster: all output is flushed when it is written, so nothing is left to be written. Warnings of libraries are not shown."""
     warnings.simplefilter("ignore")
     for number in ENDING:
         if signal.getsignal(number) is not signal.SIG_IGN:

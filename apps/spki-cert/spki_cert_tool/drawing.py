@@ -31,7 +31,7 @@ MEANINGS = {
 
 
 class Shape(NamedTuple):
-    """A subject, which has no colour, or a box with one."""
+    """A subject, which has no colour, or a box with one. `lines` are its text."""
 
     lines: list[str]
     colour: str = ""
@@ -47,68 +47,72 @@ class Arrow(NamedTuple):
 
 
 class Drawing:
-    """The shapes and arrows that are drawn. A hash of a key that is known is that key. A line of text has at most `width` letters."""
+    """The shapes and arrows that are drawn. A hash of one of `keys`, or of a key that has a label, is that key. Without `labels` keys are written as
+    they are. A line of text has at most `width` letters."""
 
     def __init__(self, keys: Iterable[Value], labels: Labels | None, width: int) -> None:
-        known = labels.keys.by_hash.values() if labels is not None else ()
-        self.keys, self.labels, self.width = Keys([*keys, *known]), labels, width
+        keys_of_labels = labels.keys.by_hash.values() if labels is not None else ()
+        self.keys, self.labels, self.width = Keys([*keys, *keys_of_labels]), labels, width
+        # (by the names of the shapes: octets that tell them apart)
         self.shapes: dict[bytes, Shape] = {}
         self.arrows: list[Arrow] = []
 
     def in_lines(self, text: str) -> list[str]:
-        """A text in lines that are short enough."""
+        """A text in lines of at most `width` letters."""
         return textwrap.wrap(text, self.width, break_on_hyphens=False) or [""]
 
-    def of(self, value: Value) -> bytes:
+    def shape_of(self, subject: Value) -> bytes:
         """Adds the shape of a subject, unless it is there. Returns the name of the shape, which is the same for a known key and its hashes."""
-        principal, *names = members(value) if headed(value, b"name") else [value]
-        identity = canonical([self.keys.text_of(principal)[1], *names])
-        label = [f"{' '.join(on_one_line(name) for name in names)} of"] if names else []
-        label += [self.labels.of(principal)] if self.labels is not None else self.in_lines(on_one_line(principal))
-        self.shapes.setdefault(identity, Shape(label))
-        return identity
+        principal, *names = members(subject) if headed(subject, b"name") else [subject]
+        shape_name = canonical([self.keys.text_of(principal)[1], *names])
+        lines = [f"{' '.join(on_one_line(name) for name in names)} of"] if names else []
+        lines += [self.labels.of(principal)] if self.labels is not None else self.in_lines(on_one_line(principal))
+        self.shapes.setdefault(shape_name, Shape(lines))
+        return shape_name
 
     def arrow(self, begin: bytes, end: bytes, colour: str, *lines: str) -> None:
         """Adds an arrow between two shapes by their names, with those of the lines that are not empty."""
         self.arrows.append(Arrow(begin, end, [line for line in lines if line], colour))
 
     def terms(self, value: Value) -> list[str]:
-        """What a certificate or an entry gives: its tag, its validity, and whether it may be passed on."""
+        """The lines that say what a certificate or an entry gives: its tag, its validity, and whether it may be passed on."""
         parts = [field(value, head) for head in (b"tag", b"valid", b"not-before", b"not-after", b"propagate")]
         return [line for part in parts if part for line in self.in_lines(on_one_line(part))]
 
     def entries(self, access_list: Value, only: int | None = None) -> None:
-        """Adds the access list, with an arrow for each of its entries, or for the one with the number `only`."""
+        """Adds the access list, with an arrow for each of its entries, or for the one with the number `only`, from 1."""
         self.shapes[b"list"] = Shape(["access list"], "blue")
         for number, entry in enumerate(entries_of(access_list), 1):
             if only in (None, number):
-                self.arrow(b"list", self.of(entry.subject), BLACK, f"entry {number}", *self.terms(entry.value))
+                self.arrow(b"list", self.shape_of(entry.subject), BLACK, f"entry {number}", *self.terms(entry.value))
 
     def links(self, sequence: Value, stops: int | None = None, cause: str = "") -> None:
         """Adds an arrow for each certificate of a sequence, or up to item `stops`. That one is red: it stops the chain, for a cause of MEANINGS."""
         for number, item in enumerate(members(sequence), 1):
             if headed(item, b"cert") and number <= (stops or number):
                 terms = terms_of(item)
-                said = [f"item {number} {cause}:", MEANINGS[cause]] if number == stops else [f"item {number}"]
-                begin = [b"name", terms.issuer or b"", terms.name] if terms.name is not None else terms.issuer or b""
-                self.arrow(self.of(begin), self.of(terms.subject), RED if number == stops else BLACK, *said, *self.terms(item))
+                title = [f"item {number} {cause}:", MEANINGS[cause]] if number == stops else [f"item {number}"]
+                issuer = [b"name", terms.issuer or b"", terms.name] if terms.name is not None else terms.issuer or b""
+                colour = RED if number == stops else BLACK
+                self.arrow(self.shape_of(issuer), self.shape_of(terms.subject), colour, *title, *self.terms(item))
 
     def ends(self, case: Value, entry: int, word: str, left: Value) -> None:
         """Adds the request, and the arrow to it from the subject of `left`, the right `(five ..)` that the chain leaves of entry number `entry`.
         `word` is `grants`, or a cause of MEANINGS for which it does not grant."""
         key, request, moment = members(case)[3:6]
         colour = GREEN if word == "grants" else RED
-        said = [f"yes entry {entry}"] if word == "grants" else [f"{word}:", MEANINGS[word]]
+        title = [f"yes entry {entry}"] if word == "grants" else [f"{word}:", MEANINGS[word]]
         self.shapes[b"request"] = Shape([*self.in_lines(on_one_line(request)), *self.in_lines(on_one_line(moment))], colour)
         tag = self.in_lines(f"left: {on_one_line(field(left, b'tag') or b'')}")
-        self.arrow(self.of(members(field(left, b"subject") or b"")[0]), b"request", colour, *said, *tag)
+        self.arrow(self.shape_of(members(field(left, b"subject") or b"")[0]), b"request", colour, *title, *tag)
         if word == "NotTheKey":
-            self.arrow(self.of(members(key)[0]), b"request", BLACK, "asks")
+            self.arrow(self.shape_of(members(key)[0]), b"request", BLACK, "asks")
 
 
 def drawing_of_case(case: Value, reasons: list[Reason], reduced: Callable[[int], Value], labels: Labels | None = None, width: int = WIDTH) -> Drawing:
     """The drawing of a case, for the reason that goes furthest of the library's `reasons`. `reduced` returns the right `(five ..)` that is left of an
-    entry, by its number: it is called only if the chain joins to its end. Without entries the drawing is empty."""
+    entry, by its number from 1: it is called only if the chain joins to its end. Without entries the drawing is empty. `labels` and `width` are as
+    for Drawing."""
     chosen = furthest(reasons)
     access_list, _, sequence, key = members(case)[:4]
     drawing = Drawing([members(key)[0], *keys_in(sequence)], labels, width)
@@ -155,7 +159,8 @@ LINE, MARGINS = 18, 22
 
 
 def box(x: float, y: float, width: float, height: float, lines: list[str], kind: str = "box") -> Iterator[str]:
-    """A box as SVG, of a class of CLASSES, with lines of text in its middle. The first line is its title."""
+    """A box as SVG, with lines of text in its middle, the first of which is its title. `x` and `y` are those of its upper left corner, in pixels as
+    all lengths here, and `kind` is a class of CLASSES."""
     yield f'<rect class="{kind}" x="{x}" y="{y}" width="{width}" height="{height}" rx="6"/>'
     top = y + height / 2 - LINE * (len(lines) - 1) / 2 + 5
     for place, line in enumerate(lines):
@@ -164,7 +169,7 @@ def box(x: float, y: float, width: float, height: float, lines: list[str], kind:
 
 
 def text(x: float | str, y: float, line: str, of_class: str = "small left") -> Iterator[str]:
-    """A line of text as SVG, in a class of STYLE."""
+    """A line of text as SVG, in a class of STYLE. It begins at `x`, and its letters stand on `y`."""
     yield f'<text class="{of_class}" x="{x}" y="{y}">{escape(line)}</text>'
 
 
@@ -185,26 +190,28 @@ def page(width: float, height: float, title: str, *parts: Iterable[str]) -> Iter
 def svg_of_drawing(drawing: Drawing, title: str, width: float = 620) -> Iterator[str]:
     """A picture as SVG: from top to bottom, each arrow with the boxes where it begins and ends. Where an arrow begins at the box before,
     that box is not drawn again."""
-    # (`y` is the lower edge of the last box, whose name is `last`)
-    x, y, parts = 20, 20, list[str]()
+    # (`y` is the lower edge of the last box, whose name is `last`. An arrow goes down from its middle, with lines of text on its right)
+    x, y, box_width, line_height, parts = 20, 20, 420, 16, list[str]()
     last: bytes | None = None
     for arrow, is_end in ((arrow, is_end) for arrow in drawing.arrows for is_end in (False, True)):
-        node = arrow.end if is_end else arrow.begin
-        if node == last and not is_end:
+        shape_name = arrow.end if is_end else arrow.begin
+        if shape_name == last and not is_end:
             continue
-        shape = drawing.shapes[node]
-        top = y + (24 + 16 * len(arrow.lines) if is_end else 20 if last else 0)
+        shape = drawing.shapes[shape_name]
+        top = y + (24 + line_height * len(arrow.lines) if is_end else 20 if last else 0)
         if is_end:
-            parts.append(f'<path class="line {arrow.colour}" marker-end="url(#end)" d="M{x + 210} {y} L{x + 210} {top - 2}"/>')
+            middle = x + box_width // 2
+            parts.append(f'<path class="line {arrow.colour}" marker-end="url(#end)" d="M{middle} {y} L{middle} {top - 2}"/>')
             for place, line in enumerate(arrow.lines):
-                parts += text(x + 224, y + 24 + 16 * place, line, f"small left {arrow.colour}")
-        parts += box(x, top, 420, MARGINS + LINE * len(shape.lines), shape.lines, KINDS.get(shape.colour, "box"))
-        y, last = top + MARGINS + LINE * len(shape.lines), node
+                parts += text(middle + 14, y + 24 + line_height * place, line, f"small left {arrow.colour}")
+        height = MARGINS + LINE * len(shape.lines)
+        parts += box(x, top, box_width, height, shape.lines, KINDS.get(shape.colour, "box"))
+        y, last = top + height, shape_name
     return page(width, y + 20, title, parts)
 
 
 def svg_of(value: Value, labels: Labels) -> bytes:
-    """A list, a certificate, a sequence or a case as SVG."""
+    """A list, a certificate, a sequence or a case as SVG. Of a case it is the chain of its decision. Raises Refused if the library refuses it."""
     if headed(value, b"case"):
         asked = asked_of_case(value, labels)
         return svg_of_answer(asked, best_answer(asked))

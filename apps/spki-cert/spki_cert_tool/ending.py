@@ -21,7 +21,8 @@ MOST_ENDED, MOST_REASON = 1 << 24, 200
 HEAD = b"# SHA-256 of certificates that no longer count. Only `spki-cert end` may change this file."
 DIGITS = re.compile(r"[0-9A-Fa-f]{64}")
 ENDED = re.compile(rb"([0-9a-f]{64})(?: # ([^\n]*))?")
-LAST = re.compile(rb"end (0|[1-9][0-9]*) ([0-9a-f]{64})")
+# (a number of thousands of digits would be no number to `int`)
+LAST = re.compile(rb"end (0|[1-9][0-9]{0,17}) ([0-9a-f]{64})")
 # A line as people write it: digits in capitals too, spaces, a comment right behind it.
 BY_HAND = re.compile(rb"[ \t]*([0-9A-Fa-f]{64})?[ \t]*(?:#([^\n]*))?")
 # A comment that begins with a date, as `add` writes it, and perhaps a reason behind it.
@@ -32,9 +33,9 @@ DATED = re.compile(r"(\d{4}-\d\d-\d\d)(?: (.*))?")
 
 
 def visible(text: str) -> str:
-    """A text as one line of visible ASCII. Other characters are written by their numbers."""
+    """A text as one line of visible ASCII. Controls become spaces, several spaces one, and other characters are written by their numbers."""
     plain = text.encode("ascii", "backslashreplace").decode()
-    return " ".join("".join(it if " " <= it <= "~" else " " for it in plain).split())
+    return " ".join("".join(letter if " " <= letter <= "~" else " " for letter in plain).split())
 
 
 def rows_of(lines: Iterable[bytes]) -> list[re.Match[bytes]]:
@@ -53,40 +54,42 @@ def last_line(lines: list[bytes]) -> bytes:
 
 
 def lines_in(path: str) -> list[bytes]:
-    """The lines of the file before the last one. Raises Refused if they or the last line are not in the form, or do not belong together."""
+    """The lines of the file before the last one. Raises Refused if they or the last line are not in the form, or do not belong together, and OSError
+    if there is no file."""
     # (one more line in front, since two are unpacked, and an empty file is only one)
     *lines, last, behind = [b"", *read_ended(path).split(b"\n")]
-    lines, met = lines[1:], LAST.fullmatch(last)
+    lines, last_match = lines[1:], LAST.fullmatch(last)
     advice = f"compare it with a copy; then `spki-cert end --adopt --ended {path}` takes its lines as they are"
-    if behind or met is None:
+    if behind or last_match is None:
         raise Refused(f"{path}: the last line is not `end COUNT SHA256`: the file was cut, or written by hand; {advice}")
     faulty = [number for number, line in enumerate(lines, 1) if line and not line.startswith(b"#") and not ENDED.fullmatch(line)]
     if faulty:
         raise Refused(f"{path}: line {faulty[0]} is no digest of 64 lowercase hexadecimal digits, no comment and not empty; {advice}")
     if last != last_line(lines):
-        count, there = int(met[1]), len(rows_of(lines))
-        differs = f"says {count} digests, and there are {there}" if count != there else "has another SHA-256 than the lines before it"
+        count, actual = int(last_match[1]), len(rows_of(lines))
+        differs = f"says {count} digests, and there are {actual}" if count != actual else "has another SHA-256 than the lines before it"
         raise Refused(f"{path}: the last line {differs}: the file was cut, or changed by hand; {advice}")
     return lines
 
 
 def lines_by_hand(path: str) -> tuple[list[bytes], bool]:
-    """The lines of a file that people have written, in the form of the file, and whether they have as many digests as the last line says. This
-    line, right or wrong, is left out."""
+    """The lines of a file that people have written or changed, in the form of the file, and whether they have as many digests as its last line says.
+    This line, right or wrong, is left out; if there is none, the answer is True. Raises Refused for a line that is none of these, and OSError if
+    there is no file."""
     octets = read_ended(path)
     lines = octets.removesuffix(b"\n").split(b"\n") if octets else []
     last = lines.pop() if lines and lines[-1].startswith(b"end ") else None
-    made = []
+    rewritten = []
     for number, line in enumerate(lines, 1):
-        met = BY_HAND.fullmatch(line.rstrip(b"\r"))
-        if met is None:
+        match = BY_HAND.fullmatch(line.rstrip(b"\r"))
+        if match is None:
             raise Refused(f"{path}: line {number} is no digest of 64 hexadecimal digits, no comment and not empty: remove or mend it; "
                           "nothing was written")
-        digest, comment = met[1], met[2]
+        digest, comment = match.groups()
         behind = b" # " + comment.strip() if comment and comment.strip() else b""
-        made.append(digest.lower() + behind if digest else b"#" + comment if comment is not None else b"")
-    said = LAST.fullmatch(last) if last is not None else None
-    return made, last is None or said is not None and int(said[1]) == len(rows_of(made))
+        rewritten.append(digest.lower() + behind if digest else b"#" + comment if comment is not None else b"")
+    last_match = LAST.fullmatch(last) if last is not None else None
+    return rewritten, last is None or last_match is not None and int(last_match[1]) == len(rows_of(rewritten))
 
 
 # ---- the file
@@ -94,7 +97,7 @@ def lines_by_hand(path: str) -> tuple[list[bytes], bool]:
 
 def read_ended(path: str) -> bytes:
     """The octets of the file. Only an ordinary file is opened: opening a FIFO or a device may wait, or do something. The file is replaced as a
-    whole, so one state of it is read."""
+    whole, so one state of it is read. Raises Refused for another or a longer file, and OSError if there is none."""
     if not stat.S_ISREG(os.stat(path).st_mode):
         raise Refused(f"{path}: it is no ordinary file")
     octets = octets_of(path, MOST_ENDED + 1)
@@ -104,7 +107,7 @@ def read_ended(path: str) -> bytes:
 
 
 def write_lines(path: str, lines: list[bytes]) -> None:
-    """Replaces the file by one of these lines and their last line. A new one may be read by all."""
+    """Replaces the file by one of these lines and their last line. A new one may be read by all. Raises Refused or Failed."""
     octets = b"\n".join([*lines, last_line(lines), b""])
     if len(octets) > MOST_ENDED:
         raise Refused(f"{path}: it would have more than {MOST_ENDED} octets, which `spki-authd` does not read; nothing was written")
@@ -132,8 +135,10 @@ def meant_by(given: argparse.Namespace) -> dict[str, str]:
     for digest in given.digest:
         if not DIGITS.fullmatch(digest):
             raise Refused(f"--digest {digest}: a digest has 64 hexadecimal digits; `spki-cert show FILE` prints that of a certificate")
-    found = [meant_at(path, given.place) for path in given.files] + [(it.lower(), it.lower()) for it in given.digest]
-    return {digest: dict(reversed(found))[digest] for digest, _ in found}
+    names: dict[str, str] = {}
+    for digest, name in [meant_at(path, given.place) for path in given.files] + [(digest.lower(), digest.lower()) for digest in given.digest]:
+        names.setdefault(digest, name)
+    return names
 
 
 # ---- the commands
@@ -149,58 +154,61 @@ def make(given: argparse.Namespace) -> int:
 
 
 def add(given: argparse.Namespace) -> int:
-    """Ends certificates. Those that have ended are said, and are not written twice."""
+    """Ends certificates. Says which of them had ended before: they are not written twice."""
     meant = meant_by(given)
     comment = f"{now()[:10].decode()} {visible(given.reason)[:MOST_REASON]}".rstrip()
     with locked(given.ended):
         lines = lines_in(given.ended)
-        there = digests_of(lines)
-        lines += [f"{digest} # {comment}".encode() for digest in meant if digest not in there]
-        count = len(digests_of(lines)) - len(there)
+        ended_before = digests_of(lines)
+        lines += [f"{digest} # {comment}".encode() for digest in meant if digest not in ended_before]
+        count = len(digests_of(lines)) - len(ended_before)
         if count:
             write_lines(given.ended, lines)
-    return say(*(f"{called}: {'it had ended before' if digest in there else 'ended'}" for digest, called in meant.items()),
+    return say(*(f"{name}: {'it had ended before' if digest in ended_before else 'ended'}" for digest, name in meant.items()),
                *(["--digest is compared with no certificate: give the FILE of the certificate if you have it"] if given.digest else []),
                f"digests added: {count}" + ("; they count from the next reload of spki-authd on" if count else ""))
 
 
 def undo(given: argparse.Namespace) -> int:
-    """Takes digests out of the file: all that are named, or none."""
+    """Takes digests out of the file: all that are named, or none. Returns NO if one of them is not there."""
     meant = meant_by(given)
     with locked(given.ended):
         lines = lines_in(given.ended)
-        missing = [called for digest, called in meant.items() if digest not in digests_of(lines)]
+        ended_before = digests_of(lines)
+        missing = [name for digest, name in meant.items() if digest not in ended_before]
         if missing:
-            tell(*(f"spki-cert: {called}: it has not ended; nothing was written" for called in missing))
+            tell(*(f"spki-cert: {name}: it has not ended; nothing was written" for name in missing))
             return NO
         write_lines(given.ended, [line for line in lines if line[:64].decode(errors="replace") not in meant])
-    return say(*(f"{called}: taken out" for called in meant.values()),
+    return say(*(f"{name}: taken out" for name in meant.values()),
                f"digests taken out: {len(meant)}; the next reload needs `spki-authd -reload -fewer`")
 
 
-def listed(row: re.Match[bytes]) -> str:
-    """The line that is printed for a digest, a match of ENDED: with its date and reason. A comment that begins with no date is all reason."""
+def line_listed(row: re.Match[bytes]) -> str:
+    """The line that is printed for a digest, a match of ENDED: with its date and reason. A comment that begins with no date is all reason, and the
+    date is `-`."""
     comment = visible((row[2] or b"").decode(errors="backslashreplace"))
-    date, reason = met.groups() if (met := DATED.fullmatch(comment)) else ("-", comment)
+    dated = DATED.fullmatch(comment)
+    date, reason = dated.groups() if dated else ("-", comment)
     return f"{row[1].decode()} {date} {reason or ''}".rstrip()
 
 
 def list_all(given: argparse.Namespace) -> int:
     """Prints all digests, and the last line, by which two copies of the file are compared."""
     lines = lines_in(given.ended)
-    return say(*map(listed, rows_of(lines)), last_line(lines).decode())
+    return say(*map(line_listed, rows_of(lines)), last_line(lines).decode())
 
 
 def adopt(given: argparse.Namespace) -> int:
     """Takes the lines of a file that people have written or changed, and gives it its last line. If it has no digests, or another number of them than
     its last line says, it is left as it is without --yes, and UNCONFIRMED is returned."""
     with locked(given.ended):
-        lines, is_as_said = lines_by_hand(given.ended)
+        lines, has_right_count = lines_by_hand(given.ended)
         rows = rows_of(lines)
-        is_taken = given.yes or bool(rows) and is_as_said
+        is_taken = given.yes or bool(rows) and has_right_count
         if is_taken:
             write_lines(given.ended, lines)
-    say(*map(listed, rows), f"digests: {len(rows)}")
+    say(*map(line_listed, rows), f"digests: {len(rows)}")
     if not is_taken:
         differs = "its last line says another number of digests" if rows else "it has no digests"
         tell(f"spki-cert: {given.ended}: {differs}: was it cut? Nothing was written; --yes takes it as it is")
@@ -208,7 +216,8 @@ def adopt(given: argparse.Namespace) -> int:
 
 
 def end(given: argparse.Namespace) -> int:
-    """Ends certificates, undoes that, lists what has ended, or makes or adopts the file."""
+    """Ends certificates, undoes that, lists what has ended, or makes or adopts the file. Raises Refused for words that do not go together, or for a
+    file that cannot be read or written."""
     names_some = bool(given.files or given.digest)
     for is_fault, text in (
             (given.place is not None and len(given.files) != 1, "--place goes with one FILE"),
@@ -218,9 +227,9 @@ def end(given: argparse.Namespace) -> int:
             (given.reason and (given.undo or not names_some), "--reason goes with a FILE or --digest that is ended")):
         if is_fault:
             raise Refused(text)
-    does = undo if given.undo else list_all if given.list else adopt if given.adopt else add if names_some else make
+    action = undo if given.undo else list_all if given.list else adopt if given.adopt else add if names_some else make
     try:
-        return does(given)
+        return action(given)
     except FileNotFoundError:
         raise Refused(f"{given.ended}: it is not there; `spki-cert end --ended {given.ended}` makes it") from None
     except OSError as why:

@@ -24,7 +24,9 @@ from .structures import MOMENT, Reader
 
 # The exit statuses of all commands.
 DONE, NO, REFUSED, FAILED, UNCONFIRMED = 0, 1, 2, 3, 4
+# The time of day at which a day that is given as an end ends.
 DAY_ENDS = "_23:59:59"
+# How long a lock is waited for that another program holds.
 SECONDS_TO_LOCK = 30
 Signer = Union[FileSigner, AgentSigner]
 # What is escaped where a text is written to a stream: control characters but tab and line feed.
@@ -63,25 +65,26 @@ class Failed(Refused):
 
 def write_at_once(stream: TextIO | None, text: str | bytes) -> None:
     """Writes to a stream of the system and flushes it. In a text, control characters and what its encoding does not have are escaped. `bytes` are
-    written as they are. Raises OSError, also if the stream is closed (None), or ValueError."""
+    written as they are. Raises OSError, also if the stream was closed before the program began (None), or ValueError if it was closed since."""
     if stream is None:
         raise OSError(errno.EBADF, "it is closed")
     if isinstance(text, str):
-        shown = CONTROLS.sub(lambda found: f"\\x{ord(found[0]):02x}", text)
-        text = shown.encode(stream.encoding or "ascii", "backslashreplace")
+        text = CONTROLS.sub(lambda control: f"\\x{ord(control[0]):02x}", text).encode(stream.encoding or "ascii", "backslashreplace")
     stream.flush()
     stream.buffer.write(text)
     stream.buffer.flush()
 
 
 def put(text: str | bytes) -> None:
-    """Writes to standard output, if there is something to write. Raises Failed, without a line where the reader of a pipe has ended."""
+    """Writes to standard output, if there is something to write. Raises Failed, which has no line where the reader of a pipe has ended: the user has
+    ended it, as by `| head`."""
     try:
         if text:
             write_at_once(sys.stdout, text)
+    except BrokenPipeError:
+        raise Failed() from None
     except (OSError, ValueError) as why:
-        is_broken = isinstance(why, BrokenPipeError)
-        raise Failed(*([] if is_broken else [f"standard output: {getattr(why, 'strerror', None) or why}"])) from None
+        raise Failed(f"standard output: {getattr(why, 'strerror', None) or why}") from None
 
 
 def tell(*lines: str) -> None:
@@ -102,14 +105,14 @@ def say(*lines: str, is_aside: bool = False) -> int:
 # ---- reading
 
 
-def identity(found: os.stat_result) -> tuple[int, int]:
+def identity(state: os.stat_result) -> tuple[int, int]:
     """What a file is known by in READ: its device and inode."""
-    return found.st_dev, found.st_ino
+    return state.st_dev, state.st_ino
 
 
 def octets_of(path: str, most: int = MOST_OCTETS + 1) -> bytes:
     """The octets of a file, or of standard input for `-`: at most `most`, or all for -1. By default it is one more than a text may have, so that
-    callers see that there are more. Raises Refused."""
+    callers see that there are more. Notes in READ what was read. Raises Refused."""
     try:
         if path != "-":
             with open(path, "rb") as file:
@@ -127,23 +130,24 @@ def octets_of(path: str, most: int = MOST_OCTETS + 1) -> bytes:
 
 def refusal_to_read(path: str, why: OSError) -> Refused:
     """The exception for a file that cannot be read. A path that is perhaps a key itself is not repeated, since it may be secret."""
-    shown, (folder, name) = PASTED.sub("..", path), os.path.split(path)
-    if shown != path and not os.path.lexists(path):
-        return Refused(f"{shown}: this is no file, and perhaps a key itself: write it into a file; --to also takes '(hash sha256 #..#)'")
-    names = list[bytes]()
+    without_secrets, (folder, name) = PASTED.sub("..", path), os.path.split(path)
+    if without_secrets != path and not os.path.lexists(path):
+        return Refused(f"{without_secrets}: this is no file, and perhaps a key itself: write it into a file; --to also takes '(hash sha256 #..#)'")
+    if isinstance(why, IsADirectoryError):
+        return Refused(f"{path}: this is a folder, and a file is wanted")
+    neighbours = list[bytes]()
     with contextlib.suppress(OSError):
-        names += map(os.fsencode, os.listdir(folder or "."))
-    is_folder = isinstance(why, IsADirectoryError)
-    return Refused(f"{path}: {'this is a folder, and a file is wanted' if is_folder else f'{why.strerror}{suggestion(os.fsencode(name), names)}'}")
+        neighbours += map(os.fsencode, os.listdir(folder or "."))
+    return Refused(f"{path}: {why.strerror}{suggestion(os.fsencode(name), neighbours)}")
 
 
-def text_at(path: str, given: str = "") -> tuple[bytes, Node]:
-    """The octets of a file, and its value. `given` is empty, or a refusal such as `refused acl`, whose second word says what it is read as. Raises
-    Refused with the place if a service would refuse it."""
+def text_at(path: str, read_as: str = "") -> tuple[bytes, Node]:
+    """The octets of a file, and its value. `read_as` is empty, or the beginning of a refusal such as `refused acl`, whose second word says as what it
+    is read. Raises Refused with the place if a service would refuse it."""
     octets = octets_of(path)
-    found, node = read_text(octets, given)
-    if found[0] is not None:
-        raise Refused(*lines_of_fault(path, found))
+    diagnosis, node = read_text(octets, read_as)
+    if diagnosis[0] is not None:
+        raise Refused(*lines_of_fault(path, diagnosis))
     return octets, node
 
 
@@ -161,7 +165,8 @@ def value_headed(path: str, heads: tuple[bytes, ...], wanted: str) -> Value:
 
 
 def node_of(octets: bytes, what: str, read: Reader) -> Node:
-    """The value of a text, which `read` must accept, as the node with its places. Raises Refused, where the text is called `what`."""
+    """The value of a word of the command line, which `read` must accept, as the node with its places. Raises Refused, where the word is called
+    `what`."""
     try:
         node = value_in(octets)
         read(node)
@@ -175,7 +180,8 @@ def node_of(octets: bytes, what: str, read: Reader) -> Node:
 
 
 def passphrase_for(path: str) -> bytes:
-    """Asks for a passphrase on the terminal, and nowhere else. Raises BadKey without a terminal."""
+    """Asks for the passphrase of what is called `path` on the terminal, and nowhere else. Raises BadKey without a terminal, or if the input ends or
+    is no text."""
     try:
         with open("/dev/tty", "rb") as terminal:
             TERMINAL.append((terminal.fileno(), termios.tcgetattr(terminal)))
@@ -191,7 +197,7 @@ def passphrase_for(path: str) -> bytes:
 
 
 def key_at(path: str, number: int | None = None, is_private_too: bool = False) -> Value:
-    """The public key of a file in any form: the one with this number, where there are several. Raises Refused, also for a private key unless
+    """The public key of a file in any form: the one with this number, from 1, where there are several. Raises Refused, also for a private key unless
     `is_private_too`."""
     with octets_of_key(path) as octets:
         if is_private(octets) and not is_private_too:
@@ -200,7 +206,7 @@ def key_at(path: str, number: int | None = None, is_private_too: bool = False) -
 
 
 def signer_at(path: str) -> Signer:
-    """Who signs: the private key of a file, or for a public key ssh-agent. Raises Refused."""
+    """Who signs: the private key of a file, or for the file of a public key ssh-agent. Raises Refused."""
     with octets_of_key(path) as octets:
         if is_private(octets):
             return FileSigner(read_private(octets, lambda: passphrase_for(path)))
@@ -221,16 +227,16 @@ def octets_of_key(path: str) -> Iterator[bytes]:
 
 
 def remark_on_mode(path: str) -> Iterator[str]:
-    """A remark if a file has a private key and others may read it, else nothing."""
+    """Yields a remark if a file has a private key and others have some access to it, else nothing. Standard input, `-`, has no mode."""
     with contextlib.suppress(OSError):
-        found = os.stat(path)
-        mode = stat.S_IMODE(found.st_mode)
-        if stat.S_ISREG(found.st_mode) and mode & 0o077 and is_private(octets_of(path)):
+        state = os.stat(path)
+        mode = stat.S_IMODE(state.st_mode)
+        if path != "-" and stat.S_ISREG(state.st_mode) and mode & 0o077 and is_private(octets_of(path)):
             yield f"{path} is a private key that others may read: its mode is {mode:o}; chmod 600 {path}"
 
 
 def now(days: int = 0) -> bytes:
-    """The moment that is so many days from now, as a date of a certificate."""
+    """The moment that is so many days from now, as a date of a certificate. Raises Refused if that is after the year 9999."""
     try:
         return (datetime.now(timezone.utc) + timedelta(days)).strftime(DATE_FORMAT).encode()
     except OverflowError:
@@ -238,29 +244,30 @@ def now(days: int = 0) -> bytes:
 
 
 def moment_of(text: str, time_of_day: str = "_00:00:00") -> bytes:
-    """The moment of a word: a date with its time, or a day, to which `time_of_day` is added. Raises Refused, and says how it is written, where the
-    word is a date in another notation."""
+    """The moment of a word: a date with its time, or a day, to which `time_of_day` is added. Raises Refused for any other word, and says how it is
+    written if it is a date in another notation."""
     whole = os.fsencode(text if "_" in text else text + time_of_day)
     if MOMENT.fullmatch(whole) and is_in_calendar(whole):
         return whole
-    right, why = "YYYY-MM-DD or YYYY-MM-DD_HH:MM:SS", "no date in the form that is read"
+    advised, why = "YYYY-MM-DD or YYYY-MM-DD_HH:MM:SS", "no date in the form that is read"
     if parts := NEARLY_DATE.fullmatch(text):
         *numbers, zone = parts.groups("0")
-        meant = "{:04}-{:02}-{:02}_{:02}:{:02}:{:02}".format(*map(int, numbers))
-        if not is_in_calendar(meant.encode()):
+        rewritten = "{:04}-{:02}-{:02}_{:02}:{:02}:{:02}".format(*map(int, numbers))
+        if not is_in_calendar(rewritten.encode()):
             why = "no calendar has this moment"
+        # (in another zone than UTC it is another moment, which is not computed)
         elif zone[0] not in "+-":
-            right = meant if parts[4] else meant[:10]
+            advised = rewritten if parts[4] else rewritten[:10]
         why = why if zone == "0" else "give no zone: each moment is in UTC"
-    raise Refused(f"{text}: {why}; write {right}, in UTC")
+    raise Refused(f"{text}: {why}; write {advised}, in UTC")
 
 
 # ---- writing
 
 
-def target_of(path: str, made: bytes, force: bool, edits: bool) -> tuple[str, os.stat_result | None]:
+def target_of(path: str, new: bytes, force: bool, edits: bool) -> tuple[str, os.stat_result | None]:
     """The file that a path leads to, and its state before it is written, or None if there is none. Raises Refused if it must not be written:
-    with `force` it may be there already, and with `edits` it may be one that was read. `made` are the octets to be written."""
+    with `force` it may be there already, and with `edits` it may be one that was read. `new` are the octets to be written."""
     place = os.path.realpath(path)
     try:
         before = os.stat(place)
@@ -274,13 +281,13 @@ def target_of(path: str, made: bytes, force: bool, edits: bool) -> tuple[str, os
         if is_read and before.st_nlink > 1:
             raise Refused(f"{path}: it has {before.st_nlink} names, of which only one would be changed; nothing was written")
         with open(place, "rb") as file:
-            octets = file.read(MOST_OCTETS)
-        is_key = is_key_file(octets) or may_be_secret(octets)
-        if not is_read and (is_key or ENDED.match(octets)):
-            kept = "a key, or what may be one," if is_key else "the file of ended certificates"
-            raise Refused(f"{path}: {kept} is there already, and is not written over; nothing was written")
+            old = file.read(MOST_OCTETS)
+        is_key = is_key_file(old) or may_be_secret(old)
+        if not is_read and (is_key or ENDED.match(old)):
+            what = "a key, or what may be one," if is_key else "the file of ended certificates"
+            raise Refused(f"{path}: {what} is there already, and is not written over; nothing was written")
         if not is_read and not force:
-            raise Refused(f"{path}: this file is there already; {instead(path, octets, made)}; nothing was written")
+            raise Refused(f"{path}: this file is there already; {advice_on_existing(path, old, new)}; nothing was written")
         return place, before
     except FileNotFoundError:
         if not os.path.isdir(os.path.dirname(place)):
@@ -290,20 +297,21 @@ def target_of(path: str, made: bytes, force: bool, edits: bool) -> tuple[str, os
         raise Refused(f"{path}: {why.strerror}; nothing was written") from None
 
 
-def instead(path: str, there: bytes, made: bytes) -> str:
-    """What to do where a file is there already, in words. `there` are its octets, and `made` those to be written: if it is of another kind, also in
-    braces, it was hardly meant."""
-    head = HEAD.match(read_text(there)[0][1])
-    if head is None or made.startswith(b"(" + head[1]):
+def advice_on_existing(path: str, old: bytes, new: bytes) -> str:
+    """What to do where a file is there already, in words. `old` are its octets, and `new` those to be written. If the two have other heads, also in
+    braces, the path is probably a mistake, and --force is not advised."""
+    head = HEAD.match(read_text(old)[0][1])
+    if head is None or new.startswith(b"(" + head[1]):
         return "--force writes over it"
     is_list = head[1] == b"acl"
     return f"`spki-cert entry --acl {path}` adds an entry to this list" if is_list else f"it has `({head[1].decode()} ..)`: give another name"
 
 
 def write(*parts: tuple[str | None, bytes], mode: int = 0o644, force: bool = False, edits: bool = False) -> None:
-    """Writes octets to files, each by its path, after none of them is refused; those with None or `-` as path go to standard output. Each file is
-    written whole or not at all. With `force` it may be there already, and with `edits` it may be one that was read: then it keeps its mode and its
-    owner. `mode` is that of a new file. Raises Refused or Failed."""
+    """Writes octets to files, each by its path, once it is known that none of them is refused. Those with None or `-` as path go to standard output
+    afterwards. Each file is written whole or not at all. With `force` it may be there already, and with `edits` it may be one that was read: then it
+    keeps its mode and its owner. `mode` is that of a new file. Raises Refused, if nothing was written, or Failed: files before the one that it names
+    are written."""
     targets = [(path, *target_of(path, octets, force, edits), octets) for path, octets in parts if path is not None and path != "-"]
     places = [place for _, place, _, _ in targets]
     if len(set(places)) < len(places):
@@ -322,39 +330,43 @@ def replace(place: str, octets: bytes, mode: int, before: os.stat_result | None)
     before, and Failed, which says what it is, after it was put in its place or if the temporary one stays."""
     import shutil
     import tempfile
-    blocked, made, state = signal.pthread_sigmask(signal.SIG_BLOCK, signal.valid_signals()), "", "as before"
+    signals_before, temporary, state = signal.pthread_sigmask(signal.SIG_BLOCK, signal.valid_signals()), "", "as before"
     try:
-        handle, made = tempfile.mkstemp(prefix=".spki-cert-", dir=os.path.dirname(place))
+        handle, temporary = tempfile.mkstemp(prefix=".spki-cert-", dir=os.path.dirname(place))
         with open(handle, "wb") as file:
             os.fchmod(handle, mode if before is None else stat.S_IMODE(before.st_mode))
             if before is not None:
                 os.fchown(handle, before.st_uid, before.st_gid)
-                shutil.copystat(place, made)
+                shutil.copystat(place, temporary)
             file.write(octets)
             file.flush()
             os.fsync(handle)
-        try:
-            # (a file that somebody else has made meanwhile stays)
-            if before is None:
-                os.link(made, place)
-            else:
-                os.replace(made, place)
-        except OSError:
-            if before is not None or os.path.lexists(place):
-                raise
-            # (a file system without links)
-            os.rename(made, place)
+        put_in_place(temporary, place, is_new=before is None)
         state = "written"
         wait_for_disk(os.path.dirname(place))
     finally:
         try:
-            os.unlink(made)
+            os.unlink(temporary)
         except FileNotFoundError:
             pass
         except OSError as why:
-            raise Failed(f"{place}: the file is {state}, and its temporary file {made} cannot be deleted: {why.strerror}") from None
+            raise Failed(f"{place}: the file is {state}, and its temporary file {temporary} cannot be deleted: {why.strerror}") from None
         finally:
-            signal.pthread_sigmask(signal.SIG_SETMASK, blocked)
+            signal.pthread_sigmask(signal.SIG_SETMASK, signals_before)
+
+
+def put_in_place(temporary: str, place: str, is_new: bool) -> None:
+    """Gives a temporary file its name `place`. If `is_new`, a file that somebody else has made there meanwhile stays. Raises OSError."""
+    if not is_new:
+        os.replace(temporary, place)
+        return
+    try:
+        os.link(temporary, place)
+    except OSError:
+        if os.path.lexists(place):
+            raise
+        # (a file system without links)
+        os.rename(temporary, place)
 
 
 def wait_for_disk(folder: str) -> None:
@@ -377,7 +389,7 @@ def wait_for_disk(folder: str) -> None:
 
 
 def not_on_disk(folder: str, why: OSError) -> Failed:
-    """The exception for a file that is in its place in a folder, of which the system does not say that it is on the disk."""
+    """The exception for a file that is in its place in a folder, although the system does not say that it is on the disk."""
     return Failed(f"{folder}: the file is written, but the system does not say that it is on the disk: {why.strerror}")
 
 

@@ -13,6 +13,7 @@ from dataclasses import dataclass, field
 
 from .sexp import Value
 
+# The limits of docs/FORMATS.md: octets of a text, lists that are open at once, nodes of a tag.
 MOST_OCTETS, MOST_LISTS, MOST_NODES = 1_048_576, 64, 1024
 # A longer word is compared with no other.
 MOST_MEANT = 60
@@ -20,17 +21,19 @@ SPACES = re.compile(rb"[ \t\n\v\f\r]*")
 LETTERS = re.compile(rb"[\w\-./:*+=\x80-\xff]+")
 TOKEN = re.compile(rb"[A-Za-z\-./_:*+=][A-Za-z0-9\-./_:*+=]*")
 LENGTH = re.compile(rb"0|[1-9][0-9]*")
+# What may be between two marks of a string, by the mark. Whether escapes and base64 are right is tested behind that.
 BODIES = {b'"': re.compile(rb'(?:[^"\\]|\\.)*', re.DOTALL), b"#": re.compile(rb"[0-9A-Fa-f\s]*"), b"|": re.compile(rb"[A-Za-z0-9+/=\s]*")}
 # A piece of a quoted string: octets that are themselves, or an escape. A line break that is escaped is nothing.
 PIECE = re.compile(rb"([^\"\\]+)|\\(?:([\"'?\\])|([abtnvfr])|([0-3][0-7]{2})|x([0-9A-Fa-f]{2})|\r\n|\n\r|\r|\n)")
 ESCAPED = {b"a": b"\a", b"b": b"\b", b"t": b"\t", b"n": b"\n", b"v": b"\v", b"f": b"\f", b"r": b"\r"}
+# So many digits are probably a digest without its marks, and no length.
 DIGITS = re.compile(rb"[0-9A-Fa-f]{16}")
 SYMBOLS = re.compile(rb"([A-Za-z0-9+/]*)(=*)")
 # Remarks on octets that begin no value.
 REMARKS = {b";": "`;` begins no comment: there are no comments, only the field `(comment \"..\")`",
-        b",": "there are no commas: spaces are between members, and what contains each of several words is `(* set read write)`",
-        b"'": "`'` is no quotation mark here: leave it out, or write `\"`",
-        b"?": "there are no patterns: what begins so is `(* prefix /web/)`, and a string with `?` needs quotes"}
+           b",": "there are no commas: spaces are between members, and what contains each of several words is `(* set read write)`",
+           b"'": "`'` is no quotation mark here: leave it out, or write `\"`",
+           b"?": "there are no patterns: what begins so is `(* prefix /web/)`, and a string with `?` needs quotes"}
 # The categories of Unicode whose characters are invisible.
 INVISIBLE = ("Cf", "Cc", "Zs", "Zl", "Zp")
 # The kinds of faults of the form of a text. All others are of its value.
@@ -78,6 +81,7 @@ class Wrong(Exception):
     """Why a text is refused: the kind of fault as `spki` names it, the offset of its place, a remark, and further places with remarks."""
 
     def __init__(self, kind: str, at: int, why: str, others: Iterable[Place] = (), shown_at: int | None = None) -> None:
+        """`kind`, `at`, `why` and `others` are these four, in this order."""
         super().__init__(kind, at, why)
         self.kind, self.at, self.why, self.others = kind, at, why, list(others)
         self.shown_at = shown_at
@@ -94,7 +98,7 @@ def remark_on_octet(text: bytes, at: int) -> str | None:
         if unicodedata.category(character) in INVISIBLE:
             name = unicodedata.name(character, "without a name").lower()
             return f"this is the invisible character U+{ord(character):04X}, {name}, which is no space here: delete it, or write a plain one"
-        word = next(it[0] for it in LETTERS.finditer(text) if it.end() > at)
+        word = next(letters[0] for letters in LETTERS.finditer(text) if letters.end() > at)
         return f"a string with `{character}` needs quotes: `\"{word.decode(errors='replace')}\"`"
     # (as in `@FILE` of other commands)
     if octet == b"@" and at == 0:
@@ -113,16 +117,17 @@ def column(text: bytes, at: int) -> int:
 
 
 def shape_fault(node: Node, why: str, others: Iterable[Place] = ()) -> Wrong:
-    """The fault `Shape` of a value that has not the form that it must have, with a remark. `others` are further places."""
+    """The fault `Shape` of a value that does not have the form that it must have, with a remark. `others` are further places."""
     return Wrong("Shape", node.begin, why, others)
 
 
 def suggestion(word: bytes | None, allowed: Iterable[bytes]) -> str:
-    """The end of a remark, which asks whether the most similar of the allowed words is meant. Empty if the word is allowed, or none is similar."""
+    """The end of a remark, which asks whether the most similar of the allowed words is meant. Empty if the word is allowed or longer than MOST_MEANT,
+    or if none is similar. None counts as an empty word."""
     allowed = list(allowed)
     if word in allowed or len(word or b"") > MOST_MEANT:
         return ""
-    near = difflib.get_close_matches((word or b"").decode(errors="replace"), [it.decode(errors="replace") for it in allowed], 1)
+    near = difflib.get_close_matches((word or b"").decode(errors="replace"), [other.decode(errors="replace") for other in allowed], 1)
     return f"; is `{near[0]}` meant?" if near else ""
 
 
@@ -146,7 +151,7 @@ class Parser:
     """The offset of a list that by the indentation was to end earlier, and the offset where it was to end."""
 
     def whole(self) -> Node:
-        """The value of the text. Nothing may follow it."""
+        """The value of the text, which has nothing but whitespace around it."""
         if len(self.text) > MOST_OCTETS:
             raise Wrong("TooLong", MOST_OCTETS, f"the text has {len(self.text):,} octets, and may have {MOST_OCTETS:,}")
         node = self.value(self.skip(0), "a value")
@@ -177,15 +182,16 @@ class Parser:
         """The offset after the whitespace at an offset. In canonical form it is the same offset, since there is none."""
         return at if self.is_canonical else spaces_end(self.text, at)
 
-    def octet(self, at: int, begun: int | None = None) -> bytes:
-        """The octet at an offset. If the text ends there, it raises Wrong with what is open: lists, and the string that has begun at `begun`."""
+    def octet(self, at: int, string_begin: int | None = None) -> bytes:
+        """The octet at an offset. If the text ends there, it raises Wrong with what is open: lists, and the string that begins at `string_begin`, if
+        one is being read."""
         if at < len(self.text):
             return self.text[at:at + 1]
         places = [(begin, "this list is not closed") for begin in reversed(self.opened)]
-        if begun is not None:
-            is_marked = self.text[begun:begun + 1] in BODIES
-            why = "this string is not whole: its last mark is missing" if is_marked else "the text ends before the value is whole"
-            raise Wrong("Short", len(self.text), why, [(begun, "this string is not whole"), *places], begun if is_marked else None)
+        if string_begin is not None:
+            has_mark = self.text[string_begin:string_begin + 1] in BODIES
+            why = "this string is not whole: its last mark is missing" if has_mark else "the text ends before the value is whole"
+            raise Wrong("Short", len(self.text), why, [(string_begin, "this string is not whole"), *places], string_begin if has_mark else None)
         if self.unclosed is not None:
             begin, end = self.unclosed
             raise Wrong("Short", end, "a `)` is missing, and by the indentation of the next line it is missing here",
@@ -210,6 +216,7 @@ class Parser:
             raise Wrong("TooDeep", at, f"the {MOST_LISTS + 1}th list that is open at once begins here", [(self.opened[0], "the first one")])
         self.opened.append(at)
         members: list[Node] = []
+        # (`own_column` is that of the list. It is computed once, and only if a member begins a line)
         own_column, next_at = -1, self.skip(at + 1)
         while self.octet(next_at) != b")":
             end = members[-1].end if members else at + 1
@@ -239,21 +246,22 @@ class Parser:
         if octet in BODIES and not self.is_canonical:
             return self.string_in_marks(at, at, None)
         length = LENGTH.match(self.text, at)
-        if not length:
-            said, of_form = None if self.is_canonical else remark_on_octet(self.text, at), "canonical " if self.is_canonical else ""
-            raise Wrong("Bad", at, f"{said}; here {wanted} is expected" if said else f"no {of_form}text has this octet where {wanted} is expected")
-        return self.of_length(at, length.end(), length[0])
+        if length:
+            return self.of_length(at, length.end(), length[0])
+        if not self.is_canonical and (remark := remark_on_octet(self.text, at)):
+            raise Wrong("Bad", at, f"{remark}; here {wanted} is expected")
+        raise Wrong("Bad", at, f"no {'canonical ' if self.is_canonical else ''}text has this octet where {wanted} is expected")
 
     def of_length(self, begin: int, at: int, digits: bytes) -> tuple[bytes, int]:
         """The octets of a string with a length, and the offset after it. It begins at `begin` with the digits of its length, which end at `at`.
         Behind them is a colon, or in advanced form the mark of a string as `string_in_marks` reads it. Raises Wrong."""
         octet = self.octet(at, begin)
+        # (a number of ten digits is more than any text has, and one of a million would take long to read)
         length = int(digits) if len(digits) < 10 else 10**9
         if octet == b":":
             if at + 1 + length > len(self.text):
-                self.opened.append(begin)
                 raise Wrong("Short", len(self.text), f"the length says {digits.decode()} octets, and {len(self.text) - at - 1} are left",
-                            [(begin, "the string begins here"), *((it, "this list is not closed") for it in reversed(self.opened[:-1]))])
+                            [(begin, "the string begins here"), *((opened, "this list is not closed") for opened in reversed(self.opened))])
             return self.text[at + 1:at + 1 + length], at + 1 + length
         if octet in BODIES and not self.is_canonical:
             return self.string_in_marks(begin, at, length)
@@ -286,49 +294,54 @@ class Parser:
         return octets, body.end() + 1
 
     def quoted_octets(self, begin: int, at: int) -> bytes:
-        """The octets of the quoted string that begins at `begin`, and whose first octet behind the mark is at `at`. Raises Wrong if an escape is
-        wrong or cut off."""
+        """The octets of the quoted string that begins at `begin`, and whose first octet behind the mark is at `at`, up to the closing mark or the end
+        of the text. Raises Wrong if an escape is wrong or cut off."""
         pieces = []
-        while found := PIECE.match(self.text, at):
-            plain, itself, letter, octal, hexadecimal = found.groups(b"")
+        while piece := PIECE.match(self.text, at):
+            plain, itself, letter, octal, hexadecimal = piece.groups(b"")
             numbers = [int(octal, 8)] if octal else [int(hexadecimal, 16)] if hexadecimal else []
             pieces.append(plain + itself + ESCAPED.get(letter, b"") + bytes(numbers))
-            at = found.end()
+            at = piece.end()
         if self.text[at:at + 1] == b"\\":
             self.escape_fault(begin, at)
         return b"".join(pieces)
 
     def escape_fault(self, begin: int, at: int) -> None:
-        """Raises Wrong for the escape at an offset, which is wrong: at its first octet that no escape has. The string begins at `begin`."""
+        """Raises Wrong for the escape whose backslash is at an offset, and which is wrong or cut off: at its first octet that no escape has there.
+        The string begins at `begin`."""
         first = self.octet(at + 1, begin)
+        # (the octets that may be behind the backslash, in this order)
         allowed = [b"0123abtnvfrx\"'?\\\r\n"] + ([b"01234567"] * 2 if first in b"0123" else [b"0123456789abcdefABCDEF"] * 2)
-        for place, wanted in enumerate(allowed, at + 1):
-            if self.octet(place, begin) not in wanted:
+        for place, octets in enumerate(allowed, at + 1):
+            if self.octet(place, begin) not in octets:
                 raise Wrong("Bad", place, "no escape has this octet here", [(at, "the escape begins here"), (begin, "the string begins here")])
 
 
 def match_at(pattern: re.Pattern[bytes], text: bytes, at: int) -> re.Match[bytes]:
-    """What a pattern finds at an offset, where it always finds something."""
-    found = pattern.match(text, at)
-    assert found is not None
-    return found
+    """The match of a pattern at an offset, for a pattern that matches an empty text too: so there is one."""
+    match = pattern.match(text, at)
+    assert match is not None
+    return match
 
 
 def octets_of_base64(body: bytes) -> bytes | None:
-    """The octets of a text in base64, or None if it is none. Whitespace is ignored, and padding may be left out."""
-    found = SYMBOLS.fullmatch(b"".join(body.split()))
-    if not found:
+    """The octets of a text in base64, or None if it is none, or if the unused bits of its last symbol are not zero. Whitespace is ignored, and
+    padding may be missing, all of it or a part."""
+    match = SYMBOLS.fullmatch(b"".join(body.split()))
+    if not match:
         return None
-    wanted = -len(found[1]) % 4
-    if wanted == 3 or len(found[2]) > wanted:
+    symbols, given_padding = match.groups()
+    padding = -len(symbols) % 4
+    # (no number of octets needs three)
+    if padding == 3 or len(given_padding) > padding:
         return None
-    octets = base64.b64decode(found[1] + b"=" * wanted)
-    return octets if base64.b64encode(octets).rstrip(b"=") == found[1] else None
+    octets = base64.b64decode(symbols + b"=" * padding)
+    return octets if base64.b64encode(octets).rstrip(b"=") == symbols else None
 
 
 def without_braces(text: bytes) -> tuple[bytes, list[int] | None, int]:
-    """The canonical text in the braces of a text, the offset in the text of each of its octets and of its end, and the offset where the text
-    should end. Without braces the text itself, None, and its length. Raises Wrong."""
+    """For a text in braces: the canonical text inside, the offset in the text of each of its octets and of its end, and the offset behind the braces
+    and the whitespace after them, where the text should end. Without braces: the text itself, None, and its length. Raises Wrong."""
     begin = spaces_end(text, 0)
     if text[begin:begin + 1] != b"{":
         return text, None, len(text)
@@ -343,4 +356,5 @@ def without_braces(text: bytes) -> tuple[bytes, list[int] | None, int]:
     if octets is None:
         raise Wrong("Bad", body.end(), "the text in the braces is no base64", [(begin, "the braces begin here")])
     symbols = [body.start() + place for place, octet in enumerate(body[0]) if not bytes([octet]).isspace()]
+    # (three octets are four symbols)
     return octets, [symbols[place * 4 // 3] for place in range(len(octets))] + [body.end()], spaces_end(text, body.end() + 1)

@@ -24,9 +24,13 @@ if TYPE_CHECKING:
 
 ED25519, RSA, P256, P384 = "ed25519", "rsa", "p256", "p384"
 KINDS = (ED25519, RSA, P256, P384)
+# The bits of a new key of RSA.
 NEW_BITS = 3072
-# The octets of each of the two numbers of a signature by Ed25519 or P-256. Of a number of a private RSA key 2 * MOST_OCTETS octets are read.
-HALF, MOST_OCTETS = 32, 2049
+# The octets of each of the two numbers of a signature by Ed25519 or P-256.
+HALF = 32
+# So many octets are read of a number of a private RSA key. A key that is used has at most 513. One of up to 4098 is refused with its number of bits,
+# and computing with more would take long.
+MOST_OCTETS = 4098
 PRIVATE = (b"(private-key", b"(11:private-key")
 PEM = re.compile(rb"-----BEGIN ([A-Z0-9 ]+)-----")
 # A line of a public key of OpenSSH, also behind the options of authorized_keys: the key, and its comment.
@@ -53,8 +57,8 @@ def hash_of(value: Value) -> Value:
 
 def principal_of(key: Value) -> Value:
     """The principal by which certificates name a key: the key itself, or for one of RSA, which is long, its hash."""
-    is_long = isinstance(key, list) and isinstance(key[1], list) and key[1][0] == b"rsa"
-    return hash_of(key) if is_long else key
+    is_rsa = isinstance(key, list) and isinstance(key[1], list) and key[1][0] == b"rsa"
+    return hash_of(key) if is_rsa else key
 
 
 def key_of(public: object) -> Value:
@@ -143,12 +147,13 @@ def verifies(key: Value, message: bytes, value: Value) -> bool:
 
 def is_private(octets: bytes) -> bool:
     """Whether the octets of a file have a private key: PEM, OpenSSH, PuTTY or an S-expression."""
-    is_pem = any(it.endswith(b"PRIVATE KEY") for it in PEM.findall(octets))
-    return is_pem or octets.startswith(b"PuTTY-User-Key-File") or octets.lstrip().startswith(PRIVATE)
+    has_pem = any(kind.endswith(b"PRIVATE KEY") for kind in PEM.findall(octets))
+    return has_pem or octets.startswith(b"PuTTY-User-Key-File") or octets.lstrip().startswith(PRIVATE)
 
 
 def is_key_file(octets: bytes) -> bool:
-    """Whether the octets of a file are a key in another form than an S-expression."""
+    """Whether the octets of a file have a line of OpenSSH or a block of PEM, as keys in another form than an S-expression have, and do not begin as
+    an S-expression."""
     return not is_text(octets) and (PEM.search(octets) is not None or OPENSSH.search(octets) is not None)
 
 
@@ -159,28 +164,29 @@ def is_text(octets: bytes) -> bool:
 
 def read_public(octets: bytes, asking: Asking, number: int | None = None) -> Value:
     """The public key of the octets of a file: OpenSSH, PEM or S-expression, public or private. Of several it is the one with this number, from 1,
-    which must be given then. `asking` gives the passphrase of a private key in PEM that is encrypted. Raises BadKey or Wrong."""
+    which must be given then. `asking` gives the passphrase of a private key in PEM that is encrypted. Raises BadKey, or Wrong for an S-expression
+    that is no key."""
     if is_private(octets):
         octets = public_part(octets) or openssh_line(read_private(octets, asking).public_key())
-    found = pieces_of(octets)
-    if number is None and len(found) > 1:
-        raise BadKey(f"{len(found)} keys are in this file; --key N takes the one with this number, and `spki-cert key --key N` writes it")
-    if number is not None and not 1 <= number <= len(found):
-        raise BadKey(f"there is no key {number} in this file; it has {len(found)}")
-    one = found[(number or 1) - 1]
-    if is_text(one):
-        return key_of_text(one)
-    if why := foreign(one):
+    pieces = pieces_of(octets)
+    if number is None and len(pieces) > 1:
+        raise BadKey(f"{len(pieces)} keys are in this file; --key N takes the one with this number, and `spki-cert key --key N` writes it")
+    if number is not None and not 1 <= number <= len(pieces):
+        raise BadKey(f"there is no key {number} in this file; it has {len(pieces)}")
+    piece = pieces[(number or 1) - 1]
+    if is_text(piece):
+        return key_of_text(piece)
+    if why := foreign(piece):
         raise BadKey(why)
-    return key_of(public_in(one)) if OPENSSH.match(one) or PEM.search(one) else key_of_text(one)
+    return key_of(public_in(piece)) if OPENSSH.match(piece) or PEM.search(piece) else key_of_text(piece)
 
 
 def pieces_of(octets: bytes) -> list[bytes]:
-    """The parts of the octets of a file that are one key each: lines of OpenSSH, else blocks of PEM, else the whole."""
+    """The parts of the octets of a file that are one public key each: lines of OpenSSH, else blocks of PEM, else the whole."""
     if is_text(octets):
         return [octets]
     begin = b"-----BEGIN "
-    return [line for line, _ in OPENSSH.findall(octets)] or [begin + it for it in octets.split(begin)[1:]] or [octets]
+    return [line for line, _ in OPENSSH.findall(octets)] or [begin + block for block in octets.split(begin)[1:]] or [octets]
 
 
 def no_passphrase() -> bytes:
@@ -189,7 +195,8 @@ def no_passphrase() -> bytes:
 
 
 def public_in(octets: bytes) -> object:
-    """The public key, as `cryptography` has it, of one line of OpenSSH or one block of PEM. Raises BadKey."""
+    """The public key, as `cryptography` has it, of one line of OpenSSH or one block of PEM. Raises BadKey for a kind that `cryptography` does not
+    read, or a key that is not whole."""
     from cryptography.exceptions import UnsupportedAlgorithm
     from cryptography.hazmat.primitives.serialization import load_pem_public_key, load_ssh_public_key
     try:
@@ -206,6 +213,7 @@ def public_part(octets: bytes) -> bytes | None:
         return None
     try:
         rest = base64.b64decode(octets.partition(b"KEY-----")[2].partition(b"-----END")[0]).removeprefix(b"openssh-key-v1\0")
+        # (the cipher, the function that makes its key, and the parameters of this; then four octets with the number of keys)
         for _ in range(3):
             _, rest = split_string(rest)
         blob, _ = split_string(rest[4:])
@@ -240,9 +248,9 @@ def read_private(octets: bytes, asking: Asking) -> Private:
     from cryptography.exceptions import UnsupportedAlgorithm
     from cryptography.hazmat.primitives.serialization import load_pem_private_key
     from cryptography.hazmat.primitives.serialization.ssh import load_ssh_private_key
-    line, is_asked = public_part(octets), False
-    load: Any = load_ssh_private_key if line else load_pem_private_key
-    if why := foreign(line or octets):
+    openssh_public, is_asked = public_part(octets), False
+    load: Any = load_ssh_private_key if openssh_public else load_pem_private_key
+    if why := foreign(openssh_public or octets):
         raise BadKey(why)
     try:
         if octets.lstrip().startswith(b"("):
@@ -250,31 +258,33 @@ def read_private(octets: bytes, asking: Asking) -> Private:
         try:
             private = load(octets, None)
         except (TypeError, ValueError) as fault:
+            # (for an encrypted key, `cryptography` raises TypeError or a ValueError with this word, by its version and the file's form)
             if isinstance(fault, ValueError) and "password" not in str(fault):
                 raise
-            if line and importlib.util.find_spec("bcrypt") is None:
+            if openssh_public and importlib.util.find_spec("bcrypt") is None:
                 raise BadKey(NEEDS_BCRYPT) from None
             is_asked = True
             private = load(octets, asking())
     except (ValueError, TypeError, ArithmeticError, UnsupportedAlgorithm) as fault:
         raise BadKey(NEEDS_BCRYPT if "bcrypt" in str(fault) else "this is not the passphrase of the key, or the file is damaged" if is_asked
                      else f"no private key that can be read: was it copied to its end? And {USED}") from None
+    # (raises BadKey for a kind or length that is not used)
     key_of(private.public_key())
     return cast("Private", private)
 
 
 def private_of_text(octets: bytes) -> Private:
-    """The private key of an S-expression, as libgcrypt has it. Raises BadKey or Wrong."""
+    """The private key of an S-expression, as libgcrypt has it. Raises Wrong if it is no S-expression, BadKey for another form, and ValueError or
+    ArithmeticError, which `read_private` catches, for numbers that are no key."""
     from cryptography.hazmat.primitives.asymmetric import ec, ed25519, rsa
-    parts = Parser(octets).whole().value
-    match parts:
+    match Parser(octets).whole().value:
         case [b"private-key", [b"ecc", [b"curve", b"Ed25519"], [b"flags", b"eddsa"], [b"q", _], [b"d", bytes() as secret]]]:
             return ed25519.Ed25519PrivateKey.from_private_bytes(secret)
         case [b"private-key", [b"ecc", [b"curve", b"NIST P-256" | b"NIST P-384" as curve], [b"q", _], [b"d", bytes() as secret]]]:
             return ec.derive_private_key(int.from_bytes(secret, "big"), ec.SECP256R1() if curve == b"NIST P-256" else ec.SECP384R1())
         case [b"private-key", [b"rsa", [b"n", bytes() as modulus], [b"e", bytes() as exponent], [b"d", bytes() as secret],
                                [b"p", bytes() as first], [b"q", bytes() as second], *_]]:
-            n, e, d, p, q = (int.from_bytes(it[:2 * MOST_OCTETS], "big") for it in (modulus, exponent, secret, first, second))
+            n, e, d, p, q = (int.from_bytes(number[:MOST_OCTETS], "big") for number in (modulus, exponent, secret, first, second))
             public = rsa.RSAPublicNumbers(e, n)
             return rsa.RSAPrivateNumbers(p, q, d, d % (p - 1), d % (q - 1), rsa.rsa_crt_iqmp(p, q), public).private_key()
     raise BadKey("a private key in a form that is not known")
@@ -285,7 +295,9 @@ def new_private(kind: str) -> Private:
     from cryptography.hazmat.primitives.asymmetric import ec, ed25519, rsa
     if kind == ED25519:
         return ed25519.Ed25519PrivateKey.generate()
-    return rsa.generate_private_key(65537, NEW_BITS) if kind == RSA else ec.generate_private_key(ec.SECP256R1() if kind == P256 else ec.SECP384R1())
+    if kind == RSA:
+        return rsa.generate_private_key(65537, NEW_BITS)
+    return ec.generate_private_key(ec.SECP256R1() if kind == P256 else ec.SECP384R1())
 
 
 def file_of(private: Private, passphrase: bytes, is_pem: bool = False) -> bytes:

@@ -12,7 +12,8 @@ from .tag_words import MOST_PRODUCTS, contains, is_everything, lacks, remarks
 
 
 def certificate_of(key: Value, subject: Value, fields: list[Value], name: bytes | None = None) -> Value:
-    """The certificate by the holder of a key, which defines `name`, or gives a right if it is None. The subject is a principal, or a name."""
+    """The certificate by the holder of a key, which defines `name`, or gives a right if that is None. The subject is a principal or a name. `fields`
+    are the others, as `fields_of` returns them."""
     issuer = principal_of(key)
     return [b"cert", [b"issuer", [b"name", issuer, name] if name is not None else issuer], [b"subject", subject], *fields]
 
@@ -25,7 +26,8 @@ def fields_of(tag: Value | None, begins: bytes | None, ends: bytes | None, deleg
 
 
 def list_with(entry: Value, before: bytes) -> bytes:
-    """The text of the access list `before` with an entry at its end. What is before that stays as it is, unless it is in braces. Raises Refused."""
+    """The text of the access list `before` with an entry at its end. What is before that stays as it is, unless the list is in braces: then it is
+    written in advanced form. Raises Refused if a service would refuse the new list."""
     node = value_in(before)
     text = text_of([b"acl", *members(node.value), entry])
     if not before.lstrip().startswith(b"{"):
@@ -35,8 +37,8 @@ def list_with(entry: Value, before: bytes) -> bytes:
 
 
 def signed_sequence(certificate: Value, signer: Signer, chain: Value | None) -> Value:
-    """Signs a certificate. Returns the sequence of a chain, if there is one, and the certificate with its signature. Raises Refused if a service
-    would refuse that."""
+    """Signs a certificate. Returns the sequence of a chain, if there is one, and the certificate with its signature. Raises Refused if the signature
+    does not verify, or if a service would refuse the sequence, and BadKey if the signer does not sign."""
     octets = canonical(certificate)
     value = signer.sign(octets)
     if not verifies(signer.key, octets, value):
@@ -47,69 +49,69 @@ def signed_sequence(certificate: Value, signer: Signer, chain: Value | None) -> 
 
 
 def sequence_with(chain: Value | None, key: Value, certificate: Value, value: Value) -> Value:
-    """The sequence of a chain and a certificate with a signature by the key. `value` is that of the signature. The key is in it if the certificate
-    names the key by its hash."""
-    before = members(chain) if chain is not None else []
-    shown = [] if principal_of(key) == key or key in before else [key]
-    return [b"sequence", *before, *shown, certificate, [b"signature", hash_of(certificate), principal_of(key), value]]
+    """The sequence of a chain, or of none, and a certificate with a signature by the key. `value` is that of the signature. The key is in the
+    sequence if certificates name it by its hash."""
+    items = members(chain) if chain is not None else []
+    keys_shown = [] if principal_of(key) == key or key in items else [key]
+    return [b"sequence", *items, *keys_shown, certificate, [b"signature", hash_of(certificate), principal_of(key), value]]
 
 
 def list_without(subject: Value, before: bytes) -> tuple[bytes, list[tuple[int, str]]]:
     """The text of the access list `before` without the entries for a subject, and the numbers, from 1, and tags of these. What is around them stays
-    as it is, unless the list is in braces. A key and a hash of it are one subject."""
+    as it is, unless the list is in braces: then it is written in advanced form. A key and a hash of it are one subject."""
     if before.lstrip().startswith(b"{"):
         before = text_of(value_in(before).value)
-    wanted, entries = terms_of([b"entry", subject]), [it for it in value_in(before).members or [] if it.head == b"entry"]
-    terms = [terms_of(it.value) for it in entries]
-    keys = Keys(it.principal for it in (wanted, *terms))
-    # (the indices, from 0, of the entries that go; `ends` has 0 and the offset behind each of them)
-    gone = [at for at, it in enumerate(terms) if it.names == wanted.names and keys.are_one(it.principal, wanted.principal)]
-    ends = [0, *(entries[at].end for at in gone)]
-    # (the text before each entry that goes; what is after the last one follows)
-    pieces = [before[end:entries[at].begin].rstrip() for end, at in zip(ends, gone)]
-    before = b"".join(pieces) + before[ends[-1]:]
-    return before, [(at + 1, on_one_line(terms[at].tag or b"")) for at in gone]
+    wanted, entries = terms_of([b"entry", subject]), [node for node in value_in(before).members or [] if node.head == b"entry"]
+    entry_terms = [terms_of(node.value) for node in entries]
+    keys = Keys(terms.principal for terms in (wanted, *entry_terms))
+    # (the indices, from 0, of the entries to remove; `ends` has 0 and the offset behind each of them)
+    removed = [index for index, terms in enumerate(entry_terms)
+               if terms.names == wanted.names and keys.are_one(terms.principal, wanted.principal)]
+    ends = [0, *(entries[index].end for index in removed)]
+    # (the text before each entry that is removed; what is after the last one follows)
+    pieces = [before[end:entries[index].begin].rstrip() for end, index in zip(ends, removed)]
+    return b"".join(pieces) + before[ends[-1]:], [(index + 1, on_one_line(entry_terms[index].tag or b"")) for index in removed]
 
 
 def refuse_as_service(what: str, text: bytes) -> None:
     """Raises Refused if a service would refuse a text that was made here. `what` says what it is: `acl` or `sequence`."""
-    found = read_text(text, f"refused {what}")[0]
-    if found[0] is not None:
-        raise Refused("a service would refuse this:", *lines_of_fault(f"the {what}", found))
+    diagnosis = read_text(text, f"refused {what}")[0]
+    if diagnosis[0] is not None:
+        raise Refused("a service would refuse this:", *lines_of_fault(f"the {what}", diagnosis))
 
 
 # ---- what is probably a mistake
 
 
-def warnings_of_certificate(terms: Terms, tag_text: str, needed: bytes | None, chain: Value | None, tries: list[Value]) -> Iterator[str]:
-    """What is probably a mistake in a certificate. It is made only if that is confirmed. The chain, the sequence by which its issuer has the right,
-    must not end before the moment `needed`, or not end at all if that is None. `tag_text` is the tag as it was written, and `tries` are requests
-    that the tag is to contain."""
+def warnings_of_certificate(terms: Terms, tag_text: str, chain_until: bytes | None, chain: Value | None, tries: list[Value]) -> Iterator[str]:
+    """Yields what is probably a mistake in a certificate. It is made only if that is confirmed. The chain, the sequence by which its issuer has the
+    right, must be valid until the moment `chain_until`, or without end if that is None. `tag_text` is the tag as it was written, and `tries` are
+    requests that the tag is to contain."""
     if terms.ends is None:
         yield "it has no end: give --days or --until; otherwise it counts until a service ends it by `spki-cert end`"
     if terms.name is None and not terms.names and Keys([terms.issuer or b"", terms.principal]).are_one(terms.issuer, terms.principal):
         yield "its subject is its issuer, who has the right already: --to is the key that gets it"
     yield from warnings_of(terms, tag_text, tries)
-    for each in certificates_in(chain) if chain is not None else []:
-        ends = each.terms.ends
-        if ends is not None and (needed is None or needed > ends):
-            yield f"item {each.number} of the chain ends earlier, on {ends.decode()}, and the right ends with it"
-        yield from (f"item {each.number} of the chain: {why}" for why in tries_lacked(each.terms.tag, tries))
+    for signed in certificates_in(chain) if chain is not None else []:
+        ends = signed.terms.ends
+        if ends is not None and (chain_until is None or chain_until > ends):
+            yield f"item {signed.number} of the chain ends earlier, on {ends.decode()}, and the right ends with it"
+        yield from (f"item {signed.number} of the chain: {why}" for why in tries_lacked(signed.terms.tag, tries))
 
 
-def warnings_of_list(made: Value, before: bytes) -> Iterator[str]:
-    """A remark for each entry of an access list that gives all of the entry `made` already. The list has the text `before`, and is compared until the
-    work is MOST_PRODUCTS."""
-    entries, new, work_left = entries_of(value_in(before).value), terms_of(made), MOST_PRODUCTS
-    keys = Keys(it.principal for it in (*entries, new))
-    for number, it in enumerate(entries, 1):
-        work_left -= len(canonical(it.tag or b"")) * len(canonical(new.tag or b""))
-        if work_left > 0 and contains(it, new, keys):
+def warnings_of_list(new_entry: Value, before: bytes) -> Iterator[str]:
+    """Yields a remark for each entry of an access list that gives all of the new entry already. The list has the text `before`, and is compared until
+    the work is MOST_PRODUCTS."""
+    entries, new, work_left = entries_of(value_in(before).value), terms_of(new_entry), MOST_PRODUCTS
+    keys = Keys(terms.principal for terms in (*entries, new))
+    for number, terms in enumerate(entries, 1):
+        work_left -= len(canonical(terms.tag or b"")) * len(canonical(new.tag or b""))
+        if work_left > 0 and contains(terms, new, keys):
             yield f"entry {number} of the list gives all of this already"
 
 
 def warnings_of(terms: Terms, tag_text: str, tries: list[Value]) -> Iterator[str]:
-    """What is probably a mistake in what certificates and entries both have. An entry needs no end, since it can be removed from its list.
+    """Yields what is probably a mistake in what certificates and entries both have. An entry needs no end, since it can be removed from its list.
     `tag_text` is the tag as it was written, and `tries` are requests that the tag is to contain."""
     yield from (f"{why}: give a later date by --until" for _, why in remarks_on_window(terms.begins, terms.ends, now()))
     if headed(terms.principal, b"hash") and members(terms.principal)[0] == b"sha1":
@@ -130,7 +132,7 @@ def warnings_of(terms: Terms, tag_text: str, tries: list[Value]) -> Iterator[str
 
 
 def tries_lacked(tag: Value | None, tries: list[Value]) -> Iterator[str]:
-    """A remark for each request that a tag does not contain. Nothing if there is no tag."""
+    """Yields a remark for each of the requests `tries` that a tag does not contain. Nothing if there is no tag."""
     for request in tries:
         why_not = lacks(tag, request) if tag is not None else None
         if why_not:

@@ -16,9 +16,9 @@ from .structures import (Members, Reader, but_is, read_certificate, read_date, r
 WIDTH = 60
 # The heads of the parts of a case, in their order.
 PARTS = (b"acl", b"accepted", b"sequence", b"key", b"request", b"at")
-# What is wrong with a text, or None; the canonical text in its braces, or else itself, which has the place of the fault; and, if there are braces,
-# the offset in the text of each octet in them.
-Found = tuple[Optional[Wrong], bytes, Optional[list[int]]]
+# What is wrong with a text, or None; the text in which the fault has its place, which is the canonical text in the braces or else the text itself;
+# and, if there are braces, the offset in the whole text of each octet in them.
+Diagnosis = tuple[Optional[Wrong], bytes, Optional[list[int]]]
 PEM_END = rb"-----.*?(?:-----END [A-Z0-9 ]+-----|\Z)"
 USED = "only Ed25519, RSA of 2048 bits or more and ECDSA with the curve P-256 or P-384 are used; `spki-cert key new FILE` makes a key"
 # What is neither a key that is used nor an S-expression, and what can be done with it.
@@ -77,27 +77,29 @@ def has_private_key(word: bytes) -> bool:
 
 
 def name_foreign(text: bytes, wrong: Wrong) -> None:
-    """Changes the remark and the place shown of the fault `wrong`, if it lies in something known that is no S-expression: a key of OpenSSH, a
-    comment, or words before an S-expression. Otherwise leaves it as it is."""
+    """Changes the remark and the place shown of the fault `wrong`, if it lies in something known that is no S-expression: a key in another form, a
+    comment, or words before an S-expression. Otherwise leaves them as they are."""
     for pattern, why in [*FOREIGN, *PASTED]:
-        for found in re.finditer(pattern, text, FLAGS):
-            if found.start() <= wrong.at <= found.end():
-                is_inside = text[:found.start()].rstrip().endswith(b"(public-key")
-                wrong.shown_at, wrong.why = found.start(), why + (INSIDE if is_inside else "")
+        for match in re.finditer(pattern, text, FLAGS):
+            if match.start() <= wrong.at <= match.end():
+                is_inside_key = text[:match.start()].rstrip().endswith(b"(public-key")
+                wrong.shown_at, wrong.why = match.start(), why + (INSIDE if is_inside_key else "")
                 return
-    at = text.rfind(b"\n", 0, wrong.at) + 1
-    is_behind = wrong.kind.endswith("Trailing") and text.lstrip().startswith(b"(")
-    if re.match(COMMENT, text[at:].partition(b"\n")[0], FLAGS) and not is_behind:
-        wrong.shown_at, wrong.why = at, "there are no comments, only the field `(comment \"..\")`; delete this line"
+    line_begin = text.rfind(b"\n", 0, wrong.at) + 1
+    # (what is behind a whole list is no comment, but a second value)
+    is_behind_list = wrong.kind.endswith("Trailing") and text.lstrip().startswith(b"(")
+    if re.match(COMMENT, text[line_begin:].partition(b"\n")[0], FLAGS) and not is_behind_list:
+        wrong.shown_at, wrong.why = line_begin, "there are no comments, only the field `(comment \"..\")`; delete this line"
         return
     begins = re.search(BEGINS, text, FLAGS)
+    # (a `;` has a remark of its own)
     if begins and wrong.at < begins.start() and text[wrong.at:wrong.at + 1] != b";":
         line = text.count(b"\n", 0, begins.start()) + 1
         wrong.shown_at, wrong.why = 0, f"this is no S-expression; one begins on line {line}: delete what is before it, and what is behind its end"
 
 
 def read_part(name: str, read: Reader, node: Node) -> None:
-    """Reads a part of a text by its reader. A fault that it raises gets the part's name in front of its kind."""
+    """Reads a part of a text by its reader. A fault that it raises gets the part's name in front of its kind, as in `acl 1 Tag Hint`."""
     try:
         read(node)
     except Wrong as wrong:
@@ -131,20 +133,20 @@ def read_sequence(node: Node) -> None:
     """Reads a sequence. Raises Wrong for a wrong item, or if a certificate has no signature behind it, with at most operations `(do ..)` between."""
     read_part("sequence 0", partial(Members, head=b"sequence", what="the sequence"), node)
     # (the number, from 1, and the node of a certificate whose signature has not come yet)
-    waits: tuple[int, Node] | None = None
-    items = node.rest
-    for number, item in enumerate([*items, None], 1):
+    unsigned: tuple[int, Node] | None = None
+    # (None is behind the last item)
+    for number, item in enumerate([*node.rest, None], 1):
         head = item.head if item else None
-        if waits and head not in (b"do", b"signature"):
-            number, certificate = waits
+        if unsigned and head not in (b"do", b"signature"):
+            number, certificate = unsigned
             raise Wrong(f"sequence {number} UnsignedCert", certificate.begin, "no signature follows this certificate: the signature comes with "
                         "the file that `spki-cert sign` wrote; take that whole file again from who signed it",
                         [(item.begin, "this follows it")] if item else [(node.end - 1, "the sequence ends here")])
-        if item and not waits and head == b"signature":
+        if item and not unsigned and head == b"signature":
             raise Wrong(f"sequence {number} StraySignature", item.begin, "no certificate waits for this signature")
         if item:
             read_numbered("sequence", read_item, [item], number)
-            waits = (number, item) if head == b"cert" else None if head == b"signature" else waits
+            unsigned = (number, item) if head == b"cert" else None if head == b"signature" else unsigned
 
 
 def read_case(node: Node) -> None:
@@ -233,8 +235,8 @@ def read_as(node: Node, word: str, fault: str) -> None:
         ALONE[node.head](node)
 
 
-def read_text(text: bytes, given: str = "") -> tuple[Found, Node]:
-    """What is wrong with a text, and its value, which is an empty list where the text has no form. `given` is empty or a refusal that
+def read_text(text: bytes, given: str = "") -> tuple[Diagnosis, Node]:
+    """What is wrong with a text, and its value, which is an empty list if the form of the text cannot be read. `given` is empty, or a refusal that
     is to be explained, as `refused sequence 3 Shape` or `refused key Short`: its second word says as what the text is read."""
     # (`inner` is the text, or what is in its braces, and then `places` are the offsets of these octets in the text)
     word, fault, *_ = *given.split()[1:3], "", ""
@@ -267,6 +269,7 @@ def value_in(text: bytes) -> Node:
     (wrong, _, places), node = read_text(text, "refused form Trailing")
     if wrong is None:
         return node
+    # (only `Bad` of `form Bad`, and the place in the whole text instead of that in the braces)
     wrong.kind, wrong.at = wrong.kind.split()[-1], places[min(wrong.at, len(places) - 1)] if places else wrong.at
     raise wrong
 
@@ -275,14 +278,15 @@ def refusal(wrong: Wrong, places: list[int] | None) -> str:
     """The line by which the program `spki` refuses a text with this fault. `places` are the offsets of the octets in its braces, or None."""
     if wrong.kind.split()[-1] not in ("Bad", "Trailing"):
         return f"refused {wrong.kind}"
+    # (what is in braces is refused at the closing one)
     return f"refused {wrong.kind} {places[-1] if places else wrong.at}"
 
 
 class Lines:
-    """The lines of a text, which are counted once."""
+    """The lines of a text by `begins`, the offsets where they begin, which are found once."""
 
     def __init__(self, text: bytes) -> None:
-        self.begins = [0, *(found.end() for found in re.finditer(b"\n", text))]
+        self.begins = [0, *(line_feed.end() for line_feed in re.finditer(b"\n", text))]
 
     def line_and_column(self, at: int) -> tuple[int, int]:
         """The line and the column of an offset, from 1."""
@@ -294,8 +298,8 @@ def place_shown(text: bytes, places: list[int] | None, at: int) -> tuple[str, st
     """A place in words, as line and column, and the text around it with a mark below. If the text was in braces, `places` has for each of its octets
     the offset in the file."""
     line, column = Lines(text).line_and_column(at)
-    starts, ends = at - column + 1, text.find(b"\n", at)
-    first, last = max(starts, at - WIDTH), min(len(text) if ends < 0 else ends, at + WIDTH)
+    line_begin, line_end = at - column + 1, text.find(b"\n", at)
+    first, last = max(line_begin, at - WIDTH), min(len(text) if line_end < 0 else line_end, at + WIDTH)
     front = "".join(printable(octet) for octet in text[first:at])
     where = f"line {line}, column {column}, octet {at}"
     if places:
@@ -316,9 +320,10 @@ def printable(octet: int) -> str:
     return chr(octet) if 32 <= octet < 127 else " " if octet in b"\t\n\r" else f"\\x{octet:02x}"
 
 
-def lines_of_fault(name: str, found: Found) -> list[str]:
-    """The lines that show a fault of a file: the refusal, and each place with the text around it, unless that may be secret."""
-    wrong, text, places = found
+def lines_of_fault(name: str, diagnosis: Diagnosis) -> list[str]:
+    """The lines that show a fault of a file that is called `name`: the refusal, and each place with the text around it, unless the file may have a
+    secret. Empty if nothing is wrong."""
+    wrong, text, places = diagnosis
     if wrong is None:
         return []
     lines = [f"{name}: {refusal(wrong, places)}"]

@@ -7,45 +7,54 @@ import os
 import re
 import subprocess
 
-from .files import Refused, octets_of, put, remark_on_mode, signer_at, tell, value_of
+from .files import DONE, Refused, octets_of, put, remark_on_mode, signer_at, tell, value_of
 from .sexp import canonical
 
-# The exit status for curl ended by a signal is BY_SIGNAL and the number of the signal, as a shell has it.
-DONE, BY_SIGNAL = 0, 128
+# The exit status for curl ended by a signal is the sum of BY_SIGNAL and the number of the signal, as a shell has it.
+BY_SIGNAL = 128
 METHOD = re.compile(r"[A-Z]{1,32}")
-ADDRESS = re.compile(r"https?://[^/?#@\s]+(?:[/?][!\"$-~]*)?")
+# An address in ASCII without a user, a password or a fragment.
+ADDRESS = re.compile(r"https?://(?:(?![/?#@])[!-~])+(?:[/?][!\"$-~]*)?")
 
 
 def request(given: argparse.Namespace) -> int:
-    """Prints the fields of a signed request, or has curl send it. Returns the exit status."""
+    """Prints the fields of a signed request, or with --curl has curl send it. Returns the exit status, with --curl that of curl. Raises Refused or
+    BadKey."""
     from spki_http import Signer
-    method, body = given.method or ("PUT" if given.body is not None else "GET"), octets_of(given.body, -1) if given.body is not None else b""
+    method = given.method or ("PUT" if given.body is not None else "GET")
+    body = octets_of(given.body, -1) if given.body is not None else None
     if not METHOD.fullmatch(method):
         raise Refused(f"{method}: a method is in capital letters, as PUT")
     if not ADDRESS.fullmatch(given.address):
-        raise Refused(f"{given.address}: no address of https or http, or one with a space, a fragment or a password; write %20 for a space")
+        raise Refused(f"{given.address}: no address of https or http, or one with a space, a fragment, a password or letters that are not ASCII; "
+                      "write %20 for a space")
     if given.words and not given.curl:
         raise Refused(f"{given.words[0]}: options of curl go with --curl")
     sequence = "{%s}" % base64.b64encode(canonical(value_of(given.cert, "sequence"))).decode() if given.cert is not None else ""
     by = signer_at(given.by)
     tell(*(f"spki-cert: {remark}" for remark in remark_on_mode(given.by)))
     signer = Signer(canonical(by.key), lambda message: canonical(by.sign(message)), sequence)
-    lines = "".join(f"{name}: {value}\n" for name, value in signer.fields(method, given.address, body).items())
+    try:
+        fields = signer.fields(method, given.address, body or b"")
+    except ValueError as why:
+        raise Refused(f"{given.address}: {why}") from None
+    lines = "".join(f"{name}: {value}\n" for name, value in fields.items())
     if given.curl:
-        return send_by_curl(method, given.address, lines.encode(), body if given.body is not None else None, given.words)
+        return send_by_curl(method, given.address, lines.encode(), body, given.words)
     put(lines)
     return DONE
 
 
 def send_by_curl(method: str, address: str, lines: bytes, body: bytes | None, words: list[str]) -> int:
-    """Has curl send a request as it is, and returns its exit status. `lines` are the fields, and `words` are more options of curl. The fields and the
-    body are files without a name, so that no list of processes shows them."""
+    """Has curl send a request as it is, and returns its exit status. `lines` are the fields, `body` is None for a request without one, and `words`
+    are more options of curl. The fields and the body are files without a name, so that no list of processes shows them."""
     files = [file_of(octets) for octets in [lines, *([body] if body is not None else [])]]
-    words = ["curl", "--path-as-is", "--globoff", *(["--head"] if method == "HEAD" else ["--request", method]), "--header", f"@/dev/fd/{files[0]}",
-             *(["--header", "Content-Type: application/octet-stream", "--data-binary", f"@/dev/fd/{files[1]}"] if body is not None else []),
-             *words, "--url", address]
+    # (without --path-as-is and --globoff curl would change the address, which is signed)
+    command = ["curl", "--path-as-is", "--globoff", *(["--head"] if method == "HEAD" else ["--request", method]), "--header", f"@/dev/fd/{files[0]}",
+               *(["--header", "Content-Type: application/octet-stream", "--data-binary", f"@/dev/fd/{files[1]}"] if body is not None else []),
+               *words, "--url", address]
     try:
-        status = subprocess.run(words, pass_fds=files).returncode
+        status = subprocess.run(command, pass_fds=files).returncode
         return status if status >= 0 else BY_SIGNAL - status
     except FileNotFoundError:
         raise Refused("there is no curl (Debian: curl)") from None

@@ -5,6 +5,7 @@ from typing import Union
 
 Value = Union[bytes, "tuple[bytes, bytes]", "list[Value]"]
 
+# The most letters of a line of `laid_out`, where a value allows it.
 WIDTH = 120
 TOKEN = re.compile(rb"[A-Za-z./_:*+=-][A-Za-z0-9./_:*+=-]*\Z")
 PRINTED = re.compile(rb"[ -~]*\Z")
@@ -25,8 +26,8 @@ def canonical(value: Value) -> bytes:
     return b"%d:%s" % (len(value), value)
 
 
-def spelled(octets: bytes) -> str:
-    """A string on one line: a token, in quotes, in hexadecimal up to 64 octets, else in base64."""
+def string_on_one_line(octets: bytes) -> str:
+    """A string in advanced form, on one line: as a token or in quotes where it can be, else in hexadecimal up to 64 octets, and longer in base64."""
     if TOKEN.match(octets):
         return octets.decode()
     if PRINTED.match(octets) and b'"' not in octets and b"\\" not in octets:
@@ -39,12 +40,12 @@ def on_one_line(value: Value) -> str:
     if isinstance(value, list):
         return f"({' '.join(map(on_one_line, value))})"
     if isinstance(value, tuple):
-        return f"[{spelled(value[0])}]{spelled(value[1])}"
-    return spelled(value)
+        return f"[{string_on_one_line(value[0])}]{string_on_one_line(value[1])}"
+    return string_on_one_line(value)
 
 
 def in_short(value: Value, room: int = 400) -> str:
-    """A value on one line of about `room` letters, cut off with `..` where it is longer. What is cut off is not read."""
+    """A value on one line of about `room` letters, cut off with `..` where it is longer. What is cut off is not looked at, so it takes no time."""
     if isinstance(value, list):
         parts: list[str] = []
         for member in value:
@@ -56,14 +57,15 @@ def in_short(value: Value, room: int = 400) -> str:
         return f"({' '.join(parts)})"
     if isinstance(value, tuple):
         return f"[{in_short(value[0], room)}]{in_short(value[1], room)}"
-    return spelled(value) if len(value) <= room else f"{spelled(value[:room])}.."
+    return string_on_one_line(value) if len(value) <= room else f"{string_on_one_line(value[:room])}.."
 
 
 def laid_out(value: Value, indent: int = 0) -> str:
-    """A text of a value with line breaks, for people to read. Whitespace is ignored in base64 and hexadecimal."""
+    """A text of a value in advanced form, with line breaks where it is long, for people to read. It is to begin at the column `indent`, from 0."""
     line, margin, room = on_one_line(value), "\n" + " " * (indent + 1), WIDTH - indent
     if len(line) > room and isinstance(value, list):
         return "(" + margin.join(laid_out(member, indent + 1) for member in value) + ")"
+    # (whitespace is ignored in base64 and hexadecimal, so they may be broken)
     if len(line) > room and line[0] in "|#":
         return margin.join(line[start:start + room] for start in range(0, len(line), room))
     return line

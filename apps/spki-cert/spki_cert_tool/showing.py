@@ -23,7 +23,7 @@ Row = dict[str, object]
 
 
 class Labels:
-    """What keys are called: `labels` by the SHA-256 digests of the keys. `keys` has also those without a label, so that their hashes are known."""
+    """What keys are called: `labels`, by the SHA-256 digests of the keys. `keys` has also those without a label, so that their hashes are known."""
 
     def __init__(self) -> None:
         self.keys = Keys()
@@ -36,14 +36,15 @@ class Labels:
             self.labels.setdefault(digest_of(key), label)
 
     def add_path(self, path: str) -> None:
-        """Takes the public keys of a file, or of the files of a folder: lines of OpenSSH with their comments, as authorized_keys has them, or
-        one key with the name of the file. What is no public key is left out."""
+        """Takes the public keys of a file, or of the files of a folder that are not hidden: lines of OpenSSH with their comments, as authorized_keys
+        has them, or one key. A key without a comment is called by the name of its file. What is no public key is left out. Raises Refused for a file
+        that cannot be read."""
         for file in sorted(filter(os.path.isfile, glob.glob(f"{glob.escape(path)}/*"))) if os.path.isdir(path) else [path]:
             octets = octets_of(file)
             stem = os.path.splitext(os.path.basename(file))[0]
-            for line, comment in OPENSSH.findall(octets) or [(octets, b"")] if not is_private(octets) else []:
+            for key, comment in OPENSSH.findall(octets) or [(octets, b"")] if not is_private(octets) else []:
                 with contextlib.suppress(BadKey, Wrong):
-                    self.add(read_public(line, no_passphrase), comment.decode(errors="replace").strip() or stem)
+                    self.add(read_public(key, no_passphrase), comment.decode(errors="replace").strip() or stem)
 
     def of(self, principal: Value | None) -> str:
         """What a principal is called: its label, else the text of a short key, or digits of the hash of a long one. None is the issuer of entries."""
@@ -55,8 +56,9 @@ class Labels:
         text = on_one_line(principal)
         if headed(principal, b"public-key") and len(text) <= SHORT_KEY:
             return text
-        shown = digest if is_known else string_of(members(principal)[1]) or b""
-        return f"key {shown.hex()[:SHORT_DIGITS]}"
+        # (of a hash of an unknown key its own digest, by whatever algorithm)
+        digest_shown = digest if is_known else string_of(members(principal)[1]) or b""
+        return f"key {digest_shown.hex()[:SHORT_DIGITS]}"
 
     def of_subject(self, subject: Value) -> str:
         """What a subject is called, which may be a name."""
@@ -68,7 +70,7 @@ class Labels:
 
 def row_of_terms(kind: str, number: int | None, terms: Terms, moment: bytes, labels: Labels) -> Row:
     """What an entry or a certificate says, as a row. `kind` is `entry` or `certificate`, and `number` is that of the entry or item, or None for a
-    certificate that is alone."""
+    certificate that is alone. `moment` is that for which the row says whether it is valid."""
     return {"kind": kind, "number": number, "issuer": labels.of(terms.issuer),
             "name": terms.name.decode(errors="replace") if terms.name is not None else None,
             "subject": labels.of_subject(terms.subject), "tag": on_one_line(terms.tag) if terms.tag is not None else None,
@@ -77,20 +79,20 @@ def row_of_terms(kind: str, number: int | None, terms: Terms, moment: bytes, lab
 
 
 def rows_of(value: Value, moment: bytes, labels: Labels) -> Iterator[Row]:
-    """The rows of a list, a certificate, a sequence or a case: one for each entry, certificate and key, and for a case also its question."""
+    """Yields the rows of a list, a certificate, a sequence or a case: one for each entry, certificate and key, and for a case also its question."""
     if headed(value, b"cert"):
         yield row_of_terms("certificate", None, terms_of(value), moment, labels)
     elif headed(value, b"acl"):
         yield from (row_of_terms("entry", number, entry, moment, labels) for number, entry in enumerate(entries_of(value), 1))
     elif headed(value, b"sequence"):
         keys = Keys(keys_in(value))
-        certificates = {each.number: each for each in certificates_in(value)}
+        certificates = {signed.number: signed for signed in certificates_in(value)}
         for number, item in enumerate(members(value), 1):
             if headed(item, b"public-key"):
                 yield {"kind": "key", "number": number, "label": labels.of(item), "algorithm": kind_of(item), "hash": on_one_line(hash_of(item))}
-            elif each := certificates.get(number):
-                yield {**row_of_terms("certificate", number, each.terms, moment, labels), "digest": digest_of(each.terms.value).hex(),
-                       "fault": fault_of_signature(each, keys)}
+            elif signed := certificates.get(number):
+                yield {**row_of_terms("certificate", number, signed.terms, moment, labels), "digest": digest_of(signed.terms.value).hex(),
+                       "fault": fault_of_signature(signed, keys)}
     else:
         parts = members(value)
         yield from (row for part in (parts[0], parts[2]) for row in rows_of(part, moment, labels))
@@ -99,7 +101,7 @@ def rows_of(value: Value, moment: bytes, labels: Labels) -> Iterator[Row]:
 
 
 def lines_of(row: Row) -> Iterator[str]:
-    """The lines that say a row in words. The row is what `rows_of` yields for an entry, a certificate, a key or a question."""
+    """Yields the lines that say a row in words. The row is what `rows_of` yields for an entry, a certificate, a key or a question."""
     kind, number = row["kind"], row.get("number")
     front = f"{'entry' if kind == 'entry' else 'item'} {number}" if number else "certificate without a signature"
     if kind == "key":

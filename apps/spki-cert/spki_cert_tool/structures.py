@@ -5,6 +5,7 @@ from collections.abc import Callable
 
 from .forms import MOST_NODES, Node, Wrong, excerpt, shape_fault, suggestion
 
+# The form of a date. Whether the calendar has it is not tested.
 MOMENT = re.compile(rb"\d{4}-(0[1-9]|1[0-2])-(0[1-9]|[12]\d|3[01])_([01]\d|2[0-3]):[0-5]\d:([0-5]\d|60)")
 # How many octets a digest has, by its algorithm.
 DIGESTS = {b"sha1": 20, b"sha256": 32, b"sha512": 64}
@@ -16,21 +17,21 @@ CERTIFICATE_FIELDS = (*ENTRY_FIELDS, b"issuer", b"subject", b"version", b"displa
 # Reads a value, and raises Wrong where a service would refuse it: so do all functions `read_..`. Some return what others need of the value.
 Reader = Callable[[Node], object]
 # The fields that were read, by their heads: for each its node, and what its reader returned.
-Said = dict[bytes, tuple[Node, object]]
+FieldsRead = dict[bytes, tuple[Node, object]]
 
 
 def but_is(node: Node, *heads: bytes) -> str:
-    """The end of a remark: which heads a list must have, and what a value is instead."""
-    wanted = [f"`({head.decode()} ..)`" for head in heads]
-    is_instead = f"the string `{excerpt(node.body or b'')}`" if node.members is None else "a list without a word as its head"
+    """The end of a remark behind "must be": the heads that are allowed, of which a list must have one, and what the value is instead."""
+    allowed = [f"`({head.decode()} ..)`" for head in heads]
+    actual = f"the string `{excerpt(node.body or b'')}`" if node.members is None else "a list without a word as its head"
     if node.head is not None:
-        is_instead = f"`({excerpt(node.head)} ..)`"
-    return f"{', '.join(wanted[:-1])}{' or ' if wanted[1:] else ''}{wanted[-1]}, but is {is_instead}{suggestion(node.head, heads)}"
+        actual = f"`({excerpt(node.head)} ..)`"
+    return f"{', '.join(allowed[:-1])}{' or ' if allowed[1:] else ''}{allowed[-1]}, but is {actual}{suggestion(node.head, heads)}"
 
 
 class Members:
-    """The members of a list after its head. `left` has those that are not read yet, and `next` takes the first. Raises Wrong for another head; `what`
-    is what must have this head, for the remark."""
+    """The members of a list after its head. `left` has those that are not read yet, and `next` takes the first of them. Making one raises Wrong for a
+    value that is no list with this head; `what` is what must have it, in words for the remark."""
 
     def __init__(self, node: Node, head: bytes, what: str) -> None:
         if node.head != head:
@@ -38,7 +39,7 @@ class Members:
         self.node, self.left = node, node.rest
 
     def next(self, what: str) -> Node:
-        """The next member. Raises Wrong if there is none; `what` is what is missing then."""
+        """Takes and returns the next member. Raises Wrong if there is none; `what` is what is missing then, in words."""
         if not self.left:
             raise Wrong("Shape", self.node.end - 1, f"{what} is missing here", [(self.node.begin, "in the list that begins here")])
         return self.left.pop(0)
@@ -53,13 +54,13 @@ class Members:
 def list_of(head: bytes | None, what: str, *readers: tuple[str, Reader]) -> Reader:
     """Returns a reader of lists with this head, or any head for None, and exactly these members: each by what it is called, and its reader. The list
     is called `what` in a remark. The reader returns what that of the last member returns, and None without members."""
-    def reader(node: Node) -> object:
-        members, said = Members(node, head or node.head or b"", what), None
+    def read_list(node: Node) -> object:
+        members, last_result = Members(node, head or node.head or b"", what), None
         for name, read in readers:
-            said = read(members.next(name))
+            last_result = read(members.next(name))
         members.end()
-        return said
-    return reader
+        return last_result
+    return read_list
 
 
 def read_key(node: Node) -> None:
@@ -84,15 +85,15 @@ def read_algorithm(node: Node) -> bytes:
 
 
 def read_hash(node: Node) -> bytes:
-    """Reads `(hash ALGORITHM DIGEST)`, and returns the algorithm. Raises Wrong if it is none."""
+    """Reads `(hash ALGORITHM DIGEST)`, which may have one more member `(uri ..)`, and returns the algorithm. Raises Wrong if it is none."""
     members = Members(node, b"hash", "a hash")
     algorithm = read_algorithm(members.next("the algorithm"))
     digest = members.next("the digest")
     if not digest.is_plain():
         raise shape_fault(digest, "the digest is a string without a display hint")
     if len(digest.body or b"") != DIGESTS[algorithm]:
-        said = f"a digest by {algorithm.decode()} has {2 * DIGESTS[algorithm]} hexadecimal digits, here {2 * len(digest.body or b'')}"
-        raise Wrong("DigestLength", digest.begin, f"{said}, between two `#`: copy it again, or take that of `spki-cert key --hash FILE`")
+        lengths = f"a digest by {algorithm.decode()} has {2 * DIGESTS[algorithm]} hexadecimal digits, here {2 * len(digest.body or b'')}"
+        raise Wrong("DigestLength", digest.begin, f"{lengths}, between two `#`: copy it again, or take that of `spki-cert key --hash FILE`")
     if members.left and members.left[0].head == b"uri":
         members.left.pop(0)
     members.end()
@@ -178,31 +179,33 @@ def remark_on_no_field(node: Node, allowed: tuple[bytes, ...]) -> str:
     return f"a field is in parentheses and begins with a word, as `({word} ..)`"
 
 
-def read_fields(owner: Node, nodes: list[Node], allowed: tuple[bytes, ...]) -> Said:
-    """Reads fields, whose heads must be allowed. Returns by head the field's node and what its reader returns. `owner` is the list that has them.
-    Raises Wrong."""
-    said: Said = {}
+def read_fields(owner: Node, nodes: list[Node], allowed: tuple[bytes, ...]) -> FieldsRead:
+    """Reads the fields `nodes`, whose heads must be allowed. Returns by head the field's node and what its reader returns. `owner` is the list that
+    has them. Raises Wrong."""
+    fields: FieldsRead = {}
     for node in nodes:
         head = node.head
         if head == b"online":
             raise Wrong("Online", node.begin, "an online test is not supported; give a short validity by `(not-after ..)`")
         if head is None or head not in allowed:
             raise shape_fault(node, remark_on_no_field(node, allowed))
-        if head in said:
+        if head in fields:
             both = f"one `(tag (* set A B))` contains both, or write a second `({excerpt(owner.head or b'')} ..)`"
-            raise shape_fault(node, f"the field `{head.decode()}` is here a second time: {both if head == b'tag' else 'remove one of them'}",
-                        [(said[head][0].begin, "the first one"), (owner.begin, "in the list that begins here")])
-        said[head] = node, FIELDS.get(head, lambda _: None)(node)
+            advice = both if head == b"tag" else "remove one of them"
+            raise shape_fault(node, f"the field `{head.decode()}` is here a second time: {advice}",
+                              [(fields[head][0].begin, "the first one"), (owner.begin, "in the list that begins here")])
+        fields[head] = node, FIELDS.get(head, lambda _: None)(node)
     for head in LIMITS:
-        if b"valid" in said and head in said:
-            raise shape_fault(said[head][0], f"`{head.decode()}` is given directly, and there is `(valid ..)` too", [(said[b'valid'][0].begin, "here")])
-    return said
+        if b"valid" in fields and head in fields:
+            raise shape_fault(fields[head][0], f"`{head.decode()}` is given directly, and there is `(valid ..)` too",
+                              [(fields[b"valid"][0].begin, "here")])
+    return fields
 
 
-def require_fields(owner: Node, said: Said, *heads: bytes) -> None:
-    """Raises Wrong if one of these fields is not among those that were read."""
+def require_fields(owner: Node, fields: FieldsRead, *heads: bytes) -> None:
+    """Raises Wrong if a field with one of these heads is not among those that were read. `owner` is the list that should have it."""
     for head in heads:
-        if head not in said:
+        if head not in fields:
             raise shape_fault(owner, f"the field `({head.decode()} ..)` is missing in the list that begins here")
 
 
@@ -219,15 +222,16 @@ def read_entry(node: Node) -> None:
 
 def read_certificate(node: Node) -> None:
     """Reads a certificate, which gives a right or, if its issuer is a name, defines this name. Raises Wrong if it is none."""
-    said = read_fields(node, Members(node, b"cert", "a certificate").left, CERTIFICATE_FIELDS)
-    require_fields(node, said, b"issuer", b"subject")
-    if said[b"issuer"][1]:
-        for head in (b"tag", b"propagate"):
-            if head in said:
-                raise shape_fault(said[head][0], f"its issuer is a name, so it defines a name and must have no `{head.decode()}`: remove the "
-                            f"`{head.decode()}`, or write the key alone as issuer", [(said[b"issuer"][0].begin, "its issuer is a name")])
-    else:
-        require_fields(node, said, b"tag")
+    fields = read_fields(node, Members(node, b"cert", "a certificate").left, CERTIFICATE_FIELDS)
+    require_fields(node, fields, b"issuer", b"subject")
+    issuer_node, defines_name = fields[b"issuer"]
+    if not defines_name:
+        require_fields(node, fields, b"tag")
+        return
+    for head in (b"tag", b"propagate"):
+        if head in fields:
+            why = f"its issuer is a name, so it defines a name and must have no `{head.decode()}`: remove the `{head.decode()}`, or write the key "
+            raise shape_fault(fields[head][0], f"{why}alone as issuer", [(issuer_node.begin, "its issuer is a name")])
 
 
 def read_digest_of_row(node: Node) -> None:
@@ -275,7 +279,8 @@ def list_head(node: Node) -> Node:
 
 
 def read_tag(node: Node, nodes: list[int] | None = None) -> None:
-    """Reads a tag, and the tags in it. Raises Wrong if one is none. `nodes` is a list of one number, which counts all of them."""
+    """Reads a tag, and the tags in it. Raises Wrong if one is none. `nodes` is a list of one number, which counts the nodes of the whole tag so far;
+    None for a whole tag."""
     nodes = [0] if nodes is None else nodes
     nodes[0] += 1
     if nodes[0] > MOST_NODES:
@@ -307,6 +312,7 @@ def read_prefix(node: Node, behind: list[Node]) -> None:
 
 def read_range(node: Node, behind: list[Node]) -> None:
     """Reads a tag `(* range ..)`, whose members behind the word `range` are given. Raises Wrong unless they are an ordering and limits."""
+    # (without an ordering the fault is at the tag itself, whose body is None)
     ordering = behind[0] if behind else node
     if ordering.members is None:
         refuse_hint(ordering)

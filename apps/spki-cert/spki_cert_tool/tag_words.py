@@ -35,51 +35,52 @@ def holds(tag: Value, request: Value) -> bool:
 
 def lacks(tag: Value, request: Value, place: str = "the request") -> str | None:
     """Why a tag does not contain a request: the first member that differs. None if it contains it. `place` is what the request is called in the
-    words, and for a member of it as "member 2 of the request"."""
+    words, and for a member of it as "member 2 of the request". The tag must be one that `read_tag` accepts."""
     if holds(tag, request):
         return None
-    asked = in_short(request)
+    requested = in_short(request)
     if headed(tag, b"*"):
         word, *behind = members(tag)
         if word == b"set" and len(behind) == 1:
             return lacks(behind[0], request, place)
         what = f"no member of `{on_one_line(tag)}` contains it" if word == b"set" else f"the tag has `{on_one_line(tag)}`"
-        return f"{place} is `{asked}`, and {what}"
+        return f"{place} is `{requested}`, and {what}"
     if not isinstance(tag, list):
-        return f"{place} is `{asked}`, and the tag has `{on_one_line(tag)}`"
+        return f"{place} is `{requested}`, and the tag has `{on_one_line(tag)}`"
     if not isinstance(request, list):
-        return f"{place} is the string `{asked}`, and the tag has the list `{on_one_line(tag)}`"
-    for number, (member, other) in enumerate(zip(tag, request), 1):
-        if not holds(member, other):
-            return lacks(member, other, f"member {number} of {place}")
-    at = len(request)
-    return f"{place} has {at} members, and the tag at least {len(tag)}: `{on_one_line(tag[at])}` is asked for as member {at + 1}"
+        return f"{place} is the string `{requested}`, and the tag has the list `{on_one_line(tag)}`"
+    for number, (tag_member, member) in enumerate(zip(tag, request), 1):
+        if not holds(tag_member, member):
+            return lacks(tag_member, member, f"member {number} of {place}")
+    count = len(request)
+    return f"{place} has {count} members, and the tag at least {len(tag)}: `{on_one_line(tag[count])}` is asked for as member {count + 1}"
 
 
 def is_in_range(behind: list[Value], request: bytes) -> bool:
     """Whether a string is in a range `(* range ..)`, whose members behind `range` are the ordering and the limits."""
-    ordering, limits = string_of(behind[0]) or b"", [string_of(it) or b"" for it in behind[1:]]
-    given = dict(zip(limits[::2], limits[1::2]))
-    return has_form(ordering, request) and all(COMPARED[word](request, limit) for word, limit in given.items())
+    ordering, *limits = (string_of(member) or b"" for member in behind)
+    limit_by_word = dict(zip(limits[::2], limits[1::2]))
+    return has_form(ordering, request) and all(COMPARED[word](request, limit) for word, limit in limit_by_word.items())
 
 
 def has_form(ordering: bytes, octets: bytes) -> bool:
-    """Whether a string has the form of an ordering."""
+    """Whether a string has the form that an ordering requires: any for `alpha`, a time of day for `time`, a date with its time for `date`."""
     return ordering == b"alpha" or FORMS[ordering].fullmatch(octets) is not None
 
 
 def covers(wide: Value, narrow: Value) -> bool:
-    """Whether a tag contains all that another one contains. For two ranges it is True only if they are equal."""
+    """Whether a tag contains all that another one contains, as far as that is easily seen: for a range it may be False although it does, for example
+    if the other is a narrower range."""
     if wide == narrow or wide == [b"*"]:
         return True
     if headed(narrow, b"*") and members(narrow)[:1] == [b"set"]:
-        return all(covers(wide, it) for it in members(narrow)[1:])
+        return all(covers(wide, member) for member in members(narrow)[1:])
     if not headed(wide, b"*"):
-        # (`members` leaves out the head, so one is put in front)
-        are_lists = isinstance(wide, list) and isinstance(narrow, list) and len(narrow) >= len(wide)
-        return are_lists and not headed(narrow, b"*") and all(map(covers, members([b"", *wide]), members([b"", *narrow])))
+        if headed(narrow, b"*") or not isinstance(wide, list) or not isinstance(narrow, list):
+            return False
+        return len(narrow) >= len(wide) and all(map(covers, wide, narrow))
     if members(wide)[0] == b"set":
-        return any(covers(it, narrow) for it in members(wide)[1:])
+        return any(covers(member, narrow) for member in members(wide)[1:])
     if headed(narrow, b"*"):
         return members(narrow)[:1] == members(wide)[:1] == [b"prefix"] and holds(wide, members(narrow)[1])
     return isinstance(narrow, bytes) and holds(wide, narrow)
@@ -87,18 +88,19 @@ def covers(wide: Value, narrow: Value) -> bool:
 
 def contains(wide: Terms, narrow: Terms, keys: Keys) -> bool:
     """Whether the entry `wide` gives all that the entry `narrow` gives. As by `covers`, it may be False for ranges although
-    one contains the other."""
-    is_for = wide.names == narrow.names and keys.are_one(wide.principal, narrow.principal) and wide.delegates >= narrow.delegates
+    one contains the other. `keys` are those that hashes may name."""
+    is_one_subject = wide.names == narrow.names and keys.are_one(wide.principal, narrow.principal)
+    # (`~` is after every date)
     is_as_long = (wide.begins or b"") <= (narrow.begins or b"") and (wide.ends or b"~") >= (narrow.ends or b"~")
-    return is_for and is_as_long and covers(wide.tag or b"", narrow.tag or b"")
+    return is_one_subject and wide.delegates >= narrow.delegates and is_as_long and covers(wide.tag or b"", narrow.tag or b"")
 
 
 # ---- what is probably a mistake
 
 
 def remarks(node: Node, is_outermost: bool = True) -> Iterator[Place]:
-    """What in a tag is probably a mistake: for each the offset and a remark. `read_tag` must have accepted the tag. `is_outermost` says that it is a
-    whole tag, and no member of one."""
+    """Yields what in a tag is probably a mistake: for each the offset and a remark. `read_tag` must have accepted the tag. `is_outermost` says that
+    it is a whole tag, and no member of one."""
     if node.members is None:
         yield from remarks_on_string(node)
         return
@@ -123,22 +125,22 @@ def remarks(node: Node, is_outermost: bool = True) -> Iterator[Place]:
 
 
 def remarks_on_string(node: Node) -> Iterator[Place]:
-    """The offset of a string in a tag and a remark, if it is probably a mistake."""
+    """Yields the offset of a string in a tag and a remark, if it is probably a mistake."""
     body = node.body or b""
-    front = re.match(rb"[^*?]*", body)
+    front = re.split(rb"[*?]", body)[0]
     if b"*" in body or body.endswith(b"?"):
-        instead = f"what begins so is `(* prefix {on_one_line(front[0])})`" if front and front[0] else "what contains every string is `(*)`"
-        yield node.begin, f"a string is no pattern: `{on_one_line(body)}` contains only itself; {instead}"
-    elif found := re.search(rb"[\s()]", body):
-        what = "parentheses" if found[0] in b"()" else "a space"
+        advice = f"what begins so is `(* prefix {on_one_line(front)})`" if front else "what contains every string is `(*)`"
+        yield node.begin, f"a string is no pattern: `{on_one_line(body)}` contains only itself; {advice}"
+    elif odd := re.search(rb"[\s()]", body):
+        what = "parentheses" if odd[0] in b"()" else "a space"
         yield node.begin, f"this is one string with {what} in it; without its quotes it is several values"
     elif body == b"":
         yield node.begin, "this string is empty, and contains only the empty string"
 
 
 def remarks_on_star(node: Node, rest: list[Node], is_outermost: bool) -> Iterator[Place]:
-    """What in a set, a prefix or a range is probably a mistake: for each the offset and a remark. `rest` are its members behind the star. The members
-    of an outermost set are whole tags."""
+    """Yields what in a set, a prefix or a range is probably a mistake: for each the offset and a remark. `rest` are its members behind the star. The
+    members of an outermost set are whole tags, as `remarks` has them."""
     word = rest[0].body if rest else None
     if word == b"set":
         if len(rest) == 1:
@@ -148,11 +150,11 @@ def remarks_on_star(node: Node, rest: list[Node], is_outermost: bool) -> Iterato
     elif word == b"prefix":
         yield from remarks_on_prefix(node, rest[1].body or b"")
     elif word == b"range":
-        yield from remarks_on_range(node, rest[1].body or b"", [it.body or b"" for it in rest[2:]])
+        yield from remarks_on_range(node, rest[1].body or b"", [member.body or b"" for member in rest[2:]])
 
 
 def remarks_on_prefix(node: Node, body: bytes) -> Iterator[Place]:
-    """The offset of a prefix with this string and a remark, if it is probably a mistake."""
+    """Yields the offset of a tag `(* prefix BODY)` and a remark, if it is probably a mistake."""
     if body == b"":
         yield node.begin, "each string begins with the empty string"
     elif b"*" in body:
@@ -164,13 +166,15 @@ def remarks_on_prefix(node: Node, body: bytes) -> Iterator[Place]:
 
 
 def remarks_on_range(node: Node, ordering: bytes, limits: list[bytes]) -> Iterator[Place]:
-    """What in a range is probably a mistake: for each the offset and a remark. Its limits are `g s`, `ge s`, `l s` or `le s` one after the other."""
-    given = dict(zip(limits[::2], limits[1::2]))
-    low, up = given.get(b"g", given.get(b"ge")), given.get(b"l", given.get(b"le"))
+    """Yields what in a range is probably a mistake: for each the offset and a remark. `limits` are its members behind the ordering: a word, which is
+    `g`, `ge`, `l` or `le`, and a string, and perhaps two more."""
+    limit_by_word = dict(zip(limits[::2], limits[1::2]))
+    low, up = limit_by_word.get(b"g", limit_by_word.get(b"ge")), limit_by_word.get(b"l", limit_by_word.get(b"le"))
     for limit in filter(None, (low, up)):
         if not has_form(ordering, limit):
             yield node.begin, f"the limit `{on_one_line(limit)}` is no {ordering.decode()} as requests have them"
-    if low is not None and up is not None and (low > up or low == up and (b"g" in given or b"l" in given)):
+    is_strict = b"g" in limit_by_word or b"l" in limit_by_word
+    if low is not None and up is not None and (low > up or low == up and is_strict):
         yield node.begin, f"no string is between `{on_one_line(low)}` and `{on_one_line(up)}`: {'exchange them' if low > up else 'remove the range'}"
 
 

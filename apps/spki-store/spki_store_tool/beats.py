@@ -8,15 +8,16 @@ import psycopg
 
 from .tables import Store, connect_to
 
-# The time between two beats, and between two looks for a server that takes them, in seconds.
+# The time between two beats, and between two attempts after a fault, in seconds.
 EVERY, AGAIN = 1.0, 0.2
 
 
 class Beats:
-    """Beats at one server as long as that goes. Otherwise all are asked at once, since a machine that is gone keeps one waiting for seconds. Of those
-    that answer the first in order is taken; where a beat failed, that server is the last in order."""
+    """Beats at one server while it takes the beats. After a fault it connects to all servers at once, since a machine that is gone keeps one waiting
+    for seconds. Of those that answer the first in order is taken; a server where a beat failed becomes the last in order."""
 
     def __init__(self, store: Store) -> None:
+        # (`hosts` are settings of libpq, each for one server, in the order in which they are taken)
         self.store, self.hosts = store, store.each_host()
         # (the connections that are being made, by the settings of their hosts)
         self.opening: dict[str, Future[psycopg.Connection[Any]]] = {}
@@ -34,21 +35,21 @@ class Beats:
             raise
 
     def connect(self) -> None:
-        """Connects to the first server in order that takes a connection within AGAIN seconds, and closes the others. Raises OperationalError if none
-        does. Connections that are still being made are looked at again in the next call."""
+        """Connects to all servers, waits until all have answered, for AGAIN seconds at most, and takes the first in order that has taken the
+        connection. Closes the others, also those that come later. Raises OperationalError if none has taken it yet: then the next call waits on."""
         for host in self.hosts:
             if host not in self.opening:
                 self.opening[host] = self.pool.submit(connect_to, host)
         wait(self.opening.values(), AGAIN)
-        done = {host: self.opening.pop(host) for host in self.hosts if self.opening[host].done()}
-        found = {host: each.result() for host, each in done.items() if not each.exception() and not each.result().closed}
-        if not found:
-            faults = [str(each.exception() or "").strip().replace("\n", " ") for each in done.values()]
+        answers = {host: self.opening.pop(host) for host in self.hosts if self.opening[host].done()}
+        connections = {host: answer.result() for host, answer in answers.items() if not answer.exception() and not answer.result().closed}
+        if not connections:
+            faults = [str(answer.exception() or "").strip().replace("\n", " ") for answer in answers.values()]
             raise psycopg.OperationalError("; ".join(faults) or "no server answers")
-        (self.store.at, self.store.connection), *others = found.items()
+        (self.store.at, self.store.connection), *others = connections.items()
         for _, connection in others:
             connection.close()
-        # (those that are still being made are not used when they come)
+        # (those that are still being made are closed when they come, and `closed` above leaves them out if they are here in the next call)
         for late in self.opening.values():
             late.add_done_callback(close_late)
 
