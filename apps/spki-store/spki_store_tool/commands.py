@@ -2,6 +2,7 @@
 from __future__ import annotations
 
 import argparse
+import errno
 import os
 import re
 import sys
@@ -22,12 +23,20 @@ exit status: 0 done, 1 something differs or is wrong, 2 a word, a text or a chan
 DIGEST = re.compile(r"[0-9a-f]{64}\Z")
 
 
-# Writes a line to standard output.
 def put(line: str) -> None:
+    """Writes a line to standard output. Raises OSError if that is closed."""
+    if sys.stdout is None:
+        raise OSError(errno.EBADF, "standard output is closed")
     print(line)
 
 
-# ---- commands
+def tell(line: str) -> None:
+    """Writes a line to standard error. If that is closed, `print` would take standard output instead."""
+    if sys.stderr is not None:
+        print(f"spki-store: {line}", file=sys.stderr)
+
+
+# ---- commands (each is for the command of its name)
 
 
 def init(store: Store, given: argparse.Namespace) -> int:
@@ -41,7 +50,7 @@ def import_(store: Store, given: argparse.Namespace) -> int:
     """Adds the entries of a list, or goes on with an import that was stopped. With --again it begins anew, also after a whole import."""
     if given.again:
         forget(store, given.file)
-    added, before = import_list(store, given.file, sys.stderr.isatty() or given.progress)
+    added, before = import_list(store, given.file, sys.stderr is not None and (sys.stderr.isatty() or given.progress))
     put(f"entries added: {added}" + (f", and {before} before" if before else ""))
     return DONE
 
@@ -61,11 +70,11 @@ def add(store: Store, given: argparse.Namespace) -> int:
 def remove(store: Store, given: argparse.Namespace) -> int:
     """Removes entries by their numbers. The status is FOUND if one is not there."""
     numbers = list(dict.fromkeys(given.numbers))
-    there = [number for number in numbers if store.remove(number)]
-    put(f"entries removed: {len(there)}")
-    for number in sorted(set(numbers) - set(there)):
-        print(f"spki-store: entry {number} is not there", file=sys.stderr)
-    return DONE if there == numbers else FOUND
+    removed = [number for number in numbers if store.remove(number)]
+    put(f"entries removed: {len(removed)}")
+    for number in sorted(set(numbers) - set(removed)):
+        tell(f"entry {number} is not there")
+    return DONE if removed == numbers else FOUND
 
 
 def end(store: Store, given: argparse.Namespace) -> int:
@@ -78,13 +87,13 @@ def end(store: Store, given: argparse.Namespace) -> int:
 
 def check(store: Store, given: argparse.Namespace) -> int:
     """Says which rows are no entries, and which have another principal than their texts. The status is FOUND if there is one. The texts are tested
-    together, and one by one only where some of them are no entries."""
+    together, which takes less time, and one by one only where some of them are no entries."""
     count, wrong = 0, 0
     for page in batches(((row, len(row.text)) for row in store.all()), MOST_AT_ONCE):
         count += len(page)
-        is_right = fault_of([row.text for row in page]) is None
+        are_entries = fault_of([row.text for row in page]) is None
         for row in page:
-            why = None if is_right else fault_of_one(row.text)
+            why = None if are_entries else fault_of_one(row.text)
             if why is None and principal_of(row.text) != row.principal:
                 why = "its principal is not that of its text"
             if why is not None:
@@ -95,12 +104,12 @@ def check(store: Store, given: argparse.Namespace) -> int:
 
 
 def log(store: Store, given: argparse.Namespace) -> int:
-    """Writes who changed what, the last changes last."""
+    """Writes who changed what, the last changes last. The text is that of a removed entry."""
     for number, moment, who, what, entry, digest, text in store.rows(
             "SELECT * FROM (SELECT number, moment, who, what, entry, digest, text FROM {changes} ORDER BY number DESC LIMIT %s) last ORDER BY number",
             given.last):
-        put(" ".join([str(number), moment.isoformat(timespec="milliseconds"), repr(who), what, str(entry or ""), digest.hex(),
-                      *[advanced(each) for each in (text,) if each is not None]]))
+        fields = [str(number), moment.isoformat(timespec="milliseconds"), ascii(who), what, str(entry or ""), digest.hex()]
+        put(" ".join(fields + ([] if text is None else [advanced(text)])))
     return DONE
 
 
@@ -115,20 +124,20 @@ def diff(store: Store, given: argparse.Namespace) -> int:
 
 
 def beat(store: Store, given: argparse.Namespace) -> int:
-    """Increases the number of the heartbeat each second. After any fault of the database it looks five times a second for a server that takes it:
-    another one may be the primary. A fault that stays is said once."""
-    beats, count, said = Beats(store), 0, ""
+    """Increases the number of the heartbeat each second, as often as --times says, or until it is ended. After any fault of the database it looks
+    five times a second for a server that takes it: another one may be the primary. A fault that stays is told once."""
+    beats, count, last_fault = Beats(store), 0, ""
     while not given.times or count < given.times:
-        begun, every = time.monotonic(), EVERY
+        begun, pause = time.monotonic(), EVERY
         try:
             beats.beat()
-            count, said = count + 1, ""
+            count, last_fault = count + 1, ""
         except psycopg.Error as why:
-            every = AGAIN
-            if first_line(why) != said:
-                said = first_line(why)
-                print(f"spki-store: {said}", file=sys.stderr)
-        time.sleep(max(0.0, every - (time.monotonic() - begun)) if count != given.times else 0)
+            pause = AGAIN
+            if first_line(why) != last_fault:
+                last_fault = first_line(why)
+                tell(last_fault)
+        time.sleep(max(0.0, pause - (time.monotonic() - begun)) if count != given.times else 0)
     return DONE
 
 
@@ -136,37 +145,39 @@ def beat(store: Store, given: argparse.Namespace) -> int:
 
 
 def text_at(path: str) -> bytes:
-    """The octets of a file, or of standard input for `-`: at most one more than the library reads."""
+    """The octets of a file, or of standard input for `-`: at most one more than the library reads. Raises OSError."""
     if path == "-":
+        if sys.stdin is None:
+            raise OSError(errno.EBADF, "standard input is closed")
         return sys.stdin.buffer.read(MOST + 1)
     with open(path, "rb") as file:
         return file.read(MOST + 1)
 
 
 def parser_of_commands() -> argparse.ArgumentParser:
-    """The parser of the command line. It gives the function of the command as `does`."""
+    """The parser of the command line. It gives the function of the command as `action`."""
     parser = argparse.ArgumentParser(prog="spki-store", description=DESCRIPTION, epilog=EPILOG, formatter_class=argparse.RawDescriptionHelpFormatter)
     parser.add_argument("--database", default=os.environ.get("SPKI_STORE", ""), help="the settings of libpq; SPKI_STORE if it is not given")
     parser.add_argument("--schema", default="spki", help="the schema of the store, by default spki")
     commands = parser.add_subparsers(metavar="COMMAND", required=True)
 
-    # (adds a command: its name, its function, and what the help says of it)
-    def command(name: str, does: Callable[[Store, argparse.Namespace], int], about: str) -> argparse.ArgumentParser:
-        made = commands.add_parser(name, help=about, description=about)
-        made.set_defaults(does=does)
-        return made
+    def command(name: str, action: Callable[[Store, argparse.Namespace], int], summary: str) -> argparse.ArgumentParser:
+        """Adds a command: its name, its function, and what the help says of it. Returns its parser, to which its words are added."""
+        added = commands.add_parser(name, help=summary, description=summary)
+        added.set_defaults(action=action)
+        return added
 
     command("init", init, "makes the schema, and the roles that accounts are put in")
-    made = command("import", import_, "adds the entries of a list; if it was stopped, the same command continues")
-    made.add_argument("file")
-    made.add_argument("--again", action="store_true", help="adds them also if this list was imported before")
-    made.add_argument("--progress", action="store_true", help="shows the progress also where standard error is no terminal")
+    importing = command("import", import_, "adds the entries of a list; if it was stopped, the same command continues")
+    importing.add_argument("file")
+    importing.add_argument("--again", action="store_true", help="adds them also if this list was imported before")
+    importing.add_argument("--progress", action="store_true", help="shows the progress also where standard error is no terminal")
     command("export", export, "writes all entries as a list in canonical form into a new file").add_argument("file")
     command("add", add, "adds the entry of a file, or of standard input by -, and prints its number").add_argument("file")
     command("remove", remove, "removes entries by their numbers").add_argument("numbers", nargs="+", type=int, metavar="number")
-    made = command("end", end, "ends certificates by their SHA-256 digests, for ever")
-    made.add_argument("digests", nargs="+", metavar="digest")
-    made.add_argument("--remark", default="")
+    ending = command("end", end, "ends certificates by their SHA-256 digests, for ever")
+    ending.add_argument("digests", nargs="+", metavar="digest")
+    ending.add_argument("--remark", default="")
     command("check", check, "says which rows are no entries or have another principal than their texts")
     command("log", log, "prints who changed what").add_argument("--last", type=int, default=100, help="so many changes, by default 100")
     command("diff", diff, "compares with a list: prints what only the store (-) or only the list (+) has").add_argument("file")
@@ -175,29 +186,41 @@ def parser_of_commands() -> argparse.ArgumentParser:
 
 
 def first_line(why: BaseException) -> str:
-    """What a fault says, on one line."""
+    """The first line of what a fault says: libpq adds hints on further ones. The name of its class if it says nothing."""
     return (str(why).strip() or type(why).__name__).splitlines()[0]
 
 
 def main(words: Sequence[str] | None = None) -> int:
-    """Runs a command, and returns the exit status."""
+    """Runs the command of these words, or of the command line, and returns the exit status. What fails is told on standard error. Words that are no
+    command, and --help, end the program."""
     given = parser_of_commands().parse_args(words)
     try:
         store = Store(given.database, given.schema)
         try:
-            if given.does is not init:
+            if given.action is not init:
                 store.check_version()
-            return int(given.does(store, given))
+            status = int(given.action(store, given))
+            if sys.stdout is not None:
+                sys.stdout.flush()
+            return status
         finally:
             store.close()
-    except (Wrong, psycopg.IntegrityError, psycopg.ProgrammingError, psycopg.DataError, psycopg.InternalError) as why:
-        print(f"spki-store: {first_line(why)}", file=sys.stderr)
+    # (UnicodeError: a word that is no text in this encoding)
+    except (Wrong, UnicodeError, psycopg.IntegrityError, psycopg.ProgrammingError, psycopg.DataError, psycopg.InternalError) as why:
+        tell(first_line(why))
         return REFUSED
-    except (psycopg.Error, OSError) as why:
-        print(f"spki-store: {first_line(why)}", file=sys.stderr)
+    except (psycopg.Error, OSError, ImportError) as why:
+        tell(first_line(why))
         return FAILED
 
 
-# The program.
 def run() -> None:
-    sys.exit(main())
+    """The program: runs `main`, and exits with its status."""
+    status = main()
+    try:
+        if sys.stdout is not None:
+            sys.stdout.flush()
+    except OSError:
+        # (`main` has told it. At its end Python would write what is left once more, and exit with a status of its own)
+        os.dup2(os.open(os.devnull, os.O_WRONLY), sys.stdout.fileno())
+    sys.exit(status)

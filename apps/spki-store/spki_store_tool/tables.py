@@ -19,36 +19,38 @@ from psycopg.pq.abc import PGconn
 from .texts import Wrong
 
 SCHEMA = os.path.join(os.path.dirname(os.path.abspath(__file__)), "schema.sql")
-# The name of a schema, which stands in statements without quotes, and alone before the words of its roles. `schemaName` of spki-authd is the same.
+# The name of a schema, which schema.sql has without quotes, and with `_` and the word of a role as the name of the role. `schemaName` of spki-authd
+# is the same.
 NAME = re.compile(r"[a-z_][a-z0-9_]{0,40}\Z")
+# The version of schema.sql.
 VERSION = 2
 ROLES = ("reader", "writer", "adder", "keeper")
 # The octets of a digest by SHA-1, SHA-256 and SHA-512.
 LENGTHS = (20, 32, 64)
-# How long a server may take to take a connection, in seconds, and to take what was sent, in milliseconds.
+# How long a server may take to take a connection, in seconds, and to take what was sent, in milliseconds. These are settings of libpq.
 PATIENCE: dict[str, Any] = {"connect_timeout": 3, "tcp_user_timeout": 3000, "keepalives_idle": 3, "keepalives_interval": 1, "keepalives_count": 3}
 # How long a beat waits for another one, in milliseconds.
-WAITS = 500
+BEAT_WAITS = 500
 # The rows that a reader of all rows has in memory.
 PAGE = 2000
 
 
 def connect_to(settings: str) -> psycopg.Connection[Any]:
-    """A new connection to one host, by its settings of libpq."""
+    """A new connection to one host, by its settings of libpq. Raises `psycopg.Error`."""
     return psycopg.connect(settings, autocommit=True, fallback_application_name="spki-store")
 
 
 def value_of(connection: PGconn, text: bytes, seconds: float) -> bytes:
     """Sends statements, and waits for so many seconds. Returns the value in the only row of the last one that has a row. Raises OperationalError if
-    one fails, or if the server does not answer in time."""
+    one fails, or if the server does not answer in time. (psycopg alone would wait for ever.)"""
     end, value = time.monotonic() + seconds, b""
     connection.send_query(text)
     connection.flush()
     while True:
         while connection.is_busy():
-            waiting = select.poll()
-            waiting.register(connection.socket, select.POLLIN)
-            if not waiting.poll(max(0.0, end - time.monotonic()) * 1000):
+            poller = select.poll()
+            poller.register(connection.socket, select.POLLIN)
+            if not poller.poll(max(0.0, end - time.monotonic()) * 1000):
                 raise psycopg.OperationalError(f"the server has not answered for {seconds:.0f} seconds")
             connection.consume_input()
         result = connection.get_result()
@@ -70,7 +72,8 @@ class Row:
 
 
 class Store:
-    """A store in a schema of a database. `settings` are those of libpq, as `host=/run/postgresql dbname=acl`."""
+    """A store in a schema of a database, with an open connection. `settings` are those of libpq, as `host=/run/postgresql dbname=acl`. What asks the
+    database raises `psycopg.Error` if that fails."""
 
     def __init__(self, settings: str, schema: str = "spki") -> None:
         if not NAME.match(schema):
@@ -80,23 +83,23 @@ class Store:
 
     def each_host(self) -> list[str]:
         """The settings of libpq for each host of `settings` alone, in their order. What they do not say of PATIENCE is added."""
-        given = {**PATIENCE, **conninfo_to_dict(self.settings)}
-        hosts, ports = (str(given.get(each, "")).split(",") for each in ("host", "port"))
-        return [make_conninfo(**{**given, "host": host, "port": ports[place % len(ports)]}) for place, host in enumerate(hosts)]
+        settings = {**PATIENCE, **conninfo_to_dict(self.settings)}
+        # (one port is for all hosts, otherwise each has its own)
+        hosts, ports = (str(settings.get(name, "")).split(",") for name in ("host", "port"))
+        return [make_conninfo(**{**settings, "host": host, "port": ports[place % len(ports)]}) for place, host in enumerate(hosts)]
 
     def connect(self) -> None:
         """Connects to the first of the hosts that takes it, whose settings are then in `at`. A host that is cut off is given up after seconds, by
-        PATIENCE: otherwise it would take minutes until the next one is asked."""
+        PATIENCE: otherwise it would take minutes until the next one is asked. Raises the fault of the last host if none takes it."""
         *others, last = self.each_host()
-        for self.at in others:
+        for host in others:
             with contextlib.suppress(psycopg.OperationalError):
-                self.connection = connect_to(self.at)
+                self.at, self.connection = host, connect_to(host)
                 return
-        self.at = last
-        self.connection = connect_to(last)
+        self.at, self.connection = last, connect_to(last)
 
     def close(self) -> None:
-        """Closes the connection. `connect` makes another one."""
+        """Closes the connection. `connect` makes another one, and so does `Beats.connect`."""
         self.connection.close()
 
     def statement(self, text: str) -> sql.Composed:
@@ -111,7 +114,7 @@ class Store:
         return done.fetchall() if done.description else []
 
     def make(self) -> None:
-        """Makes the schema and its roles. It must not be there yet."""
+        """Makes the schema, which must not be there yet, and those of its roles that are not there."""
         with open(SCHEMA, encoding="utf-8") as file:
             text = file.read().replace("@SCHEMA@", self.schema)
         with self.connection.transaction():
@@ -122,18 +125,18 @@ class Store:
             self.connection.execute(text)
 
     def check_version(self) -> None:
-        """Raises Wrong if the store is of another version."""
+        """Raises Wrong if the store is of another version than VERSION."""
         (version,), = self.rows("SELECT version FROM {state}")
         if version != VERSION:
             raise Wrong(f"the store has version {version}, and this program reads {VERSION}")
 
     def add(self, text: bytes) -> int:
-        """Adds an entry in canonical form behind the others. Returns its number, which is never used again. Raises `psycopg.Error`."""
+        """Adds an entry in canonical form behind the others. Returns its number, which is never used again."""
         (number,), = self.rows("INSERT INTO {entries} (text) VALUES (%s) RETURNING number", text)
         return int(number)
 
     def add_many(self, texts: list[bytes]) -> None:
-        """Adds many entries in canonical form, by one statement: COPY knows no grants of single rows."""
+        """Adds many entries in canonical form, by one statement. COPY would take less time, but the policies of schema.sql for rows forbid it."""
         self.rows("INSERT INTO {entries} (text) SELECT * FROM unnest(%b::bytea[])", texts)
 
     def remove(self, number: int) -> bool:
@@ -141,32 +144,33 @@ class Store:
         return bool(self.rows("DELETE FROM {entries} WHERE number = %s RETURNING number", number))
 
     def end(self, certificate: bytes, remark: str) -> bool:
-        """Ends a certificate, by its digest. Returns whether it had not ended before."""
+        """Ends a certificate, by its SHA-256 digest. Returns whether it had not ended before."""
         return bool(self.rows("INSERT INTO {ended} (certificate, remark) VALUES (%s, %s) ON CONFLICT DO NOTHING RETURNING 1", certificate, remark))
 
     def beat(self, seconds: float = 3.0) -> int:
-        """Increases the number of the heartbeat. Raises OperationalError if that fails, or takes longer: the server is not told to cancel it then,
-        since a change that waits for a replica would count at once. A beat that waits so keeps others waiting, and they give up soon."""
-        text = f"SET LOCAL lock_timeout = {WAITS}; UPDATE {{heartbeat}} SET number = number + 1, moment = clock_timestamp() RETURNING number"
+        """Increases the number of the heartbeat, and returns it. Raises OperationalError if that fails, or takes longer than so many seconds. The
+        server is not told to cancel it then, since a change that waits for a replica would count at once. A beat that waits so keeps others waiting,
+        which give up after BEAT_WAITS."""
+        text = f"SET LOCAL lock_timeout = {BEAT_WAITS}; UPDATE {{heartbeat}} SET number = number + 1, moment = clock_timestamp() RETURNING number"
         return int(value_of(self.connection.pgconn, self.statement(text).as_string(self.connection).encode(), seconds))
 
     def all(self) -> Iterator[Row]:
-        """All entries in order, of one state of the store."""
+        """Yields all entries in the order of their numbers, of one state of the store."""
         for row in self.paged("SELECT number, principal, text FROM {entries} ORDER BY number"):
             yield Row(*row)
 
     def paged(self, text: str) -> Iterator[tuple[Any, ...]]:
-        """The rows of a statement, in which a table is written as `{entries}`, as of one moment. They are read in parts, so they may be more than fit
-        into memory."""
+        """Yields the rows of a statement, in which a table is written as `{entries}`, as of one moment. They are read in parts, so they may be more
+        than fit into memory."""
         with self.connection.transaction(), self.connection.cursor("all_rows", binary=True) as cursor:
             cursor.itersize = PAGE
             cursor.execute(self.statement(text))
             yield from cursor
 
     def found(self, principals: list[bytes]) -> list[tuple[int, bytes]]:
-        """The number and the text of each entry whose principal, a digest, is one of these, in order."""
-        known = [each for each in principals if len(each) in LENGTHS]
+        """The number and the text of each entry whose principal is one of these digests, which must differ, in the order of the numbers."""
+        digests = [principal for principal in principals if len(principal) in LENGTHS]
         # (each length has an index of its own)
-        found = " UNION ALL ".join(f"SELECT number, text FROM {{entries}} WHERE octet_length(principal) = {len(each)} AND principal = %s"
-                                   for each in known)
-        return self.rows(f"{found} ORDER BY number", *known) if known else []
+        query = " UNION ALL ".join(f"SELECT number, text FROM {{entries}} WHERE octet_length(principal) = {len(digest)} AND principal = %s"
+                                   for digest in digests)
+        return self.rows(f"{query} ORDER BY number", *digests) if digests else []

@@ -10,12 +10,14 @@ import os
 from collections.abc import Iterable, Iterator
 from typing import TypeVar
 
-# What the library reads at once.
+# The octets that the library reads at once.
 MOST = 1 << 20
-BEGIN, END = b"(3:acl", b")"
-OPENED, CLOSED, COLON, BRACKETS = b"():["[0], b"():["[1], b"():["[2], b"[]"
-# The most digits of a length.
-DIGITS = 8
+# The text of an access list in canonical form is BEGIN, perhaps VERSION, its entries, and END.
+BEGIN, VERSION, END = b"(3:acl", b"(7:version1:0)", b")"
+# (octets as numbers, which an index into octets gives)
+OPENED, CLOSED, BRACKETS = ord("("), ord(")"), b"[]"
+# The most octets of a length with its colon: no string of an entry has more than 9,999,999 octets.
+MOST_LENGTH = 8
 
 
 class Wrong(Exception):
@@ -23,7 +25,8 @@ class Wrong(Exception):
 
 
 def end_of(text: mmap.mmap | bytes, at: int) -> int:
-    """The offset behind the list in canonical form that begins at an offset. Raises Wrong if there is none."""
+    """The offset behind the list in canonical form that begins at an offset. Raises Wrong if there is none. Only parentheses and lengths are looked
+    at: whether the list is one that the library reads is not tested."""
     # (how many lists are open; a string is passed by its length)
     depth = 0
     while at < len(text):
@@ -33,7 +36,7 @@ def end_of(text: mmap.mmap | bytes, at: int) -> int:
         elif octet == CLOSED:
             depth -= 1
         elif octet not in BRACKETS:
-            colon = text.find(b":", at, at + DIGITS)
+            colon = text.find(b":", at, at + MOST_LENGTH)
             digits = text[at:max(colon, at)]
             if not digits.isdigit():
                 break
@@ -47,13 +50,13 @@ def end_of(text: mmap.mmap | bytes, at: int) -> int:
 
 
 def entries_in(text: mmap.mmap | bytes, begin: int = 0) -> Iterator[tuple[bytes, int]]:
-    """The entries of an access list in canonical form, each with the offset behind it. `begin` is such an offset, from which an import goes on, or 0.
-    Raises Wrong where no list follows, and does not test that the lists are entries."""
+    """Yields the entries of an access list in canonical form, each with the offset behind it. `begin` is such an offset, from which an import goes
+    on, or 0. Raises Wrong where no list follows, and does not test that the lists are entries."""
     if text[:len(BEGIN)] != BEGIN:
-        raise Wrong("a list of over 1 MiB must be in canonical form, and begin with (3:acl")
+        raise Wrong("this is no access list, which begins with (3:acl in canonical form; one of over 1 MiB must be in this form")
     at = begin or len(BEGIN)
-    if text[at:at + 10] == b"(7:version":
-        at = end_of(text, at)
+    if not begin and text[at:at + len(VERSION)] == VERSION:
+        at += len(VERSION)
     while text[at:at + 1] == b"(":
         end = end_of(text, at)
         yield text[at:end], end
@@ -64,10 +67,14 @@ def entries_in(text: mmap.mmap | bytes, begin: int = 0) -> Iterator[tuple[bytes,
 
 @contextlib.contextmanager
 def open_list(path: str) -> Iterator[mmap.mmap | bytes]:
-    """Opens a file for the block, which gets the text of its list in canonical form. A file of at most 1 MiB may have any of the three forms."""
+    """Opens a file for the block, which gets the text of its list in canonical form. A file of at most 1 MiB may have any of the three forms. Raises
+    Wrong for a text in none of them, or a longer stream, and OSError."""
     with open(path, "rb") as file:
         if os.fstat(file.fileno()).st_size <= MOST:
             text = file.read(MOST + 1)
+            # (a stream has no size)
+            if len(text) > MOST:
+                raise Wrong(f"{path}: a list of over 1 MiB must be in a file, and this is a stream")
             yield text if text.startswith(BEGIN) else canonical(text)
             return
         with mmap.mmap(file.fileno(), 0, access=mmap.ACCESS_READ) as mapped:
@@ -84,7 +91,7 @@ def canonical(text: bytes) -> bytes:
 
 
 def advanced(text: bytes) -> str:
-    """A text in canonical form on one line, for people to read. If it is refused, its octets and why."""
+    """A text in canonical form on one line, for people to read. If the library refuses it, its octets and why."""
     import spki
     try:
         return spki.advanced(text).decode().rstrip("\n")
@@ -94,14 +101,15 @@ def advanced(text: bytes) -> str:
 
 def entry_of(text: bytes) -> bytes:
     """The canonical form of a text that is one entry. Raises Wrong if it is none."""
-    made = canonical(text)
-    if why := fault_of([made]):
-        raise Wrong(why[1])
-    return made
+    entry = canonical(text)
+    if why := fault_of_one(entry):
+        raise Wrong(why)
+    return entry
 
 
 def fault_of(texts: list[bytes]) -> tuple[int, str] | None:
-    """The place of the first text that is no entry in canonical form, and why. None if all are."""
+    """The place, from 0, of the first text that is no entry in canonical form, and why. None if all are. They are read as one list if they fit into
+    MOST octets, which takes less time than one by one."""
     import spki
     whole = BEGIN + b"".join(texts) + END
     with contextlib.suppress(spki.Refused):
@@ -142,14 +150,15 @@ Sized = TypeVar("Sized")
 
 
 def batches(items: Iterable[tuple[Sized, int]], most: int) -> Iterator[list[Sized]]:
-    """Items, each given with how many octets it has, in lists of at most `most` items and at most 1 MiB. A longer item is a list alone."""
-    made: list[Sized] = []
+    """Yields items, each given with how many octets it has, in lists of at most `most` items whose octets fit into an access list of MOST octets. A
+    longer item is a list alone."""
+    batch: list[Sized] = []
     size = len(BEGIN) + len(END)
     for item, octets in items:
-        if made and (len(made) == most or size + octets > MOST):
-            yield made
-            made, size = [], len(BEGIN) + len(END)
-        made.append(item)
+        if batch and (len(batch) == most or size + octets > MOST):
+            yield batch
+            batch, size = [], len(BEGIN) + len(END)
+        batch.append(item)
         size += octets
-    if made:
-        yield made
+    if batch:
+        yield batch
