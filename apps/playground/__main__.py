@@ -20,7 +20,7 @@ from workers import SECONDS, Workers
 
 
 def options():
-    """The words of the command line, as argparse has them."""
+    """The options of the command line, as argparse has them: `port`, `no_browser`, `engine` and `seconds`."""
     parser = argparse.ArgumentParser(prog="apps/playground", description=__doc__.split("\n")[0])
     parser.add_argument("--port", type=int, default=0, help="the port; the default is one that is free")
     parser.add_argument("--no-browser", action="store_true", help="print the address only")
@@ -29,8 +29,8 @@ def options():
     return parser.parse_args()
 
 
-def start(name):
-    """The octets of `start.json`, by which the page begins: the examples, and the name of what decides."""
+def start_file(name):
+    """The octets of `start.json`, by which the page begins: the examples, and `name`, which is that of what decides."""
     with open(os.path.join(TOP, "examples", "guide", "granted.sexp"), encoding="utf-8") as file:
         others = {**OTHERS, "case": file.read()}
     return json.dumps({"engine": name, "examples": EXAMPLES, "others": others, "mostOctets": MOST_BODY}).encode()
@@ -40,23 +40,23 @@ def main():
     """Serves the page until it is ended. Returns the exit status."""
     given = options()
     try:
-        decides = choose_engine(given.engine)
+        engine = choose_engine(given.engine)
     except LookupError as why:
         print(why, file=sys.stderr)
         return 2
-    first, workers = start(decides.name), Workers(given.engine, given.seconds)
+    workers = Workers(given.engine, given.seconds)
     try:
-        server = Server(given.port, workers, JOBS, first)
+        server = Server(given.port, workers, JOBS, start_file(engine.name))
     except (OSError, OverflowError) as why:
         print(f"port {given.port}: {why}", file=sys.stderr)
         workers.end()
         return 2
     with server:
-        print(f"{server.address}\n{decides.name} decides; ctrl-c ends the page", flush=True)
-        if not given.no_browser:
-            webbrowser.open(server.address)
         signal.signal(signal.SIGTERM, lambda *_: sys.exit(0))
         try:
+            print(f"{server.address}\n{engine.name} decides; ctrl-c ends the page", flush=True)
+            if not given.no_browser:
+                webbrowser.open(server.address)
             server.serve_forever()
         except KeyboardInterrupt:
             print()

@@ -1,5 +1,5 @@
 """What the page asks, and the answers as it shows them. Each job yields its answer in parts, the decision first: a part is a dictionary, and its
-fields replace those of earlier parts. `engine` is who decides, and `sent` the object that the page sent.
+fields replace those of earlier parts. `engine` is who decides, an `Engine`, and `sent` the object that the page sent.
 
 A job that takes too long is ended by the one who asked for it, who keeps the parts that were yielded.
 """
@@ -8,22 +8,23 @@ from chain import chain
 from engine import PARTS, Question, Refused, string
 from given import MOST_LETTERS, Given, GivenCase, text, words_of
 from labels import Labels
-from place import places, shown_places
+from place import places, places_for_page
 from sentences import ONE_STRING, REFUSED, is_one_string_of_words, right_left, sentence_of, title
 from spki_cert_tool.sexp import laid_out, read
 from story import Story, reasons_of
 
+# How many reasons are sent, and of how many entries the right that remains.
 MOST_REASONS, MOST_LEFT = 100, 20
 
 
-def shown_refusal(given, line):
+def refusal_part(given, line):
     """The part of an answer that shows a refusal. `given` is the question, a `Given` or `GivenCase`, and `line` the line of the refusal."""
     return {"kind": "refused", "line": line, "shown": given.shown(line), "title": REFUSED.get(line, ""), "faults": given.fault(line)}
 
 
-def labels_of(engine, given):
+def labels_of(engine, sent):
     """The labels of keys that the page sent."""
-    return Labels(engine, text(given, "labels"))
+    return Labels(engine, text(sent, "labels"))
 
 
 # ---- the jobs
@@ -40,12 +41,12 @@ def question(engine, sent):
         return
     try:
         signatures = given.signatures(labels)
-        yield from explained(given, labels)
+        yield from decision_parts(given, labels)
         yield {"signatures": signatures}
         if sent.get("withCase") is True:
             yield {"case": laid_out(read(given.case()))}
     except Refused as why:
-        yield shown_refusal(given, why.line)
+        yield refusal_part(given, why.line)
 
 
 def case(engine, sent):
@@ -53,57 +54,59 @@ def case(engine, sent):
     given, labels = GivenCase(engine, sent), labels_of(engine, sent)
     yield {"labelFaults": labels.faults}
     try:
-        yield from explained(given, labels)
+        yield from decision_parts(given, labels)
     except Refused as why:
-        yield shown_refusal(given, why.line)
+        yield refusal_part(given, why.line)
 
 
-def explained(given, labels):
+def decision_parts(given, labels):
     """Yields the decision of a question, then the reasons and the picture, then both again with the rights that remain, which they name. If the
-    library refuses to explain, a notice is the last part."""
+    library refuses to explain, a notice is the last part. `given` is the question, a `Given` or `GivenCase`. Raises `Refused` if the library refuses
+    to decide."""
     line = given.check()
     yield {"kind": "yes" if line.startswith("yes") else "no", "line": line}
     acl, sequence, key, request, at = given.values()
     for value in (key, acl, sequence):
         labels.learn(value)
+    # (a version of the list is no entry)
     entries = [member for member in acl[1:] if member[0] == b"entry"]
     story = Story(labels, entries, sequence[1:], key, request, at)
     try:
         reasons = sorted(reasons_of(given.lines("explain")), key=lambda reason: reason.rank)
-        yield shown_reasons(story, reasons, line)
-        add_lefts(given, story, reasons, given.lines("reduce"))
+        yield reasons_part(story, reasons, line)
+        add_rights_left(given, story, reasons, given.lines("reduce"))
     except Refused as why:
         yield {"notice": f"The decision has no explanation here: {why.line}."}
         return
-    rights = [right_left(story, number, item, left) for (number, item), left in story.lefts.items()]
-    yield {"rights": rights, **shown_reasons(story, reasons, line)}
+    rights = [right_left(story, number, item, right) for (number, item), right in story.rights_left.items()]
+    yield {"rights": rights, **reasons_part(story, reasons, line)}
 
 
-def shown_reasons(story, reasons, line):
+def reasons_part(story, reasons, line):
     """The part of an answer that has a sentence for each reason, in their order, and the picture of the first. `line` is that of the decision."""
     sentences = [sentence_of(story, reason) for reason in reasons[:MOST_REASONS]]
     return {"reasons": sentences, "more": max(0, len(reasons) - MOST_REASONS), "title": title(sentences, line),
             "chain": chain(story, reasons[0] if reasons else None)}
 
 
-def add_lefts(given, story, reasons, reduced):
-    """Adds to `story.lefts` the rights that remain, from `reduced`, the lines of `reduce` in the order of the entries, and the right before the item
-    that stops the first chain."""
+def add_rights_left(given, story, reasons, reduced):
+    """Adds to `story.rights_left` the rights that remain, from `reduced`, the lines of `reduce` in the order of the entries, and the right before
+    the item that stops the chain of the first reason."""
     value = given.engine.value
     for reason in reasons[:MOST_LEFT]:
         if reason.entry and "(five" in reduced[reason.entry - 1]:
-            story.lefts[reason.entry, None] = value(five_of(reduced[reason.entry - 1]))
+            story.rights_left[reason.entry, None] = value(right_text(reduced[reason.entry - 1]))
     first = reasons[0] if reasons else None
     if first and first.entry and first.item:
         # (the items before that item, and all keys behind it, which hashes in the items before may name)
-        keys = [it for it in story.items[first.item:] if it[0] == b"public-key"]
-        before = given.cut([*story.items[:first.item - 1], *keys])[first.entry - 1]
-        if "(five" in before:
-            story.lefts[first.entry, first.item] = value(five_of(before))
+        keys = [item for item in story.items[first.item:] if item[0] == b"public-key"]
+        line_before = given.cut([*story.items[:first.item - 1], *keys])[first.entry - 1]
+        if "(five" in line_before:
+            story.rights_left[first.entry, first.item] = value(right_text(line_before))
 
 
-def five_of(line):
-    """The text `(five ..)` of the right in a line of `reduce`."""
+def right_text(line):
+    """The text `(five ..)` of the right in a line `entry N (five ..)` of `reduce`."""
     return line.split(" ", 2)[2].encode()
 
 
@@ -118,18 +121,18 @@ def times(engine, sent):
 
 
 def tags(engine, sent):
-    """Yields which of the two tags that the page sent contains the request that it sent, and then their intersection."""
+    """Yields which of the two tags that the page sent contains the request that it sent, and then their intersection if both can be read."""
     try:
         words = words_of(sent)
     except Refused as why:
         yield {name: {"requestLine": why.line} for name in ("first", "second")}
         return
     octets = {name: text(sent, name).encode(errors="replace") for name in ("first", "second")}
-    done = {name: containment(engine, octets[name], words) for name in octets}
-    yield dict(done)
-    if len(words) == 1 and is_one_string_of_words(words[0]) and any(it.get("contains") is False for it in done.values()):
+    answers = {name: containment(engine, octets[name], words) for name in octets}
+    yield dict(answers)
+    if len(words) == 1 and is_one_string_of_words(words[0]) and any(answer.get("contains") is False for answer in answers.values()):
         yield {"hint": ONE_STRING}
-    if all("line" not in it for it in done.values()):
+    if all("line" not in answer for answer in answers.values()):
         yield {"both": intersection(engine, octets.values(), words)}
 
 
@@ -139,7 +142,7 @@ def containment(engine, tag, words):
     try:
         acl = b"(3:acl(5:entry" + PARTS["key"] + b"(3:tag" + engine.canonical(tag) + b")))"
     except Refused as why:
-        return {"line": why.line, "places": shown_places(tag, places(tag, why.line))}
+        return {"line": why.line, "places": places_for_page(tag, places(tag, why.line))}
     try:
         answer = engine.lines(Question(acl, PARTS["sequence"], PARTS["key"], words, PARTS["at"]), "check")[0]
         return {"contains": answer != "no"}
@@ -157,8 +160,8 @@ def fault_of_tag(tag, line):
     line = line.replace("acl 1 Tag", "tag 1").replace("acl 1", "tag 1")
     # (`places` names faults of a tag only in a text `(intersect A B)`, so the tag is put into one)
     front = b"(intersect "
-    found = [(at - len(front), why) for at, why in places(front + tag + b" a)", line)]
-    return {"line": line, "places": shown_places(tag, [(at, why) for at, why in found if 0 <= at <= len(tag)])}
+    in_tag = [(at - len(front), why) for at, why in places(front + tag + b" a)", line)]
+    return {"line": line, "places": places_for_page(tag, [(at, why) for at, why in in_tag if 0 <= at <= len(tag)])}
 
 
 def intersection(engine, tags, words):
@@ -178,15 +181,17 @@ def forms(engine, sent):
         for name in ("canonical", "advanced", "transport"):
             yield {name: printable(engine.command(name, octets))}
     except Refused as why:
-        yield {"line": why.line, "places": shown_places(octets, places(octets, why.line))}
+        yield {"line": why.line, "places": places_for_page(octets, places(octets, why.line))}
 
 
 def printable(octets):
-    """Octets for people to read: what is no printable character is written as in advanced form."""
+    """Octets for people to read: as UTF-8 if they are that, with `\\x..` for each octet of what is no printable character. A canonical form may have
+    any octets."""
     try:
-        return "".join(it if it.isprintable() else "".join(f"\\x{octet:02x}" for octet in it.encode()) for it in octets.decode())
+        return "".join(letter if letter.isprintable() else "".join(f"\\x{octet:02x}" for octet in letter.encode()) for letter in octets.decode())
     except UnicodeDecodeError:
         return "".join(chr(octet) if 32 <= octet < 127 else f"\\x{octet:02x}" for octet in octets)
 
 
+# The jobs by the names under which the page asks for them.
 JOBS = {"question": question, "case": case, "times": times, "tags": tags, "forms": forms}

@@ -1,9 +1,9 @@
 """The chain of an answer as boxes and arrows from the access list to the request, which the page draws as SVG."""
 from labels import field
 from spki_cert_tool.sexp import on_one_line
-from story import issuer_of, joined, moment_of, subject_of, tag_of, window
+from story import issuer_of, subject_after, moment_of, subject_of, tag_of, window
 
-# What each cause of a no says beside its arrow.
+# What is written beside the arrow at which a chain stops, by the cause of the no.
 SHORT = {
     "KeyNotShown": "the key of its issuer is not shown", "DigestDiffers": "its signature has another digest",
     "SignerDiffers": "it is signed by another key than its issuer's", "NotAccepted": "its signature does not count",
@@ -13,6 +13,7 @@ SHORT = {
     "WindowLacks": "the moment is not in the validity"}
 # The causes for which two neighbours in the chain do not join.
 APART = ("NotIssuer", "NotTheName", "NotTheKey")
+# The steps of a picture: more would be no picture at a glance.
 MOST_STEPS = 60
 
 
@@ -30,7 +31,8 @@ def terms(name, value):
 
 
 class Chain:
-    """The boxes and arrows of a story, from above: `steps`. `subject` is that of the last box of a subject, or None before the first."""
+    """The boxes and arrows of a story, from above: `steps`. `subject` is that of the last box of a subject, or None before the first. A story is a
+    question that was answered."""
 
     def __init__(self, story):
         self.story, self.steps, self.subject = story, [], None
@@ -40,20 +42,19 @@ class Chain:
         class of the page, such as `bad`."""
         self.steps.append({"kind": "box", "shape": shape, "label": label, "note": note, "whole": whole, "state": state})
 
-    def person(self, subject, state="plain"):
-        """Adds the box of a subject, if it is not the last one."""
-        named = self.story.labels.of(subject)
+    def subject_box(self, subject, state="plain"):
+        """Adds the box of a subject, if the last one is of another subject. `state` is as for `box`."""
         if subject != self.subject:
-            self.box("subject", named, on_one_line(subject), state=state)
+            self.box("subject", self.story.labels.of(subject), on_one_line(subject), state=state)
         self.subject = subject
 
     def begin(self, number):
-        """Adds the access list and one of its entries, by its number."""
+        """Adds the access list and one of its entries, by its number from 1."""
         entry = self.story.entries[number - 1]
         count = len(self.story.entries)
         self.box("list", "Access list", "1 entry" if count == 1 else f"{count} entries")
         self.steps.append(arrow("plain", *terms(f"entry {number}", entry), whole=on_one_line(entry)))
-        self.person(entry[1])
+        self.subject_box(entry[1])
 
     def follow(self, reason):
         """Adds the certificates up to the one that stops the chain, which is `reason.item`, or all if none does."""
@@ -71,7 +72,7 @@ class Chain:
         if word in APART:
             self.steps.append(arrow("gap", word, SHORT[word]))
         if word in APART or self.subject is None:
-            self.person(issuer)
+            self.subject_box(issuer)
         lines = terms(f"certificate {self.story.number(number)}", item)
         if issuer[0] == b"name":
             lines[1] = f"defines {self.story.labels.of(issuer)}"
@@ -80,49 +81,49 @@ class Chain:
         if before and word in ("NoTag", "NoValidity"):
             lines.append(f"left before: {tag_of(before) if word == 'NoTag' else window(before)}")
         self.steps.append(arrow(state, *why, *lines, whole=on_one_line(item)))
-        self.person(joined(self.subject or issuer, item) if state == "plain" else subject_of(item), "faint" if word else "plain")
+        self.subject_box(subject_after(self.subject or issuer, item) if state == "plain" else subject_of(item), "faint" if word else "plain")
 
     def end(self, reason, left):
         """Adds the request, and whether the right that is left at the end of the chain contains it. `left` is this right, or None if it is not
         known."""
         story, word = self.story, reason.word
-        good = word == "grants"
+        is_granted = word == "grants"
         if word == "NotTheKey":
             self.steps.append(arrow("gap", word, SHORT[word]))
-            self.person(story.key)
+            self.subject_box(story.key)
             self.steps.append(arrow("plain", "requests"))
         else:
-            remains = [] if left is None else [f"left: {tag_of(left)}", window(left)]
-            why = f"yes, entry {reason.entry}" if good else f"{word}: {SHORT[word]}"
-            self.steps.append(arrow("good" if good else "bad", why, *remains, whole=on_one_line(left) if left else ""))
-        state = "good" if good else "plain" if word == "NotTheKey" else "bad"
+            right = [] if left is None else [f"left: {tag_of(left)}", window(left)]
+            why = f"yes, entry {reason.entry}" if is_granted else f"{word}: {SHORT[word]}"
+            self.steps.append(arrow("good" if is_granted else "bad", why, *right, whole=on_one_line(left) if left else ""))
+        state = "good" if is_granted else "plain" if word == "NotTheKey" else "bad"
         self.box("request", on_one_line(story.request), on_one_line(story.request), moment_of(story.at), state)
 
 
 def chain(story, reason):
-    """The steps of the chain that a line of `explain` is about, and how many certificates behind them are not drawn. The reason is None where there
-    are no entries."""
-    drawn = Chain(story)
+    """The chain that a line of `explain`, a `Reason`, is about: its `steps`, and `behind`, which is how many certificates behind the one that stops
+    it are not drawn. The reason is None where there are no entries."""
+    steps = Chain(story)
     if reason is None:
-        drawn.box("list", "Access list", "0 entries", "no entries", "bad")
-        return {"steps": drawn.steps, "behind": 0}
+        steps.box("list", "Access list", "0 entries", "no entries", "bad")
+        return {"steps": steps.steps, "behind": 0}
     if reason.entry:
-        drawn.begin(reason.entry)
-    drawn.follow(reason)
+        steps.begin(reason.entry)
+    steps.follow(reason)
     if reason.item is None:
-        drawn.end(reason, story.left(reason))
+        steps.end(reason, story.left(reason))
     behind = sum(item[0] == b"cert" for item in story.items[reason.item:]) if reason.item else 0
-    return shortened(drawn.steps, behind)
+    return {"steps": without_middle(steps.steps), "behind": behind}
 
 
-def shortened(steps, behind):
-    """The steps, without the middle if they are more than MOST_STEPS + 1, and `behind`, which is how many certificates behind them are not drawn."""
+def without_middle(steps):
+    """The steps, or if they are more than MOST_STEPS + 1, those at both ends, with an arrow between that says how many certificates are left out."""
     half = MOST_STEPS // 2
-    between = steps[half:-half]
+    middle = steps[half:-half]
     # (a single step may be a box, so it is drawn)
-    if len(between) > 1:
-        # (a certificate is an arrow, and a box if its subject is another one than before)
-        count = sum(step["kind"] == "arrow" for step in between)
-        left_out = arrow("faint", "1 certificate is not drawn" if count == 1 else f"{count} certificates are not drawn")
-        steps = [*steps[:half], left_out, *steps[-half:]]
-    return {"steps": steps, "behind": behind}
+    if len(middle) <= 1:
+        return steps
+    # (a certificate is an arrow, and a box if its subject is another one than before)
+    count = sum(step["kind"] == "arrow" for step in middle)
+    left_out = arrow("faint", "1 certificate is not drawn" if count == 1 else f"{count} certificates are not drawn")
+    return [*steps[:half], left_out, *steps[-half:]]

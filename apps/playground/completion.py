@@ -8,12 +8,14 @@ from engine import Refused
 from place import items_of
 from spki_cert_tool.sexp import on_one_line
 
+# The signer of a certificate whose issuer cannot be read, and the value of each signature that is made up.
 NOBODY = [b"public-key", [b"test", b"nobody"]]
 VALUE = b"made-up-by-this-page"
 
 
-class Completed:
-    """The text of a sequence with the signatures that were missing, and where they were written."""
+class SignedText:
+    """The text of a sequence with the signatures that were missing. `added` has where they were written: for each the offset in the text with the
+    signatures, and its length."""
 
     def __init__(self, text):
         self.text, self.added = text, []
@@ -24,27 +26,28 @@ class Completed:
         self.text = self.text[:at] + signature + self.text[at:]
         self.added.append((at, len(signature)))
 
-    def typed(self, at):
-        """The offset in the text as it was typed, of one in the completed text."""
+    def offset_as_typed(self, at):
+        """The offset in the text as it was typed, of an offset in the text with the signatures. One in a signature is that where it was written."""
         for begin, length in reversed(self.added):
             if at > begin:
                 at = max(begin, at - length)
         return at
 
 
-def completed(engine, text):
-    """A sequence with a signature behind each certificate. A text that cannot be read is left as it is."""
-    done = Completed(text)
-    # (an operation `(do ..)` may stand between a certificate and its signature)
+def with_signatures(engine, text):
+    """A sequence as a SignedText, with a signature behind each certificate. A text that cannot be read is left as it is."""
+    signed = SignedText(text)
+    # (an operation `(do ..)` may be between a certificate and its signature)
     items = [item for item in items_of(text) or () if item.head != b"do"]
     for item, behind in zip(items, [*items[1:], None]):
         if item.head == b"cert" and (behind is None or behind.head != b"signature"):
-            done.add(item.end, b" " + signature(engine, text[item.begin:item.end]))
-    return done
+            signed.add(item.end, b" " + signature(engine, text[item.begin:item.end]))
+    return signed
 
 
 def signature(engine, certificate):
-    """The signature of a certificate that the page makes up, in advanced form."""
+    """The signature of a certificate that the page makes up, in advanced form. `certificate` is a text. If it cannot be read, its digest is that of
+    the text as it is: no digest would be right then."""
     try:
         octets = engine.canonical(certificate)
         signer = signer_of(engine.value(certificate))
@@ -55,7 +58,7 @@ def signature(engine, certificate):
 
 
 def signer_of(certificate):
-    """The principal that issues a certificate, as it is written there."""
-    issuer = next((it[1] for it in certificate[1:] if isinstance(it, list) and it[:1] == [b"issuer"] and len(it) > 1), NOBODY)
+    """The principal that issues a certificate, as it is written there. NOBODY if it has no issuer. Any value may be given."""
+    issuer = next((part[1] for part in certificate[1:] if isinstance(part, list) and part[:1] == [b"issuer"] and len(part) > 1), NOBODY)
     is_name = isinstance(issuer, list) and issuer[:1] == [b"name"] and len(issuer) > 1
     return issuer[1] if is_name else issuer

@@ -22,11 +22,12 @@ NOTHING = "nothing that can decide is built: `{} --quick words` compiles the pro
 sys.path.append(os.path.join(TOP, "apps", "spki-cert"))
 from spki_cert_tool.sexp import canonical, read  # noqa: E402
 
+# In the order of their numbers in spki.h.
 COMMANDS = ("canonical", "advanced", "transport", "intersect", "reduce", "check", "explain")
 # The limits of a guard on each question. A list is bounded by what the server takes.
 MOST_OCTETS, MOST_NODES = 65_536, 1_000_000
 # How many texts or questions are kept with what was made of them.
-KEPT = 32
+CACHE_SIZE = 32
 # The parts in the order in which they are read, each with a text that can be read.
 PARTS = {"sequence": b"(8:sequence)", "key": b"(10:public-key(4:test7:anybody))", "request": b"1:a", "at": b"19:2000-01-01_00:00:00"}
 
@@ -75,14 +76,16 @@ def request_text(words):
 
 
 class Engine:
-    """What both engines have: commands on one text, and of a text its canonical form and its value, which are kept for the next keystroke."""
+    """What both engines have: commands on one text, and of a text its canonical form and its value, which are kept for the next keystroke. An engine
+    also has `name`, for people to read, `limits_memory`, `answer`, and for a question `signed` and `lines`."""
 
     def __init__(self):
-        self.canonical = functools.lru_cache(KEPT)(lambda text: self.command("canonical", text))
-        self.value = functools.lru_cache(KEPT)(lambda text: read(self.canonical(text)))
+        # (functions of a text, which raise `Refused` if it cannot be read)
+        self.canonical = functools.lru_cache(CACHE_SIZE)(lambda text: self.command("canonical", text))
+        self.value = functools.lru_cache(CACHE_SIZE)(lambda text: read(self.canonical(text)))
 
     def command(self, name, text):
-        """The answer of a command to a text, without the line feed at its end. Raises `Refused`."""
+        """The answer of one of COMMANDS to a text, without the line feed at its end. Raises `Refused`."""
         answer = self.answer(name, text)
         if answer.startswith(b"refused "):
             raise Refused(answer.decode().rstrip("\n"))
@@ -101,8 +104,8 @@ class ByLibrary(Engine):
         sys.path.append(os.path.join(TOP, "bindings", "python"))
         import spki
         self.spki = spki
-        # (of the library that the package has loaded, with the types of its arguments)
-        self.call = spki.library.spki_answer
+        # (the function of the library that the package has loaded, with the types of its arguments)
+        self.spki_answer = spki.library.spki_answer
         self.guard = functools.lru_cache(2)(self.open_guard)
 
     def answer(self, name, text):
@@ -111,7 +114,7 @@ class ByLibrary(Engine):
         needed, room = ctypes.c_size_t(MOST_OCTETS), b""
         while len(room) < needed.value:
             room = ctypes.create_string_buffer(needed.value)
-            self.call(COMMANDS.index(name), text, len(text), room, len(room), ctypes.byref(needed))
+            self.spki_answer(COMMANDS.index(name), text, len(text), room, len(room), ctypes.byref(needed))
         return room.raw[:needed.value]
 
     def open_guard(self, acl, is_strict):
@@ -120,7 +123,7 @@ class ByLibrary(Engine):
                                self.spki.Limits(octets=MOST_OCTETS, certificates=MOST_OCTETS, words=MOST_OCTETS, nodes=MOST_NODES))
 
     def ask(self, question, use):
-        """Opens a question, and returns what the function `use` returns of it. Raises `Refused`."""
+        """Opens a question, and returns what the function `use` returns of it. Raises `Refused`. The key counts as proven: nobody is let in here."""
         key = self.spki.ProvenKey.assume(question.key)
         parts = self.spki.Question(question.sequence, key, words=question.words, moment=question.at)
         try:
@@ -131,11 +134,12 @@ class ByLibrary(Engine):
 
     def signed(self, question):
         """The signatures on which the decision depends, in the order of the certificates. Raises `Refused`."""
-        return self.ask(question, lambda asked: [Signed(it.key, it.message, it.value) for it in asked.signatures()])
+        return self.ask(question, lambda asked: [Signed(signature.key, signature.message, signature.value) for signature in asked.signatures()])
 
     def lines(self, question, command):
-        """The lines of `check`, `explain` or `reduce`. Raises `Refused`."""
+        """The lines of the command `check`, `explain` or `reduce`. Raises `Refused`."""
         def mark_and_answer(asked):
+            """Marks the signatures that count, and returns the answer of the command."""
             for place in range(len(asked)):
                 if place not in question.refused_signatures:
                     asked.mark(place)
@@ -148,7 +152,7 @@ class ByLibrary(Engine):
 
 
 class ByProgram(Engine):
-    """The program, which is run for each answer."""
+    """The program `spki` at a path, which is run for each answer. Its memory is not limited by a limit on this process."""
 
     limits_memory = False
 
@@ -156,38 +160,41 @@ class ByProgram(Engine):
         super().__init__()
         self.program = program
         self.name = "spki, compiled without proofs," if program == TRIED else "spki"
-        self.signed = functools.lru_cache(KEPT)(self.listed)
+        self.signed = functools.lru_cache(CACHE_SIZE)(self.list_signed)
 
     def answer(self, name, text):
         """The octets that the program writes for a text that it gets with the command `name`. Raises `Failed`."""
         try:
-            done = subprocess.run([self.program, name], input=text, stdout=subprocess.PIPE, stderr=subprocess.DEVNULL)
+            ended = subprocess.run([self.program, name], input=text, stdout=subprocess.PIPE, stderr=subprocess.DEVNULL)
         except OSError as why:
             raise Failed(f"The program cannot be run: {why.strerror}.") from None
-        if done.returncode not in (0, 1, 2) or not done.stdout:
-            raise Failed(f"The program ended with status {done.returncode} and no answer.")
-        return done.stdout
+        if ended.returncode not in (0, 1, 2) or not ended.stdout:
+            raise Failed(f"The program ended with status {ended.returncode} and no answer.")
+        return ended.stdout
 
     def parts(self, question):
-        """The canonical forms of the parts. Raises `Refused`. A fault of the form is named after its part, as a guard names it."""
+        """The canonical forms of the list, the sequence, the key, the request and the moment. Raises `Refused`. A fault of the form is named after
+        its part, as a guard names it."""
         acl = self.canonical(question.acl)
         texts = (question.sequence, question.key, request_text(question.words), question.at)
         if sum(map(len, texts)) > MOST_OCTETS:
             raise Refused("refused question TooLong")
-        done = []
+        canonical_texts = []
         for name, text in zip(PARTS, texts):
             try:
-                done.append(self.canonical(text))
+                canonical_texts.append(self.canonical(text))
             except Refused as why:
-                # (a part before this one is refused first)
-                self.command("check", case_text(acl, *done, *list(PARTS.values())[len(done):], (), question.is_strict))
+                # (a part before this one is refused first, for its value. The parts from this one on are texts that can be read)
+                others = list(PARTS.values())[len(canonical_texts):]
+                self.command("check", case_text(acl, *canonical_texts, *others, (), question.is_strict))
                 raise Refused(why.line.replace(" form ", f" {name} ", 1)) from None
-        return acl, *done
+        return acl, *canonical_texts
 
-    def listed(self, question):
-        """The signatures on which the decision depends: up to the first that is not right. Raises `Refused`."""
+    def list_signed(self, question):
+        """The signatures on which the decision depends, in the order of the certificates, up to the first that is not right. Raises `Refused`."""
+        # (if a part is refused, so is the case)
         self.answer_of_case(question, ())
-        items, listed = [item for item in self.value(question.sequence)[1:] if item[0] != b"do"], []
+        items, right = [item for item in self.value(question.sequence)[1:] if item[0] != b"do"], []
         keys = [item for item in items if item[0] == b"public-key"]
         # (each item with the next one: that of a certificate is its signature)
         for certificate, signature in zip(items, items[1:]):
@@ -196,23 +203,23 @@ class ByProgram(Engine):
             signed = signed_by(certificate, signature, keys, question.is_strict)
             if signed is None:
                 break
-            listed.append(signed)
-        return listed
+            right.append(signed)
+        return right
 
-    def answer_of_case(self, question, listed, command="check"):
-        """The answer of a command to the case of a question, in which the listed signatures are valid. Raises `Refused`."""
-        case = case_text(*self.parts(question), listed, question.is_strict)
+    def answer_of_case(self, question, accepted, command="check"):
+        """The answer of a command to the case of a question, in which these signatures are valid. Raises `Refused`."""
+        case = case_text(*self.parts(question), accepted, question.is_strict)
         return self.command(command, case).decode()
 
     def lines(self, question, command):
-        """The lines of `check`, `explain` or `reduce`. Raises `Refused`."""
-        listed = [it for place, it in enumerate(self.signed(question)) if place not in question.refused_signatures]
-        return self.answer_of_case(question, listed, command).split("\n")
+        """The lines of the command `check`, `explain` or `reduce`. Raises `Refused`."""
+        accepted = [signed for place, signed in enumerate(self.signed(question)) if place not in question.refused_signatures]
+        return self.answer_of_case(question, accepted, command).split("\n")
 
 
 def signed_by(certificate, signature, keys, is_strict):
-    """The signature of a certificate, if the key of its issuer is shown, and the digest and the signer are right. None otherwise. `keys` are those of
-    the sequence."""
+    """The signature of a certificate, as `Signed`, if the key of its issuer is shown, and the digest and the signer are right. None otherwise. `keys`
+    are those of the sequence."""
     issuer = next(field[1] for field in certificate[1:] if field[0] == b"issuer")
     key, message = key_of(issuer[1] if issuer[0] == b"name" else issuer, keys, is_strict), canonical(certificate)
     _, (_, algorithm, digest, *_), signer, value = signature
@@ -221,7 +228,7 @@ def signed_by(certificate, signature, keys, is_strict):
 
 
 def key_of(principal, keys, is_strict):
-    """The key that a principal names, or None."""
+    """The key that a principal names: itself, or the first of `keys` for a hash. None if no key has the hash."""
     if principal[0] == b"public-key":
         return principal
     return next((key for key in keys if names(principal, key, is_strict)), None)
@@ -240,9 +247,9 @@ def row(signed):
     return b"(2:by" + signed.key + b"(4:hash6:sha256" + string(hashlib.sha256(signed.message).digest()) + b")" + signed.value + b")"
 
 
-def case_text(acl, sequence, key, request, at, listed, is_strict):
-    """The text of the case that has these parts, in canonical form. `listed` are the signatures that are valid in it."""
-    rows = b"".join(dict.fromkeys(map(row, listed)))
+def case_text(acl, sequence, key, request, at, accepted, is_strict):
+    """The text of the case that has these parts, all in canonical form. `accepted` are the signatures that are valid in it, as `Signed`."""
+    rows = b"".join(dict.fromkeys(map(row, accepted)))
     policy = b"(6:policy6:strict)" if is_strict else b""
     return (b"(4:case" + acl + b"(8:accepted" + rows + b")" + sequence + b"(3:key" + key + b")(7:request" + request + b")(2:at" + at + b")"
             + policy + b")")
@@ -257,7 +264,8 @@ def program():
 
 
 def choose_engine(wanted):
-    """The engine that is wanted, "library" or "program". For None the library where it can be loaded, else the program. Raises `LookupError`."""
+    """The engine that is wanted, "library" or "program". For None it is the library where it can be loaded, else the program. Raises `LookupError` if
+    it is not there, and says how to build it."""
     if wanted != "program":
         try:
             return ByLibrary()

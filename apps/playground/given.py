@@ -1,12 +1,13 @@
 """A question as the page sent it, in boxes or as one case: how it is asked, and where a box is refused."""
 import functools
 
-from completion import VALUE, completed
+from completion import VALUE, with_signatures
 from engine import Question, Refused, case_text, request_text, string
-from place import heads_in, numbered, places, shown_places
+from place import heads_in, with_certificate_numbers, places, places_for_page
 from spki_cert_tool.sexp import canonical, on_one_line, read
 
 BOXES = ("acl", "sequence", "key", "request", "at")
+# The most letters of a certificate that is shown under the pointer, and of an intersection.
 MOST_LETTERS = 4000
 
 
@@ -22,7 +23,8 @@ def members(given, name, kind, wanted):
     value = given.get(name)
     if value is None:
         value = []
-    if not isinstance(value, list) or any(type(it) is not kind for it in value):
+    # (`type`, since for `isinstance` a truth value is a number)
+    if not isinstance(value, list) or any(type(member) is not kind for member in value):
         raise Refused(f"refused: the field `{name}` must be {wanted}")
     return tuple(value)
 
@@ -40,7 +42,7 @@ class Given:
     def __init__(self, engine, given):
         self.engine, self.box = engine, {name: text(given, name).encode(errors="replace") for name in ("acl", "sequence", "key", "at")}
         self.words, refused = words_of(given), members(given, "refused", int, "a list of whole numbers")
-        self.sequence = completed(engine, self.box["sequence"])
+        self.sequence = with_signatures(engine, self.box["sequence"])
         self.question = Question(self.box["acl"], self.sequence.text, self.box["key"], self.words, string(self.box["at"]),
                                  given.get("strict") is not False, refused)
 
@@ -51,7 +53,7 @@ class Given:
         return value(question.acl), value(question.sequence), value(question.key), request, self.box["at"]
 
     def check(self):
-        """The line of the decision."""
+        """The line of the decision: `yes entry N` or `no`."""
         return self.engine.lines(self.question, "check")[0]
 
     def lines(self, command):
@@ -63,15 +65,16 @@ class Given:
         return self.engine.lines(self.question._replace(sequence=canonical([b"sequence", *items])), "reduce")
 
     def signatures(self, labels):
-        """The signatures on which the decision depends, each with whether it counts."""
-        listed = []
+        """The signatures on which the decision depends, as the page lists them: who signed, the certificate, whether the page made the signature up,
+        and whether it counts. `labels` learns the keys of the certificates."""
+        rows = []
         for place, signed in enumerate(self.engine.signed(self.question)):
             # (the message that is signed is the certificate)
-            story = read(signed.message)
-            labels.learn(story)
-            listed.append({"by": labels.of(read(signed.key)), "says": on_one_line(story)[:MOST_LETTERS],
-                           "madeUp": signed.value == string(VALUE), "counts": place not in self.question.refused_signatures})
-        return listed
+            certificate = read(signed.message)
+            labels.learn(certificate)
+            rows.append({"by": labels.of(read(signed.key)), "says": on_one_line(certificate)[:MOST_LETTERS],
+                         "madeUp": signed.value == string(VALUE), "counts": place not in self.question.refused_signatures})
+        return rows
 
     def fault(self, line):
         """What is shown at the box that a refusal is about, with its places there, by the name of the box. Empty if it is about no box."""
@@ -83,10 +86,10 @@ class Given:
         if name in ("request", "at"):
             return {name: self.fault_of_words(name, line)}
         octets = self.question.sequence if name == "sequence" else self.box[name]
-        found = places(octets, line)
+        in_box = places(octets, line)
         if name == "sequence":
-            found = [(self.sequence.typed(at), numbered(why, self.heads)) for at, why in found]
-        return {name: {"line": line, "shown": self.shown(line), "places": shown_places(self.box[name], found)}}
+            in_box = [(self.sequence.offset_as_typed(at), with_certificate_numbers(why, self.heads)) for at, why in in_box]
+        return {name: {"line": line, "shown": self.shown(line), "places": places_for_page(self.box[name], in_box)}}
 
     @functools.cached_property
     def heads(self):
@@ -95,7 +98,7 @@ class Given:
 
     def shown(self, line):
         """A refusal as the page writes it: with the number of a certificate among the certificates."""
-        return numbered(line, self.heads)
+        return with_certificate_numbers(line, self.heads)
 
     def fault_of_words(self, name, line):
         """What is shown at the box `request` or `at` for a refusal. Its text is no S-expression, so its first line is the place."""
@@ -103,7 +106,7 @@ class Given:
         why = f"{'this is no moment' if typed else 'the moment is missing'}; choose a date and a time of day, in UTC"
         if name == "request":
             typed = b"\n".join(self.words)
-            why = next((it for _, it in places(request_text(self.words), line)), "") if self.words else "a request has at least one string"
+            why = next((remark for _, remark in places(request_text(self.words), line)), "") if self.words else "a request has at least one string"
         first = typed.split(b"\n")[0]
         place = {"begin": 0, "end": len(first.decode(errors="replace")), "line": 1, "column": 1, "why": why}
         return {"line": line, "places": [place]}
@@ -111,9 +114,9 @@ class Given:
     def case(self):
         """The question as a case, which is one text for the program."""
         question = self.question
-        listed = [it for place, it in enumerate(self.engine.signed(question)) if place not in question.refused_signatures]
+        accepted = [signed for place, signed in enumerate(self.engine.signed(question)) if place not in question.refused_signatures]
         parts = map(self.engine.canonical, (question.acl, question.sequence, question.key))
-        return case_text(*parts, request_text(self.words), question.at, listed, question.is_strict)
+        return case_text(*parts, request_text(self.words), question.at, accepted, question.is_strict)
 
 
 class GivenCase:
@@ -147,9 +150,9 @@ class GivenCase:
 
     def shown(self, line):
         """A refusal as the page writes it: with the number of a certificate among the certificates."""
-        return numbered(line, self.heads)
+        return with_certificate_numbers(line, self.heads)
 
     def fault(self, line):
         """What is shown at the box of the case for a refusal, with its places there."""
-        found = [(at, numbered(why, self.heads)) for at, why in places(self.octets, line)]
-        return {"case": {"line": line, "shown": self.shown(line), "places": shown_places(self.octets, found)}}
+        in_box = [(at, with_certificate_numbers(why, self.heads)) for at, why in places(self.octets, line)]
+        return {"case": {"line": line, "shown": self.shown(line), "places": places_for_page(self.octets, in_box)}}

@@ -7,12 +7,14 @@ from spki_cert_tool.sexp import canonical, on_one_line
 
 # A label, perhaps `=`, and a key as an S-expression.
 LINE = re.compile(r"\s*(.*?)\s*=?\s*(\(.*)", re.DOTALL)
+# The most lines of labels that are read, and the most letters of a label. What is more is left out.
 MOST_LABELS, MOST_LETTERS = 64, 40
 PLAIN = re.compile(rb"[ -~]{1,40}\Z")
 
 
 class Labels:
-    """Labels of keys and hashes: `of_values` has them by canonical texts, `hashes` the keys by algorithm and digest, `faults` the lines refused."""
+    """Labels of keys, hashes and names: `of_values` has them by canonical texts, `hashes` the keys by algorithm and digest, and `faults` the lines
+    that cannot be read, each as its number from 1 and why."""
 
     def __init__(self, engine, lines):
         self.of_values, self.hashes, self.faults = {}, {}, []
@@ -22,11 +24,11 @@ class Labels:
 
     def add_line(self, engine, number, line):
         """Reads a line `LABEL KEY`, or adds to `faults` why it cannot be read."""
-        found = LINE.fullmatch(line)
+        match = LINE.fullmatch(line)
         try:
-            if not found or not found[1]:
+            if not match or not match[1]:
                 raise Refused("write a label and then a key, as in: Alice (public-key (test alice))")
-            self.of_values[engine.canonical(found[2].strip().encode(errors="replace"))] = found[1][:MOST_LETTERS]
+            self.of_values[engine.canonical(match[2].strip().encode(errors="replace"))] = match[1][:MOST_LETTERS]
         except Refused as why:
             self.faults.append({"line": number, "why": why.line})
 
@@ -58,21 +60,19 @@ class Labels:
 
     def of(self, subject):
         """What a principal or a name is called: its own label, else for a hash that of its key, else a short form."""
-        given = self.of_values.get(canonical(subject))
-        if given:
-            return given
+        label = self.of_values.get(canonical(subject))
+        if label:
+            return label
         if subject[0] == b"name":
-            names = [it.decode(errors="replace") for it in subject[2:]]
+            names = [name.decode(errors="replace") for name in subject[2:]]
             return f"{' '.join(names)} of {self.of(subject[1])}"
         key = self.key(subject)
-        if key is not subject:
-            return self.of(key)
-        return short(subject)
+        return self.of(key) if key is not subject else short(subject)
 
 
 def field(value, head):
-    """The field of a certificate or an entry with a head, or None."""
-    return next((it for it in value[1:] if isinstance(it, list) and it[:1] == [head]), None)
+    """The field of a certificate, an entry or a right with a head, or None."""
+    return next((part for part in value[1:] if isinstance(part, list) and part[:1] == [head]), None)
 
 
 def short(principal):

@@ -6,15 +6,17 @@ So an answer can change at each not-before, and right after each not-after. Date
 import re
 
 DATE = re.compile(rb"(\d{4})-(\d\d)-(\d\d)_(\d\d):(\d\d):(\d\d)\Z")
+# The first and the last date, as six numbers from the year to the second.
 FIRST, LAST = (0, 1, 1, 0, 0, 0), (9999, 12, 31, 23, 59, 60)
+# How many changes are looked at: the library is asked once for each.
 MOST_LIMITS = 100
 
 
 def parts_of(date):
     """The six numbers of a date, from the year to the second. None if the library reads no such date."""
-    found = DATE.match(date)
-    parts = tuple(map(int, found.groups())) if found else ()
-    return parts if found and all(first <= it <= last for first, it, last in zip(FIRST, parts, LAST)) else None
+    match = DATE.match(date)
+    parts = tuple(map(int, match.groups())) if match else ()
+    return parts if match and all(first <= part <= last for first, part, last in zip(FIRST, parts, LAST)) else None
 
 
 def date_of(parts):
@@ -31,16 +33,17 @@ def after(parts):
 
 
 def limits_of(value):
-    """The limits in a value: the moments of `not-before` and of `not-after`. A tag may have lists of this form too, with any string."""
-    found, waiting = {b"not-before": set(), b"not-after": set()}, [value]
+    """The limits in a value: the sets of the moments of `not-before` and of `not-after`, by these words. A list of this form in a tag counts too: it
+    is no limit, and only makes one question more."""
+    limits, waiting = {b"not-before": set(), b"not-after": set()}, [value]
     while waiting:
         part = waiting.pop()
         if not isinstance(part, list):
             continue
         if len(part) == 2 and part[0] in (b"not-before", b"not-after") and isinstance(part[1], bytes) and parts_of(part[1]):
-            found[part[0]].add(parts_of(part[1]))
+            limits[part[0]].add(parts_of(part[1]))
         waiting += part
-    return found
+    return limits
 
 
 def spans(values, answer):
@@ -48,32 +51,34 @@ def spans(values, answer):
     and `answer` returns the answer at a date. Only the first MOST_LIMITS changes are looked at."""
     limits = [limits_of(value) for value in values]
     # (by the moment from which the answer may change: the word and the limit as the page shows them)
-    begins = {moment: ("from", moment) for it in limits for moment in it[b"not-before"]}
-    ends = {after(moment): ("after", moment) for it in limits for moment in it[b"not-after"] if after(moment)}
-    changes = dict(sorted({**ends, **begins}.items())[:MOST_LIMITS])
-    found = spans_begun(changes, answer)
+    begins = {moment: ("from", moment) for of_value in limits for moment in of_value[b"not-before"]}
+    ends = {after(moment): ("after", moment) for of_value in limits for moment in of_value[b"not-after"] if after(moment)}
+    all_changes = {**ends, **begins}
+    changes = dict(sorted(all_changes.items())[:MOST_LIMITS])
+    spans_begun = spans_without_ends(changes, answer)
     # (each span ends where the next one begins, and the last one has no end)
-    ended = [{**span, "end": following["begin"]} for span, following in zip(found, found[1:])] + found[-1:]
-    return {"spans": ended, "limits": sorted({shown(moment) for _, moment in changes.values()}), "isWhole": len(begins) + len(ends) <= MOST_LIMITS}
+    ended = [{**span, "end": following["begin"]} for span, following in zip(spans_begun, spans_begun[1:])] + spans_begun[-1:]
+    shown = sorted({date_for_page(moment) for _, moment in changes.values()})
+    return {"spans": ended, "limits": shown, "isWhole": len(all_changes) <= MOST_LIMITS}
 
 
-def spans_begun(changes, answer):
+def spans_without_ends(changes, answer):
     """The spans with their answers and where they begin: None for the first. Neighbours with the same answer are one. `changes` has the limits by
-    the moments from which the answer may change."""
-    found = []
+    the moments from which the answer may change, in their order, and `answer` returns the answer at a date."""
+    begun = []
     for moment, limit in [(FIRST, None), *changes.items()]:
-        said = answer(date_of(moment))
-        if not found or found[-1]["answer"] != said:
-            found.append({"answer": said, "begin": limit and shown_limit(limit)})
-    return found
+        line = answer(date_of(moment))
+        if not begun or begun[-1]["answer"] != line:
+            begun.append({"answer": line, "begin": limit and limit_for_page(limit)})
+    return begun
 
 
-def shown(parts):
+def date_for_page(parts):
     """A date as the page shows it."""
     return date_of(parts).decode().replace("_", " ")
 
 
-def shown_limit(limit):
-    """A limit for the page: whether the span begins with this moment or after it."""
+def limit_for_page(limit):
+    """A limit for the page: `word` is `from` if the span begins with this `moment`, and `after` if it begins after it."""
     word, moment = limit
-    return {"word": word, "moment": shown(moment)}
+    return {"word": word, "moment": date_for_page(moment)}

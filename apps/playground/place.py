@@ -25,59 +25,62 @@ def items_of(text):
         node = Parser(text).whole()
     except (Wrong, RecursionError):
         return None
-    return None if node.members is None else [Item(it.head if it.members is not None else None, it.begin, it.end) for it in node.members]
+    # (`head` is None for a member that is a string)
+    return None if node.members is None else [Item(member.head, member.begin, member.end) for member in node.members]
 
 
 def places(text, line):
-    """The places of a refusal in a text as offsets, with remarks: the place itself first. Empty if the refusal has none there."""
+    """The places of the refusal `line` in a text as offsets, with remarks: the place itself first. Empty if the refusal has none there."""
     (wrong, _, inner), _ = read_text(text, line)
     if wrong is None or refusal(wrong, inner) != line:
         return []
     return [(inner[min(at, len(inner) - 1)] if inner else at, why) for at, why in places_of(wrong)]
 
 
-def shown_places(text, found):
-    """Places for the page, which underlines them. `found` are offsets and remarks, as `places` returns them."""
-    return [shown_place(text, at, why) for at, why in found]
+def places_for_page(text, offsets):
+    """Places for the page, which underlines them. `offsets` are offsets with remarks, as `places` returns them."""
+    return [place_for_page(text, at, why) for at, why in offsets]
 
 
 def heads_in(text, made_up=()):
-    """The words that the items of a sequence, or of a case's sequence, begin with. None for an item that the page made up: `made_up` are their
-    offsets."""
+    """The words that the items of a sequence, or of a case's sequence, begin with. None for an item that the page made up: `made_up` are the offsets
+    of these. Empty if the text cannot be read."""
     try:
         node = value_in(text)
     except (Wrong, RecursionError):
         return []
     if node.head == b"case":
-        node = next((it for it in node.rest if it.head == b"sequence"), node)
+        node = next((part for part in node.rest if part.head == b"sequence"), node)
     return [None if item.begin in made_up else item.head or b"" for item in node.rest]
 
 
-def numbered(words, heads):
+def with_certificate_numbers(words, heads):
     """Words in which the number of an item is replaced by that of a certificate among the certificates, or of an item among those that were typed.
     `heads` are the words that the items begin with, or None for one that the page made up."""
-    def of_item(found):
-        number = int(found[1])
-        before = heads[:number]
-        count = before.count(b"cert")
-        if len(before) < number:
-            return found[0]
-        if before[-1] in (b"signature", None) and count:
+    def name_of_item(match):
+        """What the page calls the item of a match of NUMBER: the matched words themselves if there is no item with this number."""
+        number = int(match[1])
+        up_to_item = heads[:number]
+        count = up_to_item.count(b"cert")
+        if len(up_to_item) < number:
+            return match[0]
+        if up_to_item[-1] in (b"signature", None) and count:
             return f"signature of certificate {count}"
-        return f"certificate {count}" if before[-1] == b"cert" else f"item {number - before.count(None)}"
+        return f"certificate {count}" if up_to_item[-1] == b"cert" else f"item {number - up_to_item.count(None)}"
 
-    return NUMBER.sub(of_item, words)
+    return NUMBER.sub(name_of_item, words)
 
 
-def shown_place(text, at, why):
+def place_for_page(text, at, why):
     """A place with its remark: begin and end, counted as JavaScript counts, line and column from 1."""
     before = text[:at].decode(errors="ignore")
+    # (of a longer word 200 octets are enough to see it)
     word = WORD.match(text[at:at + 200].decode(errors="ignore"))[0]
-    begin = units(before)
+    begin = utf16_length(before)
     line = before.count("\n") + 1
-    return {"begin": begin, "end": begin + units(word), "line": line, "column": len(before) - before.rfind("\n"), "why": why}
+    return {"begin": begin, "end": begin + utf16_length(word), "line": line, "column": len(before) - before.rfind("\n"), "why": why}
 
 
-def units(text):
+def utf16_length(text):
     """The length of a string as JavaScript counts it: in units of UTF-16."""
     return len(text.encode("utf-16-le", "surrogatepass")) // 2

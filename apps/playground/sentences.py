@@ -1,7 +1,8 @@
 """The answer in words: a sentence for each line of `explain`, and what can be done about it."""
+from labels import field
 from story import issuer_of, moment_of, tag_of, window
 
-# For each cause what it says, and what to do.
+# For `grants` and each cause of a no: what the page says, with fields of `sentence_of`, and what to do.
 WORDS = {
     "grants": ("{holder} may do this, by entry {entry}{shown}.", ""),
     "NotTheKey": ("The right ends at {holder}. The client is {client}.",
@@ -38,7 +39,7 @@ def is_one_string_of_words(request):
 
 
 def sentence_of(story, reason):
-    """A line of `explain` in words, with the line itself and its numbers."""
+    """A line of `explain` in words (`says`), with what to do (`hint`), the line itself and its parts, as the page shows it."""
     says, hint = WORDS[reason.word]
     if reason.word == "TagLacks" and is_one_string_of_words(story.request):
         hint = ONE_STRING
@@ -46,16 +47,16 @@ def sentence_of(story, reason):
               "client": story.labels.of(story.key), "moment": moment_of(story.at),
               "holder": story.labels.of(story.holder(reason)) if reason.entry else "",
               "issuer": story.labels.of(issuer_of(story.certificate(reason.item))) if reason.item else "",
-              "shown": shown_certificates(story), "window": "in another time"}
-    left = story.left(reason)
-    if left:
-        fields["window"] = window(left) or "at all times"
+              "shown": phrase_on_certificates(story), "window": "in another time"}
+    right = story.left(reason)
+    if right:
+        fields["window"] = window(right) or "at all times"
     return {"entry": reason.entry, "item": reason.item, "certificate": fields["number"] or None, "word": reason.word, "line": reason.line,
             "says": says.format(**fields), "hint": hint}
 
 
-def shown_certificates(story):
-    """The certificates that are shown, as the end of a sentence."""
+def phrase_on_certificates(story):
+    """How many certificates are shown, as the end of a sentence. Empty if there are none."""
     count = sum(item[0] == b"cert" for item in story.items)
     return "" if not count else " and one certificate" if count == 1 else f" and {count} certificates"
 
@@ -67,13 +68,8 @@ def title(reasons, line):
     return reasons[0]["says"] if reasons else "The access list is empty."
 
 
-def right_left(story, number, item, left):
-    """The right `left` that remains of the entry with a number, in words. If an item is given, it is the right before this item, which stops the
-    chain. Otherwise it is that at the end."""
-    return {"entry": number, "before": story.number(item) if item else 0, "holder": story.labels.of(field_of(left, b"subject")),
-            "tag": tag_of(left), "window": window(left) or "at all times", "passes": any(it == [b"propagate"] for it in left)}
-
-
-def field_of(value, head):
-    """The first value of a field, which must be there."""
-    return next(it[1] for it in value[1:] if isinstance(it, list) and it[0] == head)
+def right_left(story, number, item, right):
+    """The right `(five ..)` that remains of the entry with a number, as the page lists it. If an item is given by its number, it is the right before
+    this item, which stops the chain. Otherwise it is that at the end."""
+    return {"entry": number, "before": story.number(item) if item else 0, "holder": story.labels.of(field(right, b"subject")[1]),
+            "tag": tag_of(right), "window": window(right) or "at all times", "passes": field(right, b"propagate") is not None}

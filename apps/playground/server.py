@@ -15,6 +15,7 @@ import threading
 
 HERE = os.path.dirname(os.path.abspath(__file__))
 PAGE = os.path.join(HERE, "page")
+# The octets of a question, the connections at once, and the seconds that one may be silent.
 MOST_BODY, MOST_CONNECTIONS, SECONDS = 1 << 20, 64, 20
 KINDS = {".html": "text/html; charset=utf-8", ".css": "text/css; charset=utf-8", ".js": "text/javascript; charset=utf-8",
          ".json": "application/json", ".svg": "image/svg+xml"}
@@ -27,13 +28,13 @@ HEADERS = {"Content-Security-Policy": POLICY, "X-Content-Type-Options": "nosniff
 
 def files():
     """The files of the page by their names, each as the value of `Content-Type` and its octets."""
-    found = {}
+    by_name = {}
     for name in sorted(os.listdir(PAGE)):
         kind = KINDS.get(os.path.splitext(name)[1])
         if kind:
             with open(os.path.join(PAGE, name), "rb") as file:
-                found[name] = kind, file.read()
-    return found
+                by_name[name] = kind, file.read()
+    return by_name
 
 
 class Handler(http.server.BaseHTTPRequestHandler):
@@ -57,7 +58,8 @@ class Handler(http.server.BaseHTTPRequestHandler):
         self.answer_by(self.do_job)
 
     def answer_by(self, method):
-        """Answers by a method. If it raises an error that is not one of the connection, answers with status 500, and raises the error again."""
+        """Answers by `method`, a function without arguments. If it raises an error that is not one of the connection, answers with status 500, and
+        raises the error again."""
         try:
             method()
         except (ConnectionError, TimeoutError):

@@ -10,6 +10,7 @@ from dataclasses import dataclass, field as of_default
 from labels import Labels, field
 from spki_cert_tool.sexp import on_one_line
 
+# A line of `explain`.
 LINE = re.compile(r"(?:entry (\d+) )?(?:item (\d+) )?(.*)")
 
 
@@ -29,14 +30,15 @@ class Reason:
 
     @property
     def rank(self):
-        """The order in which lines matter: what grants, then the chain that goes furthest."""
+        """A key for `sorted`: what grants is first, then the chain that goes furthest. Of those that join to their end, one that ends at another key
+        is the last. Of equal ones the first entry is first."""
         return self.word != "grants", -(self.item or sys.maxsize), self.word == "NotTheKey", self.entry or 0
 
 
 def reasons_of(lines):
     """The lines of `explain`, read. There is none for an empty list."""
-    found = [LINE.fullmatch(line).groups() for line in lines if line != "no entries"]
-    return [Reason(int(entry) if entry else None, int(item) if item else None, word) for entry, item, word in found]
+    parts = [LINE.fullmatch(line).groups() for line in lines if line != "no entries"]
+    return [Reason(int(entry) if entry else None, int(item) if item else None, word) for entry, item, word in parts]
 
 
 @dataclass
@@ -52,7 +54,7 @@ class Story:
     request: object
     # The moment.
     at: bytes
-    lefts: dict = of_default(default_factory=dict)
+    rights_left: dict = of_default(default_factory=dict)
     """The remaining right of an entry by its number, and by a number and an item the right before this item."""
 
     def certificate(self, item):
@@ -61,7 +63,7 @@ class Story:
 
     def number(self, item):
         """The number of a certificate among the certificates, by its number among all items."""
-        return sum(it[0] == b"cert" for it in self.items[:item])
+        return sum(value[0] == b"cert" for value in self.items[:item])
 
     def holder(self, reason):
         """The subject that has the right where the chain of a reason ends, or before the item that stops it. The reason must have an entry."""
@@ -70,12 +72,12 @@ class Story:
             if reason.item is not None and number >= reason.item:
                 break
             if item[0] == b"cert":
-                subject = joined(subject, item)
+                subject = subject_after(subject, item)
         return subject
 
     def left(self, reason):
         """The right where the chain of a reason ends or stops, or None if it is not known."""
-        return self.lefts.get((reason.entry, reason.item))
+        return self.rights_left.get((reason.entry, reason.item))
 
 
 def issuer_of(certificate):
@@ -91,13 +93,13 @@ def subject_of(certificate):
     return subject
 
 
-def joined(before, certificate):
+def subject_after(before, certificate):
     """The subject of a right after a certificate, by that before it. One that defines a name replaces the first name, and further names stay."""
     subject = subject_of(certificate)
-    rest = before[3:] if issuer_of(certificate)[0] == b"name" and before[0] == b"name" else []
-    if not rest:
+    further_names = before[3:] if issuer_of(certificate)[0] == b"name" and before[0] == b"name" else []
+    if not further_names:
         return subject
-    return [*subject, *rest] if subject[0] == b"name" else [b"name", subject, *rest]
+    return [*subject, *further_names] if subject[0] == b"name" else [b"name", subject, *further_names]
 
 
 def window(value):

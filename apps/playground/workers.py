@@ -14,6 +14,7 @@ import time
 from asking import JOBS
 from engine import Failed, choose_engine
 
+# The seconds that a job may take by default, the processes that answer at once at most, and the octets of memory that each may have.
 SECONDS, MOST_WORKERS, MEMORY = 2, 6, 2 << 30
 TOO_LARGE = "The text is too large for this page."
 
@@ -21,10 +22,11 @@ TOO_LARGE = "The text is too large for this page."
 def serve(pipe, wanted, seconds):
     """Runs in a process until the pipe is closed: takes a job from it, and sends back the parts of its answer, then None. `wanted` is for
     `choose_engine`, and a job that takes over `seconds` + 3 ends the process."""
+    # (so the programs that it runs can be ended with it, as a group, and ctrl-c in the terminal of the server does not reach them)
     os.setsid()
     signal.signal(signal.SIGINT, signal.SIG_IGN)
-    decides = choose_engine(wanted)
-    if decides.limits_memory:
+    engine = choose_engine(wanted)
+    if engine.limits_memory:
         resource.setrlimit(resource.RLIMIT_AS, (MEMORY, MEMORY))
     while True:
         try:
@@ -34,7 +36,7 @@ def serve(pipe, wanted, seconds):
         # (a process whose server is gone ends by itself)
         signal.alarm(seconds + 3)
         try:
-            for part in JOBS[name](decides, sent):
+            for part in JOBS[name](engine, sent):
                 pipe.send(part)
             pipe.send(None)
         except (RecursionError, MemoryError, Failed) as why:
@@ -47,14 +49,19 @@ class Worker:
     """One process that runs `serve`, and the pipe to it."""
 
     def __init__(self, wanted, seconds):
-        here, there = multiprocessing.get_context("spawn").Pipe()
-        self.pipe, self.seconds = here, seconds
-        self.process = multiprocessing.get_context("spawn").Process(target=serve, args=(there, wanted, seconds), daemon=True)
+        # (`spawn`, since a process that is forked from one with threads may hang)
+        context = multiprocessing.get_context("spawn")
+        self.pipe, far_end = context.Pipe()
+        self.seconds = seconds
+        # (`lock` guards `is_ended`: two threads may end a process)
+        self.lock, self.is_ended = threading.Lock(), False
+        self.process = context.Process(target=serve, args=(far_end, wanted, seconds), daemon=True)
         self.process.start()
-        there.close()
+        far_end.close()
 
     def answer(self, name, sent):
-        """Sends a job, and waits for its answer, or for what there is of it in time. Returns it, and whether the process can be asked again."""
+        """Sends a job, and waits for its answer, or for what there is of it in time. Returns it, and whether the process can be asked again. What
+        was left out, and why, is the field `notice` of the answer."""
         whole, ends = {}, time.monotonic() + self.seconds
         try:
             self.pipe.send((name, sent))
@@ -72,11 +79,16 @@ class Worker:
         return whole | {"notice": f"{late} took longer than {self.seconds} seconds and was stopped. A shorter text takes less."}, False
 
     def end(self):
-        """Ends the process, and the programs that it runs, and waits for that."""
-        with contextlib.suppress(ProcessLookupError, PermissionError):
-            os.killpg(self.process.pid, signal.SIGKILL)
-        self.process.kill()
-        self.process.join()
+        """Ends the process, and the programs that it runs, and waits for that. Does nothing the second time, when its number may be another's."""
+        with self.lock:
+            if self.is_ended:
+                return
+            self.is_ended = True
+            # (the group is not there yet, if the process has just been started)
+            with contextlib.suppress(ProcessLookupError, PermissionError):
+                os.killpg(self.process.pid, signal.SIGKILL)
+            self.process.kill()
+            self.process.join()
 
 
 class Workers:
@@ -84,16 +96,17 @@ class Workers:
     take so many `seconds`, and about `spare` processes are kept waiting."""
 
     def __init__(self, wanted, seconds, spare=2):
-        self.given, self.seconds, self.spare = (wanted, seconds), seconds, spare
+        self.wanted, self.seconds, self.spare = wanted, seconds, spare
+        # (`lock` guards `busy` and `idle`, and `room` has a place for each job that is under way)
         self.lock, self.room = threading.Lock(), threading.BoundedSemaphore(MOST_WORKERS)
-        self.busy, self.idle = {}, [Worker(*self.given) for _ in range(spare)]
+        self.busy, self.idle = {}, [Worker(wanted, seconds) for _ in range(spare)]
 
     def answer(self, page, name, sent):
         """The answer to a job of a page. Ends the job of the same name that the page has under way, and may wait for a free process."""
         with self.lock:
-            before = self.busy.pop((page, name), None)
-            if before is not None:
-                before.end()
+            replaced = self.busy.pop((page, name), None)
+            if replaced is not None:
+                replaced.end()
         if not self.room.acquire(timeout=self.seconds):
             return {"notice": "The page is busy with other questions. Change a letter to ask again."}
         try:
@@ -104,22 +117,23 @@ class Workers:
     def take_worker(self, page, name):
         """A process for a job of a page, which is busy from now on."""
         with self.lock:
-            worker = self.idle.pop() if self.idle else Worker(*self.given)
+            worker = self.idle.pop() if self.idle else Worker(self.wanted, self.seconds)
             self.busy[page, name] = worker
         return worker
 
     def answer_by(self, worker, page, name, sent):
-        """The answer of a process. Then it is idle, or ended if there are enough idle ones, or if it cannot be asked again."""
-        whole, is_alive = worker.answer(name, sent)
+        """The answer of a process. Then the process is idle, or ended if there are enough idle ones, or if it cannot be asked again."""
+        whole, is_usable = worker.answer(name, sent)
         with self.lock:
             if self.busy.get((page, name)) is worker:
                 del self.busy[page, name]
-            keeps = is_alive and len(self.idle) < self.spare
-            if keeps:
+            # (a newer job of the page may have ended it just behind its answer)
+            becomes_idle = is_usable and not worker.is_ended and len(self.idle) < self.spare
+            if becomes_idle:
                 self.idle.append(worker)
-        if not keeps:
+        if not becomes_idle:
             worker.end()
-        if not is_alive:
+        if not is_usable:
             threading.Thread(target=self.refill, daemon=True).start()
         return whole
 
@@ -127,7 +141,7 @@ class Workers:
         """Starts a process ahead of the next job, in place of one that was ended."""
         with self.lock:
             if len(self.idle) < self.spare:
-                self.idle.append(Worker(*self.given))
+                self.idle.append(Worker(self.wanted, self.seconds))
 
     def end(self):
         """Ends all processes."""
