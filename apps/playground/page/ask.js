@@ -6,38 +6,36 @@ const PATIENCE = 150;
 const PAGE = crypto.randomUUID();
 let mostOctets = Infinity;
 
-/** Sets how many octets the server takes in one question. */
-export function bound(octets) {
+/** Sets how many octets the server takes in one question. Before that any number is sent. */
+export function limitOctets(octets) {
   mostOctets = octets;
 }
 
-/** Returns a function that asks: it sends what `collect` returns as a question of a kind, and calls `show` with the answer. `typed` returns how
-  * often the texts were changed so far. */
-export function asker(kind, collect, show, typed) {
+/** Returns a function that asks: it sends what `collect` returns as a question of a kind, a job of the server, and calls `show` with the answer,
+  * unless a text was changed meanwhile. `countChanges` returns how often the texts were changed so far. */
+export function asker(kind, collect, show, countChanges) {
   // (the controller of the question that was sent last, until its answer comes)
   let underWay = null;
   let isNextWaiting = false;
 
   async function send() {
-    const count = typed();
+    const count = countChanges();
     const controller = new AbortController();
     isNextWaiting = false;
     underWay = controller;
-    const sent = performance.now();
     const answer = await answerTo(kind, JSON.stringify({ ...collect(), page: PAGE }), controller.signal);
     if (underWay === controller) {
       underWay = null;
     }
-    if (count === typed() && answer) {
+    if (count === countChanges() && answer) {
       show(answer);
-      performance.measure(`answer ${kind}`, { start: sent });
     }
     if (isNextWaiting && !underWay) {
       send();
     }
   }
 
-  // (asks at once; or, if a question is under way, after its answer or after PATIENCE, which aborts it)
+  // (asks at once; or, if a question is under way, after its answer, or after PATIENCE, and then that one is aborted)
   return () => {
     if (!underWay) {
       send();
@@ -53,7 +51,7 @@ export function asker(kind, collect, show, typed) {
 async function answerTo(kind, body, signal) {
   const octets = new TextEncoder().encode(body);
   if (octets.length > mostOctets) {
-    const [sent, most] = [octets.length, mostOctets].map((it) => it.toLocaleString("en"));
+    const [sent, most] = [octets.length, mostOctets].map((count) => count.toLocaleString("en"));
     return { notice: `The texts are too long for this page: ${sent} octets as they are sent, and it takes ${most}.` };
   }
   try {

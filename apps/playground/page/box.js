@@ -1,16 +1,18 @@
 // A box for a text, in which places can be underlined: a mirror of the text lies behind it.
-import { made } from "./dom.js";
+import { htmlElement } from "./dom.js";
 
 export class Box {
-  /** Fills an element that has a label and a hint. `changed` is called when the text was changed. */
+  /** Fills an element that has a label and a hint. `changed` is called when a user has changed the text. */
   constructor(element, changed) {
+    // (what is shown of a refusal, as text, so that it is not made again)
+    this.faultKey = "";
     const label = element.querySelector("label");
     this.name = label.htmlFor;
-    this.text = made("textarea", { id: this.name, rows: 1, spellcheck: "false", autocomplete: "off", autocapitalize: "off",
+    this.text = htmlElement("textarea", { id: this.name, rows: 1, spellcheck: "false", autocomplete: "off", autocapitalize: "off",
       "aria-describedby": `${this.name}-hint ${this.name}-fault` });
-    this.mirror = made("div", { class: "mirror", "aria-hidden": "true" });
-    this.faults = made("ul", { class: "fault", id: `${this.name}-fault` });
-    element.append(made("div", { class: "field" }, this.mirror, this.text), this.faults);
+    this.mirror = htmlElement("div", { class: "mirror", "aria-hidden": "true" });
+    this.faults = htmlElement("ul", { class: "fault", id: `${this.name}-fault` });
+    element.append(htmlElement("div", { class: "field" }, this.mirror, this.text), this.faults);
     this.text.addEventListener("input", () => {
       this.reflect();
       changed();
@@ -35,30 +37,31 @@ export class Box {
     this.reflect(places[0]);
     this.text.setAttribute("aria-invalid", String(Boolean(fault)));
     const key = JSON.stringify(fault);
-    if (key === this.shown) {
+    if (key === this.faultKey) {
       return;
     }
-    this.shown = key;
-    this.faults.replaceChildren(...(fault ? [this.remark(fault, places[0]), ...places.slice(1, 4).map((it) => this.further(it))] : []));
+    this.faultKey = key;
+    // (four places are enough: a deep text may have one for each list that is open)
+    this.faults.replaceChildren(...(fault ? [this.remark(fault, places[0]), ...places.slice(1, 4).map((place) => this.further(place))] : []));
   }
 
-  /** The first line of a refusal, with a place if it has one. */
+  /** The line for the first place of a refusal, or for a refusal without a place. */
   remark(fault, place) {
-    const line = made("code", {}, ` ${fault.shown ?? fault.line}`);
+    const line = htmlElement("code", {}, ` ${fault.shown ?? fault.line}`);
     if (!place) {
-      return made("li", {}, "This is refused.", line);
+      return htmlElement("li", {}, "This is refused.", line);
     }
-    return made("li", {}, this.goTo(place), `: ${place.why}`, line);
+    return htmlElement("li", {}, this.goTo(place), `: ${place.why}`, line);
   }
 
   /** A line for a further place of a refusal. */
   further(place) {
-    return made("li", { class: "further" }, this.goTo(place), `: ${place.why}`);
+    return htmlElement("li", { class: "further" }, this.goTo(place), `: ${place.why}`);
   }
 
   /** A button that selects a place. */
   goTo(place) {
-    const button = made("button", { type: "button" }, `Line ${place.line}, column ${place.column}`);
+    const button = htmlElement("button", { type: "button" }, `Line ${place.line}, column ${place.column}`);
     button.addEventListener("click", () => {
       this.text.focus();
       this.text.setSelectionRange(place.begin, Math.max(place.end, place.begin));
@@ -74,7 +77,7 @@ export class Box {
       this.mirror.textContent = text + end;
       return;
     }
-    const mark = made("mark", {}, text.slice(place.begin, place.end));
+    const mark = htmlElement("mark", {}, text.slice(place.begin, place.end));
     mark.classList.toggle("at-end", !text.slice(place.begin, place.end).trim());
     this.mirror.replaceChildren(text.slice(0, place.begin), mark, text.slice(place.end) + end);
   }

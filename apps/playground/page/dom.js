@@ -3,29 +3,29 @@
 const SVG = "http://www.w3.org/2000/svg";
 
 /** An element of HTML with attributes and contents, which are elements or strings. */
-export function made(name, attributes = {}, ...contents) {
-  return filled(document.createElement(name), attributes, contents);
+export function htmlElement(name, attributes = {}, ...contents) {
+  return fill(document.createElement(name), attributes, contents);
 }
 
 /** An element of SVG with attributes and contents, which are elements or strings. */
-export function drawn(name, attributes = {}, ...contents) {
-  return filled(document.createElementNS(SVG, name), attributes, contents);
+export function svgElement(name, attributes = {}, ...contents) {
+  return fill(document.createElementNS(SVG, name), attributes, contents);
 }
 
-/** The element, with attributes and with those contents that are not empty. */
-function filled(element, attributes, contents) {
+/** Gives an element attributes, and those contents that are not empty. Returns it. */
+function fill(element, attributes, contents) {
   for (const [name, value] of Object.entries(attributes)) {
     element.setAttribute(name, value);
   }
-  element.append(...contents.filter((it) => it !== null && it !== undefined && it !== ""));
+  element.append(...contents.filter((content) => content !== null && content !== undefined && content !== ""));
   return element;
 }
 
-/** The element with an id. */
-export const at = (id) => document.getElementById(id);
+/** The element of the page with an id. */
+export const byId = (id) => document.getElementById(id);
 
-/** Puts a text into an element, if it is another one: so that nothing is read out twice. */
-export function say(element, text) {
+/** Puts a text into an element that has another one. If it has this text already, a screen reader would read it out again. */
+export function setText(element, text) {
   if (element.textContent !== text) {
     element.textContent = text;
   }

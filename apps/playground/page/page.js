@@ -1,15 +1,17 @@
 // The page: boxes are filled, and changes are asked about.
 import { Answer } from "./answer.js";
-import { asker, bound } from "./ask.js";
+import { asker, limitOctets } from "./ask.js";
 import { Box } from "./box.js";
-import { at, made, say } from "./dom.js";
-import { inFragment, linked } from "./link.js";
+import { byId, htmlElement, setText } from "./dom.js";
+import { stateInFragment, linkTo } from "./link.js";
 import { showForms, showTags } from "./others.js";
 import { outdate } from "./state.js";
-import { Times, calendar } from "./times.js";
+import { Times, inputValueOf } from "./times.js";
 
 const PANELS = ["question", "case", "tags", "forms"];
+// The boxes of the other panels than that of the question.
 const OTHERS = ["case", "first", "second", "words", "value"];
+// All boxes by their names.
 const boxes = {};
 for (const element of document.querySelectorAll("[data-box]")) {
   boxes[element.dataset.box] = new Box(element, () => changed());
@@ -25,22 +27,23 @@ let changes = 0;
 /** The lines of a text, each a string of the request. A line feed at the end begins no further one. */
 const lines = (text) => (text === "" ? [] : text.replace(/\n$/, "").split("\n"));
 
-/** The moment as a case has it, or an empty text. */
+/** The moment as a case has it, or an empty text if none is chosen. */
 function moment() {
-  const [date, time = ""] = at("at").value.split("T");
+  const [date, time = ""] = byId("at").value.split("T");
+  // (the input leaves out seconds that are 0)
   return date && `${date}_${time.length === 5 ? `${time}:00` : time.slice(0, 8)}`;
 }
 
 /** The question in boxes, as it is sent. */
 function question() {
   return { acl: boxes.acl.value, sequence: boxes.sequence.value, key: boxes.key.value, request: lines(boxes.request.value), at: moment(),
-    labels: boxes.labels.value, refused: answer.refused, strict: at("strict").checked, withCase: at("text-card").open };
+    labels: boxes.labels.value, refused: answer.refused, strict: byId("strict").checked, withCase: byId("text-card").open };
 }
 
-/** Shows an answer. If it decides the question in boxes, it is then asked at which times the answer is yes. */
-function showAnswer(got) {
-  answer.show(got);
-  if (got.kind && chosen === "question") {
+/** Shows an answer of the server. If it decides the question in boxes, it is then asked at which times the answer is yes. */
+function showAnswer(reply) {
+  answer.show(reply);
+  if (reply.kind && chosen === "question") {
     askers.times();
   } else {
     times.show({});
@@ -48,14 +51,14 @@ function showAnswer(got) {
 }
 
 /** How often something that is asked was changed, by which an answer to an earlier text is known. */
-const typed = () => changes;
+const countChanges = () => changes;
 const askers = {
-  question: asker("question", question, showAnswer, typed),
-  case: asker("case", () => ({ text: boxes.case.value, labels: boxes.labels.value }), showAnswer, typed),
-  times: asker("times", question, (got) => times.show(got), typed),
+  question: asker("question", question, showAnswer, countChanges),
+  case: asker("case", () => ({ text: boxes.case.value, labels: boxes.labels.value }), showAnswer, countChanges),
+  times: asker("times", question, (reply) => times.show(reply), countChanges),
   tags: asker("tags", () => ({ first: boxes.first.value, second: boxes.second.value, request: lines(boxes.words.value) }),
-    (got) => showTags(boxes, got), typed),
-  forms: asker("forms", () => ({ text: boxes.value.value }), (got) => showForms(boxes, got), typed),
+    (reply) => showTags(boxes, reply), countChanges),
+  forms: asker("forms", () => ({ text: boxes.value.value }), (reply) => showForms(boxes, reply), countChanges),
 };
 
 /** Something that is asked was changed: what is shown is out of date, and the chosen panel asks again. */
@@ -73,10 +76,10 @@ function load(given) {
     boxes[name].value = String(given[name] ?? "");
   }
   boxes.request.value = (Array.isArray(given.request) ? given.request : []).map(String).join("\n");
-  at("at").value = String(given.at ?? "").replace("_", "T");
-  at("strict").checked = given.strict !== false;
+  byId("at").value = String(given.at ?? "").replace("_", "T");
+  byId("strict").checked = given.strict !== false;
   answer.refused = (Array.isArray(given.refused) ? given.refused : []).filter(Number.isInteger);
-  at("all").checked = !answer.refused.length;
+  byId("all").checked = !answer.refused.length;
 }
 
 /** Fills the other boxes, as far as there are texts for them. */
@@ -93,12 +96,12 @@ function choose(panel) {
   chosen = PANELS.includes(panel) ? panel : "question";
   for (const name of PANELS) {
     const isChosen = name === chosen;
-    at(`panel-${name}`).hidden = !isChosen;
-    at(`tab-${name}`).setAttribute("aria-selected", String(isChosen));
-    at(`tab-${name}`).tabIndex = isChosen ? 0 : -1;
+    byId(`panel-${name}`).hidden = !isChosen;
+    byId(`tab-${name}`).setAttribute("aria-selected", String(isChosen));
+    byId(`tab-${name}`).tabIndex = isChosen ? 0 : -1;
   }
-  at("answer").hidden = at("verdict").hidden = !["question", "case"].includes(chosen);
-  at("notice").hidden ||= at("verdict").hidden;
+  byId("answer").hidden = byId("verdict").hidden = !["question", "case"].includes(chosen);
+  byId("notice").hidden ||= byId("verdict").hidden;
   changed();
 }
 
@@ -109,27 +112,27 @@ function moveTab(event) {
   if (step !== undefined) {
     event.preventDefault();
     choose(PANELS[(place + step + PANELS.length) % PANELS.length]);
-    at(`tab-${chosen}`).focus();
+    byId(`tab-${chosen}`).focus();
   }
 }
 
 /** Puts all boxes and the chosen panel into the address, and copies it. */
 async function copyLink() {
   const others = Object.fromEntries(OTHERS.map((name) => [name, boxes[name].value]));
-  const address = linked({ panel: chosen, ...question(), ...others });
+  const address = linkTo({ panel: chosen, ...question(), ...others });
   history.replaceState(null, "", address);
   try {
     await navigator.clipboard.writeText(address);
-    say(at("link"), "Copied");
+    setText(byId("link"), "Copied");
   } catch {
-    say(at("link"), "See the address bar");
+    setText(byId("link"), "See the address bar");
   }
-  setTimeout(() => say(at("link"), "Copy link"), 2000);
+  setTimeout(() => setText(byId("link"), "Copy link"), 2000);
 }
 
 /** Puts the case that an answer has, which is the whole question as one text, into the box of the panel for cases. */
 function editCase() {
-  boxes.case.value = at("text").textContent;
+  boxes.case.value = byId("text").textContent;
   choose("case");
   boxes.case.text.focus();
 }
@@ -138,23 +141,23 @@ function editCase() {
 function offerExamples(examples) {
   const groups = {};
   examples.forEach((example, place) => {
-    groups[example.group] ??= made("optgroup", { label: example.group });
-    groups[example.group].append(made("option", { value: place }, example.name));
+    groups[example.group] ??= htmlElement("optgroup", { label: example.group });
+    groups[example.group].append(htmlElement("option", { value: place }, example.name));
   });
-  at("example").replaceChildren(made("option", { value: "", hidden: "" }, "Examples .."), ...Object.values(groups));
-  at("example").addEventListener("change", () => {
-    load(examples[Number(at("example").value)].question);
+  byId("example").replaceChildren(htmlElement("option", { value: "", hidden: "" }, "Examples .."), ...Object.values(groups));
+  byId("example").addEventListener("change", () => {
+    load(examples[Number(byId("example").value)].question);
     choose("question");
   });
 }
 
 /** Fills the boxes with what the address holds, if there is something, and chooses its panel. */
 function restore() {
-  const given = inFragment();
+  const given = stateInFragment();
   if (given) {
     load(given);
     loadOthers(given);
-    at("example").value = "";
+    byId("example").value = "";
   }
   choose(given?.panel ?? chosen);
 }
@@ -162,28 +165,28 @@ function restore() {
 /** Fetches `start.json`, fills the page by it, and asks the first question: that of the address, else of the first example. */
 async function start() {
   const { examples, engine, others, mostOctets } = await (await fetch("start.json")).json();
-  bound(mostOctets);
-  say(at("engine"), engine);
+  limitOctets(mostOctets);
+  setText(byId("engine"), engine);
   offerExamples(examples);
   loadOthers(others);
-  at("example").value = "0";
+  byId("example").value = "0";
   load(examples[0].question);
   restore();
 }
 
 for (const name of PANELS) {
-  at(`tab-${name}`).addEventListener("click", () => choose(name));
-  at(`tab-${name}`).addEventListener("keydown", moveTab);
+  byId(`tab-${name}`).addEventListener("click", () => choose(name));
+  byId(`tab-${name}`).addEventListener("keydown", moveTab);
 }
 for (const name of ["at", "strict"]) {
-  at(name).addEventListener("input", () => changed());
+  byId(name).addEventListener("input", () => changed());
 }
-at("now").addEventListener("click", () => {
-  at("at").value = calendar(Math.floor(Date.now() / 1000));
+byId("now").addEventListener("click", () => {
+  byId("at").value = inputValueOf(Math.floor(Date.now() / 1000));
   changed();
 });
-at("link").addEventListener("click", copyLink);
-at("edit").addEventListener("click", editCase);
-at("text-card").addEventListener("toggle", () => changed());
+byId("link").addEventListener("click", copyLink);
+byId("edit").addEventListener("click", editCase);
+byId("text-card").addEventListener("toggle", () => changed());
 addEventListener("hashchange", restore);
 start().catch(() => answer.show({ notice: "The server does not answer. Start it again, and open the address that it prints." }));

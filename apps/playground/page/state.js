@@ -1,24 +1,24 @@
 // Whether what the page shows is the answer to what is typed. What answers an earlier text is dimmed at once, and hidden when the new answer
 // takes long: so nothing is read as the answer to another question.
-import { at } from "./dom.js";
+import { byId } from "./dom.js";
 
 // After how many milliseconds an answer counts as one that takes long.
 const WAITING = 300;
 const PARTS = { question: "#verdict, #answer, #signatures, .fault", times: "#bar, #span", tags: "#tags-card", forms: "#forms-card" };
-let waits;
+let waitTimer;
 
 /** The elements of a part, by its name in PARTS. */
 const elements = (name) => document.querySelectorAll(PARTS[name]);
 
 /** Marks all parts as those of an earlier text. `waited` is called if there is no verdict yet after WAITING milliseconds. */
 export function outdate(waited) {
-  clearTimeout(waits);
+  clearTimeout(waitTimer);
   for (const name of Object.keys(PARTS)) {
     elements(name).forEach((it) => it.classList.add("old"));
   }
-  waits = setTimeout(() => {
+  waitTimer = setTimeout(() => {
     document.querySelectorAll(".old").forEach((it) => it.classList.add("blank"));
-    if (at("verdict").matches(".old")) {
+    if (byId("verdict").matches(".old")) {
       waited();
     }
   }, WAITING);

@@ -1,13 +1,14 @@
 // The scale of time: when the answer is yes, and a slider for the moment.
-import { at, made, say } from "./dom.js";
+import { byId, htmlElement, setText } from "./dom.js";
 import { renew } from "./state.js";
 
+// The seconds of a day, and the steps of the slider.
 const DAY = 86400, STEPS = 1000;
 // The seconds of the first and the last moment of a calendar.
 const FIRST = Date.UTC(1000, 0, 1) / 1000, LAST = Date.UTC(9999, 11, 31, 23, 59, 59) / 1000;
 
 /** The seconds from 1970 to `YYYY-MM-DD HH:MM:SS` in UTC. A date that the calendar does not have is a near one, and another text is NaN. */
-function seconds(moment) {
+function secondsOf(moment) {
   const [, ...parts] = /^(\d+)-(\d+)-(\d+).(\d+):(\d+)(?::(\d+))?/.exec(moment) ?? [];
   const date = new Date(0);
   date.setUTCFullYear(Number(parts[0]), Number(parts[1]) - 1, Number(parts[2]));
@@ -15,42 +16,42 @@ function seconds(moment) {
   return Math.floor(date.getTime() / 1000);
 }
 
-/** The value of the input of the moment for seconds from 1970. */
-export function calendar(time) {
+/** The value of the input of the moment, `YYYY-MM-DDTHH:MM:SS` in UTC, for seconds from 1970. */
+export function inputValueOf(time) {
   return new Date(time * 1000).toISOString().slice(0, 19);
 }
 
 export class Times {
   /** `changed` is called when the slider was moved. */
   constructor(changed) {
-    this.slider = at("slider");
-    this.moment = at("at");
+    this.slider = byId("slider");
+    this.moment = byId("at");
     this.spans = [];
     // (the ends of the scale, in seconds from 1970)
     this.low = this.high = 0;
     this.slider.addEventListener("input", () => {
       const time = Math.round(this.low + (Number(this.slider.value) / STEPS) * (this.high - this.low));
-      this.moment.value = calendar(time);
+      this.moment.value = inputValueOf(time);
       this.follow();
       changed();
     });
   }
 
-  /** Shows when the answer is yes: the answer to `times`, or none if it has no spans. */
+  /** Shows when the answer is yes, by an answer as `times` of `asking.py` makes it. Hides the scale if that has no spans. */
   show(answer) {
     renew("times");
-    at("slider").closest(".times").hidden = !answer.spans;
+    byId("slider").closest(".times").hidden = !answer.spans;
     this.spans = answer.spans ?? [];
-    this.limits = (answer.limits ?? []).map(seconds);
+    this.limits = (answer.limits ?? []).map(secondsOf);
     this.fit();
     this.draw();
     this.follow();
-    say(at("span"), this.words() + (answer.isWhole === false ? " Later limits are left out." : ""));
+    setText(byId("span"), this.words() + (answer.isWhole === false ? " Later limits are left out." : ""));
   }
 
   /** Chooses the ends of the scale: around the limits and the moment. It keeps them while they hold all of these. */
   fit() {
-    const now = seconds(this.moment.value);
+    const now = secondsOf(this.moment.value);
     const points = [...this.limits, ...(Number.isNaN(now) ? [] : [now])];
     const low = Math.min(...points), high = Math.max(...points);
     const key = this.limits.join();
@@ -58,28 +59,28 @@ export class Times {
       return;
     }
     const room = Math.max((high - low) * 0.25, 30 * DAY);
-    const within = (time) => Math.min(LAST, Math.max(FIRST, time));
-    [this.key, this.low, this.high] = [key, within(Math.floor((low - room) / DAY) * DAY), within(Math.ceil((high + room) / DAY) * DAY)];
+    const inCalendar = (time) => Math.min(LAST, Math.max(FIRST, time));
+    [this.key, this.low, this.high] = [key, inCalendar(Math.floor((low - room) / DAY) * DAY), inCalendar(Math.ceil((high + room) / DAY) * DAY)];
   }
 
   /** Draws the spans as parts of a bar, and the dates at its ends. */
   draw() {
     // (the place of a limit on the bar in percent, or `end` where a span has no limit)
-    const place = (limit, end) => (limit ? Math.min(100, Math.max(0, ((seconds(limit.moment) - this.low) / (this.high - this.low)) * 100)) : end);
-    at("bar").replaceChildren(...this.spans.map((span) => {
-      const part = made("i", { class: span.answer === "no" ? "no" : "yes" });
+    const place = (limit, end) => (limit ? Math.min(100, Math.max(0, ((secondsOf(limit.moment) - this.low) / (this.high - this.low)) * 100)) : end);
+    byId("bar").replaceChildren(...this.spans.map((span) => {
+      const part = htmlElement("i", { class: span.answer === "no" ? "no" : "yes" });
       const begin = place(span.begin, 0);
       part.style.left = `${begin}%`;
       part.style.width = `${place(span.end, 100) - begin}%`;
       return part;
     }));
-    say(at("first"), calendar(this.low).slice(0, 10));
-    say(at("last"), calendar(this.high).slice(0, 10));
+    setText(byId("first"), inputValueOf(this.low).slice(0, 10));
+    setText(byId("last"), inputValueOf(this.high).slice(0, 10));
   }
 
   /** Puts the slider where the moment is. */
   follow() {
-    const time = seconds(this.moment.value);
+    const time = secondsOf(this.moment.value);
     this.slider.value = String(Math.round(((time - this.low) / (this.high - this.low)) * STEPS));
     this.slider.setAttribute("aria-valuetext", this.moment.value.replace("T", " "));
   }
@@ -93,13 +94,13 @@ export class Times {
     if (!granted.length) {
       return "The answer is no at every moment.";
     }
-    return `The answer is yes ${granted.slice(0, 5).map(between).join(", and ")}.`;
+    return `The answer is yes ${granted.slice(0, 5).map(spanInWords).join(", and ")}.`;
   }
 }
 
 /** A span of time in words. Its ends are limits as `moments.py` gives them, or nothing. Before a limit with the word `after`, the moment itself is
   * still in the span. */
-function between({ begin, end }) {
+function spanInWords({ begin, end }) {
   const from = begin && `${begin.word} ${begin.moment}`;
   const until = end && (end.word === "after" ? `until ${end.moment}` : `before ${end.moment}`);
   return [from, until].filter(Boolean).join(" ") || "at every moment";
