@@ -13,28 +13,34 @@ if [[ ${1:-} == --uninstall ]]; then
     uninstalls=yes
     shift
 fi
+if [[ ${1:-} == -* || $# -gt 3 ]]; then
+    echo "usage: ./install.sh [--uninstall] [PREFIX [PROGRAM [LIBRARY]]]" >&2
+    exit 2
+fi
 prefix=$(realpath -m "${1:-/usr/local}")
 program=${2:+$(realpath "$2")}
 library=${3:+$(realpath "$3")}
 cd "$(dirname "$0")"
 version=$(< VERSION)
 soname=libspki_c.so.${version%.*}
+# (this folder and the next one are below the prefix)
 libraries=${LIBDIR:-lib}
-
 cmake=$libraries/cmake/spki
 # The modules of spki-cert, and those that it shares with services in Python.
 modules=(apps/spki-cert/spki_cert_tool/{*.py,py.typed} bindings/python/spki{,_http,_verify}/{*.py,py.typed})
 
-# place_of MODULE: prints the place of a module of spki-cert under the prefix.
-place_of() {
+# module_place MODULE: prints the place of a module of spki-cert under the prefix.
+module_place() {
     local path=${1#apps/spki-cert/}
     echo "share/spki-cert/${path#bindings/python/}"
 }
 
-# Tells the loader of the libraries, or says how a program finds the shared one.
+# Tells the loader of the libraries, if it looks into their folder and this is root. Otherwise says how a program finds the shared one. (awk reads all
+# lines: if it ended at the one that is looked for, ldconfig would fail.)
 tell_loader() {
     local path=$PATH:/sbin:/usr/sbin
-    if ! PATH=$path ldconfig -v -N -X 2> /dev/null | grep -q "^$prefix/$libraries:"; then
+    if ! PATH=$path ldconfig -v -N -X 2> /dev/null |
+            awk -v line="$prefix/$libraries:" 'index($0, line) == 1 { is_there = 1 } END { exit !is_there }'; then
         echo "the loader does not look into $prefix/$libraries: name the folder in /etc/ld.so.conf.d/ or in LD_LIBRARY_PATH, or link with libspki_c.a"
     elif [[ $EUID == 0 ]]; then
         PATH=$path ldconfig
@@ -50,7 +56,7 @@ if [[ $uninstalls ]]; then
         include/spki.{h,hpp} share/man/man1/spki.1
         bin/spki-cert share/man/man1/spki-cert.1)
     for module in "${modules[@]}"; do
-        places+=("$(place_of "$module")")
+        places+=("$(module_place "$module")")
     done
     for place in "${places[@]}"; do
         if [[ -e $prefix/$place || -L $prefix/$place ]]; then
@@ -62,8 +68,8 @@ if [[ $uninstalls ]]; then
     exit
 fi
 
-# placed MODE FILE PLACE: puts a file at a place under the prefix, and says so.
-placed() {
+# put MODE FILE PLACE: puts a file at a place under the prefix, and says so.
+put() {
     install -D -m "$1" "$2" "$prefix/$3"
     echo "installed $prefix/$3"
 }
@@ -77,12 +83,12 @@ if [[ -z $library ]]; then
     crates/spki_c/archive.py
     library=crates/spki_c/out/libspki_c.a
 fi
-placed 755 "$program" bin/spki
-placed 644 "$library" "$libraries/libspki_c.a"
-placed 644 "${library%.a}.so" "$libraries/$soname"
+put 755 "$program" bin/spki
+put 644 "$library" "$libraries/libspki_c.a"
+put 644 "${library%.a}.so" "$libraries/$soname"
 ln -sfn "$soname" "$prefix/$libraries/libspki_c.so"
 echo "installed $prefix/$libraries/libspki_c.so"
-placed 644 <(cat << END
+put 644 <(cat << END
 prefix=$prefix
 libdir=\${prefix}/$libraries
 includedir=\${prefix}/include
@@ -94,9 +100,9 @@ Libs: -L\${libdir} -lspki_c
 Cflags: -I\${includedir}
 END
 ) "$libraries/pkgconfig/spki.pc"
-placed 644 crates/spki_c/spki.h include/spki.h
-placed 644 crates/spki_c/spki.hpp include/spki.hpp
-placed 644 <(cat << END
+put 644 crates/spki_c/spki.h include/spki.h
+put 644 crates/spki_c/spki.hpp include/spki.hpp
+put 644 <(cat << END
 # The targets spki::spki, the shared library, and spki::static, the static one.
 # (/lib may be a link to /usr/lib, so the links are followed first)
 get_filename_component(spki_here "\${CMAKE_CURRENT_LIST_DIR}" REALPATH)
@@ -111,7 +117,7 @@ if(NOT TARGET spki::spki)
 endif()
 END
 ) "$cmake/spki-config.cmake"
-placed 644 <(cat << END
+put 644 <(cat << END
 # A version with the same first two numbers, and not an older one, will do.
 set(PACKAGE_VERSION $version)
 if(PACKAGE_FIND_VERSION VERSION_LESS_EQUAL PACKAGE_VERSION AND PACKAGE_FIND_VERSION VERSION_GREATER_EQUAL ${version%.*})
@@ -122,10 +128,10 @@ if(PACKAGE_FIND_VERSION VERSION_EQUAL PACKAGE_VERSION)
 endif()
 END
 ) "$cmake/spki-config-version.cmake"
-placed 644 docs/spki.1 share/man/man1/spki.1
-placed 644 docs/spki-cert.1 share/man/man1/spki-cert.1
-placed 755 apps/spki-cert/spki-cert bin/spki-cert
+put 644 docs/spki.1 share/man/man1/spki.1
+put 644 docs/spki-cert.1 share/man/man1/spki-cert.1
+put 755 apps/spki-cert/spki-cert bin/spki-cert
 for module in "${modules[@]}"; do
-    placed 644 "$module" "$(place_of "$module")"
+    put 644 "$module" "$(module_place "$module")"
 done
 tell_loader

@@ -33,12 +33,14 @@ target=$(realpath -m "${1:-.}")
 program=${2:+$(realpath "$2")} library=${3:+$(realpath "$3")}
 version=$(< "$here/VERSION")
 architecture=$(dpkg --print-architecture)
+# (the name of the package of the shared library)
 shared=libspki-c${version%.*}
+# The folder for what is made here: a folder for each package, and in `made` what goes to the target.
 room=$(mktemp -d)
 trap 'rm -rf "$room"' EXIT
 mkdir "$room/made"
 
-# libraries_of ARCHITECTURE: prints the folder of its libraries, below /usr.
+# libraries_of ARCHITECTURE: prints the folder of the libraries of a Debian architecture, below /usr. Fails for one that no library is made for.
 libraries_of() {
     case $1 in
         amd64) echo lib/x86_64-linux-gnu ;;
@@ -47,7 +49,8 @@ libraries_of() {
     esac
 }
 
-# libc_of FILE: prints what the package of this program or shared library depends on: the C library that it needs. Nothing else may be linked.
+# libc_of FILE: prints what the package of this program or shared library depends on: the C library, from the version on that it needs. Fails if
+# anything else is linked.
 libc_of() {
     local others newest
     others=$(readelf -dW "$1" | sed -n 's/.*(NEEDED).*\[\(.*\)\]/\1/p' | grep -vE '^(libc\.so\.6|libresolv\.so\.2|ld-linux.*)$' || true)
@@ -56,11 +59,11 @@ libc_of() {
     echo "libc6${newest:+ (>= $newest)}"
 }
 
-# stripped TOOLS HOW FILE: takes out of a program or a library what is only for debuggers. TOOLS is how the name of `strip` begins, such as
-# aarch64-linux-gnu- or nothing, and HOW its option. The section .comment stays, which says by which logic the file was proved.
-stripped() {
-    local tools=$1 how=$2 file=$3
-    "${tools}strip" "$how" "$file"
+# strip_file TOOLS OPTION FILE: takes out of a program or a library what is only for debuggers. TOOLS is how the name of `strip` begins, such as
+# aarch64-linux-gnu- or nothing, and OPTION is one of `strip`. The section .comment stays, which says by which logic the file was proved.
+strip_file() {
+    local tools=$1 option=$2 file=$3
+    "${tools}strip" "$option" "$file"
 }
 
 # put MODE FILE PACKAGE PLACE: puts a file of this repository into the folder of a package.
@@ -69,7 +72,8 @@ put() {
 }
 
 # package NAME ARCHITECTURE SECTION FIELDS SHORT LONG: makes a package of the folder NAME in $room. FIELDS are further lines of its control file, as
-# Depends, and SHORT and LONG its descriptions.
+# Depends, SHORT is its description in one line, and LONG in more, of which all but the first begin with a space. Its size is counted as Debian counts:
+# KiB of each file, rounded up, and 1 for all else.
 package() {
     local name=$1 architecture=$2 section=$3 fields=$4 short=$5 long=$6 folder=$room/$1 size
     install -d "$folder/DEBIAN" "$folder/usr/share/doc/$name"
@@ -96,7 +100,8 @@ END
 }
 
 # package_library ARCHITECTURE STATIC TOOLS: makes the two packages of the library for an architecture, of the static library STATIC and of the shared
-# one beside it. The headers and the files for pkg-config and CMake are those in $room/all. TOOLS is as for `stripped`.
+# one beside it. The headers and the files for pkg-config and CMake are those in $room/all, which were installed for the architecture of this machine.
+# TOOLS is as for `strip_file`.
 package_library() {
     local architecture=$1 static=$2 tools=$3 own place depends
     own=$(libraries_of "$(dpkg --print-architecture)") place=usr/$(libraries_of "$1")
@@ -107,8 +112,8 @@ package_library() {
     cp -R "$room/all/usr/include" "$room/libspki-dev/usr"
     cp -R "$room/all/usr/$own"/{cmake,pkgconfig} "$room/libspki-dev/$place"
     sed -i "s|$room/all/usr|/usr|; s|$own|${place#usr/}|g" "$room/libspki-dev/$place"/{cmake/spki,pkgconfig}/*
-    stripped "$tools" --strip-unneeded "$room/$shared/$place/libspki_c.so.${version%.*}"
-    stripped "$tools" --strip-debug "$room/libspki-dev/$place/libspki_c.a"
+    strip_file "$tools" --strip-unneeded "$room/$shared/$place/libspki_c.so.${version%.*}"
+    strip_file "$tools" --strip-debug "$room/libspki-dev/$place/libspki_c.a"
     install -d "$room/$shared/DEBIAN"
     echo "activate-noawait ldconfig" > "$room/$shared/DEBIAN/triggers"
     echo "libspki_c ${version%.*} $shared (>= ${version%.*})" > "$room/$shared/DEBIAN/shlibs"
@@ -177,7 +182,7 @@ for name in spki spki-cert; do
     mv "$room/all/usr/share/man/man1/$name.1" "$room/$name/usr/share/man/man1"
 done
 mv "$room/all/usr/share/spki-cert" "$room/spki-cert/usr/share"
-stripped "" --strip-all "$room/spki/usr/bin/spki"
+strip_file "" --strip-all "$room/spki/usr/bin/spki"
 depends=$(libc_of "$room/spki/usr/bin/spki")
 package spki "$architecture" utils "Depends: $depends" "decide requests by access lists and certificates (SPKI)" \
     "The program reads one question, in nested lists, and answers yes or no by the

@@ -20,11 +20,14 @@ from datetime import datetime, timezone
 from email.utils import format_datetime
 
 TOP = os.path.dirname(os.path.dirname(os.path.realpath(__file__)))
+# The heading of a release in CHANGELOG.md: its version, and its date or other words.
 SECTION = re.compile(r"^## (\d+\.\d+\.\d+), (.*)$", re.MULTILINE)
 DATE = re.compile(r"\d{4}-\d\d-\d\d")
+# The letters of a line of the changelog.
 WIDTH = 78
 # What a program or a library says of itself: the logic by which the toolchain has proved it, and the version of Go whose libraries it has.
 LINKED = {"rattle-logic": re.compile(rb"rattle logic=([0-9a-f]{64})"), "go": re.compile(rb"\xff Go buildinf:.{19}go([\d.]+)", re.DOTALL)}
+# An object of SPDX, as JSON has it.
 Row = dict[str, object]
 
 
@@ -43,8 +46,8 @@ def moment() -> datetime:
 
 
 def releases(text: str, version: str) -> Iterator[tuple[str, str, str]]:
-    """The releases of CHANGELOG.md, the newest first: version, date, text. What has no date was not released: it is in the release of the present
-    version."""
+    """Yields the releases of CHANGELOG.md, which is given as a text, the newest first: version, date, text. `version` is the present one. What has no
+    date was not released: it is in the release of the present version, whose date may be other words or empty."""
     _, *parts = SECTION.split(text)
     sections = [*zip(parts[0::3], parts[1::3], parts[2::3])]
     present = [part for number, date, part in sections if not DATE.fullmatch(date) or number == version]
@@ -53,18 +56,18 @@ def releases(text: str, version: str) -> Iterator[tuple[str, str, str]]:
 
 
 def items(text: str) -> Iterator[str]:
-    """The paragraphs and the items of lists in a section, each on one line."""
+    """Yields the paragraphs and the items of lists in a section, each on one line."""
     for part in re.split(r"\n\s*\n|\n(?=- )", text):
         if part.strip():
             yield " ".join(part.strip().removeprefix("- ").split()).replace("**", "")
 
 
 def changelog(maintainer: str) -> str:
-    """The changelog in Debian's form. The maintainer is given as `NAME <ADDRESS>`."""
+    """The changelog in Debian's form. The maintainer is given as `NAME <ADDRESS>`. A release without a date has the time of the sources."""
     entries = []
     for version, date, text in releases(text_of("CHANGELOG.md"), text_of("VERSION").strip()):
         when = datetime.fromisoformat(date).replace(tzinfo=timezone.utc) if DATE.fullmatch(date) else moment()
-        lines = [textwrap.fill(it, WIDTH, initial_indent="  * ", subsequent_indent="    ", break_on_hyphens=False) for it in items(text)]
+        lines = [textwrap.fill(item, WIDTH, initial_indent="  * ", subsequent_indent="    ", break_on_hyphens=False) for item in items(text)]
         entries.append("\n".join([f"spki ({version}) unstable; urgency=medium\n", *lines, f"\n -- {maintainer}  {format_datetime(when)}\n"]))
     return "\n".join(entries)
 
@@ -73,14 +76,14 @@ def changelog(maintainer: str) -> str:
 
 
 def digests(octets: bytes, *names: str) -> list[Row]:
-    """The digests of some octets, as SPDX has them."""
+    """The digests of some octets, as SPDX has them, by the algorithms of these names."""
     return [{"algorithm": name.upper(), "checksumValue": hashlib.new(name, octets).hexdigest()} for name in names]
 
 
 def files_in(package: str) -> Iterator[tuple[str, bytes]]:
-    """The files of a Debian package, by their paths."""
-    packed = subprocess.run(["dpkg-deb", "--fsys-tarfile", package], stdout=subprocess.PIPE, check=True).stdout
-    with tarfile.open(fileobj=io.BytesIO(packed)) as archive:
+    """Yields the paths and the octets of the files in the Debian package at a path."""
+    tar = subprocess.run(["dpkg-deb", "--fsys-tarfile", package], stdout=subprocess.PIPE, check=True).stdout
+    with tarfile.open(fileobj=io.BytesIO(tar)) as archive:
         for member in archive:
             file = archive.extractfile(member) if member.isfile() else None
             if file is not None:
@@ -88,44 +91,44 @@ def files_in(package: str) -> Iterator[tuple[str, bytes]]:
 
 
 def fields_of(package: str) -> dict[str, str]:
-    """The package's name, version, architecture and short description, by the names of these fields."""
-    said = subprocess.run(["dpkg-deb", "-f", package, "Package", "Version", "Architecture", "Description"], stdout=subprocess.PIPE, check=True,
-                          text=True).stdout
-    return dict(line.split(": ", 1) for line in said.splitlines() if not line.startswith(" "))
+    """The name, version, architecture and short description of the package at a path, by the names of these fields."""
+    lines = subprocess.run(["dpkg-deb", "-f", package, "Package", "Version", "Architecture", "Description"], stdout=subprocess.PIPE, check=True,
+                           text=True).stdout.splitlines()
+    # (further lines of the description begin with a space)
+    return dict(line.split(": ", 1) for line in lines if not line.startswith(" "))
 
 
-def described(package: str, maintainer: str) -> tuple[Row, list[Row], set[tuple[str, str]]]:
-    """The package at a path, its files, each as SPDX has it, and what is linked into them, by names and versions."""
+def description_of(package: str, maintainer: str) -> tuple[Row, list[Row], set[tuple[str, str]]]:
+    """The package at a path as SPDX has it, each of its files so, and the names and versions of what is linked into them."""
     with open(package, "rb") as file:
         octets = file.read()
     fields = fields_of(package)
     name = f"SPDXRef-{fields['Package']}-{fields['Architecture']}"
-    files: list[Row] = []
-    sums, there = [], [*files_in(package)]
-    for number, (path, content) in enumerate(there, 1):
-        files.append({"SPDXID": f"{name}-{number}", "fileName": path, "checksums": digests(content, "sha1", "sha256"),
-                      "licenseConcluded": "NOASSERTION", "copyrightText": "NOASSERTION"})
-        sums.append(hashlib.sha1(content).hexdigest())
+    contents_of_files = [*files_in(package)]
+    files: list[Row] = [{"SPDXID": f"{name}-{number}", "fileName": path, "checksums": digests(content, "sha1", "sha256"),
+                         "licenseConcluded": "NOASSERTION", "copyrightText": "NOASSERTION"}
+                        for number, (path, content) in enumerate(contents_of_files, 1)]
+    sums = [hashlib.sha1(content).hexdigest() for _, content in contents_of_files]
     whole = {"SPDXID": name, "name": fields["Package"], "versionInfo": fields["Version"], "packageFileName": os.path.basename(package),
              "summary": fields["Description"], "supplier": f"Person: {maintainer.replace(' <', ' (').replace('>', ')')}",
              "downloadLocation": "NOASSERTION", "filesAnalyzed": True,
              "packageVerificationCode": {"packageVerificationCodeValue": hashlib.sha1("".join(sorted(sums)).encode()).hexdigest()},
              "checksums": digests(octets, "sha256"), "licenseConcluded": "NOASSERTION", "licenseDeclared": "NOASSERTION",
              "copyrightText": "NOASSERTION"}
-    return whole, files, linked_into([content for _, content in there])
+    return whole, files, linked_into([content for _, content in contents_of_files])
 
 
-def related(one: object, how: str, other: object) -> Row:
-    """A relationship of two elements, as SPDX has it."""
+def relationship(one: object, how: str, other: object) -> Row:
+    """A relationship of two elements, by their SPDXID, as SPDX has it. `how` is a word of SPDX."""
     return {"spdxElementId": one, "relationshipType": how, "relatedSpdxElement": other}
 
 
 def linked_into(contents_of_files: list[bytes]) -> set[tuple[str, str]]:
-    """What is linked into the programs and libraries of a package, by names and versions."""
-    return {(name, found.decode()) for octets in contents_of_files for name, pattern in LINKED.items() for found in pattern.findall(octets)}
+    """The names and versions of what is linked into the programs and libraries of a package."""
+    return {(name, version.decode()) for octets in contents_of_files for name, pattern in LINKED.items() for version in pattern.findall(octets)}
 
 
-def outside(name: str, version: str) -> Row:
+def foreign_package(name: str, version: str) -> Row:
     """What is not of this repository and is linked into packages, as SPDX has it."""
     return {"SPDXID": f"SPDXRef-{name}-{version}", "name": name, "versionInfo": version, "supplier": "NOASSERTION", "downloadLocation": "NOASSERTION",
             "filesAnalyzed": False, "licenseConcluded": "NOASSERTION", "licenseDeclared": "NOASSERTION", "copyrightText": "NOASSERTION"}
@@ -133,20 +136,23 @@ def outside(name: str, version: str) -> Row:
 
 def contents(maintainer: str, paths: list[str]) -> str:
     """The list, in SPDX as JSON, of what is inside the packages at these paths. The maintainer is given as `NAME <ADDRESS>`."""
-    made = [described(path, maintainer) for path in paths]
-    relations = [related("SPDXRef-DOCUMENT", "DESCRIBES", it["SPDXID"]) for it, _, _ in made]
-    relations += [related(it["SPDXID"], "CONTAINS", file["SPDXID"]) for it, files, _ in made for file in files]
-    relations += [related(it["SPDXID"], "STATIC_LINK", outside(*other)["SPDXID"]) for it, _, linked in made for other in sorted(linked)]
-    packages = [it for it, _, _ in made] + [outside(*other) for other in sorted({other for _, _, linked in made for other in linked})]
+    descriptions = [description_of(path, maintainer) for path in paths]
+    relations = [relationship("SPDXRef-DOCUMENT", "DESCRIBES", package["SPDXID"]) for package, _, _ in descriptions]
+    relations += [relationship(package["SPDXID"], "CONTAINS", file["SPDXID"]) for package, files, _ in descriptions for file in files]
+    relations += [relationship(package["SPDXID"], "STATIC_LINK", foreign_package(*other)["SPDXID"])
+                  for package, _, linked in descriptions for other in sorted(linked)]
+    all_linked = sorted({other for _, _, linked in descriptions for other in linked})
+    packages = [package for package, _, _ in descriptions] + [foreign_package(*other) for other in all_linked]
     version, digest = text_of("VERSION").strip(), hashlib.sha256(json.dumps(packages).encode()).hexdigest()
     whole = {"spdxVersion": "SPDX-2.3", "dataLicense": "CC0-1.0", "SPDXID": "SPDXRef-DOCUMENT", "name": f"spki-{version}",
              "documentNamespace": f"https://spdx.org/spdxdocs/spki-{version}-{digest}",
              "creationInfo": {"created": f"{moment():%Y-%m-%dT%H:%M:%SZ}", "creators": ["Tool: packages.sh", str(packages[0]["supplier"])]},
-             "packages": packages, "files": [file for _, files, _ in made for file in files], "relationships": relations}
+             "packages": packages, "files": [file for _, files, _ in descriptions for file in files], "relationships": relations}
     return json.dumps(whole, indent=1) + "\n"
 
 
 def main() -> None:
+    """Writes what the words of the command line say to standard output. Ends with the usage for other words."""
     match sys.argv[1:]:
         case ["changelog", maintainer]:
             print(changelog(maintainer), end="")
