@@ -25,13 +25,13 @@ TO_BUILDERS = f""" (cert
   (tag (packages write (* prefix /builds/))))"""
 
 
-# The text of a sequence with these items, which are texts.
 def sequence(*items):
+    """The text of a sequence with these items, which are texts."""
     return "(sequence\n" + "\n".join(items) + ")"
 
 
 def defining(name):
-    """A certificate by which Alice defines a name: Carol has it."""
+    """The text of a certificate by which Alice defines a name: Carol has it."""
     return f" (cert\n  (issuer (name {ALICE} {name}))\n  (subject {CAROL})\n  (not-after \"2026-12-31_23:59:59\"))"
 
 

@@ -11,16 +11,16 @@ BOXES = ("acl", "sequence", "key", "request", "at")
 MOST_LETTERS = 4000
 
 
-def text(given, name):
+def text(sent, name):
     """The field `name` of the object that the page sent, if it is a string, else an empty string."""
-    value = given.get(name)
+    value = sent.get(name)
     return value if isinstance(value, str) else ""
 
 
-def members(given, name, kind, wanted):
+def members(sent, name, kind, wanted):
     """The members of the list that is the field `name` of the object that the page sent, as a tuple. It is empty if there is no such field.
     Raises `Refused`, which says what is `wanted`, for what is no list, or if a member is not of the type `kind`."""
-    value = given.get(name)
+    value = sent.get(name)
     if value is None:
         value = []
     # (`type`, since for `isinstance` a truth value is a number)
@@ -29,22 +29,22 @@ def members(given, name, kind, wanted):
     return tuple(value)
 
 
-def words_of(given):
+def words_of(sent):
     """The strings of the request of the object that the page sent, as octets. Raises `Refused`."""
-    return tuple(word.encode(errors="replace") for word in members(given, "request", str, "a list of strings"))
+    return tuple(word.encode(errors="replace") for word in members(sent, "request", str, "a list of strings"))
 
 
 class Given:
-    """A question of separate boxes, as octets. `given` is the object that the page sent, whose fields may have wrong types: a text that is no string
+    """A question of separate boxes, as octets. `sent` is the object that the page sent, whose fields may have wrong types: a text that is no string
     is taken as empty, and for a list of another type the class raises `Refused`. `sequence` has the signatures that the page made up too. Methods
     that ask the engine raise `Refused`."""
 
-    def __init__(self, engine, given):
-        self.engine, self.box = engine, {name: text(given, name).encode(errors="replace") for name in ("acl", "sequence", "key", "at")}
-        self.words, refused = words_of(given), members(given, "refused", int, "a list of whole numbers")
+    def __init__(self, engine, sent):
+        self.engine, self.box = engine, {name: text(sent, name).encode(errors="replace") for name in ("acl", "sequence", "key", "at")}
+        self.words, refused = words_of(sent), members(sent, "refused", int, "a list of whole numbers")
         self.sequence = with_signatures(engine, self.box["sequence"])
         self.question = Question(self.box["acl"], self.sequence.text, self.box["key"], self.words, string(self.box["at"]),
-                                 given.get("strict") is not False, refused)
+                                 sent.get("strict") is not False, refused)
 
     def values(self):
         """The access list, the sequence, the key, the request and the moment."""
@@ -122,8 +122,8 @@ class Given:
 class GivenCase:
     """A whole case in one box, with the same methods as `Given`."""
 
-    def __init__(self, engine, given):
-        self.engine, self.octets = engine, text(given, "text").encode(errors="replace")
+    def __init__(self, engine, sent):
+        self.engine, self.octets = engine, text(sent, "text").encode(errors="replace")
 
     def values(self):
         """The access list, the sequence, the key, the request and the moment."""

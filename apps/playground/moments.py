@@ -58,8 +58,8 @@ def spans(values, answer):
     spans_begun = spans_without_ends(changes, answer)
     # (each span ends where the next one begins, and the last one has no end)
     ended = [{**span, "end": following["begin"]} for span, following in zip(spans_begun, spans_begun[1:])] + spans_begun[-1:]
-    shown = sorted({date_for_page(moment) for _, moment in changes.values()})
-    return {"spans": ended, "limits": shown, "isWhole": len(all_changes) <= MOST_LIMITS}
+    limits_shown = sorted({date_for_page(moment) for _, moment in changes.values()})
+    return {"spans": ended, "limits": limits_shown, "isWhole": len(all_changes) <= MOST_LIMITS}
 
 
 def spans_without_ends(changes, answer):

@@ -84,12 +84,12 @@ class CommandParser(argparse.ArgumentParser):
         near = suggestion(os.fsencode(option[2:]), map(os.fsencode, options)).replace("`", "`--", 1)
         self.error(f"{word}: no such option{others}{near}")
 
-    # (argparse writes the text of --help and --version by this)
     def _print_message(self, message: str, file: IO[str] | None = None) -> None:
+        """Writes the text of --help or --version to standard output: argparse calls this for it, and ignores errors in its own method."""
         put(message)
 
-    # (argparse calls this for words that it refuses; its own method prints the message and exits)
     def error(self, message: str) -> NoReturn:
+        """Raises Refused for words that argparse refuses, which calls this. Its own method prints the message and exits."""
         raise Refused(f"{message.removeprefix('argument ')} ({self.prog} --help)")
 
 

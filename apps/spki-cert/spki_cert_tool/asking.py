@@ -183,11 +183,11 @@ def case_of(asked: Asked, sequence: Value) -> Value:
     """The case of a question about one sequence, with a row for each signature that counts: a text that has all that is needed to decide again."""
     keys = Keys([asked.key, *keys_in(sequence)])
     rows: list[Value] = []
-    for each in certificates_in(sequence):
-        issuer, value = each.terms.issuer or b"", members(each.signature)[2]
+    for signed in certificates_in(sequence):
+        issuer, value = signed.terms.issuer or b"", members(signed.signature)[2]
         key = keys.named(issuer)
-        if key is not None and asked.verify(keys.text_of(issuer)[0], canonical(each.terms.value), canonical(value)):
-            rows.append([b"by", key, hash_of(each.terms.value), value])
+        if key is not None and asked.verify(keys.text_of(issuer)[0], canonical(signed.terms.value), canonical(value)):
+            rows.append([b"by", key, hash_of(signed.terms.value), value])
     policy: list[Value] = [[b"policy", b"strict"]] if asked.is_strict else []
     return [b"case", asked.access_list, [b"accepted", *rows], sequence, [b"key", asked.key], [b"request", asked.request], [b"at", asked.moment],
             *policy]

@@ -119,9 +119,9 @@ def write_lines(path: str, lines: list[bytes]) -> None:
 
 def meant_at(path: str, place: int | None) -> tuple[str, str]:
     """The digest in hexadecimal of a certificate in a file, and what it is called: the file, and its number among the certificates. `place` is this
-    number, or None for the last one. A file that is a certificate has one."""
+    number, from 1, or None for the last one. A file that is a certificate has one. Raises Refused."""
     value = value_headed(path, (b"cert", b"sequence"), "only a certificate of a sequence, or one that is alone, is ended")
-    certificates = [value] if headed(value, b"cert") else [each.terms.value for each in certificates_in(value)]
+    certificates = [value] if headed(value, b"cert") else [signed.terms.value for signed in certificates_in(value)]
     count = len(certificates)
     number = count if place is None else place
     if not 1 <= number <= count:

@@ -21,8 +21,8 @@ def certificate_of(key: Value, subject: Value, fields: list[Value], name: bytes 
 def fields_of(tag: Value | None, begins: bytes | None, ends: bytes | None, delegates: bool = False, comment: str = "") -> list[Value]:
     """The fields that certificates and entries have alike. What is None, or an empty comment, gets no field."""
     fields: list[Value] = [[b"propagate"]] if delegates else []
-    given = (b"tag", tag), (b"not-before", begins), (b"not-after", ends), (b"comment", os.fsencode(comment) or None)
-    return fields + [[head, value] for head, value in given if value is not None]
+    pairs = (b"tag", tag), (b"not-before", begins), (b"not-after", ends), (b"comment", os.fsencode(comment) or None)
+    return fields + [[head, value] for head, value in pairs if value is not None]
 
 
 def list_with(entry: Value, before: bytes) -> bytes:

@@ -169,7 +169,7 @@ def read_outline(node: Node) -> None:
         if part is None:
             raise Wrong("case Shape", node.end - 1, f"the part `({head.decode()} ..)` is missing here")
         if part.head != head:
-            order = ", ".join(it.decode() for it in PARTS)
+            order = ", ".join(name.decode() for name in PARTS)
             raise Wrong("case Shape", part.begin, f"this part must be {but_is(part, head)}; the order is {order}")
         # (key, request and at, the last three of PARTS, have one member)
         if place > 2 and len(part.rest) != 1:

@@ -3,16 +3,19 @@
 CREATE SCHEMA @SCHEMA@;
 
 -- What an entry is found by: the digest of its subject's hash, or the SHA-256 digest of its subject's key. The text must be one list in canonical
--- form that begins with `entry` and a subject, and nothing follows it. `spki-store check` says whether the library reads it as an entry.
+-- form that begins with `entry` and a subject, and nothing follows it: another text is an error. `spki-store check` says whether the library reads it
+-- as an entry.
 CREATE FUNCTION @SCHEMA@.principal_of(text bytea) RETURNS bytea LANGUAGE plpgsql IMMUTABLE STRICT PARALLEL SAFE AS $$
 DECLARE
     most CONSTANT integer := octet_length(text);
     is_name CONSTANT boolean := substring(text FROM 9 FOR 7) = '(4:name';
+    -- The offset of the principal, counted from 0 as `at`, and how many lists are open around it.
     begun CONSTANT integer := CASE WHEN is_name THEN 15 ELSE 8 END;
     outside CONSTANT integer := CASE WHEN is_name THEN 2 ELSE 1 END;
     is_hash CONSTANT boolean := substring(text FROM begun + 1 FOR 7) = '(4:hash';
     at integer := 0;
     depth integer := 0;
+    -- The strings of the hash so far: `hash`, the algorithm, the digest. One in brackets, a display hint, does not count.
     strings integer := 0;
     is_hint boolean := false;
     length integer;
@@ -141,6 +144,7 @@ CREATE TRIGGER note_removed AFTER DELETE ON @SCHEMA@.entries REFERENCING OLD TAB
 CREATE TRIGGER note_ended AFTER INSERT ON @SCHEMA@.ended REFERENCING NEW TABLE AS changed
     FOR EACH STATEMENT EXECUTE FUNCTION @SCHEMA@.note_change();
 
+-- Refuses a statement, whoever runs it: what the triggers below are for is never changed.
 CREATE FUNCTION @SCHEMA@.refuse_change() RETURNS trigger LANGUAGE plpgsql AS $$
 BEGIN
     RAISE insufficient_privilege USING MESSAGE = format('%s of %s is refused', TG_OP, TG_TABLE_NAME);

@@ -110,8 +110,8 @@ class Store:
     def rows(self, text: str, *values: Any) -> list[Any]:
         """Runs one statement, in which a table is written as `{entries}`, with values for its `%s`. Returns its rows. It is a transaction of its own,
         unless one was begun."""
-        done = self.connection.execute(self.statement(text), values, binary=True)
-        return done.fetchall() if done.description else []
+        cursor = self.connection.execute(self.statement(text), values, binary=True)
+        return cursor.fetchall() if cursor.description else []
 
     def make(self) -> None:
         """Makes the schema, which must not be there yet, and those of its roles that are not there."""
