@@ -130,8 +130,7 @@ MISTAKES = [
     ("a hash by SHA-1", "acl.sexp", hash_of(f"sha1 #{DIGITS[:40]}#"), (2, 9), False, "strict policy"),
     ("a key that is cut off", "key.sexp", "(public-key (ecc (curve Ed25519) (flags eddsa) (q #2876#)))\n", (1, 13), False,
      "this is no whole key"),
-    ("a key in a key", "key.sexp", "(public-key (public-key (ecc)))\n", (1, 13), False, "replace the whole outer `(public-key ..)` by the inner one"),
-]
+    ("a key in a key", "key.sexp", "(public-key (public-key (ecc)))\n", (1, 13), False, "replace the whole outer `(public-key ..)` by the inner one")]
 
 # Words of a command that are a mistake: what is wrong, the words, the exit status, and words of what is said. `NAME` begins a sentence on a
 # file. In the folder are keys of alice, bob and carol, `acl.sexp` with an entry for alice, and `to-bob`, a certificate of alice for bob.
@@ -147,6 +146,7 @@ OF_WORDS = [OfWords(*row) for row in [
     ("an option of another command", (*BOB, "--acl", "acl.sexp"), 2,
      "--acl: no such option of sign, but of entry, ask (spki-cert sign --help)"),
     ("an option twice", (*BOB, "--days", "1", "--days", "2"), 2, "--days is given twice"),
+    ("an option twice, once its default", ("key", "new", "x", "--type", "ed25519", "--type", "rsa"), 2, "--type is given twice"),
     ("a tag without quotes", (*SIGNS, "bob.pub", "--days", "1", "--tag", "(packages", "read)"), 2, "put quotes around"),
     ("a date as a number of days", (*BOB, "--days", "2026-12-31"), 2, "a date is given by --until 2026-12-31"),
     ("no days", (*BOB, "--days", "0"), 2, "0 is no number from 1 to"),
@@ -242,5 +242,4 @@ OF_WORDS = [OfWords(*row) for row in [
     ("a signed request without its address", ("request", "--by", "alice"), 2, "arguments are required: URL ("),
     ("a new key without a name", ("key", "new", "--no-passphrase", "-"), 2, "needs the name of a file"),
     ("a new key that is called a public one", ("key", "new", "--no-passphrase", "eve.pub"), 2, "give eve, and the public key is eve.pub"),
-    ("a new key of another kind", ("key", "new", "--type", "p521", "new"), 2, "choose from 'ed25519', 'rsa', 'p256', 'p384'"),
-]]
+    ("a new key of another kind", ("key", "new", "--type", "p521", "new"), 2, "choose from 'ed25519', 'rsa', 'p256', 'p384'")]]

@@ -85,9 +85,7 @@ class Case(unittest.TestCase):
 
     def setUp(self):
         self.room = room_for(self)
-        self.settings = dict(os.environ)
-        for name in ("SSH_AUTH_SOCK", "SPKI_LABELS"):
-            self.settings.pop(name, None)
+        self.settings = {name: value for name, value in os.environ.items() if name not in ("SSH_AUTH_SOCK", "SPKI_LABELS")}
 
     def at(self, name):
         """The path of a file in the folder."""
@@ -186,6 +184,15 @@ class OfKeys(Case):
             self.assertIn(words, self.cert("key", "key.pem", wanted=2))
         self.write("key.pem", "nothing")
         self.assertIn("must be `(public-key ..)`", self.cert("key", "key.pem", wanted=2))
+
+    def test_digests_in_signatures(self):
+        """A digest is that of the certificate, by the algorithm that is named, and `(uri ..)` may be behind it."""
+        signer = keys.FileSigner(keys.new_private("ed25519"))
+        octets = sexp.canonical(cert := [b"cert", [b"issuer", signer.key], [b"subject", signer.key], [b"tag", [b"*"]]])
+        for digest, fault in (([b"sha512", hashlib.sha512(octets).digest()], None), ([b"sha512", bytes(64)], "DigestDiffers"),
+                              ([b"sha256", keys.digest_of(cert), [b"uri", b"x"]], None)):
+            signed = [b"sequence", cert, [b"signature", [b"hash", *digest], signer.key, signer.sign(octets)]]
+            self.assertEqual(fault_of_signature(certificates_in(signed)[0], Keys()), fault)
 
     def unused_key(self, kind):
         """A public key in PEM that `spki-cert` does not use: of RSA with 1024 bits for `rsa`, or else on the curve P-521."""
@@ -333,9 +340,8 @@ class OfCertificates(Case):
         """Without --yes the status is 4, and nothing is written."""
         for words, tag, message in [
                 ((), TAG, "it has no end"), (("--days", "1"), "(*)", "every request"),
-                (("--days", "1"), "(packages (read write))", "(* set read write)"),
-                (("--days", "1"), "(packages read /web/*)", "(* prefix /web/)"), (("--until", "2020-01-01"), TAG, "it ended on 2020"),
-                (("--from", "2099-01-02", "--until", "2099-01-01"), TAG, "never valid"),
+                (("--days", "1"), "(packages (read write))", "(* set read write)"), (("--days", "1"), "(packages read /web/*)", "(* prefix /web/)"),
+                (("--until", "2020-01-01"), TAG, "it ended on 2020"), (("--from", "2099-01-02", "--until", "2099-01-01"), TAG, "never valid"),
                 (("--days", "1", "--try", "packages", "delete", "/web/x"), TAG, "member 2 of the request is `delete`")]:
             with self.subTest(message):
                 self.assertIn(message, self.sign(*words, "-o", "c.sexp", tag=tag, wanted=4))
@@ -391,12 +397,11 @@ class OfCertificates(Case):
         """What is probably a mistake ends with status 4, and what a service would refuse with 2. The list stays as it is."""
         self.write("acl.sexp", "(acl)")
         to, into = ("entry", "--to", "bob.pub"), ("--acl", "acl.sexp")
-        sha1 = f"(hash sha1 #{'00' * 20}#)"
         for words, status, message in [
                 ((*to, "--tag", "(*)"), 4, "every request"), ((*to, "--tag", "(packages /web/*)"), 4, "(* prefix /web/)"),
                 ((*to, "--tag", TAG, "--until", "2020-01-01"), 4, "it ended on 2020"),
                 ((*to, "--tag", TAG, "--try", "packages", "delete", "x"), 4, "does not contain"),
-                (("entry", "--to", sha1, "--tag", TAG), 4, "names no key"),
+                (("entry", "--to", f"(hash sha1 #{'00' * 20}#)", "--tag", TAG), 4, "names no key"),
                 (("entry", "--to", "(name team)", "--tag", TAG), 2, "--to KEY --named NAME"), ((*to, "--tag", "(a"), 2, "a `)` is missing")]:
             with self.subTest(message):
                 self.assertIn(message, self.cert(*words, *into, wanted=status))

@@ -326,7 +326,7 @@ class Refuses(Case):
         good = sealed("# M\xfcller", f"{A} # 2026-01-01 x", "", B)
         lines = good.split(b"\n")
         rows = [("empty", b"", "not `end COUNT"), ("cut in a line", good[:99], "not `end COUNT"),
-                ("cut in the last line", good[:-9], "not `end COUNT"),
+                ("cut in the last line", good[:-9], "not `end COUNT"), ("a count too long", b"end %s %064d\n" % (b"9" * 5000, 0), "not `end COUNT"),
                 ("cut before the last line", good[:good.index(b"end ")], "not `end COUNT"), ("no end of line", good[:-1], "not `end COUNT"),
                 ("a line less", b"\n".join(lines[:1] + lines[2:]), "says 2 digests, and there are 1"),
                 ("a line more", b"\n".join([C.encode(), *lines]), "says 2 digests, and there are 3"),
@@ -379,10 +379,9 @@ class Adopts(Case):
         line."""
         for name, octets, lines in (
                 ("old", f"#old\n\n{A.upper()}\n {B} #  x\n{C}#\xfc\n".encode(), ["#old", "", A, f"{B} # x", f"{C} # \xfc"]),
-                ("nothing in a comment", f"{A} #\n#\n{B}\t# \n".encode(), [A, "#", B]),
-                ("no end of line", A.encode(), [A]), ("returns", f"{A}\r\n# x\r\n".encode(), [A, "# x"]),
-                ("another comment", sealed(f"{A} # x").replace(b"x", b"y"), [f"{A} # y"]), ("whole", sealed(A, "# x"), [A, "# x"]),
-                ("no last line", sealed(A, B)[:130], [A, B])):
+                ("nothing in a comment", f"{A} #\n#\n{B}\t# \n".encode(), [A, "#", B]), ("no end of line", A.encode(), [A]),
+                ("returns", f"{A}\r\n# x\r\n".encode(), [A, "# x"]), ("another comment", sealed(f"{A} # x").replace(b"x", b"y"), [f"{A} # y"]),
+                ("whole", sealed(A, "# x"), [A, "# x"]), ("no last line", sealed(A, B)[:130], [A, B])):
             with self.subTest(name=name):
                 self.write(ENDED, octets)
                 output = self.end("--adopt")

@@ -97,7 +97,8 @@ class Installed(built.OfLibrary):
                     self.assertEqual(output_of(os.path.join(room, "linked")), (0, ""))
 
     def test_loader(self) -> None:
-        """The last line says how a program finds the shared library, if the loader does not look there."""
+        """The last line says how a program finds the shared library, if the loader does not look there. An option is no prefix."""
+        self.assertEqual(output_of(os.path.join(TOP, "install.sh"), "--help")[0], 2)
         self.assertIn(f"the loader does not look into {self.prefix}/lib: name the folder in", self.output.splitlines()[-1])
 
     def test_version(self) -> None:

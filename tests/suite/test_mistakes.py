@@ -307,8 +307,7 @@ class OfKeyFiles(Room):
         os.chmod(self.at("alice"), 0o644)
         self.assertIn("its mode is 644; chmod 600 alice", self.sign("-o", "c.sexp", wanted=4))
         self.assertFalse(os.path.exists(self.at("c.sexp")))
-        parts = [[b"curve", b"Ed25519"], [b"flags", b"eddsa"], [b"q", b""], [b"d", bytes(32)]]
-        self.write("private.sexp", sexp.laid_out([b"private-key", [b"ecc", *parts]]))
+        self.write("private.sexp", f"(private-key (ecc (curve Ed25519) (flags eddsa) (q \"\") (d #{'00' * 32}#)))")
         os.chmod(self.at("private.sexp"), 0o640)
         self.assertIn("its mode is 640", self.cert("check", "private.sexp", wanted=1))
 
@@ -339,6 +338,8 @@ class OfKeyFiles(Room):
         self.assertIn("no file that can be read", self.cert("check", "none", wanted=2))
         os.mkfifo(self.at("folder/fifo"))
         self.cert("check", "folder")
+        with mock.patch("os.scandir", side_effect=PermissionError(13, "Permission denied", "folder")):
+            self.assertIn("folder: this folder cannot be read: Permission denied", self.cert("check", "folder", wanted=2))
         for name, kind in (("alice", "a private key, Ed25519"), ("bob.pub", "a public key, Ed25519"), ("to-bob", "a sequence, certificates: 1")):
             self.assertIn(f"{name}: {kind}", self.cert("check", name))
 

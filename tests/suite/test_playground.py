@@ -175,10 +175,9 @@ class Answers(OfPage):
             ("acl", "(tag (packages", "(tagg (packages", "(tagg", "is `tag` meant?"),
             ("acl", "(* set read", "(* sett read", "sett", "is `set` meant?"),
             ("sequence", "not-after", "not-afer", "(not-afer", "is `not-after` meant?"),
-            ("sequence", '"2026', "2026", "2026-06-30_23:59:59", "put quotes around"),
-            ("sequence", '59"))', '59"))) x', "x", "a text is one value"),
-            ("key", "(public-key", "(public-keys", "(public-keys", "is `public-key` meant?"),
-            ("key", "carol", "~", "~", "a member or `)`"), ("key", "carol))", "carol)", "", "before the value is whole")]
+            ("sequence", '"2026', "2026", "2026-06-30_23:59:59", "put quotes around"), ("sequence", '59"))', '59"))) x', "x", "a text is one value"),
+            ("key", "(public-key", "(public-keys", "(public-keys", "is `public-key` meant?"), ("key", "carol", "~", "~", "a member or `)`"),
+            ("key", "carol))", "carol)", "", "before the value is whole")]
         for box, old, new, marked, why in mistakes:
             with self.subTest(new):
                 text = STORY[box].replace(old, new, 1)

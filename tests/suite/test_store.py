@@ -18,6 +18,7 @@ import time
 import urllib.parse
 from collections.abc import Iterable
 from typing import Any
+from unittest import mock
 
 from harness import built, databases, golang, needs
 from harness.support import TESTS, TOP, room_for, text_of, waits_for
@@ -125,8 +126,10 @@ class Command(OfStore):
         """What is no entry, no digest, no schema and no server ends with a line and a status, and changes nothing."""
         for text in (b"(entry (public-key (test a)))", b"(entry (public-key (test a)) (tag (*))) x", b"", b"(acl)", b"(entry (tag (*)))"):
             self.spki_store(2, "add", self.file(text))
-        self.spki_store(2, "import", self.file(b"(3:acl" + A + b"(5:entry))"))
+        for text in (b"(3:acl" + A + b"(5:entry))", b"(3:acl(7:version1:1)" + A + b")"):
+            self.spki_store(2, "import", self.file(text))
         self.spki_store(2, "end", "00")
+        self.spki_store(2, "end", "00" * 32, "--remark", "\udcff")
         self.spki_store(3, "add", os.path.join(self.room, "none"))
         self.assertEqual(commands.main(["--database", self.server.address, "--schema", 'a"; DROP TABLE x', "log"]), 2)
         self.assertEqual(commands.main(["--database", self.server.address, "--schema", "none", "log"]), 2)
@@ -146,8 +149,7 @@ class Command(OfStore):
         wanted = texts.entry_of(f"(entry {alice.key} (tag (files read)))".encode())
         self.assertEqual([(row.number, row.text) for row in store.all()], [(1, wanted)])
         for status, more in ((3, ["host=/none"]), (4, [self.server.address, "--try", "files", "write"]), (2, [self.server.address, "--acl", "acl"])):
-            done = subprocess.run([test_go.SPKI_CERT, *words, *more], cwd=self.room, stdin=subprocess.DEVNULL, stdout=subprocess.PIPE,
-                                  stderr=subprocess.PIPE)
+            done = subprocess.run([test_go.SPKI_CERT, *words, *more], cwd=self.room, stdin=subprocess.DEVNULL, capture_output=True)
             self.assertEqual((done.returncode, done.stdout), (status, b""), done.stderr)
         self.assertEqual(len(list(store.all())), 1)
 
@@ -164,6 +166,13 @@ class Command(OfStore):
         self.assertEqual([row.text for row in self.store.all()], wanted)
         self.assertEqual(self.spki_store(0, "diff", path), "entries that differ: 0\n")
         self.assertIn("wrong 0", self.spki_store(0, "check"))
+
+    def test_two_imports_at_once(self) -> None:
+        """An import adds nothing if another one of the list has ended meanwhile."""
+        path = self.file(b"(3:acl" + A + b")")
+        with mock.patch.object(self.store, "add_many", lambda _: self.spki_store(0, "import", path)), self.assertRaises(texts.Wrong):
+            transfer.import_list(self.store, path, False)
+        self.assertEqual([row.text for row in self.store.all()], [A])
 
     def rows_of_older_store(self) -> tuple[list[bytes], list[tuple[int, bytes, bytes]]]:
         """Entries, one of them twice, and the rows that the table of `examples/database` in version 0.1.0 had for them: a number, a principal and a
@@ -681,7 +690,6 @@ class Replicated(OfServed):
                 with contextlib.suppress(OSError):
                     return all(daemons[0].daemon.ask(alice, "GET", "/web/a", path=front).status == wanted for _ in range(10))
                 return False
-
             self.add_entry(alice)
             waits_for("HAProxy asks nobody: the key of the check has no entry", lambda: are_all(503))
             self.add_entry(check)

@@ -85,7 +85,7 @@ class CommandParser(argparse.ArgumentParser):
         self.error(f"{word}: no such option{others}{near}")
 
     def _print_message(self, message: str, file: IO[str] | None = None) -> None:
-        """Writes the text of --help or --version to standard output: argparse calls this for it, and ignores errors in its own method."""
+        """Writes the text of --help or --version to standard output: argparse calls this for it. Its own method may hide that writing failed."""
         put(message)
 
     def error(self, message: str) -> NoReturn:
