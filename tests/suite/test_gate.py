@@ -84,11 +84,6 @@ class Bodies(unittest.TestCase):
 class Records(unittest.TestCase):
     """What the deep run has recorded."""
 
-    def test_promises(self) -> None:
-        """All wrong bodies of a crate were refused by its present promises. If not, `.ci/deep CRATE` tries them, and writes the record."""
-        stale = [name for name, crate in toolchain.crates().items() if bodies.paths_of(crate) and not records.is_right(crate)]
-        self.assertEqual(stale, [], "run .ci/deep with these crates")
-
     def test_text(self) -> None:
         """A record is about contracts of public functions and definitions, and neither about bodies nor about remarks."""
         def heads(text: str) -> list[str]:

@@ -1,7 +1,7 @@
 """Tests before anything is proved what else would fail late: that each source file is laid out as `rt fmt` lays it out, that each wrong
-body can be applied, that CONTRIBUTING.md lists those of must-fail/ and those of wrong/ that `.ci/run` tries, that no file is a link, and that
-CONTRIBUTING.md's line on the last run of `.ci/deep` names a commit of the history, no failure, and the seed of 1,000,000 texts or that only
-wrong bodies were tried."""
+body can be applied, that CONTRIBUTING.md lists those of must-fail/ and those of wrong/ that `.ci/run` tries, that all were tried against the
+present promises, that no file is a link, and that CONTRIBUTING.md's line on the last run of `.ci/deep` names a commit of the history, no
+failure, and the seed of 1,000,000 texts or that only wrong bodies were tried."""
 import glob
 import os
 import re
@@ -13,7 +13,7 @@ from collections.abc import Iterator
 
 from harness.support import output_of, text_of
 from harness.support import TOP as ROOT
-from merge_gate import plan, toolchain
+from merge_gate import bodies, plan, records, toolchain
 
 WRONG_BODIES = ("crates/*/wrong/*.edit", "crates/*/must-fail/*.edit")
 # A line of an edit that the toolchain reads.
@@ -62,6 +62,11 @@ class Layout(unittest.TestCase):
         crates = sorted(os.path.dirname(path) for path in glob.glob(os.path.join(ROOT, "crates", "*", "src")))
         faults = {os.path.relpath(crate, ROOT): files for crate in crates if (files := files_laid_out_wrongly(crate))}
         self.assertEqual(faults, {}, f"run rt fmt in {', '.join(faults)}")
+
+    def test_records(self) -> None:
+        """All wrong bodies of a crate were refused by its present promises. If not, `.ci/deep CRATE` tries them, and writes the record."""
+        stale = [name for name, crate in toolchain.crates().items() if bodies.paths_of(crate) and not records.is_right(crate)]
+        self.assertEqual(stale, [], "run .ci/deep with these crates")
 
     def test_wrong_bodies(self) -> None:
         faults = list(faults_of_wrong_bodies())
