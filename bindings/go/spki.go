@@ -1,6 +1,7 @@
-// Package spki has the types that carry what was proved, without the library: what a verifier is given, and a key that a client has proved to hold.
+// Package spki has the types that the other packages share: a Signature, which a verifier is given, and a ProvenKey, the key that a client has proved
+// to hold. It does not need libspki_c.
 //
-// The package guard decides, and verify verifies.
+// The package guard decides, and verify verifies signatures.
 package spki
 
 import (
@@ -10,7 +11,7 @@ import (
 )
 
 // A Signature is to be verified: whether Value is a signature of Message by Key. The texts are in canonical form: the issuer's `(public-key ..)`,
-// the certificate, and the value of `(signature ..)`. Name the fields where you make one.
+// the certificate, and the value of `(signature ..)`. Name the fields where you make one, since all have the same type.
 type Signature struct {
 	Key, Message, Value []byte
 }
@@ -19,7 +20,7 @@ type Signature struct {
 type Scheme int
 
 const (
-	// Unknown is the scheme of each other key, also of one with P-384, which package verify knows.
+	// Unknown is the scheme of each other key, also of one with P-384, although package verify verifies its signatures.
 	Unknown Scheme = iota
 	// Ed25519 is EdDSA.
 	Ed25519
@@ -29,7 +30,7 @@ const (
 	P256
 )
 
-// What the canonical texts of keys begin with.
+// What the canonical text of a key of each scheme begins with.
 var schemes = map[Scheme]string{
 	Ed25519: "(10:public-key(3:ecc(5:curve7:Ed25519)(5:flags5:eddsa)", RSA: "(10:public-key(3:rsa(", P256: "(10:public-key(3:ecc(5:curve10:NIST P-256)",
 }
@@ -59,9 +60,9 @@ func AssumeKey(key []byte) ProvenKey {
 	return ProvenKey{string(key)}
 }
 
-// ProveKey returns the key that has signed a message. The service itself must have made the message, with a nonce that it takes once, as that of a
-// signed request. The error is ErrNotProved if the signature is not valid, or if its message is a certificate: anyone can show a certificate, and
-// that does not prove who holds the key that signed it.
+// ProveKey returns the key that has signed a message. The service itself must have made the message, with a nonce that it accepts once: a signature of
+// anything else may be an old one, or have another purpose. `verify` says whether the signature is valid, as verify.Signature does. The error is
+// ErrNotProved if it is not, or if the message is a certificate: anyone can show a certificate, which proves nothing about who shows it.
 func ProveKey(signed Signature, verify func(Signature) bool) (ProvenKey, error) {
 	if bytes.HasPrefix(signed.Message, []byte("(4:cert")) || !verify(signed) {
 		return ProvenKey{}, ErrNotProved
@@ -69,7 +70,7 @@ func ProveKey(signed Signature, verify func(Signature) bool) (ProvenKey, error) 
 	return AssumeKey(signed.Key), nil
 }
 
-// Text returns the octets of the key.
+// Text returns the octets of the key, as they were given. They are empty for the zero value.
 func (k ProvenKey) Text() string {
 	return k.text
 }

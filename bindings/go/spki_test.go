@@ -7,7 +7,7 @@ import (
 	"conguraki/spki"
 )
 
-// login returns a message that is signed by b.
+// login returns a message with a signature by the key of b, of which the test says whether it is valid.
 func login(message string) spki.Signature {
 	return spki.Signature{Key: []byte("(10:public-key(4:test1:b))"), Message: []byte(message), Value: []byte("3:sig")}
 }
@@ -15,12 +15,13 @@ func login(message string) spki.Signature {
 // TestProveKey makes a key of a login whose signature is valid. Whoever shows a certificate does not hold the key that has signed it.
 func TestProveKey(t *testing.T) {
 	for _, row := range []struct {
-		message string
-		isValid bool
-		proved  bool
+		message  string
+		isValid  bool
+		isProved bool
 	}{{"(5:login7:service5:nonce)", true, true}, {"(5:login7:service5:nonce)", false, false}, {"(4:cert)", true, false}} {
 		key, err := spki.ProveKey(login(row.message), func(spki.Signature) bool { return row.isValid })
-		if row.proved != (err == nil) || row.proved != (key == spki.AssumeKey(login("").Key)) || !row.proved && !errors.Is(err, spki.ErrNotProved) {
+		isKey := key == spki.AssumeKey(login("").Key)
+		if row.isProved != (err == nil) || row.isProved != isKey || !row.isProved && !errors.Is(err, spki.ErrNotProved) {
 			t.Errorf("%+v: %v, %v", row, key, err)
 		}
 	}
@@ -35,19 +36,20 @@ func TestKeyAsLine(t *testing.T) {
 		"(10:public-key(4:test1:\xff))":         `"(10:public-key(4:test1:\xff))"`,
 		"(10:public-key(4:test2:\u00ff))":       `"(10:public-key(4:test2:\u00ff))"`,
 	} {
-		if met := spki.AssumeKey([]byte(key)).String(); met != wanted {
-			t.Errorf("%s, wanted %s", met, wanted)
+		if line := spki.AssumeKey([]byte(key)).String(); line != wanted {
+			t.Errorf("%s, wanted %s", line, wanted)
 		}
 	}
 }
 
+// TestScheme gives keys in canonical form, and what is no key. The scheme is that of how the text begins.
 func TestScheme(t *testing.T) {
 	for key, wanted := range map[string]spki.Scheme{
 		"(10:public-key(3:ecc(5:curve7:Ed25519)(5:flags5:eddsa)(1:q1:x)))": spki.Ed25519, "(10:public-key(3:rsa(1:n1:x)(1:e1:x)))": spki.RSA,
 		"(10:public-key(3:ecc(5:curve10:NIST P-256)(1:q1:x)))": spki.P256, "(10:public-key(4:test1:b))": spki.Unknown, "": spki.Unknown,
 	} {
-		if met := (spki.Signature{Key: []byte(key)}).Scheme(); met != wanted {
-			t.Errorf("%s: %d", key, met)
+		if scheme := (spki.Signature{Key: []byte(key)}).Scheme(); scheme != wanted {
+			t.Errorf("%s: %d", key, scheme)
 		}
 	}
 }

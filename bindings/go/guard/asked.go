@@ -11,57 +11,57 @@ import (
 // An Asked is a question that a guard has read, with the marks of its valid signatures. It owns all that it needs, may be answered any number of
 // times, and may be used by several goroutines. A copy of it is the same question: what closes one closes both.
 type Asked struct {
-	held  *heldAsked
-	count int
-	// most is the most octets of the lines of Explain or Reduce.
-	most int
+	shared *sharedAsked
+	count  int
+	// answerOctets is the most octets of the lines of Explain or Reduce.
+	answerOctets int
 }
 
-// A heldAsked is what the copies of an Asked share. It is closed when none is left.
-type heldAsked struct {
+// A sharedAsked is what the copies of an Asked share. It is closed when none is left.
+type sharedAsked struct {
 	mutex  sync.Mutex
 	handle askedHandle
-	// What Verified returns: the sequence, the policy by which its signatures are listed, and how many of these were marked in order, from the
-	// first. Other marks count for Decide alone.
-	sequence []byte
-	policy   Policy
-	marked   int
+	// What Verified returns: the sequence, the policy by which its signatures are listed, and how many of them Mark has marked in order: the first,
+	// then the second, and so on. Other marks count for Decide alone.
+	sequence      []byte
+	policy        Policy
+	markedInOrder int
 }
 
 // close frees the memory of the question, if it is open. Go's collector calls it too, once no copy is left.
-func (h *heldAsked) close() {
-	h.mutex.Lock()
-	defer h.mutex.Unlock()
-	if h.handle != nil {
-		closeAsked(h.handle)
-		h.handle = nil
-		runtime.SetFinalizer(h, nil)
+func (s *sharedAsked) close() {
+	s.mutex.Lock()
+	defer s.mutex.Unlock()
+	if s.handle != nil {
+		closeAsked(s.handle)
+		s.handle = nil
+		runtime.SetFinalizer(s, nil)
 	}
 }
 
-// lock locks a.held.mutex and returns the open handle. The caller unlocks it, unless the error is ErrClosed.
+// lock locks a.shared.mutex and returns the open handle. The caller unlocks it. With the error ErrClosed nothing is locked.
 func (a *Asked) lock() (askedHandle, error) {
-	if a.held == nil {
+	if a.shared == nil {
 		return nil, ErrClosed
 	}
-	a.held.mutex.Lock()
-	if a.held.handle == nil {
-		a.held.mutex.Unlock()
+	a.shared.mutex.Lock()
+	if a.shared.handle == nil {
+		a.shared.mutex.Unlock()
 		return nil, ErrClosed
 	}
-	return a.held.handle, nil
+	return a.shared.handle, nil
 }
 
 // expectOpen returns nil if the question is open, and otherwise ErrClosed.
 func (a *Asked) expectOpen() error {
 	_, err := a.lock()
 	if err == nil {
-		a.held.mutex.Unlock()
+		a.shared.mutex.Unlock()
 	}
 	return err
 }
 
-// A Signature is to be verified, and a ProvenKey is the key of who asks: package spki has both.
+// A Signature is to be verified, and a ProvenKey is the key of a client. Package spki has both.
 type (
 	Signature = spki.Signature
 	ProvenKey = spki.ProvenKey
@@ -76,16 +76,16 @@ func (a *Asked) Count() int {
 // false. A signature is copied when it is its turn, and one whose key is that of the signature before has the same octets for it: do not change
 // them. The error is ErrClosed if the question is closed, also meanwhile and also if it has no signature, or ErrMemory.
 func (a *Asked) Each(use func(place int, signed Signature) bool) error {
-	var signed Signature
+	var previous Signature
 	for place := 0; place < a.count; place++ {
-		next, err := a.signature(place, signed.Key)
+		signed, err := a.signature(place, previous.Key)
 		if err != nil {
 			return err
 		}
-		if !use(place, next) {
+		if !use(place, signed) {
 			return nil
 		}
-		signed = next
+		previous = signed
 	}
 	return a.expectOpen()
 }
@@ -100,13 +100,13 @@ func (a *Asked) Signatures() []Signature {
 	return listed
 }
 
-// signature returns a copy of the signature at a place, from 0. If its key equals the given one, that is used and not copied.
+// signature returns a copy of the signature at a place, from 0. If its key equals `key`, the result has `key` itself, so that no key is copied twice.
 func (a *Asked) signature(place int, key []byte) (Signature, error) {
 	handle, err := a.lock()
 	if err != nil {
 		return Signature{}, err
 	}
-	defer a.held.mutex.Unlock()
+	defer a.shared.mutex.Unlock()
 	return signature(handle, place, key)
 }
 
@@ -118,15 +118,15 @@ func (a *Asked) Mark(place int) error {
 	if err != nil {
 		return err
 	}
-	defer a.held.mutex.Unlock()
+	defer a.shared.mutex.Unlock()
 	if place < 0 {
 		return ErrMisused
 	}
 	if err := mark(handle, place); err != nil {
 		return err
 	}
-	if place == a.held.marked {
-		a.held.marked++
+	if place == a.shared.markedInOrder {
+		a.shared.markedInOrder++
 	}
 	return nil
 }
@@ -139,26 +139,26 @@ func (a *Asked) Verify(verify Verify) error {
 	})
 }
 
-// VerifyContext calls a function that may fail with each signature, in order, up to the first that is not valid, and marks those that are. The
-// context is tested before each signature and after the last. The error is that of the function or of the context, and then nothing is marked, or
-// that of Each.
+// VerifyContext is Verify by a function that may fail. The context is tested before the first signature and after each. The error is that of the
+// function or of the context, and then nothing is marked, or that of Each.
 func (a *Asked) VerifyContext(ctx context.Context, verify VerifyContext) error {
-	valid, failed := 0, ctx.Err()
-	err := a.Each(func(place int, signed Signature) bool {
-		isValid := false
-		if failed == nil {
-			isValid, failed = verify(ctx, signed)
+	valid, failure := 0, ctx.Err()
+	if failure != nil {
+		return failure
+	}
+	err := a.Each(func(_ int, signed Signature) bool {
+		isValid, err := verify(ctx, signed)
+		if err == nil {
+			err = ctx.Err()
 		}
-		if failed == nil {
-			failed = ctx.Err()
+		if failure = err; err != nil || !isValid {
+			return false
 		}
-		if isValid && failed == nil {
-			valid++
-		}
-		return isValid && failed == nil
+		valid++
+		return true
 	})
-	if failed != nil {
-		return failed
+	if failure != nil {
+		return failure
 	}
 	for place := 0; place < valid && err == nil; place++ {
 		err = a.Mark(place)
@@ -166,14 +166,14 @@ func (a *Asked) VerifyContext(ctx context.Context, verify VerifyContext) error {
 	return err
 }
 
-// Possible says whether the request would be granted if all signatures were valid. If not, no marks make it a yes, and no signature has to be
+// Possible says whether the request would be granted if all signatures were valid. If not, no marks make it a yes, and no signature needs to be
 // verified. True grants nothing. It is false after Close.
 func (a *Asked) Possible() bool {
 	handle, err := a.lock()
 	if err != nil {
 		return false
 	}
-	defer a.held.mutex.Unlock()
+	defer a.shared.mutex.Unlock()
 	return possible(handle)
 }
 
@@ -183,42 +183,42 @@ func (a *Asked) Decide() (Decision, error) {
 	if err != nil {
 		return Decision{}, err
 	}
-	defer a.held.mutex.Unlock()
+	defer a.shared.mutex.Unlock()
 	return decide(handle)
 }
 
 // Explain says of each entry why it grants the request or does not, or which certificate stops all of them. The error is ErrTooLarge if a limit is
 // exceeded, ErrMemory, or ErrClosed.
 func (a *Asked) Explain() (Explanation, error) {
-	text, err := a.lines(toExplain)
+	text, err := a.lines(explainCommand)
 	return Explanation{text}, err
 }
 
 // Reduce returns which right remains of each entry after all certificates: the lines of the program's command reduce. The errors are those of
 // Explain.
 func (a *Asked) Reduce() (string, error) {
-	return a.lines(toReduce)
+	return a.lines(reduceCommand)
 }
 
 // Close frees the memory of the question. Its guard and other questions stay open. It may be called at any time and more than once.
 func (a *Asked) Close() {
-	if a.held != nil {
-		a.held.close()
+	if a.shared != nil {
+		a.shared.close()
 	}
 }
 
-// lines returns the lines of Explain or of Reduce, whichever is wished for, without the last line feed.
-func (a *Asked) lines(wish wish) (string, error) {
+// lines returns the lines of Explain or of Reduce, by the command, without the last line feed.
+func (a *Asked) lines(command command) (string, error) {
 	handle, err := a.lock()
 	if err != nil {
 		return "", err
 	}
-	defer a.held.mutex.Unlock()
-	return lines(handle, wish, a.most)
+	defer a.shared.mutex.Unlock()
+	return lines(handle, command, a.answerOctets)
 }
 
-// isWorthVerifying says whether there is a signature, and the request can be granted. Otherwise the decision is the same whatever is marked, and
-// Guard.Decide calls no verifier.
+// isWorthVerifying says whether there is a signature and the request would be granted if all were valid. Otherwise the decision is the same whatever
+// is marked, and Guard.Decide calls no verifier.
 func (a *Asked) isWorthVerifying() bool {
 	return a.count > 0 && a.Possible()
 }

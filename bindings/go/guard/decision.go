@@ -10,8 +10,9 @@ import (
 
 // A Decision says whether a request is granted. The zero value is a no.
 type Decision struct {
-	// The entry is 0 for a no. The end is in seconds since 1970: math.MaxInt64 if no window ends.
+	// entry is the number of the entry that grants the request, from 1, and 0 for a no.
 	entry int
+	// until is the last second of a grant, since 1970: math.MaxInt64 if no window ends.
 	until int64
 }
 
@@ -34,9 +35,9 @@ func (d Decision) Until() time.Time {
 	return time.Unix(d.until, 0).UTC()
 }
 
-// HoldsAt says whether a decision that was kept still grants the request at a time, which must not precede the question's. It is false before 1970:
-// such a time is that of a clock that failed. It does not see that another list was read since, nor that the
-// verifier would now reject a signature.
+// HoldsAt says whether a decision that was kept still grants the request at a time, which must not precede the question's. It is false before 1970,
+// since only a clock that failed gives such a time. It does not know whether another list was read since, nor whether the verifier would now reject a
+// signature.
 func (d Decision) HoldsAt(now time.Time) bool {
 	return d.Granted() && now.Unix() >= 0 && now.Unix() <= d.until
 }
@@ -53,14 +54,14 @@ func (d Decision) String() string {
 // other line.
 func decisionOf(line string, until int64) (Decision, error) {
 	const before = "yes entry "
-	entry, err := strconv.Atoi(strings.TrimPrefix(lineOf(line), before))
+	entry, err := strconv.Atoi(strings.TrimPrefix(withoutLineFeed(line), before))
 	if !strings.HasPrefix(line, before) || err != nil || entry < 1 {
 		return Decision{}, fmt.Errorf("libspki_c is of another version than this module: %q", line)
 	}
 	return Decision{entry, until}, nil
 }
 
-// lineOf returns lines, which the library ends with a line feed, without the last one.
-func lineOf(lines string) string {
+// withoutLineFeed returns lines of the library without the last line feed. The library ends each line with one.
+func withoutLineFeed(lines string) string {
 	return strings.TrimSuffix(lines, "\n")
 }

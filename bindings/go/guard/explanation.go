@@ -21,27 +21,27 @@ type Reason struct {
 	Word string
 }
 
-// A line of an explanation: the number of the entry, the number of the item, and the word. The text `no entries` is no such line.
-var reason = regexp.MustCompile(`(?m)^(?:entry (\d+) )?(?:item (\d+) )?(\w+)$`)
+// reasonLine is a line of an explanation: the number of the entry, the number of the item, and the word. The text `no entries` is no such line.
+var reasonLine = regexp.MustCompile(`(?m)^(?:entry (\d+) )?(?:item (\d+) )?(\w+)$`)
 
 // String returns the lines as they are, without the last line feed.
 func (e Explanation) String() string {
 	return e.text
 }
 
-// Reasons returns the lines one by one. There is none if the access list is empty, whose text is `no entries`.
+// Reasons returns the lines one by one. There is none if the access list is empty: then the text is `no entries`.
 func (e Explanation) Reasons() []Reason {
 	var reasons []Reason
-	for _, found := range reason.FindAllStringSubmatch(e.text, -1) {
+	for _, parts := range reasonLine.FindAllStringSubmatch(e.text, -1) {
 		// (Atoi returns 0 for a number that the line does not have)
-		entry, _ := strconv.Atoi(found[1])
-		item, _ := strconv.Atoi(found[2])
-		reasons = append(reasons, Reason{entry, item, found[3]})
+		entry, _ := strconv.Atoi(parts[1])
+		item, _ := strconv.Atoi(parts[2])
+		reasons = append(reasons, Reason{entry, item, parts[3]})
 	}
 	return reasons
 }
 
-// String returns the line.
+// String returns the line, such as `entry 2 item 1 NotIssuer`.
 func (r Reason) String() string {
 	line := r.Word
 	if r.Item > 0 {

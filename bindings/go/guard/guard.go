@@ -39,10 +39,10 @@ const Version = "0.2.0"
 // A Guard is an access list that was read once and is asked often, also by several goroutines at the same time. A copy of a Guard is the same
 // guard: what closes one closes both.
 type Guard struct {
-	held *heldGuard
-	log  func(Event)
-	// most is the most octets of the lines of Explain or Reduce.
-	most int
+	shared *sharedGuard
+	log    func(Event)
+	// answerOctets is the most octets of the lines of Explain or Reduce.
+	answerOctets int
 }
 
 // An Event is what a guard has decided, for a log. It grants nothing.
@@ -55,40 +55,41 @@ type Event struct {
 }
 
 // Logged returns the same guard, which calls a function after each Decide, DecideContext, DecideVerified and Require, before they return. The
-// function may be called by several goroutines at the same time. If it panics, so does the decision, and nothing is granted.
+// function may be called by several goroutines at the same time. If it panics, so does the decision, and nothing is granted. It is not called for a
+// decision whose verifier panics.
 func (g *Guard) Logged(log func(Event)) *Guard {
-	return &Guard{g.held, log, g.most}
+	return &Guard{g.shared, log, g.answerOctets}
 }
 
-// A heldGuard is what the copies of a Guard share. It is closed when none is left.
-type heldGuard struct {
+// A sharedGuard is what the copies of a Guard share. It is closed when none is left.
+type sharedGuard struct {
 	mutex  sync.RWMutex
 	handle guardHandle
 	policy Policy
 }
 
 // close frees the memory of the guard, if it is open. Go's collector calls it too, once no copy is left.
-func (h *heldGuard) close() {
-	h.mutex.Lock()
-	defer h.mutex.Unlock()
-	if h.handle != nil {
-		closeGuard(h.handle)
-		h.handle = nil
-		runtime.SetFinalizer(h, nil)
+func (s *sharedGuard) close() {
+	s.mutex.Lock()
+	defer s.mutex.Unlock()
+	if s.handle != nil {
+		closeGuard(s.handle)
+		s.handle = nil
+		runtime.SetFinalizer(s, nil)
 	}
 }
 
-// lock locks g.held.mutex for reading and returns the open handle. The caller unlocks it, unless the error is ErrClosed.
+// lock locks g.shared.mutex for reading and returns the open handle. The caller unlocks it by RUnlock. With the error ErrClosed nothing is locked.
 func (g *Guard) lock() (guardHandle, error) {
-	if g.held == nil {
+	if g.shared == nil {
 		return nil, ErrClosed
 	}
-	g.held.mutex.RLock()
-	if g.held.handle == nil {
-		g.held.mutex.RUnlock()
+	g.shared.mutex.RLock()
+	if g.shared.handle == nil {
+		g.shared.mutex.RUnlock()
 		return nil, ErrClosed
 	}
-	return g.held.handle, nil
+	return g.shared.handle, nil
 }
 
 // A Verify says whether a signature is valid.
@@ -99,25 +100,25 @@ type Verify func(signature Signature) bool
 type VerifyContext func(ctx context.Context, signature Signature) (bool, error)
 
 // Open reads an access list, `(acl entry ..)`, in any of the three forms of RFC 9804. The error is a *Refusal if the text is no access list,
-// and ErrMisused if a limit is over the highest or below zero.
+// ErrMisused if there is no such policy, or a limit is over the highest or below zero, and another one if the library is of another version.
 func Open(list []byte, policy Policy, limits Limits) (*Guard, error) {
 	if err := limits.check(); err != nil {
 		return nil, err
 	}
-	opened, err := open(list, policy, limits)
+	handle, err := open(list, policy, limits)
 	if err != nil {
 		return nil, err
 	}
-	held := &heldGuard{handle: opened, policy: policy}
-	runtime.SetFinalizer(held, (*heldGuard).close)
-	return &Guard{held: held, most: limits.mostAnswer()}, nil
+	shared := &sharedGuard{handle: handle, policy: policy}
+	runtime.SetFinalizer(shared, (*sharedGuard).close)
+	return &Guard{shared: shared, answerOctets: limits.answerOctets()}, nil
 }
 
 // Close closes the guard: a later question is ErrClosed. Questions that it was asked stay open, and its memory is freed once they are closed too. It
 // may be called at any time and more than once.
 func (g *Guard) Close() {
-	if g.held != nil {
-		g.held.close()
+	if g.shared != nil {
+		g.shared.close()
 	}
 }
 
@@ -127,50 +128,51 @@ func (g *Guard) Entries() int {
 	if err != nil {
 		return 0
 	}
-	defer g.held.mutex.RUnlock()
+	defer g.shared.mutex.RUnlock()
 	return entries(handle)
 }
 
-// Ask reads a question. Nothing of it is used after Ask returns. The error is a *Refusal that names the part if one cannot be read or
-// exceeds a limit, ErrMisused if the request or the time is given in two ways, and ErrClosed after Close.
+// Ask opens a question, whose signatures the caller marks. Nothing of the argument is used after Ask returns. The error is a *Refusal if a part of
+// the question, which it names, cannot be read or exceeds a limit, or if an allocation failed. It is ErrMisused if the request or the time is given in
+// two ways, and ErrClosed after Close.
 func (g *Guard) Ask(question Question) (*Asked, error) {
 	asked, err := g.ask(&question)
 	if err != nil {
 		return nil, err
 	}
-	runtime.SetFinalizer(asked.held, (*heldAsked).close)
+	runtime.SetFinalizer(asked.shared, (*sharedAsked).close)
 	return &asked, nil
 }
 
-// ask is Ask without the finalizer, for a caller that closes the question in any case. It takes a pointer, and copies what it keeps of the question.
+// ask is Ask without the finalizer, for a caller that closes the question in any case. It keeps copies alone of what `question` has.
 func (g *Guard) ask(question *Question) (Asked, error) {
 	handle, err := g.lock()
 	if err != nil {
 		return Asked{}, err
 	}
-	defer g.held.mutex.RUnlock()
+	defer g.shared.mutex.RUnlock()
 	opened, count, err := ask(handle, question)
 	if err != nil {
 		return Asked{}, err
 	}
-	held := &heldAsked{handle: opened, sequence: append([]byte(nil), question.Sequence...), policy: g.held.policy}
-	return Asked{held: held, count: count, most: g.most}, nil
+	shared := &sharedAsked{handle: opened, sequence: append([]byte(nil), question.Sequence...), policy: g.shared.policy}
+	return Asked{shared: shared, count: count, answerOctets: g.answerOctets}, nil
 }
 
-// Decide asks a question, verifies its signatures in order, up to the first that is not valid, and decides. Nothing is verified where the
-// request cannot be granted, whatever is valid. The error is that of Ask: a *Refusal, ErrMisused or ErrClosed. With an error the decision is no yes.
+// Decide asks a question, verifies its signatures in order, up to the first that is not valid, and decides. None is verified if the request would be
+// denied even if all were valid. The error is that of Ask: a *Refusal, ErrMisused or ErrClosed. With an error the decision is a no.
 func (g *Guard) Decide(question Question, verify Verify) (Decision, error) {
 	return g.decideAndLog(question, func() (Decision, error) { return g.decide(&question, verify) })
 }
 
-// decideAndLog returns what the function `decide` returns. If the guard is Logged, the function of the log is called with it before.
+// decideAndLog returns what the function `decide` returns. If the guard is Logged, it passes that to the function of the log before.
 func (g *Guard) decideAndLog(question Question, decide func() (Decision, error)) (Decision, error) {
 	if g.log == nil {
 		return decide()
 	}
-	begun := time.Now()
+	start := time.Now()
 	decision, err := decide()
-	g.log(Event{question, decision, err, time.Since(begun)})
+	g.log(Event{question, decision, err, time.Since(start)})
 	return decision, err
 }
 
@@ -182,17 +184,15 @@ func (g *Guard) decide(question *Question, verify Verify) (Decision, error) {
 	}
 	defer asked.Close()
 	if asked.isWorthVerifying() {
-		err = asked.Verify(verify)
-	}
-	if err != nil {
-		return Decision{}, err
+		if err := asked.Verify(verify); err != nil {
+			return Decision{}, err
+		}
 	}
 	return asked.Decide()
 }
 
-// DecideContext asks a question, verifies its signatures by a function that may fail, in order, up to the first that is not valid, and decides. The
-// context is tested before each signature and before the decision. The error is that of Ask, of the function or of the context. Then nothing is
-// granted.
+// DecideContext is Decide by a function that may fail. The context is tested before the first signature and after each, and also if none is verified.
+// The error is that of Ask, or it is or wraps that of the context or of the function. With an error the decision is a no.
 func (g *Guard) DecideContext(ctx context.Context, question Question, verify VerifyContext) (Decision, error) {
 	return g.decideAndLog(question, func() (Decision, error) { return g.decideContext(ctx, &question, verify) })
 }
@@ -204,17 +204,19 @@ func (g *Guard) decideContext(ctx context.Context, question *Question, verify Ve
 		return Decision{}, err
 	}
 	defer asked.Close()
-	if err = ctx.Err(); err == nil && asked.isWorthVerifying() {
-		err = asked.VerifyContext(ctx, verify)
+	if err := ctx.Err(); err != nil {
+		return Decision{}, err
 	}
-	if err != nil {
-		return Decision{}, fmt.Errorf("a signature could not be verified: %w", err)
+	if asked.isWorthVerifying() {
+		if err := asked.VerifyContext(ctx, verify); err != nil {
+			return Decision{}, fmt.Errorf("a signature could not be verified: %w", err)
+		}
 	}
 	return asked.Decide()
 }
 
-// Require decides as DecideContext does, and returns the number of the entry that grants the request. A no is an error too: ErrDenied. So a caller
-// tests nothing but the error.
+// Require decides as DecideContext does, and returns the number of the entry that grants the request, from 1. A no is an error too: ErrDenied. So a
+// caller tests nothing but the error.
 func (g *Guard) Require(ctx context.Context, question Question, verify VerifyContext) (int, error) {
 	decision, err := g.DecideContext(ctx, question, verify)
 	if err == nil && !decision.Granted() {

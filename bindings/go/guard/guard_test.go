@@ -767,8 +767,10 @@ func TestPanicOfVerifier(t *testing.T) {
 	}
 }
 
-// TestForms converts texts among the three forms of RFC 9804, and what is in none of them is refused.
+// TestForms converts texts among the three forms of RFC 9804, and what is in none of them is refused. For `tooLong` no room is taken by its length: 16
+// MiB are copied from a string, and an answer to a text within the limit has room for 3 MiB.
 func TestForms(t *testing.T) {
+	tooLong := strings.Repeat(" ", 16<<20)
 	canonical, err := guard.Canonical([]byte("(a b)"))
 	if err != nil || string(canonical) != "(1:a1:b)" {
 		t.Errorf("%q, %v", canonical, err)
@@ -782,7 +784,7 @@ func TestForms(t *testing.T) {
 	if _, err := guard.Canonical([]byte("(a ~)")); fmt.Sprint(err) != "refused form Bad 3" {
 		t.Error(err)
 	}
-	// (no text grows more in advanced form: an octet printed in base64 takes 7 octets for the 3 of its canonical text, and converted has room for 9)
+	// (no text grows more in advanced form: an octet printed in base64 takes 7 octets for the 3 of its canonical text, and convert has room for 9)
 	if text, err := guard.Advanced([]byte("(" + strings.Repeat("1:\x00", 1000) + ")")); err != nil || len(text) != 7002 {
 		t.Errorf("%d, %v", len(text), err)
 	}
@@ -792,6 +794,15 @@ func TestForms(t *testing.T) {
 	}
 	if _, err := guard.Canonical(nil); fmt.Sprint(err) != "refused form Short" {
 		t.Error(err)
+	}
+	var before, after runtime.MemStats
+	runtime.ReadMemStats(&before)
+	if _, err := guard.Canonical([]byte(tooLong)); !errors.Is(err, guard.ErrTooLong) {
+		t.Error(err)
+	}
+	runtime.ReadMemStats(&after)
+	if allocated := after.TotalAlloc - before.TotalAlloc; allocated > 2*uint64(len(tooLong)) {
+		t.Errorf("%d octets are allocated for a text that is refused", allocated)
 	}
 }
 

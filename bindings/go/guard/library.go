@@ -1,7 +1,7 @@
 package guard
 
-// All calls of the library are in this file. Go's memory is handed over for one call: no pointer to it is in memory of C's when a call
-// returns, and the memory itself has no pointers.
+// All calls of the library are in this file. C uses memory of Go's during one call only, and keeps no pointer to it. Such memory has no pointers
+// itself, as cgo requires.
 
 /*
 #cgo !spki_shared CFLAGS: -I${SRCDIR}/../../../crates/spki_c
@@ -17,17 +17,19 @@ import (
 	"unsafe"
 )
 
-// status is an enum spki_status.
-type status = C.enum_spki_status
-
-// What an open guard is, and a question that it has read. Each is closed once.
+// The addresses of an open guard, and of a question that was opened. Each is closed once.
 type (
 	guardHandle = *C.spki_guard
 	askedHandle = *C.spki_asked
 )
 
-// A wish says which answer to a question is asked for.
-type wish = C.enum_library_wish
+// A command says what a call writes. Of a question that is explainCommand or reduceCommand.
+type command = C.enum_spki_command
+
+const (
+	explainCommand command = C.SPKI_EXPLAIN
+	reduceCommand  command = C.SPKI_REDUCE
+)
 
 // The most that limits may set, and the usual limit of an answer.
 const (
@@ -40,12 +42,7 @@ const (
 	roomForLine = C.LIBRARY_LINE
 )
 
-const (
-	toExplain wish = C.LIBRARY_EXPLAIN
-	toReduce  wish = C.LIBRARY_REDUCE
-)
-
-// text returns octets as the library takes them. It lends them for one call.
+// text returns octets as an argument of the library, which reads them where they are during one call.
 func text(octets []byte) C.struct_spki_text {
 	if len(octets) == 0 {
 		return C.struct_spki_text{}
@@ -53,7 +50,7 @@ func text(octets []byte) C.struct_spki_text {
 	return C.struct_spki_text{octets: unsafe.Pointer(&octets[0]), length: C.size_t(len(octets))}
 }
 
-// octetsOf lends octets that belong to the library, for as long as the library keeps them.
+// octetsOf returns the octets of a text of the library without a copy. They are valid until the library frees them.
 func octetsOf(text C.struct_spki_text) []byte {
 	if text.length == 0 {
 		return nil
@@ -61,7 +58,7 @@ func octetsOf(text C.struct_spki_text) []byte {
 	return unsafe.Slice((*byte)(text.octets), int(text.length))
 }
 
-// policyOf is a policy as the library takes it. One that does not exist is no policy of the library either.
+// policyOf returns a policy as an argument of the library. For one that does not exist it is a number that the library refuses too.
 func policyOf(policy Policy) C.enum_spki_policy {
 	switch policy {
 	case Strict:
@@ -73,16 +70,16 @@ func policyOf(policy Policy) C.enum_spki_policy {
 }
 
 // lineIn returns the line that a call has written. It is empty if it did not fit.
-func lineIn(said *C.struct_library_said) string {
-	if said.length > roomForLine {
+func lineIn(result *C.struct_library_result) string {
+	if result.length > roomForLine {
 		return ""
 	}
-	return string(unsafe.Slice((*byte)(unsafe.Pointer(&said.line)), int(said.length)))
+	return string(unsafe.Slice((*byte)(unsafe.Pointer(&result.line)), int(result.length)))
 }
 
-// errorOf returns the error of a call that failed, by its status, and by the line that it wrote if it is SPKI_REFUSED.
-func errorOf(met status, line string) error {
-	switch met {
+// errorOf returns the error of a call that failed, by its status. The line is used for SPKI_REFUSED alone: it is the one that the call has written.
+func errorOf(status C.enum_spki_status, line string) error {
+	switch status {
 	case C.SPKI_REFUSED:
 		return refusalOf(line)
 	case C.SPKI_MISUSED:
@@ -90,23 +87,23 @@ func errorOf(met status, line string) error {
 	case C.SPKI_NO_MEMORY:
 		return &Refusal{ErrMemory.Error()}
 	}
-	return fmt.Errorf("libspki_c is of another version than this module: status %d", uint(met))
+	return fmt.Errorf("libspki_c is of another version than this module: status %d", uint(status))
 }
 
-// open reads an access list. The caller closes the guard.
+// open reads an access list. The caller closes the guard. A library of another version is an error too.
 func open(list []byte, policy Policy, limits Limits) (guardHandle, error) {
-	if met := C.GoString(C.spki_version()); !isOurs(met) {
-		return nil, fmt.Errorf("libspki_c has the version %s, and this module needs %s", met, Version)
+	if linked := C.GoString(C.spki_version()); !isCompatible(linked) {
+		return nil, fmt.Errorf("libspki_c has the version %s, and this module needs %s", linked, Version)
 	}
-	given := C.struct_spki_limits{
+	most := C.struct_spki_limits{
 		octets: C.size_t(limits.Octets), certificates: C.size_t(limits.Certificates), words: C.size_t(limits.Words),
 		nodes: C.size_t(limits.Nodes), work: C.size_t(limits.Work), answer: C.size_t(limits.Answer),
 	}
-	said := C.library_open(text(list), policyOf(policy), given)
-	if said.status != C.SPKI_DONE || said.guard == nil {
-		return nil, errorOf(said.status, lineIn(&said))
+	result := C.library_open(text(list), policyOf(policy), most)
+	if result.status != C.SPKI_DONE || result.guard == nil {
+		return nil, errorOf(result.status, lineIn(&result))
 	}
-	return said.guard, nil
+	return result.guard, nil
 }
 
 // closeGuard frees a guard, once its questions are closed too.
@@ -119,59 +116,61 @@ func entries(guard guardHandle) int {
 	return int(C.spki_guard_entries(guard))
 }
 
-// A lent is a question as one call takes it: `parts` says how request and time are given, `joined` has all texts but the sequence in one piece, and
-// `lengths` the length of each. Each pointer is an argument by itself: memory of Go's that C is given must have no pointer to other such memory.
-type lent struct {
+// The arguments of a call that takes a question: `parts` says how request and time are given, `joined` has all texts but the sequence in one piece, and
+// `lengths` the length of each. Each pointer is an argument by itself, since memory of Go's must have no pointer to other memory of Go's.
+type arguments struct {
 	parts            C.struct_library_question
 	sequence, joined *C.char
 	lengths          *C.size_t
 }
 
-// lend returns a question as one call takes it. It copies all texts but the sequence, whose octets the call reads where they are.
-func lend(question *Question) lent {
+// argumentsOf returns a question as arguments of a call. It copies all texts but the sequence, whose octets the call reads where they are.
+func argumentsOf(question *Question) arguments {
 	joined, lengths := question.joined()
-	made := lent{
+	given := arguments{
 		parts:    C.struct_library_question{sequence_length: C.size_t(len(question.Sequence)), word_count: C.size_t(len(question.Words))},
 		sequence: (*C.char)(text(question.Sequence).octets), joined: (*C.char)(text(joined).octets), lengths: (*C.size_t)(unsafe.Pointer(&lengths[0])),
 	}
 	if question.Words != nil {
-		made.parts.by_words = 1
+		given.parts.by_words = 1
 	}
 	if !question.Time.IsZero() {
-		made.parts.by_seconds, made.parts.seconds = 1, C.int64_t(question.Time.Unix())
+		given.parts.by_seconds, given.parts.seconds = 1, C.int64_t(question.Time.Unix())
 	}
-	return made
+	return given
 }
 
-// ask reads a question, and counts its signatures. The caller closes it.
+// ask opens a question, and counts its signatures. The caller closes it.
 func ask(guard guardHandle, question *Question) (asked askedHandle, count int, err error) {
-	lent := lend(question)
-	said := C.library_ask(guard, lent.parts, lent.sequence, lent.joined, lent.lengths)
-	if said.status != C.SPKI_DONE || said.asked == nil {
-		return nil, 0, errorOf(said.status, lineIn(&said))
+	given := argumentsOf(question)
+	result := C.library_ask(guard, given.parts, given.sequence, given.joined, given.lengths)
+	if result.status != C.SPKI_DONE || result.asked == nil {
+		return nil, 0, errorOf(result.status, lineIn(&result))
 	}
-	return said.asked, int(said.count), nil
+	return result.asked, int(result.count), nil
 }
 
-// signature returns a copy of the signature at a place, from 0. If its key equals the given one, that is used and not copied.
+// signature returns a copy of the signature at a place, from 0. If its key equals `key`, the result has `key` itself, so that no key is copied twice.
 func signature(asked askedHandle, place int, key []byte) (Signature, error) {
 	var signed C.struct_spki_signed
-	if met := C.spki_asked_signature(asked, C.size_t(place), &signed); met != C.SPKI_DONE {
-		return Signature{}, errorOf(met, "")
+	if status := C.spki_asked_signature(asked, C.size_t(place), &signed); status != C.SPKI_DONE {
+		return Signature{}, errorOf(status, "")
 	}
-	if lent := octetsOf(signed.key); !bytes.Equal(lent, key) {
-		key = append([]byte(nil), lent...)
+	if own := octetsOf(signed.key); !bytes.Equal(own, key) {
+		key = append([]byte(nil), own...)
 	}
+	// (one allocation for both)
 	message, value := octetsOf(signed.message), octetsOf(signed.value)
 	both, length := make([]byte, len(message)+len(value)), len(message)
-	copy(both[copy(both, message):], value)
+	copy(both, message)
+	copy(both[length:], value)
 	return Signature{Key: key, Message: both[:length:length], Value: both[length:]}, nil
 }
 
-// mark says that the signature at a place, from 0, is valid.
+// mark says that the signature at a place, from 0, is valid. The error is ErrMisused if there is no such place.
 func mark(asked askedHandle, place int) error {
-	if met := C.spki_asked_mark(asked, C.size_t(place)); met != C.SPKI_DONE {
-		return errorOf(met, "")
+	if status := C.spki_asked_mark(asked, C.size_t(place)); status != C.SPKI_DONE {
+		return errorOf(status, "")
 	}
 	return nil
 }
@@ -183,42 +182,42 @@ func possible(asked askedHandle) bool {
 
 // decide returns the decision by the marks of a question.
 func decide(asked askedHandle) (Decision, error) {
-	said := C.library_decide(asked)
-	return decisionIn(&said)
+	result := C.library_decide(asked)
+	return decisionIn(&result)
 }
 
-// decideVerified returns the decision of a question of which the first `valid` signatures are valid, in one call. It is ErrMisused unless the
-// question has `listed` signatures, as it had when they were verified.
+// decideVerified returns the decision of a question of which the first `valid` signatures are valid, in one call. The error is ErrMisused unless the
+// question has `listed` signatures, as it had when they were verified, and otherwise that of ask.
 func decideVerified(guard guardHandle, question *Question, listed, valid int) (Decision, error) {
-	lent := lend(question)
-	said := C.library_decide_verified(guard, lent.parts, lent.sequence, lent.joined, lent.lengths, C.size_t(listed), C.size_t(valid))
-	return decisionIn(&said)
+	given := argumentsOf(question)
+	result := C.library_decide_verified(guard, given.parts, given.sequence, given.joined, given.lengths, C.size_t(listed), C.size_t(valid))
+	return decisionIn(&result)
 }
 
 // decisionIn returns the decision that a call has made, or the error if its status is neither SPKI_YES nor SPKI_NO.
-func decisionIn(said *C.struct_library_said) (Decision, error) {
-	switch said.status {
+func decisionIn(result *C.struct_library_result) (Decision, error) {
+	switch result.status {
 	case C.SPKI_YES:
-		return decisionOf(lineIn(said), int64(said.until))
+		return decisionOf(lineIn(result), int64(result.until))
 	case C.SPKI_NO:
 		return Decision{}, nil
 	}
-	return Decision{}, errorOf(said.status, lineIn(said))
+	return Decision{}, errorOf(result.status, lineIn(result))
 }
 
-// lines returns the lines of an explanation or of a reduction, whichever is wished for, without the last line feed. They have
-// at most `most` octets, or roomForLine if that is more: a refusal must fit.
-func lines(asked askedHandle, wish wish, most int) (string, error) {
+// lines returns the lines of a command without the last line feed. They have at most `most` octets, the guard's limit of an answer, or roomForLine if
+// that is more: a refusal must fit.
+func lines(asked askedHandle, command command, most int) (string, error) {
 	if most < roomForLine {
 		most = roomForLine
 	}
 	var written C.struct_spki_text
-	met := C.library_lines(asked, wish, C.size_t(most), &written)
+	status := C.library_lines(asked, command, C.size_t(most), &written)
 	defer C.library_free(written)
-	if met != C.SPKI_DONE {
-		return "", errorOf(met, string(octetsOf(written)))
+	if status != C.SPKI_DONE {
+		return "", errorOf(status, string(octetsOf(written)))
 	}
-	return lineOf(string(octetsOf(written))), nil
+	return withoutLineFeed(string(octetsOf(written))), nil
 }
 
 // closeAsked frees a question.
@@ -226,33 +225,38 @@ func closeAsked(asked askedHandle) {
 	C.spki_asked_close(asked)
 }
 
-// converted returns a text in another form. The command is SPKI_CANONICAL, SPKI_ADVANCED or SPKI_TRANSPORT.
-func converted(command C.enum_spki_command, given []byte) ([]byte, error) {
-	// (an octet that is printed in base64 takes 7 for the 3 of its canonical text; `a(b)`, again and again, takes 8 for 3 in transport form)
-	buffer, needed := make([]byte, 3*len(given)+roomForLine), C.size_t(0)
-	lent := text(given)
-	met := C.spki_answer(command, lent.octets, lent.length, unsafe.Pointer(&buffer[0]), C.size_t(len(buffer)), &needed).status
-	if met == C.SPKI_TOO_SMALL {
-		return nil, errorOf(met, "")
+// convert returns a text in another form. The command is SPKI_CANONICAL, SPKI_ADVANCED or SPKI_TRANSPORT. The error is a *Refusal.
+func convert(command command, given []byte) ([]byte, error) {
+	// No form has more than three times the octets of another: an octet that is printed in base64 takes 7 for the 3 of its canonical text, and `a(b)`,
+	// again and again, takes 8 for 3 in transport form. A text of more than mostOctets is refused, so the room is bounded.
+	octets := len(given)
+	if octets > mostOctets {
+		octets = mostOctets
 	}
-	if met != C.SPKI_DONE {
-		return nil, errorOf(met, string(buffer[:needed]))
+	buffer, length := make([]byte, 3*octets+roomForLine), C.size_t(0)
+	argument := text(given)
+	status := C.spki_answer(command, argument.octets, argument.length, unsafe.Pointer(&buffer[0]), C.size_t(len(buffer)), &length).status
+	if status == C.SPKI_TOO_SMALL {
+		return nil, errorOf(status, "")
 	}
-	return append([]byte(nil), buffer[:needed]...), nil
+	if status != C.SPKI_DONE {
+		return nil, errorOf(status, string(buffer[:length]))
+	}
+	return append([]byte(nil), buffer[:length]...), nil
 }
 
 // Canonical returns the canonical form of the one value that a text is, in any of the three forms of RFC 9804. The error is a *Refusal.
 func Canonical(text []byte) ([]byte, error) {
-	return converted(C.SPKI_CANONICAL, text)
+	return convert(C.SPKI_CANONICAL, text)
 }
 
 // Advanced returns the advanced form of a text, which Canonical would accept, on one line, with a line feed at its end. The error is a *Refusal.
 func Advanced(text []byte) ([]byte, error) {
-	return converted(C.SPKI_ADVANCED, text)
+	return convert(C.SPKI_ADVANCED, text)
 }
 
 // Transport returns the transport form of a text, which Canonical would accept, on one line, with a line feed at its end. It is the form for a
 // header. The error is a *Refusal.
 func Transport(text []byte) ([]byte, error) {
-	return converted(C.SPKI_TRANSPORT, text)
+	return convert(C.SPKI_TRANSPORT, text)
 }

@@ -3,13 +3,13 @@
 #include <spki.h>
 #include <stdlib.h>
 
-enum library_wish { LIBRARY_EXPLAIN, LIBRARY_REDUCE };
-
 /* A request of at most LIBRARY_FEW_WORDS strings needs no allocation. Each decision and each refusal fits in LIBRARY_LINE octets. */
 enum { LIBRARY_FEW_WORDS = 64, LIBRARY_LINE = 128 };
 
-/* What a call says. It is returned as a value: Go takes no memory for what C would write through a pointer. */
-struct library_said {
+/* What a call returns. It is returned as a value, since Go would have to allocate what C writes to through a pointer. `guard` or `asked` is what was
+ * opened, `count` the number of its signatures, `until` the last second of a yes. `length` is the length of the line, which is in `line` if it is at
+ * most LIBRARY_LINE. */
+struct library_result {
     enum spki_status status;
     spki_guard *guard;
     spki_asked *asked;
@@ -18,95 +18,102 @@ struct library_said {
     char line[LIBRARY_LINE];
 };
 
-/* What a question has besides its texts. A call takes these apart from it: `sequence`, and `joined`, which has the key, the request, the moment and
- * the strings of the request, one after the other. `lengths` has the length of each text of `joined`. `by_words` is 1 if the request is given by
- * its strings, and `by_seconds` if the moment is `seconds`. It has no pointer: Go looks through all that is behind one, at each call. */
+/* What a question has besides its texts. A call that takes one also takes these: `sequence`, and `joined`, which has the key, the request, the moment
+ * and the strings of the request, one after the other. `lengths` has the length of each text in `joined`. `by_words` is 1 if the request is given by
+ * its strings, and `by_seconds` is 1 if the moment is `seconds` since 1970. The structure has no pointer: at each call Go examines all memory behind
+ * the pointers of a structure. */
 struct library_question {
     size_t sequence_length, word_count;
     int by_words, by_seconds;
     int64_t seconds;
 };
 
-/* Opens a guard. Limits that are all 0 are the usual ones. `line` is the line of a refusal, if there is one. */
-static inline struct library_said library_open(struct spki_text list, enum spki_policy policy, struct spki_limits limits)
+/* Opens a guard. Limits that are all 0 are the usual ones. `line` is that of a refusal, if there is one. */
+static inline struct library_result library_open(struct spki_text list, enum spki_policy policy, struct spki_limits limits)
 {
-    struct library_said said = {0};
+    struct library_result result = {0};
     bool is_set = limits.octets || limits.certificates || limits.words || limits.nodes || limits.work || limits.answer;
     limits.size = sizeof limits;
-    said.status = spki_guard_open(list.octets, list.length, policy, is_set ? &limits : NULL, &said.guard, said.line, sizeof said.line, &said.length);
-    return said;
+    result.status =
+        spki_guard_open(list.octets, list.length, policy, is_set ? &limits : NULL, &result.guard, result.line, sizeof result.line, &result.length);
+    return result;
 }
 
-/* The first text of the rest, which has the next length. Both go on to the next text. */
-static inline struct spki_text library_next(const char **rest, const size_t **lengths)
+/* Takes the first text off `*joined`, whose length is the first of `*lengths`, and sets both pointers to the next text. */
+static inline struct spki_text library_next_text(const char **joined, const size_t **lengths)
 {
-    struct spki_text text = {**lengths > 0 ? *rest : NULL, **lengths};
-    *rest += *(*lengths)++;
+    struct spki_text text = {**lengths > 0 ? *joined : NULL, **lengths};
+    *joined += *(*lengths)++;
     return text;
 }
 
-/* Reads a question and counts its signatures. `line` is the line of a refusal, if there is one. */
-static inline struct library_said library_ask(const spki_guard *guard, struct library_question parts, const char *sequence, const char *joined,
-                                              const size_t *lengths)
+/* Opens a question, and counts its signatures. The caller closes `asked`. `line` is that of a refusal, if there is one. */
+static inline struct library_result library_ask(const spki_guard *guard, struct library_question parts, const char *sequence, const char *joined,
+                                                const size_t *lengths)
 {
-    struct library_said said = {.status = SPKI_NO_MEMORY};
+    struct library_result result = {.status = SPKI_NO_MEMORY};
     const size_t count = parts.word_count;
     struct spki_text few[LIBRARY_FEW_WORDS], *words = count <= LIBRARY_FEW_WORDS ? few : calloc(count, sizeof *words);
     if (!words)
-        return said;
-    const struct spki_text key = library_next(&joined, &lengths), request = library_next(&joined, &lengths), moment = library_next(&joined, &lengths);
+        return result;
+    const struct spki_text key = library_next_text(&joined, &lengths);
+    const struct spki_text request = library_next_text(&joined, &lengths);
+    const struct spki_text moment = library_next_text(&joined, &lengths);
     for (size_t place = 0; place < count; place++)
-        words[place] = library_next(&joined, &lengths);
+        words[place] = library_next_text(&joined, &lengths);
     const struct spki_question question = {
         .size = sizeof question, .sequence = {sequence, parts.sequence_length}, .key = spki_assume_key(key), .request = request,
         .words = parts.by_words ? words : NULL, .word_count = count, .moment = moment, .seconds = parts.by_seconds ? &parts.seconds : NULL};
-    said.status = spki_guard_ask(guard, &question, &said.asked, said.line, sizeof said.line, &said.length);
-    said.count = spki_asked_count(said.asked);
+    result.status = spki_guard_ask(guard, &question, &result.asked, result.line, sizeof result.line, &result.length);
+    result.count = spki_asked_count(result.asked);
     if (words != few)
         free(words);
-    return said;
+    return result;
 }
 
-/* Decides a question by its marks. `until` is the last second of a yes. */
-static inline struct library_said library_decide(const spki_asked *asked)
+/* Decides a question by its marks. */
+static inline struct library_result library_decide(const spki_asked *asked)
 {
-    struct library_said said = {0};
-    struct spki_decision decision = spki_asked_decide(asked, said.line, sizeof said.line, &said.length);
-    said.status = decision.status, said.until = decision.until;
-    return said;
+    struct library_result result = {0};
+    struct spki_decision decision = spki_asked_decide(asked, result.line, sizeof result.line, &result.length);
+    result.status = decision.status, result.until = decision.until;
+    return result;
 }
 
-/* Decides a question, of which the first `valid` signatures are valid. SPKI_MISUSED unless it lists `listed` signatures. */
-static inline struct library_said library_decide_verified(const spki_guard *guard, struct library_question parts, const char *sequence,
-                                                          const char *joined, const size_t *lengths, size_t listed, size_t valid)
+/* Opens a question, marks its first `valid` signatures, decides and closes it: one call of C for what would be four. SPKI_MISUSED unless it has
+ * `listed` signatures, the number of them when the `valid` ones were verified. */
+static inline struct library_result library_decide_verified(const spki_guard *guard, struct library_question parts, const char *sequence,
+                                                            const char *joined, const size_t *lengths, size_t listed, size_t valid)
 {
-    struct library_said said = library_ask(guard, parts, sequence, joined, lengths);
-    spki_asked *asked = said.asked;
-    if (said.status != SPKI_DONE)
-        return said;
-    said = (struct library_said){.status = SPKI_MISUSED};
+    struct library_result result = library_ask(guard, parts, sequence, joined, lengths);
+    spki_asked *asked = result.asked;
+    if (result.status != SPKI_DONE)
+        return result;
+    result = (struct library_result){.status = SPKI_MISUSED};
     if (spki_asked_count(asked) == listed && valid <= listed) {
         for (size_t place = 0; place < valid; place++)
             spki_asked_mark(asked, place);
-        said = library_decide(asked);
+        result = library_decide(asked);
     }
     spki_asked_close(asked);
-    return said;
+    return result;
 }
 
-/* Sets `lines` to those of an answer, or to an empty text, which library_free frees. They have room for the longest answer, in memory of C's, of
- * which the system gives no more than is used. */
-static inline enum spki_status library_lines(const spki_asked *asked, enum library_wish wish, size_t room, struct spki_text *lines)
+/* Explains or reduces a question, by the command SPKI_EXPLAIN or SPKI_REDUCE. Sets `lines` to the answer or to the line of a refusal, and to an empty
+ * text with SPKI_TOO_SMALL. library_free frees it. It has room for `room` octets, of which the system uses no more memory than is written. With
+ * SPKI_NO_MEMORY `lines` is unchanged. */
+static inline enum spki_status library_lines(const spki_asked *asked, enum spki_command command, size_t room, struct spki_text *lines)
 {
     void *buffer = malloc(room);
     size_t length = 0;
     if (!buffer)
         return SPKI_NO_MEMORY;
-    enum spki_status status = (wish == LIBRARY_EXPLAIN ? spki_asked_explain : spki_asked_reduce)(asked, buffer, room, &length).status;
+    enum spki_status status = (command == SPKI_EXPLAIN ? spki_asked_explain : spki_asked_reduce)(asked, buffer, room, &length).status;
     *lines = (struct spki_text){buffer, status == SPKI_TOO_SMALL ? 0 : length};
     return status;
 }
 
+/* Frees the lines of library_lines. */
 static inline void library_free(struct spki_text lines)
 {
     free((void *)lines.octets);

@@ -19,32 +19,32 @@ type Limits struct {
 	Octets int
 	// Certificates is the most certificates of a question.
 	Certificates int
-	// Words is the most strings of a request.
+	// Words is the most strings of a request, with those in lists inside it.
 	Words int
 	// Nodes is the most nodes of one tag times nodes of another whose intersection is computed.
 	Nodes int
 	// Work is the most work of all certificates and entries together, as struct spki_limits of spki.h counts it.
 	Work int
-	// Answer is the most octets of the lines: a call takes address space for as many, of which only those of the answer are used. It is at most
-	// 256 MiB.
+	// Answer is the most octets of the lines of Explain or Reduce, at most 256 MiB. A call reserves address space for as many, and uses the memory
+	// that the lines need.
 	Answer int
 }
 
-// Highest returns the highest limits, for questions that come from no stranger. On some questions within them an explanation takes seconds.
+// Highest returns the highest limits. They are not for questions of strangers: on some questions within them an explanation takes seconds.
 func Highest() Limits {
 	const most = int(^uint(0) >> 1)
 	return Limits{Octets: mostOctets, Certificates: most, Words: most, Nodes: mostNodes, Work: mostWork, Answer: mostAnswer}
 }
 
-// mostAnswer returns the most octets of the lines of Explain or Reduce: Answer, or the usual limit if that is 0.
-func (l Limits) mostAnswer() int {
+// answerOctets returns the most octets of the lines of Explain or Reduce: Answer, or the library's own limit if that is 0.
+func (l Limits) answerOctets() int {
 	if l.Answer == 0 {
 		return usualAnswer
 	}
 	return l.Answer
 }
 
-// check returns ErrMisused if a limit is below zero, or that of an answer is over the highest. For the other limits the library does the latter.
+// check returns ErrMisused if a limit is below zero, or if Answer is over the highest. Whether another limit is too high the library tests.
 func (l Limits) check() error {
 	for _, limit := range []int{l.Octets, l.Certificates, l.Words, l.Nodes, l.Work, l.Answer} {
 		if limit < 0 {

@@ -8,19 +8,19 @@ type Question struct {
 	Sequence []byte
 	// Key is the client's key, which it has proved to hold: spki.ProveKey or spki.AssumeKey makes it.
 	Key ProvenKey
-	// Words is the request by its strings, whose octets may be any: the list of them, or the string if there is one.
+	// Words has the strings of the request, of any octets. The request is the list of them, or the string itself if there is one.
 	Words []string
 	// Request is the request as a text, if Words is nil.
 	Request []byte
-	// Time is the time of the service's own clock. Parts of a second do not count. One before 1970 or past the year 9999 is refused as
-	// BadDate: it is that of a clock that failed.
+	// Time is the time of the service's own clock. Parts of a second do not count. A time before 1970 or past the year 9999 is refused as
+	// BadDate, since only a clock that failed gives it.
 	Time time.Time
 	// Moment is the time as a date, such as "2026-03-01_12:00:00" in quotes, if Time is zero.
 	Moment []byte
 }
 
-// joined returns the key, the request, the moment and the strings of the request in one piece, and the length of each: for library.go, since C
-// must not be given memory of Go's that has pointers, as a list of strings does.
+// joined returns the key, the request, the moment and the strings of the request in one piece, and the length of each, which has the size of C's
+// size_t. It is for library.go: C must not be given memory of Go's that has pointers, as a list of strings does.
 func (q *Question) joined() ([]byte, []uintptr) {
 	key := q.Key.Text()
 	lengths := append(make([]uintptr, 0, 3+len(q.Words)), uintptr(len(key)), uintptr(len(q.Request)), uintptr(len(q.Moment)))

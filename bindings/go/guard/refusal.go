@@ -5,27 +5,27 @@ import (
 	"strings"
 )
 
-// What errors.Is knows. With each of them nothing is granted.
+// The errors of this package, for errors.Is. With each of them nothing is granted.
 var (
 	// ErrRefused is each *Refusal.
 	ErrRefused = errors.New("refused")
-	// ErrTooLong is a refusal since a text or a question exceeds a limit on octets, certificates or strings.
+	// ErrTooLong is the refusal of a text or a question that exceeds a limit of octets, certificates or strings.
 	ErrTooLong = errors.New("refused as too long")
 	// ErrTooLarge is the refusal of an explanation or a reduction that exceeds a limit.
 	ErrTooLarge = errors.New("refused TooLarge")
 	// ErrMemory is the refusal of a call in which an allocation failed.
 	ErrMemory = errors.New("refused Memory")
-	// ErrMisused is a call that is not answered: no such policy, a limit over the highest or below zero, a request or a time given in two
-	// ways, another number of marks than of signatures.
+	// ErrMisused is the error of a wrong call: a policy that does not exist, a limit over the highest or below zero, a request or a time given in
+	// two ways, a mark at a place without a signature, a Verified with a Sequence beside it or of another policy.
 	ErrMisused = errors.New("libspki_c is misused")
 	// ErrDenied is what Require returns for a no.
 	ErrDenied = errors.New("no entry grants the request")
-	// ErrClosed is a call after Close.
+	// ErrClosed is the error of a call after Close.
 	ErrClosed = errors.New("the guard or the question is closed")
 )
 
-// A Refusal is a line that begins with `refused`: a text is no input, exceeds a limit, or an allocation failed. The lines are those of the
-// program spki; its manual lists them.
+// A Refusal is a line that begins with `refused`: a text is not of the form that is required, a limit is exceeded, or an allocation failed. The lines
+// are those of the program spki, whose manual lists them.
 type Refusal struct {
 	line string
 }
@@ -35,8 +35,8 @@ func (r *Refusal) Error() string {
 	return r.line
 }
 
-// Part returns what is refused: `sequence`, `key`, `request`, `at`, `question`, `acl` or `form`. It is empty for a fault of no part, as
-// in `refused TooLarge`.
+// Part returns what is refused: `sequence`, `key`, `request`, `at` (the time), `question` (as a whole, by a limit), `acl`, or `form` for an
+// access list or a text that is in none of the three forms within the limits. It is empty if the line names none, as in `refused TooLarge`.
 func (r *Refusal) Part() string {
 	words := strings.Fields(r.line)
 	if len(words) < 3 {
@@ -75,5 +75,5 @@ func (r *Refusal) Is(target error) bool {
 
 // refusalOf returns the refusal of a line, as the library wrote it, with or without a line feed.
 func refusalOf(line string) error {
-	return &Refusal{lineOf(line)}
+	return &Refusal{withoutLineFeed(line)}
 }

@@ -5,22 +5,23 @@ package guard
 type Verified struct {
 	sequence []byte
 	policy   Policy
-	// How many signatures are listed, and how many of them are marked, from the first.
+	// How many signatures the sequence lists, and how many of them are marked, from the first on.
 	listed, marked int
 }
 
 // noCertificates is a sequence that lists no signatures.
 var noCertificates = []byte("(8:sequence)")
 
-// Verified returns the sequence of a question with the marks that were set in order from the first signature on, up to the first signature without
-// one, also after Close. So a service need not verify a sequence again that it is shown again.
+// Verified returns the sequence of a question with the marks that were set in order: the first signature, then the second, and so on. A mark that was
+// set earlier than that is left out, with all behind it. So a service need not verify a sequence again that it is shown again. Verified may be called
+// after Close too.
 func (a *Asked) Verified() Verified {
-	if a.held == nil {
+	if a.shared == nil {
 		return Verified{}
 	}
-	a.held.mutex.Lock()
-	defer a.held.mutex.Unlock()
-	return Verified{a.held.sequence, a.held.policy, a.count, a.held.marked}
+	a.shared.mutex.Lock()
+	defer a.shared.mutex.Unlock()
+	return Verified{a.shared.sequence, a.shared.policy, a.count, a.shared.markedInOrder}
 }
 
 // Sequence returns a copy of the sequence's octets.
@@ -48,8 +49,8 @@ func (v Verified) First(most int) Verified {
 	return v
 }
 
-// Canonical returns the same marks with the sequence in canonical form, which is read in three quarters of the time. To make it takes as long as a
-// decision.
+// Canonical returns the same marks with the sequence in canonical form, which a guard reads in three quarters of the time. The conversion takes as
+// long as a decision. The error is a *Refusal if an allocation failed.
 func (v Verified) Canonical() (Verified, error) {
 	canonical, err := Canonical(v.text())
 	if err != nil {
@@ -60,19 +61,19 @@ func (v Verified) Canonical() (Verified, error) {
 }
 
 // DecideVerified decides a question whose certificates are those of a Verified, if exactly its marks count. It is Ask, Mark and Decide in one call.
-// The error is ErrMisused if the question has a Sequence of its own, or if the Verified comes from a guard with another policy. Otherwise it is that
-// of Ask: a *Refusal, ErrMisused or ErrClosed.
+// The error is ErrMisused if the question has a Sequence of its own, or if the Verified lists signatures and comes from a guard with another policy.
+// Otherwise it is that of Ask: a *Refusal, ErrMisused or ErrClosed.
 func (g *Guard) DecideVerified(question Question, verified Verified) (Decision, error) {
 	if len(question.Sequence) > 0 {
 		return g.decideAndLog(question, func() (Decision, error) { return Decision{}, ErrMisused })
 	}
-	asked := question
-	asked.Sequence = verified.text()
+	decided, logged := question, question
+	decided.Sequence = verified.text()
 	if g.log != nil {
 		// (a copy, which the function of the log may change)
-		question.Sequence = verified.Sequence()
+		logged.Sequence = verified.Sequence()
 	}
-	return g.decideAndLog(question, func() (Decision, error) { return g.decideVerified(&asked, verified) })
+	return g.decideAndLog(logged, func() (Decision, error) { return g.decideVerified(&decided, verified) })
 }
 
 // decideVerified is DecideVerified without the log, for a question that has the sequence.
@@ -81,8 +82,8 @@ func (g *Guard) decideVerified(question *Question, verified Verified) (Decision,
 	if err != nil {
 		return Decision{}, err
 	}
-	defer g.held.mutex.RUnlock()
-	if verified.listed > 0 && verified.policy != g.held.policy {
+	defer g.shared.mutex.RUnlock()
+	if verified.listed > 0 && verified.policy != g.shared.policy {
 		return Decision{}, ErrMisused
 	}
 	return decideVerified(handle, question, verified.listed, verified.marked)

@@ -2,13 +2,13 @@ package guard
 
 import "strings"
 
-// isOurs says whether a library of this version answers the calls of this module: its first two numbers are the same.
-func isOurs(version string) bool {
-	return interfaceOf(version) == interfaceOf(Version)
+// isCompatible says whether this module can call a library of a version: its first two numbers are the module's.
+func isCompatible(version string) bool {
+	return firstTwoNumbers(version) == firstTwoNumbers(Version)
 }
 
-// interfaceOf returns the first two numbers of a version.
-func interfaceOf(version string) string {
+// firstTwoNumbers returns `0.2` of `0.2.0`.
+func firstTwoNumbers(version string) string {
 	numbers := strings.SplitN(version, ".", 3)
 	return strings.Join(numbers[:len(numbers)-1], ".")
 }
