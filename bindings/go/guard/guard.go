@@ -133,8 +133,8 @@ func (g *Guard) Entries() int {
 }
 
 // Ask opens a question, whose signatures the caller marks. Nothing of the argument is used after Ask returns. The error is a *Refusal if a part of
-// the question, which it names, cannot be read or exceeds a limit, or if an allocation failed. It is ErrMisused if the request or the time is given in
-// two ways, and ErrClosed after Close.
+// the question, which it names, cannot be read or exceeds a limit, or if an allocation failed. It is ErrMisused if the request or the time is given
+// in two ways, and ErrClosed after Close.
 func (g *Guard) Ask(question Question) (*Asked, error) {
 	asked, err := g.ask(&question)
 	if err != nil {

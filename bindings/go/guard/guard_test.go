@@ -767,8 +767,8 @@ func TestPanicOfVerifier(t *testing.T) {
 	}
 }
 
-// TestForms converts texts among the three forms of RFC 9804, and what is in none of them is refused. For `tooLong` no room is taken by its length: 16
-// MiB are copied from a string, and an answer to a text within the limit has room for 3 MiB.
+// TestForms converts texts among the three forms of RFC 9804, and what is in none of them is refused. For `tooLong` no room is taken by its length:
+// its 16 MiB are copied once from the string, and the longest answer to a text within the limit has 3 MiB.
 func TestForms(t *testing.T) {
 	tooLong := strings.Repeat(" ", 16<<20)
 	canonical, err := guard.Canonical([]byte("(a b)"))

@@ -116,8 +116,8 @@ func entries(guard guardHandle) int {
 	return int(C.spki_guard_entries(guard))
 }
 
-// The arguments of a call that takes a question: `parts` says how request and time are given, `joined` has all texts but the sequence in one piece, and
-// `lengths` the length of each. Each pointer is an argument by itself, since memory of Go's must have no pointer to other memory of Go's.
+// The arguments of a call that takes a question: `parts` says how request and time are given, `joined` has all texts but the sequence in one piece,
+// and `lengths` the length of each. Each pointer is an argument by itself, since memory of Go's must have no pointer to other memory of Go's.
 type arguments struct {
 	parts            C.struct_library_question
 	sequence, joined *C.char

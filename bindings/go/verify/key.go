@@ -29,33 +29,34 @@ const (
 	afterKey      = ")))"
 )
 
-// A curve is one of ECDSA, with the text before the point of a key and the digest of messages.
-type curve struct {
+// An ecdsaCurve is a curve of ECDSA. `before` is the text in front of the point of a key, and `hash` makes the digest of a message that is signed.
+type ecdsaCurve struct {
 	elliptic.Curve
 	before string
 	hash   crypto.Hash
 }
 
-var curves = []curve{
+var curves = []ecdsaCurve{
 	{elliptic.P256(), "(10:public-key(3:ecc(5:curve10:NIST P-256)(1:q", crypto.SHA256},
 	{elliptic.P384(), "(10:public-key(3:ecc(5:curve10:NIST P-384)(1:q", crypto.SHA384},
 }
 
-// curveOf returns the element of `curves` for a curve of package elliptic, or nil if there is none, as for P-521.
-func curveOf(of elliptic.Curve) *curve {
+// ecdsaCurveOf returns the element of `curves` for a curve of package elliptic, or nil if there is none, as for P-521.
+func ecdsaCurveOf(curve elliptic.Curve) *ecdsaCurve {
 	for place := range curves {
-		if curves[place].Curve == of {
+		if curves[place].Curve == curve {
 			return &curves[place]
 		}
 	}
 	return nil
 }
 
-// ErrKey is what errors.Is knows of a key that is none of these kinds, is in another form, or is too weak.
+// ErrKey is the error, for errors.Is, of a key of another kind, in another form, or beyond the limits above.
 var ErrKey = errors.New("no key of Ed25519, of RSA with at least 2048 bits, or of ECDSA with P-256 or P-384")
 
 // KeyOf returns the SPKI key, in canonical form, of an ed25519.PublicKey, an *rsa.PublicKey or an *ecdsa.PublicKey, as a certificate of X.509
-// has it. The SHA-256 digest of the text is the hash that may name the key. Each other key, also one that is too weak, is ErrKey.
+// has it. The SHA-256 digest of the text is the hash that may name the key in lists and certificates. Each other key, also one that is too weak, is
+// ErrKey.
 func KeyOf(public crypto.PublicKey) ([]byte, error) {
 	switch public := public.(type) {
 	case ed25519.PublicKey:
@@ -67,8 +68,8 @@ func KeyOf(public crypto.PublicKey) ([]byte, error) {
 			return canonicalText(beforeModulus, numberOctets(public.N), beforeE, numberOctets(big.NewInt(int64(public.E))), afterKey), nil
 		}
 	case *ecdsa.PublicKey:
-		if of := curveOf(public.Curve); of != nil && public.X != nil && public.Y != nil && public.Curve.IsOnCurve(public.X, public.Y) {
-			return canonicalText(of.before, elliptic.Marshal(public.Curve, public.X, public.Y), afterKey), nil
+		if curve := ecdsaCurveOf(public.Curve); curve != nil && public.X != nil && public.Y != nil && curve.IsOnCurve(public.X, public.Y) {
+			return canonicalText(curve.before, elliptic.Marshal(curve.Curve, public.X, public.Y), afterKey), nil
 		}
 	}
 	return nil, fmt.Errorf("%w: %T", ErrKey, public)
@@ -84,9 +85,9 @@ func PublicOf(key []byte) (crypto.PublicKey, error) {
 	if public == nil {
 		return nil, ErrKey
 	}
-	// (each key has one text: the text of a number with an octet 00 too many or too few is refused)
-	again, err := KeyOf(public)
-	if err != nil || !bytes.Equal(again, key) {
+	// (each key has one text: that of a number with an octet 00 too many or too few is refused)
+	text, err := KeyOf(public)
+	if err != nil || !bytes.Equal(text, key) {
 		return nil, ErrKey
 	}
 	return public, nil
@@ -106,48 +107,49 @@ func publicOf(text *reader) crypto.PublicKey {
 				return rsaKey(modulus, exponent)
 			}
 		}
-	}
-	for _, of := range curves {
-		if text.trySkip(of.before) {
-			if octets, ok := text.string(mostPoint); ok && text.restIs(afterKey) {
-				return pointOf(of, octets)
+	default:
+		for _, curve := range curves {
+			if text.trySkip(curve.before) {
+				if octets, ok := text.string(mostPoint); ok && text.restIs(afterKey) {
+					return pointOf(curve, octets)
+				}
 			}
 		}
 	}
 	return nil
 }
 
-// Numbers by which isUsablePoint refuses the coordinate y of a point of Ed25519. `lastY` is p - 1, that of the point of order 2: a number over it
-// would be a second text of another y. `eighth` and `other` are those of the four points of order 8. The other points of small order have y below
-// 2^192, as no random key has.
+// Coordinates y of Ed25519 that isUsablePoint refuses. `lastY` is p - 1, that of the point of order 2. A greater number, taken modulo p, would be a
+// second text of another y. `order8Y` and `order8MinusY` are those of the four points of order 8. The points of order 1 and 4 have y = 1 and y = 0.
+// All y below 2^192 are refused with them, which no random key has.
 var (
-	lastY  = numberOf("7fffffffffffffffffffffffffffffffffffffffffffffffffffffffffffffec")
-	eighth = numberOf("05fc536d880238b13933c6d305acdfd5f098eff289f4c345b027b2c28f95e826")
-	other  = numberOf("7a03ac9277fdc74ec6cc392cfa53202a0f67100d760b3cba4fd84d3d706a17c7")
+	lastY        = numberOf("7fffffffffffffffffffffffffffffffffffffffffffffffffffffffffffffec")
+	order8Y      = numberOf("05fc536d880238b13933c6d305acdfd5f098eff289f4c345b027b2c28f95e826")
+	order8MinusY = numberOf("7a03ac9277fdc74ec6cc392cfa53202a0f67100d760b3cba4fd84d3d706a17c7")
 )
 
-// numberOf returns the number that hexadecimal digits write.
+// numberOf returns the number of hexadecimal digits, of which the first counts most.
 func numberOf(digits string) *big.Int {
 	number, _ := new(big.Int).SetString(digits, 16)
 	return number
 }
 
-// isUsablePoint says whether octets may be a key of Ed25519: by their coordinate y, they are not of a point of small order, and not a second text of
-// a point. It does not test that they are a point: ed25519.Verify does.
+// isUsablePoint says whether octets may be a key of Ed25519: by their coordinate y, they are not of a point of small order, for which anyone can make
+// signatures, and not a second text of a point. It does not test that they are a point: ed25519.Verify does.
 func isUsablePoint(q []byte) bool {
 	if len(q) != ed25519.PublicKeySize {
 		return false
 	}
 	if top := q[len(q)-1] &^ 0x80; top != 0 && top != 0x05 && top != 0x7a && top != 0x7f {
-		// (a shorter way for almost all keys: each y that is refused begins with one of these four octets)
+		// (a shorter way for almost all keys: the highest octet of each y that is refused is one of these four, without the bit of the sign of x)
 		return true
 	}
 	y := littleEndian(q)
-	y.SetBit(y, 8*half-1, 0)
-	return y.BitLen() > 192 && y.Cmp(lastY) < 0 && y.Cmp(eighth) != 0 && y.Cmp(other) != 0
+	y.SetBit(y, 255, 0) // (the sign of x)
+	return y.BitLen() > 192 && y.Cmp(lastY) < 0 && y.Cmp(order8Y) != 0 && y.Cmp(order8MinusY) != 0
 }
 
-// littleEndian returns the number that octets write, of which the first counts least.
+// littleEndian returns the number of octets of which the first counts least.
 func littleEndian(octets []byte) *big.Int {
 	reversed := make([]byte, len(octets))
 	for place, octet := range octets {
@@ -156,22 +158,22 @@ func littleEndian(octets []byte) *big.Int {
 	return new(big.Int).SetBytes(reversed)
 }
 
-// The most octets of a point: 04 and both coordinates.
+// The most octets of a point: 04 and both coordinates, of P-384.
 const mostPoint = 1 + 2*48
 
 // pointOf returns the *ecdsa.PublicKey of the octets of a point, 04 and both coordinates, or nil if they are no point of the curve.
-func pointOf(of curve, octets []byte) crypto.PublicKey {
-	x, y := elliptic.Unmarshal(of.Curve, octets)
+func pointOf(curve ecdsaCurve, octets []byte) crypto.PublicKey {
+	x, y := elliptic.Unmarshal(curve.Curve, octets)
 	if x == nil {
 		return nil
 	}
-	return &ecdsa.PublicKey{Curve: of.Curve, X: x, Y: y}
+	return &ecdsa.PublicKey{Curve: curve.Curve, X: x, Y: y}
 }
 
 // rsaKey returns the *rsa.PublicKey of a modulus and an exponent, both big-endian, or nil if it is not within the limits of isStrong.
 func rsaKey(modulus, exponent []byte) crypto.PublicKey {
 	e := new(big.Int).SetBytes(exponent)
-	if e.BitLen() > MostExponentBits {
+	if e.BitLen() > MostExponentBits { // (Int64 would cut it)
 		return nil
 	}
 	public := &rsa.PublicKey{N: new(big.Int).SetBytes(modulus), E: int(e.Int64())}
@@ -188,8 +190,8 @@ func isStrong(public *rsa.PublicKey) bool {
 		public.E >= 3 && public.E&1 == 1 && big.NewInt(int64(public.E)).BitLen() <= MostExponentBits
 }
 
-// numberOctets returns the octets of a number of a key: big-endian, with an octet 00 in front where the first bit is set. It is
-// the only form that PublicOf accepts.
+// numberOctets returns the octets of a number of a key: big-endian, with an octet 00 in front if the first bit would be set. It is the only form that
+// PublicOf accepts.
 func numberOctets(value *big.Int) []byte {
 	return value.FillBytes(make([]byte, value.BitLen()/8+1))
 }

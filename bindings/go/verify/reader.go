@@ -5,12 +5,12 @@ import (
 	"strconv"
 )
 
-// A reader takes a canonical text apart from the left.
+// A reader reads a canonical text from the left. `rest` is what it has not read.
 type reader struct {
 	rest []byte
 }
 
-// trySkip goes behind a text if the rest begins with it, and says whether it does.
+// trySkip skips a text if the rest begins with it, and says whether it does.
 func (r *reader) trySkip(text string) bool {
 	if !bytes.HasPrefix(r.rest, []byte(text)) {
 		return false
@@ -19,8 +19,8 @@ func (r *reader) trySkip(text string) bool {
 	return true
 }
 
-// string returns the octets of the string, LENGTH:OCTETS, that the rest begins with, and goes behind it. It says whether there is one of at most
-// `most` octets, which must not exceed 4,096. Otherwise the rest stays.
+// string reads the string, LENGTH:OCTETS, that the rest begins with. It returns its octets, and whether there is one of at most `most` octets.
+// Otherwise nothing is skipped. `most` must not exceed 4,096, since no LENGTH of more than four digits is read.
 func (r *reader) string(most int) ([]byte, bool) {
 	colon := bytes.IndexByte(r.rest[:min(len(r.rest), len("4096:"))], ':')
 	if colon < 0 {
@@ -35,7 +35,7 @@ func (r *reader) string(most int) ([]byte, bool) {
 	return octets, true
 }
 
-// restIs says whether the rest equals a text, and nothing follows this.
+// restIs says whether the rest is this text and no more.
 func (r *reader) restIs(text string) bool {
 	return string(r.rest) == text
 }
@@ -48,7 +48,7 @@ func min(a, b int) int {
 	return b
 }
 
-// canonicalText joins its parts: a string is added as it is, and a []byte as a string in canonical form, LENGTH:OCTETS.
+// canonicalText joins its parts: a Go string is added as it is, and a []byte as a string in canonical form, LENGTH:OCTETS.
 func canonicalText(parts ...any) []byte {
 	var text []byte
 	for _, part := range parts {

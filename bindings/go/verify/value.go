@@ -6,10 +6,10 @@ import (
 	"math/big"
 )
 
-// The octets of each half of a signature by Ed25519: r, and s.
+// The octets of each half, r and s, of a signature by Ed25519.
 const half = 32
 
-// The most octets of a key, and of the value of a signature.
+// The most octets of a key and of the value of a signature, in canonical form. None needs as many.
 const mostOctets = 4096
 
 // The texts around the numbers of a signature.
@@ -21,8 +21,8 @@ const (
 	afterValue  = ")))"
 )
 
-// `order` is the order of the group of Ed25519. Half s of a signature must be below it. `topOfOrder` is its first octet: an s whose highest octet is
-// less is below the order, and needs no comparison of numbers.
+// `order` is the order of the group of Ed25519. The half s of a signature must be below it. `topOfOrder` is its highest octet: an s whose highest
+// octet is less is below the order, and needs no comparison of numbers.
 const topOfOrder = 0x10
 
 var order = numberOf("1000000000000000000000000000000014def9dea2f79cd65812631a5cf5d3ed")
@@ -37,7 +37,7 @@ func ed25519Value(value []byte) ([]byte, bool) {
 }
 
 // rsaValue returns the number of a signature by RSA, with as many octets as the modulus, and whether the value is one. The value may have fewer or
-// more octets 00 in front. The number must be above 0 and below the modulus: Go does not test the latter.
+// more octets 00 in front. The number must be above 0 and below the modulus: Go 1.19 does not test the latter.
 func rsaValue(value []byte, public *rsa.PublicKey) ([]byte, bool) {
 	text := reader{rest: value}
 	if len(value) > mostOctets || !text.trySkip(beforeRSA) {
@@ -52,7 +52,7 @@ func rsaValue(value []byte, public *rsa.PublicKey) ([]byte, bool) {
 }
 
 // ecdsaValue returns the numbers r and s of a signature by ECDSA with a curve, and whether the value is one: both are above 0 and below the order of
-// the curve. The numbers mean nothing otherwise.
+// the curve. The numbers must not be used otherwise.
 func ecdsaValue(value []byte, curve elliptic.Curve) (*big.Int, *big.Int, bool) {
 	first, second, ok := pair(value, beforeECDSA)
 	r, s, order := new(big.Int).SetBytes(first), new(big.Int).SetBytes(second), curve.Params().N

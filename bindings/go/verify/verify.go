@@ -22,7 +22,8 @@ import (
 	"conguraki/spki"
 )
 
-// Signature says whether a signature is valid: by Ed25519, by RSA with PKCS#1 v1.5, or by ECDSA. It is a guard.Verify.
+// Signature says whether a signature is valid: by Ed25519, by RSA with PKCS#1 v1.5, or by ECDSA. A key or a value of another form has no valid
+// signature. It is a guard.Verify.
 func Signature(signed spki.Signature) bool {
 	return signature(signed, pkcs1v15)
 }
@@ -30,10 +31,10 @@ func Signature(signed spki.Signature) bool {
 // SignatureOrPSS says whether a signature is valid as Signature has it, or by RSA with PSS: with SHA-256 for the message and for the mask, and a salt
 // of 32 octets. The value of a signature does not say by which of the two it was made.
 func SignatureOrPSS(signed spki.Signature) bool {
-	return signature(signed, pkcs1v15) || signature(signed, pss)
+	return signature(signed, pkcs1v15, pss)
 }
 
-// A scheme verifies the value of a signature by a key of RSA. It returns nil if it is valid for the SHA-256 digest of a message.
+// A scheme verifies the value of a signature by a key of RSA. It returns nil if the value is valid for the SHA-256 digest of a message.
 type scheme func(key *rsa.PublicKey, digest, value []byte) error
 
 // pkcs1v15 is the scheme of Signature.
@@ -41,14 +42,14 @@ func pkcs1v15(key *rsa.PublicKey, digest, value []byte) error {
 	return rsa.VerifyPKCS1v15(key, crypto.SHA256, digest, value)
 }
 
-// pss is the scheme that SignatureOrPSS takes too, with a salt of 32 octets.
+// pss is the other scheme of SignatureOrPSS, with a salt of 32 octets.
 func pss(key *rsa.PublicKey, digest, value []byte) error {
 	return rsa.VerifyPSS(key, crypto.SHA256, digest, value, &rsa.PSSOptions{SaltLength: rsa.PSSSaltLengthEqualsHash})
 }
 
-// signature says whether a signature is valid. With a key of RSA it must be by this scheme, which does not matter with other keys. An empty message
+// signature says whether a signature is valid. By a key of RSA it must be of one of the schemes. They do not matter for other keys. An empty message
 // has no valid signature.
-func signature(signed spki.Signature, scheme scheme) bool {
+func signature(signed spki.Signature, schemes ...scheme) bool {
 	public, err := PublicOf(signed.Key)
 	if err != nil || len(signed.Message) == 0 {
 		return false
@@ -59,17 +60,22 @@ func signature(signed spki.Signature, scheme scheme) bool {
 		return ok && ed25519.Verify(public, signed.Message, octets)
 	case *rsa.PublicKey:
 		octets, ok := rsaValue(signed.Value, public)
-		return ok && scheme(public, digestOf(crypto.SHA256, signed.Message), octets) == nil
+		digest := digestOf(crypto.SHA256, signed.Message)
+		for _, scheme := range schemes {
+			if ok && scheme(public, digest, octets) == nil {
+				return true
+			}
+		}
 	case *ecdsa.PublicKey:
 		r, s, ok := ecdsaValue(signed.Value, public.Curve)
-		return ok && ecdsa.Verify(public, digestOf(curveOf(public.Curve).hash, signed.Message), r, s)
+		return ok && ecdsa.Verify(public, digestOf(ecdsaCurveOf(public.Curve).hash, signed.Message), r, s)
 	}
 	return false
 }
 
 // digestOf returns the digest of a message.
 func digestOf(hash crypto.Hash, message []byte) []byte {
-	made := hash.New()
-	made.Write(message)
-	return made.Sum(nil)
+	digest := hash.New()
+	digest.Write(message)
+	return digest.Sum(nil)
 }
