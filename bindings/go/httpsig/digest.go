@@ -8,7 +8,8 @@ import (
 	"strings"
 )
 
-// A digest is the digest of a body, as `Content-Digest` gives it. The algorithm is `sha-256` or `sha-512`.
+// A digest is that of a body, as `Content-Digest` gives it. The algorithm is `sha-256` or `sha-512`. The zero value, without octets, is that of a
+// request that covers no digest.
 type digest struct {
 	algorithm string
 	octets    []byte
@@ -18,9 +19,10 @@ type digest struct {
 func digestOf(value string) (digest, error) {
 	name, rest, _ := strings.Cut(value, "=")
 	length := map[string]int{"sha-256": sha256.Size, "sha-512": sha512.Size}[name]
-	p := parser{rest}
-	octets, err := p.octets()
-	if err != nil || p.rest != "" || length == 0 || len(octets) != length {
+	parser := parser{rest}
+	octets, err := parser.octets()
+	// (the length of another algorithm is 0)
+	if err != nil || parser.rest != "" || length == 0 || len(octets) != length {
 		return digest{}, BadDigest
 	}
 	return digest{name, octets}, nil
@@ -29,15 +31,15 @@ func digestOf(value string) (digest, error) {
 // matches says whether a digest is that of a body.
 func (d digest) matches(body []byte) bool {
 	if d.algorithm == "sha-512" {
-		made := sha512.Sum512(body)
-		return bytes.Equal(made[:], d.octets)
+		hash := sha512.Sum512(body)
+		return bytes.Equal(hash[:], d.octets)
 	}
-	made := sha256.Sum256(body)
-	return bytes.Equal(made[:], d.octets)
+	hash := sha256.Sum256(body)
+	return bytes.Equal(hash[:], d.octets)
 }
 
 // ContentDigest returns the value of `Content-Digest` for a body, by SHA-256.
 func ContentDigest(body []byte) string {
-	made := sha256.Sum256(body)
-	return "sha-256=:" + base64.StdEncoding.EncodeToString(made[:]) + ":"
+	hash := sha256.Sum256(body)
+	return "sha-256=:" + base64.StdEncoding.EncodeToString(hash[:]) + ":"
 }

@@ -36,7 +36,7 @@ type row struct {
 	isAgain     bool
 }
 
-// rowsOf reads the table.
+// rowsOf returns the rows of the table. The test ends if it cannot be read.
 func rowsOf(t testing.TB) (rows []row) {
 	octets, err := os.ReadFile("testdata/rows")
 	if err != nil {
@@ -75,18 +75,19 @@ func (r *row) set(word, text string) {
 
 // unescaped returns a text of the table without its escapes, such as `\n` and `\xff`.
 func unescaped(text string) string {
-	made, err := strconv.Unquote(`"` + strings.ReplaceAll(text, `"`, `\"`) + `"`)
+	plain, err := strconv.Unquote(`"` + strings.ReplaceAll(text, `"`, `\"`) + `"`)
 	if err != nil {
 		panic(text)
 	}
-	return made
+	return plain
 }
 
-// verifierAt returns the verifier of the service in the rows, whose clock is a number of seconds that the test may change.
+// verifierAt returns the verifier of the service in the rows, which started at 1792000000. Its clock is `now`, in seconds since 1970, which the test may
+// change.
 func verifierAt(now *int64) *Verifier {
-	made := NewVerifier("example.com")
-	made.Start, made.Now = time.Unix(1792000000, 0), func() time.Time { return time.Unix(*now, 0) }
-	return made
+	verifier := NewVerifier("example.com")
+	verifier.Start, verifier.Now = time.Unix(1792000000, 0), func() time.Time { return time.Unix(*now, 0) }
+	return verifier
 }
 
 // answerOf returns what a verifier answers as a row gives it: `valid` or the name of a refusal.
@@ -125,11 +126,11 @@ func TestRows(t *testing.T) {
 
 // octets decodes base64, and ends the test if that fails.
 func octets(t testing.TB, text string) []byte {
-	made, err := base64.StdEncoding.DecodeString(text)
+	decoded, err := base64.StdEncoding.DecodeString(text)
 	if err != nil {
 		t.Fatal(err)
 	}
-	return made
+	return decoded
 }
 
 // The examples of RFC 9421, appendix B.2.6 and B.2.4, with the keys of B.1.4 and B.1.3.
@@ -148,8 +149,8 @@ const (
 // TestPublishedExamples makes and verifies the signature of B.2.6, verifies that of B.2.4, and tests a digest of RFC 9530.
 func TestPublishedExamples(t *testing.T) {
 	header := http.Header{"Date": {"Tue, 20 Apr 2021 02:07:55 GMT"}, "Content-Type": {"application/json"}, "Content-Length": {"18"}}
-	of := base{&Message{Method: "POST", Target: "/foo?param=Value&Pet=dog", Header: header}, "https", "example.com"}
-	text, err := of.text([]string{"date", "@method", "@path", "@authority", "content-type", "content-length"},
+	signed := base{&Message{Method: "POST", Target: "/foo?param=Value&Pet=dog", Header: header}, "https", "example.com"}
+	text, err := signed.text([]string{"date", "@method", "@path", "@authority", "content-type", "content-length"},
 		`("date" "@method" "@path" "@authority" "content-type" "content-length");created=1618884473;keyid="test-key-ed25519"`)
 	if err != nil {
 		t.Fatal(err)
@@ -162,9 +163,9 @@ func TestPublishedExamples(t *testing.T) {
 	if err != nil {
 		t.Fatal(err)
 	}
-	made, err := signer.signText(text)
-	if err != nil || base64.StdEncoding.EncodeToString(made) != signatureRFC {
-		t.Errorf("%v, %x", err, made)
+	signature, err := signer.signText(text)
+	if err != nil || base64.StdEncoding.EncodeToString(signature) != signatureRFC {
+		t.Errorf("%v, %x", err, signature)
 	}
 	if !verify.Signature(spki.Signature{Key: signer.key, Message: text, Value: valueOf(Ed25519, octets(t, signatureRFC))}) {
 		t.Error("Ed25519")
@@ -189,15 +190,15 @@ func signers(t testing.TB) map[string]*Signer {
 	curve, _ := ecdsa.GenerateKey(elliptic.P256(), rand.Reader)
 	longer, _ := ecdsa.GenerateKey(elliptic.P384(), rand.Reader)
 	modulus, _ := rsa.GenerateKey(rand.Reader, 2048)
-	made := map[string]*Signer{}
+	byAlgorithm := map[string]*Signer{}
 	for name, private := range map[string]crypto.Signer{Ed25519: edwards, P256: curve, P384: longer, RSA: modulus} {
 		signer, err := NewSigner(private)
 		if err != nil {
 			t.Fatal(err)
 		}
-		made[name] = signer
+		byAlgorithm[name] = signer
 	}
-	return made
+	return byAlgorithm
 }
 
 // TestClientAndServer sends requests by a Transport, with each kind of key. The server answers the hash of the proven key, and keeps the body. A
@@ -220,7 +221,7 @@ func TestClientAndServer(t *testing.T) {
 	defer server.Close()
 	name := strings.TrimPrefix(server.URL, "http://")
 	verifier.Authorities = []string{name}
-	for kind, signer := range signers(t) {
+	for algorithm, signer := range signers(t) {
 		signer.Sequence = "{KDg6c2VxdWVuY2Up}"
 		client := http.Client{Transport: &Transport{Signer: signer, Names: []string{name}}}
 		for _, sent := range []string{"", "some octets"} {
@@ -232,10 +233,10 @@ func TestClientAndServer(t *testing.T) {
 			if err != nil {
 				t.Fatal(err)
 			}
-			told, _ := io.ReadAll(response.Body)
+			hash, _ := io.ReadAll(response.Body)
 			response.Body.Close()
-			if wanted := (&Proof{Key: spki.AssumeKey(signer.key)}).Hash(); response.StatusCode != 200 || string(told) != wanted || string(body) != sent {
-				t.Errorf("%s: %d %s, %q", kind, response.StatusCode, told, body)
+			if wanted := (&Proof{Key: spki.AssumeKey(signer.key)}).Hash(); response.StatusCode != 200 || string(hash) != wanted || string(body) != sent {
+				t.Errorf("%s: %d %s, %q", algorithm, response.StatusCode, hash, body)
 			}
 		}
 	}
@@ -264,6 +265,25 @@ func TestCovered(t *testing.T) {
 	}
 }
 
+// TestMethodsAreTokens signs and verifies requests with other methods. U+212A is a K that has the ASCII letter k as its small letter.
+func TestMethodsAreTokens(t *testing.T) {
+	signer, verifier := signers(t)[Ed25519], NewVerifier("example.com")
+	for method, isToken := range map[string]bool{"GET": true, "get-1": true, "": false, "G T": false, "\u212a": false} {
+		message := Message{Method: method, Authority: "example.com", Target: "/foo", Header: http.Header{}}
+		if err := signer.Sign("https", message); (err == nil) != isToken || !isToken && err != BadTarget {
+			t.Errorf("%q is signed: %v", method, err)
+		}
+		message.Method = "GET"
+		if err := signer.Sign("https", message); err != nil {
+			t.Fatal(err)
+		}
+		message.Method = method
+		if _, err := verifier.Check(message); (err == BadMethod) == isToken {
+			t.Errorf("%q: %v", method, err)
+		}
+	}
+}
+
 // TestOtherNamesLearnNothing sends a request to a server that is not among the names of the Transport. It gets no signature and no certificates.
 func TestOtherNamesLearnNothing(t *testing.T) {
 	server := httptest.NewServer(http.HandlerFunc(func(answer http.ResponseWriter, request *http.Request) {
@@ -276,10 +296,10 @@ func TestOtherNamesLearnNothing(t *testing.T) {
 	if err != nil {
 		t.Fatal(err)
 	}
-	told, _ := io.ReadAll(response.Body)
+	fields, _ := io.ReadAll(response.Body)
 	response.Body.Close()
-	if string(told) != "0" {
-		t.Errorf("%s", told)
+	if string(fields) != "0" {
+		t.Errorf("%s", fields)
 	}
 }
 
@@ -302,8 +322,8 @@ func TestBody(t *testing.T) {
 	}
 }
 
-// An unknown is a body whose length net/http does not know, so that HTTP/2 sends no Content-Length.
-type unknown struct{ io.Reader }
+// An ofUnknownLength is a body whose length net/http does not know, so that HTTP/2 sends no Content-Length.
+type ofUnknownLength struct{ io.Reader }
 
 // serverByHTTP2 returns a server that answers by HTTP/2 with the protocol, and with what a verifier says of the request and of its body.
 func serverByHTTP2(verifier *Verifier) *httptest.Server {
@@ -331,8 +351,8 @@ func TestBodyByHTTP2(t *testing.T) {
 		signed, added io.Reader
 		wanted        string
 	}{
-		{nil, nil, "<nil>"}, {unknown{strings.NewReader("")}, nil, "<nil>"}, {unknown{strings.NewReader("abc")}, nil, "<nil>"},
-		{nil, unknown{strings.NewReader("abc")}, BodyWithoutDigest.Error()},
+		{nil, nil, "<nil>"}, {ofUnknownLength{strings.NewReader("")}, nil, "<nil>"}, {ofUnknownLength{strings.NewReader("abc")}, nil, "<nil>"},
+		{nil, ofUnknownLength{strings.NewReader("abc")}, BodyWithoutDigest.Error()},
 	} {
 		request, _ := http.NewRequest(http.MethodGet, server.URL, row.signed)
 		request, err := signing.signedCopy(request)
@@ -346,10 +366,10 @@ func TestBodyByHTTP2(t *testing.T) {
 		if err != nil {
 			t.Fatal(err)
 		}
-		told, _ := io.ReadAll(response.Body)
+		answer, _ := io.ReadAll(response.Body)
 		response.Body.Close()
-		if string(told) != "HTTP/2.0 "+row.wanted {
-			t.Errorf("%+v: %s", row, told)
+		if string(answer) != "HTTP/2.0 "+row.wanted {
+			t.Errorf("%+v: %s", row, answer)
 		}
 	}
 }
@@ -403,19 +423,19 @@ func FuzzFields(f *testing.F) {
 	}
 	now := int64(1792000100)
 	verifier := verifierAt(&now)
-	asked := false
+	isVerified := false
 	verifier.Verify = func(signed spki.Signature) bool {
-		asked = bytes.HasPrefix(signed.Message, []byte(`"`)) && bytes.Contains(signed.Message, []byte(`"@signature-params": (`))
-		return asked
+		isVerified = bytes.HasPrefix(signed.Message, []byte(`"`)) && bytes.Contains(signed.Message, []byte(`"@signature-params": (`))
+		return isVerified
 	}
 	f.Fuzz(func(t *testing.T, input, signature, digest, key, target string) {
 		header := http.Header{"Signature-Input": {input}, "Signature": {signature}, "X-Spki-Public-Key": {key}}
 		if digest != "" {
 			header["Content-Digest"] = []string{digest}
 		}
-		asked = false
+		isVerified = false
 		proof, err := verifier.Check(Message{Method: "GET", Authority: "example.com", Target: target, Header: header})
-		if err == nil && (!asked || proof.Key.Text() == "" || !strings.Contains(input, proof.Hash())) {
+		if err == nil && (!isVerified || proof.Key.Text() == "" || !strings.Contains(input, proof.Hash())) {
 			t.Errorf("%q %q %q", input, signature, key)
 		}
 	})
@@ -424,9 +444,9 @@ func FuzzFields(f *testing.F) {
 // FuzzSigned shows that a server takes each request that a client can sign.
 func FuzzSigned(f *testing.F) {
 	f.Add("GET", "/foo?a=b", "accept", "text/html", "body")
-	all, kinds := signers(f), []string{Ed25519, P256, P384, RSA}
+	byAlgorithm, algorithms := signers(f), []string{Ed25519, P256, P384, RSA}
 	f.Fuzz(func(t *testing.T, method, target, name, value, body string) {
-		signer, verifier := all[kinds[(len(target)+len(body))%len(kinds)]], NewVerifier("example.com")
+		signer, verifier := byAlgorithm[algorithms[(len(target)+len(body))%len(algorithms)]], NewVerifier("example.com")
 		message := Message{Method: method, Authority: "example.com", Target: target, Header: http.Header{}, Body: []byte(body)}
 		message.Header.Set(name, value)
 		if signer.Sign("https", message, strings.ToLower(name)) != nil {

@@ -12,7 +12,7 @@ const (
 	tag   = "spki"
 )
 
-// The most octets of `Signature-Input` and of `Signature`, components, and digits of a number.
+// The most octets of `Signature-Input` and of `Signature`, the most components, and the most digits of a number, as RFC 8941 has them.
 const (
 	mostInput      = 8192
 	mostComponents = 32
@@ -31,7 +31,7 @@ const (
 // publicKey is the field with the key that signs, which is always covered.
 const publicKey = "x-spki-public-key"
 
-// An input is the value of `Signature-Input`.
+// An input is the value of `Signature-Input`. The times are in seconds since 1970.
 type input struct {
 	// The value of `@signature-params`: what follows the label, as it was sent.
 	text             string
@@ -41,21 +41,21 @@ type input struct {
 	algorithm, tag   string
 }
 
-// A parser takes a field apart from the left. What a method reads is taken off the rest.
+// A parser reads the value of a field from the left. `rest` is what it has not read.
 type parser struct {
 	rest string
 }
 
-// trySkip passes over a text if the rest begins with it, and says whether it does.
+// trySkip skips a text if the rest begins with it, and says whether it does.
 func (p *parser) trySkip(text string) bool {
-	found := strings.HasPrefix(p.rest, text)
-	if found {
-		p.rest = p.rest[len(text):]
+	if !strings.HasPrefix(p.rest, text) {
+		return false
 	}
-	return found
+	p.rest = p.rest[len(text):]
+	return true
 }
 
-// skipLabel passes over the label of the first member and its `=`. Another label than `spki` is OtherLabel.
+// skipLabel skips the label of the first member and its `=`. The error is OtherLabel for another label than `spki`, and Malformed if there is none.
 func (p *parser) skipLabel() error {
 	name := p.name()
 	if name == "" || !p.trySkip("=") {
@@ -67,7 +67,7 @@ func (p *parser) skipLabel() error {
 	return nil
 }
 
-// expectEnd returns nil if nothing follows the first member, and otherwise a refusal.
+// expectEnd returns nil if nothing follows the first member, TwoSignatures for a second member, and otherwise Malformed.
 func (p *parser) expectEnd() error {
 	switch {
 	case p.rest == "":
@@ -78,7 +78,7 @@ func (p *parser) expectEnd() error {
 	return Malformed
 }
 
-// name returns the name of a member or of a parameter, and takes it off the rest. It is empty if none is there.
+// name reads the name of a member or of a parameter. It returns an empty one if none is there.
 func (p *parser) name() string {
 	end := 0
 	for end < len(p.rest) && isNameOctet(p.rest[end], end) {
@@ -95,7 +95,7 @@ func isNameOctet(octet byte, place int) bool {
 		place > 0 && ('0' <= octet && octet <= '9' || octet == '_' || octet == '-' || octet == '.')
 }
 
-// string returns a string in quotes. An escape is refused: nothing in the profile needs one.
+// string reads a string in quotes. Everything else is Malformed, also an escape: nothing in the profile needs one.
 func (p *parser) string() (string, error) {
 	if !p.trySkip(`"`) {
 		return "", Malformed
@@ -114,7 +114,7 @@ func (p *parser) string() (string, error) {
 	return text, nil
 }
 
-// integer returns a number of seconds: at most 15 digits, without a sign, and without a 0 in front. Everything else is Malformed.
+// integer reads a number of seconds: at most 15 digits, without a sign, and without a 0 in front. Everything else is Malformed.
 func (p *parser) integer() (int64, error) {
 	end := 0
 	for end < len(p.rest) && '0' <= p.rest[end] && p.rest[end] <= '9' {
@@ -128,46 +128,41 @@ func (p *parser) integer() (int64, error) {
 	return strconv.ParseInt(text, 10, 64)
 }
 
-// components returns the names in the list of components, `("@method" ..)`, in order. The error is a Refusal.
+// components reads the list of components, `("@method" ..)`, and returns their names in order. The error is a Refusal.
 func (p *parser) components() ([]string, error) {
 	if !p.trySkip("(") {
 		return nil, Malformed
 	}
-	var found []string
+	var names []string
 	for !p.trySkip(")") {
-		if len(found) > 0 && !p.trySkip(" ") || len(found) == mostComponents {
+		if len(names) > 0 && !p.trySkip(" ") || len(names) == mostComponents {
 			return nil, Malformed
 		}
 		name, err := p.string()
 		if err != nil {
 			return nil, err
 		}
-		if !isComponent(name) || strings.HasPrefix(p.rest, ";") {
+		if !isComponent(name) || strings.HasPrefix(p.rest, ";") { // (a component with parameters)
 			return nil, UnknownComponent
 		}
-		if contains(found, name) {
+		if contains(names, name) {
 			return nil, ComponentTwice
 		}
-		found = append(found, name)
+		names = append(names, name)
 	}
-	return found, nil
+	return names, nil
 }
 
-// isComponent says whether a name is one of a component: a field in small letters, or one of the five that are derived.
+// isComponent says whether a signature may cover what has this name: a field, in small letters, or one of the five components that are derived. The
+// two fields of the signature itself may not be covered.
 func isComponent(name string) bool {
 	switch name {
 	case method, authority, targetURI, path, query:
 		return true
-	case "", "signature", "signature-input":
+	case "signature", "signature-input":
 		return false
 	}
-	for place := 0; place < len(name); place++ {
-		octet := name[place]
-		if !('a' <= octet && octet <= 'z' || '0' <= octet && octet <= '9' || strings.IndexByte("!#$%&'*+-.^_`|~", octet) >= 0) {
-			return false
-		}
-	}
-	return true
+	return isToken(name) && name == strings.ToLower(name)
 }
 
 // contains says whether a name is among others.
@@ -185,26 +180,26 @@ func inputOf(text string) (*input, error) {
 	if len(text) > mostInput {
 		return nil, Malformed
 	}
-	p, made := &parser{text}, new(input)
-	if err := p.skipLabel(); err != nil {
+	parser, input := &parser{text}, new(input)
+	if err := parser.skipLabel(); err != nil {
 		return nil, err
 	}
-	made.text = p.rest
+	input.text = parser.rest
 	var err error
-	if made.components, err = p.components(); err != nil {
+	if input.components, err = parser.components(); err != nil {
 		return nil, err
 	}
-	count, err := made.parameters(p)
+	count, err := input.parameters(parser)
 	if err != nil {
 		return nil, err
 	}
 	switch {
-	case !made.hasComponents():
+	case !input.hasComponents():
 		return nil, MissingComponent
-	case count != len(made.places()):
+	case count != len(input.parameterFields()):
 		return nil, MissingParameter
 	}
-	return made, nil
+	return input, nil
 }
 
 // hasComponents says whether all components are there that the profile requires: the method, the authority, the key, and the target, either whole
@@ -214,68 +209,68 @@ func (i *input) hasComponents() bool {
 	return hasTarget && contains(i.components, method) && contains(i.components, authority) && contains(i.components, publicKey)
 }
 
-// places returns where the parameters go, by their names: pointers to numbers and to strings.
-func (i *input) places() map[string]any {
+// parameterFields returns pointers to the fields for the parameters, by the names of these: to numbers, *int64, and to strings.
+func (i *input) parameterFields() map[string]any {
 	return map[string]any{
 		"created": &i.created, "expires": &i.expires, "nonce": &i.nonce, "keyid": &i.keyID, "alg": &i.algorithm, "tag": &i.tag,
 	}
 }
 
-// parameters reads the parameters, `;created=1700000000 ..`, up to the end of the field, and returns their number. In `places` the name of one that
-// was read gets nil, so a second one is ParameterTwice.
+// parameters reads the parameters, `;created=1700000000 ..`, up to the end of the text, and returns their number. The error is a Refusal.
 func (i *input) parameters(p *parser) (int, error) {
-	places, seen := i.places(), 0
+	// (the pointer of a parameter that was read becomes nil, so a second one is ParameterTwice)
+	fields, count := i.parameterFields(), 0
 	for p.trySkip(";") {
 		name := p.name()
 		if name == "" {
 			return 0, Malformed
 		}
-		place, isThere := places[name]
+		field, isKnown := fields[name]
 		switch {
-		case !isThere:
+		case !isKnown:
 			return 0, UnknownParameter
-		case place == nil:
+		case field == nil:
 			return 0, ParameterTwice
 		case !p.trySkip("="):
 			return 0, Malformed
 		}
-		if err := p.readInto(place); err != nil {
+		if err := p.readInto(field); err != nil {
 			return 0, err
 		}
-		places[name] = nil
-		seen++
+		fields[name] = nil
+		count++
 	}
-	return seen, p.expectEnd()
+	return count, p.expectEnd()
 }
 
-// readInto reads a number or a string, and stores it where a place of `places` points.
-func (p *parser) readInto(place any) (err error) {
-	switch place := place.(type) {
+// readInto reads a number or a string, whichever the field is that a pointer of parameterFields points to, and sets the field.
+func (p *parser) readInto(field any) (err error) {
+	switch field := field.(type) {
 	case *int64:
-		*place, err = p.integer()
+		*field, err = p.integer()
 	case *string:
-		*place, err = p.string()
+		*field, err = p.string()
 	}
 	return err
 }
 
 // octetsOf returns the octets of the signature in the value of `Signature`. The error is a Refusal.
 func octetsOf(text string) ([]byte, error) {
-	p := &parser{text}
+	parser := &parser{text}
 	if len(text) > mostInput {
 		return nil, Malformed
 	}
-	if err := p.skipLabel(); err != nil {
+	if err := parser.skipLabel(); err != nil {
 		return nil, err
 	}
-	octets, err := p.octets()
+	octets, err := parser.octets()
 	if err != nil {
 		return nil, err
 	}
-	return octets, p.expectEnd()
+	return octets, parser.expectEnd()
 }
 
-// octets returns the octets that base64 between two colons encodes. Everything else is Malformed.
+// octets reads base64 between two colons, and returns the octets that it encodes. Everything else is Malformed.
 func (p *parser) octets() ([]byte, error) {
 	if !p.trySkip(":") {
 		return nil, Malformed

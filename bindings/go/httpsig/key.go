@@ -16,11 +16,11 @@ const (
 	RSA     = "rsa-v1_5-sha256"
 )
 
-// The most characters of a key.
+// The most characters of a key in transport form.
 const mostKey = 4096
 
-// The canonical texts of keys and of the values of signatures, with `%` for each string, and how many octets a
-// signature has. With RSA it has as many as the modulus.
+// By algorithm: the canonical texts of keys and of the values of signatures, with `%` for each string that differs, and how many octets a signature
+// has. With RSA it has as many as the modulus.
 var (
 	keyForms = map[string]string{
 		Ed25519: "(10:public-key(3:ecc(5:curve7:Ed25519)(5:flags5:eddsa)(1:q%)))",
@@ -44,11 +44,11 @@ func transport(canonical []byte) string {
 
 // hashOf returns the SHA-256 hash of a key, in hexadecimal digits: its `keyid`.
 func hashOf(key []byte) string {
-	made := sha256.Sum256(key)
-	return hex.EncodeToString(made[:])
+	hash := sha256.Sum256(key)
+	return hex.EncodeToString(hash[:])
 }
 
-// keyOf returns the key that a text is in transport form, its algorithm, and how many octets a signature by it has.
+// keyOf reads a key in transport form. It returns its canonical text, its algorithm, and how many octets a signature by it has. The error is BadKey.
 func keyOf(text string) (key []byte, algorithm string, octets int, err error) {
 	if len(text) < 2 || len(text) > mostKey || text[0] != '{' || text[len(text)-1] != '}' {
 		return nil, "", 0, BadKey
@@ -57,52 +57,51 @@ func keyOf(text string) (key []byte, algorithm string, octets int, err error) {
 	if !isBase64 {
 		return nil, "", 0, BadKey
 	}
-	algorithm, octets = kindOf(key)
+	algorithm, octets = algorithmOf(key)
 	if algorithm == "" {
 		return nil, "", 0, BadKey
 	}
 	return key, algorithm, octets, nil
 }
 
-// kindOf returns the algorithm of a key in canonical form, and how many octets a signature by it has. The algorithm of what is no key is empty. That
-// the numbers of the key are allowed is not tested: the verifier does that.
-func kindOf(key []byte) (algorithm string, octets int) {
+// algorithmOf returns the algorithm of a key in canonical form, and how many octets a signature by it has. The algorithm of what is no key is empty.
+// Whether the numbers of the key are allowed is not tested: Verifier.Verify does that.
+func algorithmOf(key []byte) (algorithm string, octets int) {
 	for algorithm, form := range keyForms {
-		strings, isOne := stringsOf(key, form)
-		switch {
-		case !isOne:
-		case algorithm == RSA:
-			return algorithm, len(bytes.TrimLeft(strings[0], "\x00"))
-		default:
+		strings, hasForm := stringsOf(key, form)
+		if hasForm && algorithm == RSA {
+			return RSA, len(bytes.TrimLeft(strings[0], "\x00"))
+		}
+		if hasForm {
 			return algorithm, signatureOctets[algorithm]
 		}
 	}
 	return "", 0
 }
 
-// valueOf returns the canonical value, `(7:sig-val..)`, of the octets of a signature, which are as many as the algorithm has. With RSA they are one
-// string of it, and otherwise two equal halves.
+// valueOf returns the canonical value, `(7:sig-val..)`, of the octets of a signature, which are as many as a signature of the algorithm has. With RSA
+// they are one string in it, and otherwise two, of equal length.
 func valueOf(algorithm string, octets []byte) []byte {
 	strings := [][]byte{octets}
 	if half := len(octets) / 2; algorithm != RSA {
 		strings = [][]byte{octets[:half], octets[half:]}
 	}
-	var made []byte
+	var value []byte
 	for _, octet := range []byte(valueForms[algorithm]) {
 		if octet != '%' {
-			made = append(made, octet)
+			value = append(value, octet)
 			continue
 		}
-		made = strconv.AppendInt(made, int64(len(strings[0])), 10)
-		made = append(append(made, ':'), strings[0]...)
+		value = strconv.AppendInt(value, int64(len(strings[0])), 10)
+		value = append(append(value, ':'), strings[0]...)
 		strings = strings[1:]
 	}
-	return made
+	return value
 }
 
-// stringsOf returns the strings of a canonical text that are at the marks `%` of a form, and whether the text has this form.
-// A string of more than 9,999 octets is none.
-func stringsOf(text []byte, form string) (found [][]byte, hasForm bool) {
+// stringsOf returns the strings of a canonical text at the places of `%` in a form, such as one of keyForms, and whether the text has this form. A text
+// with a string of more than 9,999 octets has none.
+func stringsOf(text []byte, form string) (strings [][]byte, hasForm bool) {
 	for place := 0; place < len(form); place++ {
 		if form[place] != '%' {
 			if len(text) == 0 || text[0] != form[place] {
@@ -112,15 +111,15 @@ func stringsOf(text []byte, form string) (found [][]byte, hasForm bool) {
 			continue
 		}
 		colon := bytes.IndexByte(text, ':')
-		if colon < 1 || colon > 4 {
+		if colon < 1 || colon > len("9999") {
 			return nil, false
 		}
 		length, err := strconv.Atoi(string(text[:colon]))
 		if err != nil || length < 0 || strconv.Itoa(length) != string(text[:colon]) || length > len(text)-colon-1 {
 			return nil, false
 		}
-		found = append(found, text[colon+1:colon+1+length])
+		strings = append(strings, text[colon+1:colon+1+length])
 		text = text[colon+1+length:]
 	}
-	return found, len(text) == 0
+	return strings, len(text) == 0
 }

@@ -19,7 +19,7 @@ type Message struct {
 	// The path and the query, as in the first line of HTTP/1.1.
 	Target string
 	Header http.Header
-	// Whether the request has a body. It may be false where a field, such as Content-Length, says so.
+	// Whether the request has a body. It may be false if Content-Length or Transfer-Encoding is in the header, which say so too.
 	HasBody bool
 	// The body, or nil if it is not known: then it is not compared.
 	Body []byte
@@ -64,9 +64,16 @@ func AuthorityOf(scheme, authority string) string {
 	return strings.TrimSuffix(strings.ToLower(authority), usual)
 }
 
-// isToken says whether a text is a token of HTTP, as a method is. Behind `x-` isComponent tests only the characters: no name that it knows begins so.
+// isToken says whether a text is a token of HTTP, as a method and the name of a field are.
 func isToken(text string) bool {
-	return text != "" && isComponent(strings.ToLower("x-"+text))
+	for place := 0; place < len(text); place++ {
+		octet := text[place]
+		isLetter := 'a' <= octet && octet <= 'z' || 'A' <= octet && octet <= 'Z'
+		if !isLetter && !('0' <= octet && octet <= '9') && strings.IndexByte("!#$%&'*+-.^_`|~", octet) < 0 {
+			return false
+		}
+	}
+	return text != ""
 }
 
 // isTarget says whether a target is a path and perhaps a query, of visible ASCII characters other than `#`. A whole URL, as for a proxy, is none.
@@ -82,24 +89,25 @@ func isTarget(target string) bool {
 	return true
 }
 
-// A base is a message from which the signed text is made. `scheme` is `https` or `http`, and `authority` is what AuthorityOf returns.
+// A base is a message of which the signature base, the signed text of RFC 9421, is made. `scheme` is `https` or `http`, and `authority` is that of the
+// message as AuthorityOf returns it.
 type base struct {
 	*Message
 	scheme, authority string
 }
 
-// text returns the signature base of components: the text that is signed. The parameters are what follows `spki=` in `Signature-Input`, as it was
-// sent.
+// text returns the signed text of these components. The parameters are what follows `spki=` in `Signature-Input`, as it was sent. The error is that of
+// value.
 func (b *base) text(components []string, parameters string) ([]byte, error) {
-	made := make([]byte, 0, 1024)
+	text := make([]byte, 0, 1024) // (most have fewer octets: one allocation)
 	for _, name := range components {
 		value, err := b.value(name)
 		if err != nil {
 			return nil, err
 		}
-		made = append(append(append(append(append(made, '"'), name...), `": `...), value...), '\n')
+		text = append(append(append(append(append(text, '"'), name...), `": `...), value...), '\n')
 	}
-	return append(append(made, `"@signature-params": `...), parameters...), nil
+	return append(append(text, `"@signature-params": `...), parameters...), nil
 }
 
 // value returns the value of a component by its name, such as `@path` or the name of a field. For a field the error is AbsentField, RepeatedField or
@@ -136,7 +144,7 @@ func fieldOf(header http.Header, name string) (string, error) {
 	return "", RepeatedField
 }
 
-// cleanValue returns the value of a field without the spaces around it, or BadValue if it is not printable ASCII.
+// cleanValue returns the value of a field without the spaces and tabs around it, or BadValue if an octet is neither visible ASCII, space nor tab.
 func cleanValue(value string) (string, error) {
 	value = strings.Trim(value, " \t")
 	for place := 0; place < len(value); place++ {

@@ -2,10 +2,10 @@
 // Verifier is for services, a Signer and a Transport for clients. It needs no library for C.
 package httpsig
 
-// A Refusal is why a request proves no key. It is an error, and errors.Is compares it.
+// A Refusal is why a request proves no key: a name of docs/SIGNATURES.md. It is an error, and errors.Is compares it.
 type Refusal string
 
-// The refusals, in the order of docs/SIGNATURES.md.
+// The refusals, in the order of docs/SIGNATURES.md, which says when each is the answer.
 const (
 	Absent            Refusal = "absent"
 	RepeatedField     Refusal = "repeated-field"
@@ -41,4 +41,5 @@ const (
 	StoreFull         Refusal = "store-full"
 )
 
+// Error returns a sentence with the name.
 func (r Refusal) Error() string { return "the request proves no key: " + string(r) }

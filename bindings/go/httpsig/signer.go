@@ -23,10 +23,10 @@ type Signer struct {
 	Sequence string
 	private  crypto.Signer
 	// The public key in canonical form, and its algorithm, such as Ed25519.
-	key    []byte
-	kind   string
-	now    func() time.Time
-	random func(octets []byte) (int, error)
+	key       []byte
+	algorithm string
+	now       func() time.Time
+	random    func(octets []byte) (int, error)
 }
 
 // NewSigner returns a signer by a private key: an ed25519.PrivateKey, an *ecdsa.PrivateKey of P-256 or P-384, an *rsa.PrivateKey, or one of a device
@@ -36,14 +36,18 @@ func NewSigner(private crypto.Signer) (*Signer, error) {
 	if err != nil {
 		return nil, err
 	}
-	kind, _ := kindOf(key)
-	return &Signer{private: private, key: key, kind: kind, now: time.Now, random: rand.Read}, nil
+	algorithm, _ := algorithmOf(key)
+	return &Signer{private: private, key: key, algorithm: algorithm, now: time.Now, random: rand.Read}, nil
 }
 
-// Sign puts the fields of a signature into the header of a request: also the key, the certificates, and the digest of the body if it may have one.
-// All other fields must be in the header before. The scheme is `https` or `http`. `covered` names more fields that the signature covers, in small
-// letters. The signature is for this request alone. The error is AbsentField if the request lacks a field of `covered`, which would be unsigned,
-// UnknownComponent for a name that no field has, BodyWithoutDigest for a body that is not known, and BadTarget for a method that is no token too.
+// Sign puts the fields of a signature into the header of a request, which must not be nil: also the key, the certificates, and the digest of the
+// body if it may have one. All other fields must be in the header before. The scheme is `https` or `http`. `covered` names more fields that the
+// signature covers, in small letters. The signature is for this request alone.
+//
+// The error is BodyWithoutDigest for a body that is not known, UnknownComponent for a name in `covered` that no field can have, BadTarget for a target
+// or a method in another form, AbsentField if the request lacks a field of `covered`, RepeatedField or BadValue for a covered field in two lines or
+// with other octets than visible ASCII, spaces and tabs, or one of the private key or of randomness. Some of the fields may be set then, but not
+// `Signature`.
 func (s *Signer) Sign(scheme string, message Message, covered ...string) error {
 	if err := message.addDigest(); err != nil {
 		return err
@@ -104,47 +108,38 @@ func (s *Signer) parameters(names []string) (string, error) {
 	}
 	created := s.now().Unix()
 	return fmt.Sprintf(`("%s");created=%d;expires=%d;nonce="%s";keyid="%s";alg="%s";tag="%s"`, strings.Join(names, `" "`), created,
-		created+mostWindow, base64.RawURLEncoding.EncodeToString(nonce), hashOf(s.key), s.kind, tag), nil
+		created+mostWindow, base64.RawURLEncoding.EncodeToString(nonce), hashOf(s.key), s.algorithm, tag), nil
 }
 
-// signText returns the octets of the signature of a text, as RFC 9421 has them: with ECDSA r and s in equal halves. (Go's signer writes ASN.1.)
+// signText returns the octets of the signature of a text, as RFC 9421 has them. With ECDSA these are r and s in equal halves. (Go's signer writes
+// ASN.1.)
 func (s *Signer) signText(text []byte) ([]byte, error) {
-	if s.kind == Ed25519 {
+	if s.algorithm == Ed25519 {
 		return s.private.Sign(rand.Reader, text, crypto.Hash(0))
 	}
 	hash := crypto.SHA256
-	if s.kind == P384 {
+	if s.algorithm == P384 {
 		hash = crypto.SHA384
 	}
 	digest := hash.New()
 	digest.Write(text)
 	octets, err := s.private.Sign(rand.Reader, digest.Sum(nil), hash)
-	if err != nil || s.kind == RSA {
+	if err != nil || s.algorithm == RSA {
 		return octets, err
 	}
 	var pair struct{ R, S *big.Int }
 	if _, err := asn1.Unmarshal(octets, &pair); err != nil {
 		return nil, err
 	}
-	made := make([]byte, signatureOctets[s.kind])
-	pair.R.FillBytes(made[:len(made)/2])
-	pair.S.FillBytes(made[len(made)/2:])
-	return made, nil
+	halves := make([]byte, signatureOctets[s.algorithm])
+	pair.R.FillBytes(halves[:len(halves)/2])
+	pair.S.FillBytes(halves[len(halves)/2:])
+	return halves, nil
 }
 
-// (these are the keys that NewSigner takes)
+// The compiler tests by these lines that the keys that NewSigner names are crypto.Signers.
 var (
 	_ crypto.Signer = ed25519.PrivateKey{}
 	_ crypto.Signer = (*ecdsa.PrivateKey)(nil)
 	_ crypto.Signer = (*rsa.PrivateKey)(nil)
 )
-
-// isToOneOf says whether the URL of a client's request has one of some names as its host and port.
-func isToOneOf(names []string, request *http.Request) bool {
-	for _, name := range names {
-		if AuthorityOf(request.URL.Scheme, name) == AuthorityOf(request.URL.Scheme, request.URL.Host) {
-			return true
-		}
-	}
-	return false
-}

@@ -12,7 +12,7 @@ import (
 //	client := http.Client{Transport: &httpsig.Transport{Signer: signer, Names: []string{"files.example.org"}}}
 type Transport struct {
 	Signer *Signer
-	// The services, with ports that are not the scheme's own.
+	// The services, by https or http, with ports that are not the scheme's own.
 	Names []string
 	// What sends the request: http.DefaultTransport, if nothing is set.
 	Base http.RoundTripper
@@ -20,22 +20,32 @@ type Transport struct {
 
 // RoundTrip sends a request, signed if it goes to one of the names, and returns the response. The whole body of a signed request is in memory.
 func (t *Transport) RoundTrip(request *http.Request) (*http.Response, error) {
-	under := t.Base
-	if under == nil {
-		under = http.DefaultTransport
+	sender := t.Base
+	if sender == nil {
+		sender = http.DefaultTransport
 	}
 	if !isToOneOf(t.Names, request) {
-		return under.RoundTrip(request)
+		return sender.RoundTrip(request)
 	}
 	signed, err := t.signedCopy(request)
 	if err != nil {
 		return nil, err
 	}
-	return under.RoundTrip(signed)
+	return sender.RoundTrip(signed)
 }
 
-// signedCopy returns a signed copy of a request, since RoundTrip must not change the request itself. It reads the whole body, closes it, and puts
-// the octets into the copy.
+// isToOneOf says whether the URL of a client's request has one of some names as its host and port.
+func isToOneOf(names []string, request *http.Request) bool {
+	for _, name := range names {
+		if AuthorityOf(request.URL.Scheme, name) == AuthorityOf(request.URL.Scheme, request.URL.Host) {
+			return true
+		}
+	}
+	return false
+}
+
+// signedCopy returns a signed copy of a request, since RoundTrip must not change the request itself. It reads the whole body and closes it. The body
+// of the copy has the same octets. The error is one of reading the body, or of Signer.Sign.
 func (t *Transport) signedCopy(request *http.Request) (*http.Request, error) {
 	signed := request.Clone(request.Context())
 	if signed.Header == nil {

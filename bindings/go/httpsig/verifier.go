@@ -18,7 +18,7 @@ const (
 	mostAhead  = 60
 )
 
-// The characters of a nonce.
+// The fewest and the most characters of a nonce.
 const (
 	leastNonce = 16
 	mostNonce  = 64
@@ -32,15 +32,18 @@ type Verifier struct {
 	Scheme string
 	// The field with the client's certificates, in small letters: `x-spki-sequence`, unless another is set.
 	Sequence string
-	Nonces   Nonces
-	// What was created before is refused, since its nonce may be forgotten. It is the time of NewVerifier; zero if the nonces outlast the process.
+	// Keeps the nonces that were used.
+	Nonces Nonces
+	// A request that was created before is refused, since its nonce may be forgotten. It is the time of NewVerifier. Set it to zero if the nonces
+	// outlast the process.
 	Start time.Time
-	Now   func() time.Time
-	// Verifies a signature, in the forms of a guard.
+	// The clock of the service.
+	Now func() time.Time
+	// Says whether a signature is valid, as a guard.Verify does.
 	Verify func(spki.Signature) bool
 }
 
-// NewVerifier returns a verifier for a service of these names, with https and nonces in memory.
+// NewVerifier returns a verifier for a service of these names, with https, nonces in memory, and verify.Signature.
 func NewVerifier(authorities ...string) *Verifier {
 	return &Verifier{
 		Authorities: authorities, Scheme: "https", Sequence: "x-spki-sequence", Nonces: NewMemory(usualNonces), Start: time.Now(), Now: time.Now,
@@ -53,18 +56,18 @@ type Proof struct {
 	// The key, and the certificates that the request shows, as a guard.Question has them.
 	Key      spki.ProvenKey
 	Sequence []byte
-	// What Take uses up, and what Body compares a body with. The digest has no octets if none is covered.
+	// What Take uses up, and what Body compares a body with.
 	nonce  string
 	digest digest
 }
 
-// Hash returns the SHA-256 digest of the key, in hexadecimal digits.
+// Hash returns the SHA-256 digest of the key, in hexadecimal digits: the `keyid` of the request.
 func (p *Proof) Hash() string {
 	return hashOf([]byte(p.Key.Text()))
 }
 
-// Body reads a body of at most `most` octets, and returns it if it is the signed one. Otherwise it returns an error: OtherDigest, or one of
-// reading, or that it is too long. If the request has no digest, nil is returned for an empty body, and OtherDigest for any other.
+// Body reads a body of at most `most` octets, and returns it if it is the signed one. The error is OtherDigest if it is not, one of reading, or that
+// it is too long. If the request covers no digest, nil is returned for an empty body, and OtherDigest for any other.
 func (p *Proof) Body(from io.Reader, most int64) ([]byte, error) {
 	limit := most
 	if limit < math.MaxInt64 {
@@ -104,8 +107,8 @@ func (v *Verifier) Message(message Message) (*Proof, error) {
 	return proof, nil
 }
 
-// Take uses up the nonce of a proof that Check has returned. The error is NonceSeen or StoreFull, or one of Nonces. NO PROOF COUNTS WITHOUT IT: a
-// caller of Check takes the nonce before it acts. It may decide before that, so that strangers do not fill the store.
+// Take uses up the nonce of a proof that Check has returned. The error is that of Nonces, such as NonceSeen or StoreFull. NO PROOF COUNTS WITHOUT IT:
+// a caller of Check takes the nonce before it acts. It may decide before that, so that strangers do not fill the store.
 func (v *Verifier) Take(proof *Proof) error {
 	return v.Nonces.Take([]byte(proof.Key.Text()), proof.nonce, v.Now().Unix(), mostWindow+mostAhead)
 }
@@ -140,7 +143,8 @@ func (v *Verifier) Check(message Message) (*Proof, error) {
 	return &Proof{proven, v.sequenceOf(message.Header), input.nonce, digest}, nil
 }
 
-// signerOf returns the key of a request, which must be that of `keyid` and `alg`, and how many octets a signature by it has.
+// signerOf returns the key of a request in canonical form, and how many octets a signature by it has. The error is a Refusal, also if `keyid` or
+// `alg` is that of another key.
 func signerOf(header http.Header, input *input) (key []byte, octets int, err error) {
 	text, err := fieldOf(header, publicKey)
 	if err != nil {
@@ -158,8 +162,8 @@ func signerOf(header http.Header, input *input) (key []byte, octets int, err err
 	return key, octets, nil
 }
 
-// sequenceOf returns the certificates that a request shows, or a sequence of none. checkMessage was called before: their field is covered if it is
-// there, and so has one line.
+// sequenceOf returns the certificates that a request shows, or a sequence of none. It is called after checkMessage, which refuses a request whose
+// field of certificates is not covered or has two lines.
 func (v *Verifier) sequenceOf(header http.Header) []byte {
 	if shown := header.Get(v.Sequence); shown != "" {
 		return []byte(shown)
@@ -167,7 +171,7 @@ func (v *Verifier) sequenceOf(header http.Header) []byte {
 	return []byte("(sequence)")
 }
 
-// signatureOf reads `Signature-Input`, and the octets of `Signature`.
+// signatureOf reads the two fields of a signature: `Signature-Input`, and the octets in `Signature`. The error is a Refusal.
 func signatureOf(header http.Header) (*input, []byte, error) {
 	inputs, signatures := header.Values("Signature-Input"), header.Values("Signature")
 	switch {
@@ -207,7 +211,7 @@ func (v *Verifier) checkParameters(input *input) error {
 }
 
 // checkMessage tests the method, the target, the authority, and that all is covered that must be. It returns the signed text and the digest of the
-// body, which has no octets if none is covered. The error is a Refusal. The body itself is not read.
+// body, which is the zero digest if none is covered. The error is a Refusal. The body itself is not compared.
 func (v *Verifier) checkMessage(message Message, input *input) (text []byte, digest digest, err error) {
 	if !isToken(message.Method) {
 		return nil, digest, BadMethod
@@ -241,11 +245,11 @@ func (v *Verifier) checkMessage(message Message, input *input) (text []byte, dig
 	return text, digest, err
 }
 
-// isOwnName says whether an authority, as it is signed, is one of this service. An empty one never is.
+// isOwnName says whether an authority, as AuthorityOf returns it, is a name of this service. An empty one never is.
 func (v *Verifier) isOwnName(authority string) bool {
 	for _, name := range v.Authorities {
-		if AuthorityOf(v.Scheme, name) == authority {
-			return authority != ""
+		if authority != "" && AuthorityOf(v.Scheme, name) == authority {
+			return true
 		}
 	}
 	return false
