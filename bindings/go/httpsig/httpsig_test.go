@@ -82,8 +82,8 @@ func unescaped(text string) string {
 	return plain
 }
 
-// verifierAt returns the verifier of the service in the rows, which started at 1792000000. Its clock is `now`, in seconds since 1970, which the test may
-// change.
+// verifierAt returns the verifier of the service in the rows, which started at 1792000000. Its clock is `now`, in seconds since 1970, which the test
+// may change.
 func verifierAt(now *int64) *Verifier {
 	verifier := NewVerifier("example.com")
 	verifier.Start, verifier.Now = time.Unix(1792000000, 0), func() time.Time { return time.Unix(*now, 0) }

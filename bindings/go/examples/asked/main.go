@@ -24,13 +24,14 @@ import (
 	"conguraki/spki/guard"
 )
 
-// An input reads strings. `fault` is the error of the last read, such as io.EOF at the end of the input, or nil.
+// An input reads what is asked. `fault` is the error of the last read, such as io.EOF at the end of the input, or nil.
 type input struct {
 	*bufio.Reader
 	fault error
 }
 
-// next reads a string, LENGTH:OCTETS. If the input ends or LENGTH is no number, i.fault says so, and what it returns is no string of the input.
+// next reads a string, LENGTH:OCTETS, and returns its octets. If the input ends or LENGTH is no number, it sets i.fault, and returns no string of the
+// input.
 func (i *input) next() string {
 	digits, err := i.ReadString(':')
 	if i.fault = err; err != nil {
@@ -45,7 +46,7 @@ func (i *input) next() string {
 	return string(octets)
 }
 
-// list reads the number of strings, and then these. It returns nil if the number cannot be read.
+// list reads the number of strings, and then these strings, which it returns. It returns nil if the number cannot be read.
 func (i *input) list() []string {
 	count, err := strconv.Atoi(i.next())
 	if err != nil {
@@ -66,34 +67,34 @@ type task struct {
 	accepted                      map[[3]string]bool
 }
 
-// task reads the next question. At the end of the input it returns one without meaning, and i.fault is io.EOF.
+// task reads the next question. At the end of the input i.fault is io.EOF, and the task must not be used.
 func (i *input) task() task {
-	made := task{command: i.next(), policy: i.next(), limits: i.next(), list: i.next(), accepted: map[[3]string]bool{}}
-	made.question.Sequence = []byte(i.next())
-	made.question.Key = spki.AssumeKey([]byte(i.next()))
+	task := task{command: i.next(), policy: i.next(), limits: i.next(), list: i.next(), accepted: map[[3]string]bool{}}
+	task.question.Sequence = []byte(i.next())
+	task.question.Key = spki.AssumeKey([]byte(i.next()))
 	form, request := i.next(), i.list()
 	if form == "words" {
-		made.question.Words = request
+		task.question.Words = request
 	} else if len(request) > 0 {
-		made.question.Request = []byte(request[0])
+		task.question.Request = []byte(request[0])
 	}
 	clock, moment := i.next(), i.next()
 	if seconds, err := strconv.ParseInt(moment, 10, 64); clock == "seconds" && err == nil {
 		// (with 1 nanosecond, which a guard ignores. Without it, the seconds of the first moment of the year 1 would give the zero Time, and a
 		// question with the zero Time is one whose Moment is given)
-		made.question.Time = time.Unix(seconds, 1)
+		task.question.Time = time.Unix(seconds, 1)
 	} else {
-		made.question.Moment = []byte(moment)
+		task.question.Moment = []byte(moment)
 	}
 	rows := i.list()
 	for place := 0; place+2 < len(rows); place += 3 {
-		made.accepted[[3]string{rows[place], rows[place+1], rows[place+2]}] = true
+		task.accepted[[3]string{rows[place], rows[place+1], rows[place+2]}] = true
 	}
-	return made
+	return task
 }
 
-// answer opens a guard of the ACL and asks it the question, by the command. It returns the lines of the answer without the last line feed, or the
-// error of a refusal, whose text is its line.
+// answer opens a guard of the ACL and asks it the question, by the command: the decision for each other word than `explain` and `reduce`. It returns
+// the lines of the answer without the last line feed, or the error of a refusal, whose text is its line.
 func (t task) answer() (string, error) {
 	policy, limits := guard.AllowSHA1, guard.Limits{}
 	if t.policy == "strict" {
@@ -113,7 +114,7 @@ func (t task) answer() (string, error) {
 	switch t.command {
 	case "explain":
 		explanation, err := list.Explain(t.question, verify)
-		return spelled(explanation), err
+		return linesOf(explanation), err
 	case "reduce":
 		return list.Reduce(t.question, verify)
 	}
@@ -121,9 +122,9 @@ func (t task) answer() (string, error) {
 	return decision.String(), err
 }
 
-// spelled returns the lines of an explanation, each put together from the parts of its Reason, so that the test compares these too. The line for an
+// linesOf returns the lines of an explanation, each put together from the parts of its Reason, so that the test compares these too. The line for an
 // empty ACL is `no entries`.
-func spelled(explanation guard.Explanation) string {
+func linesOf(explanation guard.Explanation) string {
 	lines := make([]string, 0)
 	for _, reason := range explanation.Reasons() {
 		lines = append(lines, reason.String())
@@ -134,19 +135,19 @@ func spelled(explanation guard.Explanation) string {
 	return strings.Join(lines, "\n")
 }
 
-// main answers each question until the input ends.
+// main writes the answer to each question, LENGTH:OCTETS, until the input ends.
 func main() {
-	given, out := &input{Reader: bufio.NewReader(os.Stdin)}, bufio.NewWriter(os.Stdout)
-	defer out.Flush()
+	input, output := &input{Reader: bufio.NewReader(os.Stdin)}, bufio.NewWriter(os.Stdout)
+	defer output.Flush()
 	for {
-		task := given.task()
-		if errors.Is(given.fault, io.EOF) {
+		task := input.task()
+		if errors.Is(input.fault, io.EOF) {
 			return
 		}
 		line, err := task.answer()
 		if err != nil {
 			line = err.Error()
 		}
-		fmt.Fprintf(out, "%d:%s", len(line), line)
+		fmt.Fprintf(output, "%d:%s", len(line), line)
 	}
 }

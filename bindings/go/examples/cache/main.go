@@ -1,4 +1,4 @@
-// Command cache is a build cache for one client, whose key is proved: cache ACL FOLDER KEY SEQUENCE; then lines `read PATH`, `write PATH TEXT`.
+// Command cache is a build cache for one client, whose key TLS has proved: cache ACL FOLDER KEY SEQUENCE; then lines `read PATH`, `write PATH TEXT`.
 package main
 
 import (
@@ -28,7 +28,7 @@ func main() {
 	}
 	list := must(guard.Open(must(os.ReadFile(os.Args[1])), guard.Strict, guard.Limits{}))
 	client, sequence, kept, last := spki.AssumeKey(must(os.ReadFile(os.Args[3]))), must(os.ReadFile(os.Args[4])), guard.Decision{}, ""
-	for lines := bufio.NewScanner(os.Stdin); lines.Scan(); {
+	for lines := bufio.NewScanner(os.Stdin); lines.Scan() || must(false, lines.Err()); { // (a line over 64 KiB ends the program by an error)
 		words := append(strings.SplitN(lines.Text(), " ", 3), "", "") // (action, path and text, of which some may be empty)
 		file, isNormal := os.Args[2]+words[1], words[1] != "/" && path.Clean("/"+words[1]) == words[1]
 		if asked := words[0] + " " + words[1]; asked != last || !kept.HoldsAt(time.Now()) {
@@ -39,7 +39,7 @@ func main() {
 		if !isNormal || !kept.HoldsAt(time.Now()) {
 			fmt.Println("denied")
 		} else if words[0] == "write" {
-			fmt.Println("written", must(len(words[2]), os.WriteFile(file, []byte(words[2]), 0o600)))
+			fmt.Println(map[bool]string{true: "written", false: "not written"}[os.WriteFile(file, []byte(words[2]), 0o600) == nil], len(words[2]))
 		} else if octets, err := os.ReadFile(file); err == nil && words[0] == "read" {
 			fmt.Println(string(octets))
 		} else {

@@ -18,7 +18,8 @@ import (
 	"conguraki/spki/verify"
 )
 
-// isGranted says whether a request is granted. Each word is one string of it, whatever octets it has.
+// isGranted says whether a request is granted. Each word is one string of it, whatever octets it has. The error, such as of a text that cannot be read,
+// is a no too.
 func isGranted(list *guard.Guard, sequence []byte, key spki.ProvenKey, words []string, now time.Time) (bool, error) {
 	decision, err := list.Decide(guard.Question{Sequence: sequence, Key: key, Words: words, Time: now}, verify.Signature)
 	if err != nil {
@@ -28,13 +29,13 @@ func isGranted(list *guard.Guard, sequence []byte, key spki.ProvenKey, words []s
 }
 
 // run prints `granted` or `denied` for the arguments ACL SEQUENCE KEY WORD .. It returns an error if a file cannot be read or a text is refused.
-func run(given []string) error {
-	if len(given) < 4 {
+func run(arguments []string) error {
+	if len(arguments) < 4 {
 		return errors.New("usage: decide ACL SEQUENCE KEY WORD [WORD ..]")
 	}
 	var texts [3][]byte
 	for place := range texts {
-		octets, err := os.ReadFile(given[place])
+		octets, err := os.ReadFile(arguments[place])
 		if err != nil {
 			return err
 		}
@@ -46,7 +47,7 @@ func run(given []string) error {
 	}
 	defer list.Close()
 	// THE CLIENT MUST HAVE PROVED THAT IT HOLDS THE KEY: a public key is public.
-	granted, err := isGranted(list, texts[1], spki.AssumeKey(texts[2]), given[3:], time.Now())
+	granted, err := isGranted(list, texts[1], spki.AssumeKey(texts[2]), arguments[3:], time.Now())
 	if err != nil {
 		return err
 	}
@@ -54,6 +55,7 @@ func run(given []string) error {
 	return nil
 }
 
+// main ends with status 1 and a message if there is neither `granted` nor `denied`.
 func main() {
 	if err := run(os.Args[1:]); err != nil {
 		fmt.Fprintln(os.Stderr, err)

@@ -1,4 +1,5 @@
-// Command service lets clients read packages, by signed requests. Usage: service ACL NAME, behind a server with TLS.
+// Command service lets clients read packages, by signed requests. Usage: service ACL NAME, behind a server with TLS. A granted request gets 200 and an
+// empty body, each other one 403.
 package main
 
 import (
@@ -16,6 +17,9 @@ import (
 )
 
 func main() {
+	if len(os.Args) != 3 {
+		log.Fatal("usage: service ACL NAME")
+	}
 	octets, fileError := os.ReadFile(os.Args[1])
 	list, listError := guard.Open(octets, guard.Strict, guard.Limits{})
 	listener, portError := net.Listen("tcp", "127.0.0.1:0")
@@ -23,7 +27,7 @@ func main() {
 		log.Fatal(fileError, listError, portError)
 	}
 	fmt.Println(listener.Addr().(*net.TCPAddr).Port)
-	verifier := httpsig.NewVerifier(os.Args[2]) // (the name by which clients ask for the service; a granted request gets 200 and an empty body)
+	verifier := httpsig.NewVerifier(os.Args[2]) // (the name by which clients ask for the service)
 	log.Fatal(http.Serve(listener, http.HandlerFunc(func(answer http.ResponseWriter, request *http.Request) {
 		var decision guard.Decision
 		proof, err := verifier.Request(request)

@@ -14,31 +14,32 @@ import (
 	"conguraki/spki/verify"
 )
 
-// next reads a string, LENGTH:OCTETS. The error is one of reading, also at the end of the input.
-func next(given *bufio.Reader) ([]byte, error) {
+// next reads a string, LENGTH:OCTETS, and returns its octets. The error is one of reading, also at the end of the input.
+func next(input *bufio.Reader) ([]byte, error) {
 	var length int
-	if _, err := fmt.Fscanf(given, "%d:", &length); err != nil {
+	if _, err := fmt.Fscanf(input, "%d:", &length); err != nil {
 		return nil, err
 	}
 	octets := make([]byte, length)
-	_, err := io.ReadFull(given, octets)
+	_, err := io.ReadFull(input, octets)
 	return octets, err
 }
 
+// main verifies one signature after the other, and ends with a line feed at the end of the input.
 func main() {
-	given, out := bufio.NewReader(os.Stdin), bufio.NewWriter(os.Stdout)
-	defer out.Flush()
+	input, output := bufio.NewReader(os.Stdin), bufio.NewWriter(os.Stdout)
+	defer output.Flush()
 	for {
-		var strings [3][]byte
-		for place := range strings {
-			octets, err := next(given)
+		var texts [3][]byte
+		for place := range texts {
+			octets, err := next(input)
 			if err != nil {
-				fmt.Fprintln(out)
+				fmt.Fprintln(output)
 				return
 			}
-			strings[place] = octets
+			texts[place] = octets
 		}
-		signed := spki.Signature{Key: strings[0], Message: strings[1], Value: strings[2]}
-		fmt.Fprint(out, map[bool]int{true: 1, false: 0}[verify.Signature(signed)])
+		signed := spki.Signature{Key: texts[0], Message: texts[1], Value: texts[2]}
+		fmt.Fprint(output, map[bool]int{true: 1, false: 0}[verify.Signature(signed)])
 	}
 }
