@@ -278,7 +278,7 @@ class Opened(unittest.TestCase):
         for until, wanted in ((253_402_300_799, most), (253_402_300_800, last), (-1, EPOCH - timedelta(seconds=1)), (-2 ** 62, first),
                               (2 ** 63 - 1, None)):
             with mock.patch.object(_library, "decide", return_value=_library.Decision(_library.YES, until)), \
-                    mock.patch.object(spki._Room, "answer", return_value=b"yes entry 7\n"):
+                    mock.patch.object(spki._CallMemory, "line", return_value=b"yes entry 7\n"):
                 self.assertEqual(opened.decide(), spki.Grant(7, wanted))
 
     def test_equal_keys_are_one_object(self):

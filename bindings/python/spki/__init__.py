@@ -41,7 +41,7 @@ from dataclasses import fields
 from types import TracebackType
 from typing import NoReturn, TypeVar, cast
 
-from . import _library as of
+from . import _library
 from ._library import library
 from ._values import (Denied, Explanation, Grant, Limits, NoDecision, NotProved, Policy, ProvenKey, Question, Reason, Reduction, Refused,
                       Scheme, Signature, Verify, answer_of, int_of, moment_of, octets_of, signature_of)
@@ -51,21 +51,21 @@ __version__ = "0.2.0"
 __all__ = ["Asked", "Cause", "Denied", "Explanation", "Fault", "Grant", "Guard", "Limits", "NotProved", "Part", "Policy", "ProvenKey", "Question",
            "Reason", "Reduction", "Refused", "Scheme", "Signature", "Verify", "advanced", "canonical", "string_at", "transport"]
 
-_Opened = TypeVar("_Opened", bound="_Open")
+_Self = TypeVar("_Self", bound="_Closable")
 
 # The octets of a buffer that each decision and each refusal fits in.
-_LINE = 128
+_LINE_OCTETS = 128
 
 
-class _Alone:
-    """What is one object of one process: a copy would free what the original still uses."""
+class _NotCopied:
+    """A base of what must not be copied or pickled: a copy would free what the original still uses."""
 
     def __reduce_ex__(self, protocol: object) -> NoReturn:
         raise TypeError(f"a {type(self).__name__.strip('_')} is not copied or pickled: use the same object in all threads, and read the list and "
                         "ask again in another process")
 
 
-class _Handle(c_void_p, _Alone):
+class _Handle(c_void_p, _NotCopied):
     """The address of a guard or an opened question of the library. `process` is the id of the process that has opened it."""
 
     def __init__(self, address: int | None = None) -> None:
@@ -73,14 +73,15 @@ class _Handle(c_void_p, _Alone):
         self.process = os.getpid()
 
     def free(self, close: Callable[[c_void_p], None], current_process: Callable[[], int] = os.getpid) -> None:
-        """Frees the memory by `close`, in the process that has opened it. A child that was forked has a copy of the memory, which ends with it.
-        `current_process` is a default, as `close` is for `__del__`: the names of modules may be gone when the interpreter ends."""
+        """Frees the memory by `close`, in the process that has opened it. A child that was forked has a copy of the memory, which ends
+        with it. `current_process` is a parameter, as `close` of `__del__` is, for its default: when the interpreter ends, the names of
+        modules may be gone, and defaults are not."""
         if self.process == current_process():
             close(self)
 
 
 class _GuardHandle(_Handle):
-    """A guard of the library. It is closed when nothing refers to it. A call refers to it, so no call on it can be under way."""
+    """A guard of the library. It is closed when nothing refers to it: no call is under way then, since a call refers to it."""
 
     def __del__(self, close: Callable[[c_void_p], None] = library.spki_guard_close) -> None:
         self.free(close)
@@ -89,55 +90,58 @@ class _GuardHandle(_Handle):
 class _AskedHandle(_Handle):
     """An opened question of the library. It is closed when nothing refers to it."""
 
-    def __del__(self, close: Callable[[c_void_p], None] = of.close) -> None:
+    def __del__(self, close: Callable[[c_void_p], None] = _library.close) -> None:
         self.free(close)
 
 
-class _Open(_Alone):
-    """A guard or an opened question: it can be used until `close` is called."""
+class _Closable(_NotCopied):
+    """A base of guards and opened questions, which can be used until `close` is called."""
 
     # `None` once it is closed. The handle itself is freed when no call refers to it.
     _handle: c_void_p | None
 
-    def _held(self) -> c_void_p:
-        """The open handle. The caller keeps it in a variable as long as it calls the library, so that `close` in another thread does not free it.
-        Raises `ValueError` after `close`."""
+    def _open_handle(self) -> c_void_p:
+        """The open handle. The caller keeps it in a variable as long as it calls the library, so that `close` in another thread does not
+        free it. Raises `ValueError` after `close`."""
         handle = self._handle
         if handle is None:
             raise ValueError(f"the {type(self).__name__} is closed")
         return handle
 
-    def __enter__(self: _Opened) -> _Opened:
+    def __enter__(self: _Self) -> _Self:
         return self
 
     def __exit__(self, kind: type[BaseException] | None, value: BaseException | None, trace: TracebackType | None) -> None:
         self.close()
 
     def close(self) -> None:
-        """Closes it. Calls that are under way in other threads end as usual, and then its memory is freed. Later calls raise `ValueError`."""
+        """Closes it. Calls that are under way in other threads end as usual, and then its memory is freed. Later calls raise `ValueError`,
+        but for `close`, `repr` and `len`."""
         self._handle = None
 
 
-class Asked(_Open, NoDecision):
+class Asked(_Closable, NoDecision):
     """A question that was read, which is decided by the marks that it carries. It stays open when its guard is closed.
 
-    A signature that is not marked is not valid, and a mark cannot be taken back. Several threads may use a question: each call waits for a
-    mark that is made, and a mark for the calls before it.
+    A signature that is not marked is not valid, and a mark cannot be taken back. Several threads may use a question: a mark and any other
+    call wait for each other.
     """
 
-    def __init__(self, guard: c_void_p, question: Question, most: int) -> None:
-        """Opens a question of a guard, given by its handle, for `Guard.ask`. Its explanation and its reduction have at most `most` octets."""
-        self._handle, self._most = _AskedHandle(_opened(guard, question)), most
-        self._count = of.count(self._handle)
-        self._calls = threading.Lock()
+    def __init__(self, guard: c_void_p, question: Question, answer_octets: int) -> None:
+        """Opens a question for `Guard.ask`. `guard` is the handle of the guard, and `answer_octets` the most octets of an explanation or a
+        reduction. Raises as `_open_question` does."""
+        self._handle, self._answer_octets = _AskedHandle(_open_question(guard, question)), answer_octets
+        self._count = _library.count(self._handle)
+        # (while a signature is marked, the library permits no other call on the question)
+        self._lock = threading.Lock()
 
     def __len__(self) -> int:
-        """The number of its signatures."""
+        """The number of the signatures on which the answers depend."""
         return self._count
 
     def __iter__(self) -> Iterator[Signature]:
-        """The signatures one by one, in order. Each is copied when it is reached. Equal keys are one object."""
-        handle, keys = self._held(), dict[bytes, bytes]()
+        """The signatures on which the answers depend, one by one, in order. Each is copied when it is reached. Equal keys are one object."""
+        handle, keys = self._open_handle(), dict[bytes, bytes]()
         for place in range(self._count):
             yield _signature(handle, place, keys)
 
@@ -151,115 +155,118 @@ class Asked(_Open, NoDecision):
     def mark(self, place: int) -> None:
         """Says that the signature at this place, from 0, is valid. The mark is for its place alone, also if the same signature is there twice.
         Raises `IndexError` if there is no such place, and then nothing is marked. `True` is no place, and raises `TypeError`."""
-        handle, at = self._held(), int_of(place)
-        if at not in range(self._count):
-            raise IndexError(f"there are {self._count} signatures, and none at the place {at}")
-        with self._calls:
-            _mark(handle, at)
+        handle, index = self._open_handle(), int_of(place)
+        if index not in range(self._count):
+            raise IndexError(f"there are {self._count} signatures, and none at the place {index}")
+        with self._lock:
+            _mark(handle, index)
 
     def verify(self, verify: Verify) -> None:
-        """Marks each signature of which `verify(signature)` answers `True`, in order. It is not called after the first `False`. Raises
-        `TypeError` if it answers anything but `True` or `False`, such as a coroutine. To explain a denial, verify also where the request is not
-        possible."""
-        handle = self._held()
+        """Marks each signature for which `verify(signature)` returns `True`, in order, up to the first `False`. Raises `TypeError` if it
+        returns anything else, such as a coroutine. Then, or if `verify` raises an exception, nothing is marked. To explain a denial, verify
+        also where `is_possible` is false."""
+        handle = self._open_handle()
         for place in range(_count_valid(handle, self._count, verify)):
-            with self._calls:
+            with self._lock:
                 _mark(handle, place)
 
     @property
     def is_possible(self) -> bool:
         """Whether the request would be granted if all signatures were valid. If not, no marks make it a yes, and no signature has to be
         verified. `True` grants nothing."""
-        handle = self._held()
-        with self._calls:
-            return of.possible(handle)
+        handle = self._open_handle()
+        with self._lock:
+            return _library.possible(handle)
 
     def decide(self) -> Grant | None:
-        """The grant, if exactly the marked signatures are valid. `None` is a no. It may be asked any number of times."""
-        handle = self._held()
-        with self._calls:
+        """The grant, if exactly the marked signatures are valid. `None` is a no. It may be called any number of times."""
+        handle = self._open_handle()
+        with self._lock:
             return _decide(handle)
 
     def require(self) -> int:
         """The number of the entry that grants the request, by the marks. Raises `Denied` if none does."""
-        return _required(self.decide())
+        return _entry_of(self.decide())
 
     def explain(self) -> Explanation:
-        """Says of each entry why it grants the request or does not. Raises `Refused` if it is too large."""
-        return Explanation(self._lines(of.explain))
+        """Says of each entry, by the marks, why it grants the request or does not. Raises `Refused` if a limit is exceeded."""
+        return Explanation(self._lines(_library.explain))
 
     def reduce(self) -> Reduction:
-        """Which right remains of each entry after all certificates. Raises `Refused` if it is too large."""
-        return Reduction(self._lines(of.reduce))
+        """Which right, by the marks, remains of each entry after all certificates. Raises `Refused` if a limit is exceeded."""
+        return Reduction(self._lines(_library.reduce))
 
-    def _lines(self, call: of.Answers) -> str:
-        """The lines of `of.explain` or `of.reduce`, without the last line feed. Raises `Refused`."""
-        handle = self._held()
-        with self._calls:
-            status, lines = _answered(self._most, call, handle)
-        _expect(status, lines)
+    def _lines(self, call: _library.Answers) -> str:
+        """The lines of a call, `_library.explain` or `_library.reduce`, without the last line feed. Raises `Refused`."""
+        handle = self._open_handle()
+        with self._lock:
+            status, lines = _call_for_answer(self._answer_octets, call, handle)
+        _raise_unless_done(status, lines)
         return lines.decode().rstrip("\n")
 
 
-class Guard(_Open):
+class Guard(_Closable):
     """An access list that is read once and asked often, also by several threads at the same time.
 
     `decide`, `explain` and `reduce` open a question, call `verify(signature)` for each signature that the answer depends on, in
-    order up to the first `False`, and answer. `decide` does not call it where the request cannot be granted, whatever is valid. An exception
-    that `verify` raises is passed on, and nothing is granted.
+    order up to the first `False`, and answer. `decide` does not call it if the request would be denied even if all were valid. An exception
+    that `verify` raises is passed on, and nothing is granted. If it returns neither `True` nor `False`, they raise `TypeError`.
     """
 
     def __init__(self, access_list: bytes, policy: Policy = Policy.STRICT, limits: Limits = Limits()) -> None:
-        """Reads `(acl entry ..)`, in any of the three forms. Raises `Refused` if the text is no access list."""
+        """Reads `(acl entry ..)`, in any of the three forms. Raises `Refused` if the text is no access list, and `TypeError` for arguments
+        of other types."""
         if not isinstance(policy, Policy) or not isinstance(limits, Limits):
             raise TypeError("a guard has a `Policy` and `Limits`")
-        text, self._policy, self._most = octets_of(access_list), policy, limits.answer or of.USUAL_ANSWER
+        text, self._policy, self._answer_octets = octets_of(access_list), policy, limits.answer or _library.USUAL_ANSWER
+        numbers = [getattr(limits, field.name) for field in fields(limits)]
         # (no structure of limits means the usual ones)
-        values = of.Limits(ctypes.sizeof(of.Limits), *(getattr(limits, field.name) for field in fields(limits))) if limits != Limits() else None
+        structure = _library.Limits(ctypes.sizeof(_library.Limits), *numbers) if any(numbers) else None
         self._handle = handle = _GuardHandle()
-        _expect(*_answered(_LINE, library.spki_guard_open, text, len(text), policy.value, values, byref(handle)))
+        _raise_unless_done(*_call_for_answer(_LINE_OCTETS, library.spki_guard_open, text, len(text), policy.value, structure,
+                                             byref(handle)))
         self._entries: int = library.spki_guard_entries(handle)
 
     @property
     def entries(self) -> int:
         """The number of entries of the list."""
-        self._held()
+        self._open_handle()
         return self._entries
 
     def __repr__(self) -> str:
         return f"<spki.Guard of {self._entries} entries, {self._policy.name}{', closed' * (self._handle is None)}>"
 
     def ask(self, question: Question) -> Asked:
-        """Opens a question, whose signatures the caller marks. Raises `Refused` if a part of it cannot be read."""
-        return Asked(self._held(), question, self._most)
+        """Opens a question, whose signatures the caller marks. Raises `Refused` if a part of it cannot be read or exceeds a limit."""
+        return Asked(self._open_handle(), question, self._answer_octets)
 
     def decide(self, question: Question, verify: Verify) -> Grant | None:
-        """The grant of the question's request. `None` is a no. Raises `Refused` if a part of the question cannot be read."""
-        # (the same as `ask`, `is_possible`, `verify` and `decide`, without an object for the question, which no other thread can close or mark)
-        handle = c_void_p(_opened(self._held(), question))
+        """The grant of the question's request. `None` is a no. Raises `Refused` if a part of the question cannot be read or exceeds a limit."""
+        # (the same as `ask`, `is_possible`, `verify` and `decide`, in less time: no other thread can close or mark this question, so it needs
+        # neither an object nor a lock)
+        handle = c_void_p(_open_question(self._open_handle(), question))
         try:
-            count = of.count(handle)
-            for place in range(_count_valid(handle, count, verify) if count and of.possible(handle) else 0):
+            count = _library.count(handle)
+            for place in range(_count_valid(handle, count, verify) if count and _library.possible(handle) else 0):
                 _mark(handle, place)
             return _decide(handle)
         finally:
-            of.close(handle)
+            _library.close(handle)
 
     def require(self, question: Question, verify: Verify) -> int:
-        """The number of the entry that grants the question's request. Raises `Denied` if none does, and `Refused` if a part of the question cannot be
-        read."""
-        return _required(self.decide(question, verify))
+        """The number of the entry that grants the question's request. Raises `Denied` if none does, and `Refused` as `decide` does."""
+        return _entry_of(self.decide(question, verify))
 
     def explain(self, question: Question, verify: Verify) -> Explanation:
-        """Says of each entry why it grants the request or does not. Raises `Refused` if a part of the question cannot be read, or if the
-        explanation is too large."""
+        """Says of each entry why it grants the request or does not. Raises `Refused` if a part of the question cannot be read or exceeds a
+        limit, or if the explanation does."""
         with self.ask(question) as asked:
             asked.verify(verify)
             return asked.explain()
 
     def reduce(self, question: Question, verify: Verify) -> Reduction:
-        """Which right remains of each entry after all certificates. Raises `Refused` if a part of the question cannot be read, or if the
-        reduction is too large."""
+        """Which right remains of each entry after all certificates. Raises `Refused` if a part of the question cannot be read or exceeds a
+        limit, or if the reduction does."""
         with self.ask(question) as asked:
             asked.verify(verify)
             return asked.reduce()
@@ -280,198 +287,208 @@ def string_at(text: bytes, *path: int) -> bytes | None:
     if any(place not in range(len(text)) for place in places):
         return None
     status = library.spki_string(text, len(text), (c_size_t * len(places))(*places), len(places), byref(octets), byref(length))
-    if status == of.NO_MEMORY:
-        raise _refused(status, b"")
-    return ctypes.string_at(octets, length.value) if status == of.DONE else None
+    if status == _library.NO_MEMORY:
+        raise _exception_of(status, b"")
+    return ctypes.string_at(octets, length.value) if status == _library.DONE else None
 
 
 def canonical(text: bytes) -> bytes:
     """The canonical form of the one value that a text is, in any of the three forms. Raises `Refused` if it is not one value."""
-    return _converted(of.CANONICAL, octets_of(text))
+    return _convert(_library.CANONICAL, octets_of(text))
 
 
 def advanced(text: bytes) -> bytes:
-    """The advanced form of a text, which `canonical` would accept, on one line, with a line feed at its end."""
-    return _converted(of.ADVANCED, octets_of(text))
+    """The advanced form of a text, which `canonical` would accept, on one line, with a line feed at its end. Raises `Refused`."""
+    return _convert(_library.ADVANCED, octets_of(text))
 
 
 def transport(text: bytes) -> bytes:
-    """The transport form of a text, which `canonical` would accept, on one line, with a line feed at its end."""
-    return _converted(of.TRANSPORT, octets_of(text))
+    """The transport form of a text, which `canonical` would accept, on one line, with a line feed at its end. Raises `Refused`."""
+    return _convert(_library.TRANSPORT, octets_of(text))
 
 
-def _converted(command: int, text: bytes) -> bytes:
-    """The form of a text that a command gives: `of.CANONICAL`, `of.ADVANCED` or `of.TRANSPORT`. Raises `Refused`."""
-    # (an octet that is printed in base64 takes 7 for the 3 of its canonical text)
-    status, answer = _answered(3 * len(text), library.spki_answer, command, text, len(text))
-    _expect(status, answer)
+def _convert(command: int, text: bytes) -> bytes:
+    """What `_library.CANONICAL`, `_library.ADVANCED` or `_library.TRANSPORT`, the command, makes of a text. Raises `Refused`."""
+    # No form has more than three times the octets of another: an octet that is printed in base64 takes 7 for the 3 of its canonical text,
+    # and `a(b)`, again and again, takes 8 for 3 in transport form. A longer text is refused, so the room is bounded.
+    status, answer = _call_for_answer(3 * min(len(text), _library.MOST_OCTETS), library.spki_answer, command, text, len(text))
+    _raise_unless_done(status, answer)
     return answer
 
 
 # ---- calls
 
 
-class _Room:
-    """Memory for what one call returns: a short answer, a handle or a signature. `at_..` are the addresses that the call is given."""
+class _CallMemory:
+    """Memory for what one call returns: a line, a handle or a signature. `at_..` are the addresses that the call is given. `needed` is the
+    length of the line, for which there are `octets`."""
 
     def __init__(self) -> None:
-        self.buffer, self.needed, self.opened, self.signed = (c_char * _LINE)(), c_size_t(), c_void_p(), bytearray(of.SIGNED.size)
-        self.at_buffer, self.octets = c_void_p(addressof(self.buffer)), c_size_t(_LINE)
-        self.at_needed, self.at_opened = c_void_p(addressof(self.needed)), c_void_p(addressof(self.opened))
-        self.at_signed = c_void_p(addressof((c_char * of.SIGNED.size).from_buffer(self.signed)))
+        self.buffer, self.octets, self.needed = (c_char * _LINE_OCTETS)(), c_size_t(_LINE_OCTETS), c_size_t()
+        self.opened, self.signed = c_void_p(), bytearray(_library.SIGNED.size)
+        self.at_buffer, self.at_needed = c_void_p(addressof(self.buffer)), c_void_p(addressof(self.needed))
+        self.at_opened = c_void_p(addressof(self.opened))
+        self.at_signed = c_void_p(addressof((c_char * _library.SIGNED.size).from_buffer(self.signed)))
 
-    def answer(self) -> bytes:
+    def line(self) -> bytes:
         """The line that the last call has written into the buffer."""
         # (a slice of this array is bytes, which its declared type does not say)
         return cast(bytes, self.buffer[:self.needed.value])
 
 
-class _Lines:
-    """Memory for an answer of at most `octets` octets. The system gives no more of it than was used."""
+class _AnswerMemory:
+    """Memory for an answer of at most `octets` octets. The system provides as much of it as is used. `needed` is the length of the
+    answer."""
 
     def __init__(self, octets: int) -> None:
         self.buffer, self.octets, self.needed = mmap.mmap(-1, octets, mmap.MAP_PRIVATE), c_size_t(octets), c_size_t()
+        # (an array of ctypes on this memory: `addressof` takes no mmap)
         self.first = c_char.from_buffer(self.buffer)
         self.at_buffer = c_void_p(addressof(self.first))
 
 
-# Rooms that no call uses: at most as many as calls were under way at the same time. Making one takes some microseconds. Behind them, the small
-# numbers that `_number` returns.
-_spare: list[_Room] = []
-_spare_lines: list[_Lines] = []
-_numbers = [c_size_t(number) for number in range(64)]
+# Memory that no call uses, to be used again, since making it takes some microseconds: for each kind as many as there were calls at the same
+# time. Behind them, the small numbers that `_size_argument` returns.
+_spare_calls: list[_CallMemory] = []
+_spare_answers: list[_AnswerMemory] = []
+_small_sizes = [c_size_t(number) for number in range(64)]
 
 
-def _take_room() -> _Room:
-    """A room that no other call has. The caller appends it to `_spare` afterwards."""
+def _take_call_memory() -> _CallMemory:
+    """Memory that no other call uses. The caller appends it to `_spare_calls` afterwards."""
     try:
-        return _spare.pop()
+        return _spare_calls.pop()
     except IndexError:
-        return _Room()
+        return _CallMemory()
 
 
-def _take_lines() -> _Lines:
-    """Memory for an answer within the usual limit, which no other call has. The caller appends it to `_spare_lines` afterwards."""
+def _take_answer_memory() -> _AnswerMemory:
+    """Memory for an answer within the usual limit, which no other call uses. The caller appends it to `_spare_answers` afterwards."""
     try:
-        return _spare_lines.pop()
+        return _spare_answers.pop()
     except IndexError:
-        return _Lines(of.USUAL_ANSWER)
+        return _AnswerMemory(_library.USUAL_ANSWER)
 
 
-def _number(number: int) -> c_size_t:
+def _size_argument(number: int) -> c_size_t:
     """A number as an argument of the library. Small ones are made once."""
-    return _numbers[number] if number < len(_numbers) else c_size_t(number)
+    return _small_sizes[number] if number < len(_small_sizes) else c_size_t(number)
 
 
-def _answered(most: int, call: Callable[..., int], *given: object) -> tuple[int, bytes]:
-    """Makes a call with memory for an answer of `most` octets, or of the usual limit if that is more. `given` are its arguments before those of the
-    answer. Returns its status and the answer. The answer is empty with `of.TOO_SMALL`, and with `of.NO_MEMORY` where no memory could be had."""
-    is_usual = most <= of.USUAL_ANSWER
+def _call_for_answer(most: int, call: Callable[..., int], *arguments: object) -> tuple[int, bytes]:
+    """Calls the library with memory for an answer of `most` octets, or of the usual limit if that is more. `arguments` are those before the
+    ones for the answer. Returns the status and the answer, which is empty with `_library.TOO_SMALL`, and with `_library.NO_MEMORY` if the
+    memory for the answer could not be allocated."""
+    is_usual = most <= _library.USUAL_ANSWER
     try:
-        room = _take_lines() if is_usual else _Lines(most)
+        memory = _take_answer_memory() if is_usual else _AnswerMemory(most)
     except OSError:
-        return of.NO_MEMORY, b""
-    status = call(*given, room.at_buffer, room.octets, byref(room.needed))
-    answer = room.buffer[:room.needed.value] if status != of.TOO_SMALL else b""
+        return _library.NO_MEMORY, b""
+    status = call(*arguments, memory.at_buffer, memory.octets, byref(memory.needed))
+    answer = memory.buffer[:memory.needed.value] if status != _library.TOO_SMALL else b""
     if is_usual:
-        _spare_lines.append(room)
+        _spare_answers.append(memory)
     return status, answer
 
 
-def _opened(guard: c_void_p, question: Question) -> int | None:
-    """Opens a question and returns its address, which the caller must free by `of.close`. Raises `Refused` if a part of it cannot be read or exceeds
-    a limit, and `TypeError` if it is no `Question`."""
+def _open_question(guard: c_void_p, question: Question) -> int | None:
+    """Opens a question and returns its address, which the caller must free by `_library.close`. Raises `Refused` if a part of it cannot be
+    read or exceeds a limit, and `TypeError` if it is no `Question`."""
     if not isinstance(question, Question):
         raise TypeError(f"a guard is asked a `Question`, and not {type(question).__name__}")
-    room = _take_room()
-    status = of.ask(guard, question._at, room.at_opened, room.at_buffer, room.octets, room.at_needed)
-    opened, answer = room.opened.value, room.answer() if status != of.DONE else b""
-    _spare.append(room)
-    _expect(status, answer)
-    return opened
+    memory = _take_call_memory()
+    status = _library.ask(guard, question._address, memory.at_opened, memory.at_buffer, memory.octets, memory.at_needed)
+    address, line = memory.opened.value, memory.line() if status != _library.DONE else b""
+    _spare_calls.append(memory)
+    _raise_unless_done(status, line)
+    return address
 
 
-def _texts(handle: c_void_p, place: int, room: _Room) -> tuple[int, ...]:
-    """Eight numbers: address and length of the key, message and value of the signature at a place, and of the octets of the value. `room` is memory
-    for the call."""
-    status = of.signature(handle, _number(place), room.at_signed)
-    if status != of.DONE:
-        raise _refused(status, b"")
-    return of.SIGNED.unpack(room.signed)
+def _signature_addresses(handle: c_void_p, place: int, memory: _CallMemory) -> tuple[int, ...]:
+    """Eight numbers: address and length of the key, the message and the value of the signature at a place, from 0, and of the octets of the
+    value. `memory` is for the call."""
+    status = _library.signature(handle, _size_argument(place), memory.at_signed)
+    if status != _library.DONE:
+        raise _exception_of(status, b"")
+    return _library.SIGNED.unpack(memory.signed)
 
 
 def _signature(handle: c_void_p, place: int, keys: dict[bytes, bytes]) -> Signature:
-    """Copies a signature of an opened question. `keys` has the keys of those that were copied before, so that equal keys are one object."""
-    room = _take_room()
-    at, length, message, message_length, value, value_length, _, _ = _texts(handle, place, room)
-    _spare.append(room)
-    memory, key = of.memory, of.memory[at:at + length]
+    """Copies the signature of an opened question at a place, from 0. `keys` has the keys that were copied before, so that equal keys are one
+    object."""
+    call_memory = _take_call_memory()
+    at, length, message, message_length, value, value_length, _, _ = _signature_addresses(handle, place, call_memory)
+    _spare_calls.append(call_memory)
+    memory, key = _library.memory, _library.memory[at:at + length]
     return signature_of(keys.setdefault(key, key), memory[message:message + message_length], memory[value:value + value_length])
 
 
 def _count_valid(handle: c_void_p, count: int, verify: Verify) -> int:
-    """How many of `count` signatures are valid before the first that is not. Raises `TypeError` if `verify` answers neither `True` nor `False`."""
-    memory, room, last = of.memory, _take_room(), b""
+    """How many of the `count` signatures of an opened question are valid before the first that is not. Raises `TypeError` if `verify`
+    returns neither `True` nor `False`."""
+    memory, call_memory, last_key = _library.memory, _take_call_memory(), b""
     try:
         for place in range(count):
-            at, length, message, message_length, value, value_length, _, _ = _texts(handle, place, room)
+            at, length, message, message_length, value, value_length, _, _ = _signature_addresses(handle, place, call_memory)
             key = memory[at:at + length]
-            if key != last:
+            if key != last_key:
                 # (a verifier that keeps keys keeps one of many equal ones)
-                last = key
-            answer = verify(signature_of(last, memory[message:message + message_length], memory[value:value + value_length]))
+                last_key = key
+            answer = verify(signature_of(last_key, memory[message:message + message_length], memory[value:value + value_length]))
             if answer is not True:
                 answer_of(answer)
                 return place
     finally:
-        _spare.append(room)
+        _spare_calls.append(call_memory)
     return count
 
 
 def _mark(handle: c_void_p, place: int) -> None:
-    """Says that the signature at a place, from 0, is valid."""
-    status = of.mark(handle, _number(place))
-    if status != of.DONE:
-        raise _refused(status, b"")
+    """Says that the signature at a place, from 0, is valid. Callers have tested the place: another one is a `RuntimeError`."""
+    status = _library.mark(handle, _size_argument(place))
+    if status != _library.DONE:
+        raise _exception_of(status, b"")
 
 
 def _decide(handle: c_void_p) -> Grant | None:
-    """The grant by the marks, or `None` for a no."""
+    """The grant by the marks of an opened question, or `None` for a no."""
     # (each line of a decision fits)
-    room = _take_room()
-    decision, line = of.decide(handle, room.at_buffer, room.octets, room.at_needed), room.answer()
-    _spare.append(room)
+    memory = _take_call_memory()
+    decision, line = _library.decide(handle, memory.at_buffer, memory.octets, memory.at_needed), memory.line()
+    _spare_calls.append(memory)
     status = decision.status
-    if status == of.YES:
-        return _granted(line, decision.until)
-    if status == of.NO:
+    if status == _library.YES:
+        return _grant_of(line, decision.until)
+    if status == _library.NO:
         return None
-    raise _refused(status, line)
+    raise _exception_of(status, line)
 
 
-def _required(grant: Grant | None) -> int:
-    """The entry of a grant. Raises `Denied` if there is none."""
+def _entry_of(grant: Grant | None) -> int:
+    """The number of the entry of a grant. Raises `Denied` if there is none."""
     if grant is None:
         raise Denied
     return grant.entry
 
 
 @functools.lru_cache(1024)
-def _granted(line: bytes, until: int) -> Grant:
-    """The grant of a line `yes entry N`, until a second since 1970. Equal ones are one object, since a grant does not change."""
-    return Grant(int(line[len("yes entry "):]), None if until == of.ENDLESS else moment_of(until))
+def _grant_of(line: bytes, until: int) -> Grant:
+    """The grant of a line `yes entry N`, until a second since 1970, or `_library.ENDLESS`. A grant does not change, so one that was made is
+    used again."""
+    return Grant(int(line[len("yes entry "):]), None if until == _library.ENDLESS else moment_of(until))
 
 
-def _expect(status: int, answer: bytes) -> None:
-    """Raises the exception of a call that failed, by its status and its answer. A call that is done raises none."""
-    if status != of.DONE:
-        raise _refused(status, answer)
+def _raise_unless_done(status: int, answer: bytes) -> None:
+    """Raises the exception of a call that failed, by its status and its answer. With `_library.DONE` nothing is raised."""
+    if status != _library.DONE:
+        raise _exception_of(status, answer)
 
 
-def _refused(status: int, answer: bytes) -> Exception:
-    """The exception of a call that failed, by its status. With `of.REFUSED` the answer is the line that says why. Otherwise it does not matter."""
-    if status == of.NO_MEMORY:
+def _exception_of(status: int, answer: bytes) -> Exception:
+    """The exception of a call that failed, by its status. With `_library.REFUSED` the answer is the line that says why. Otherwise the answer
+    is not used."""
+    if status == _library.NO_MEMORY:
         return Refused("refused Memory")
-    if status != of.REFUSED:
+    if status != _library.REFUSED:
         return RuntimeError(f"libspki_c answered with the status {status}, which this module does not know")
     return Refused(answer.decode().rstrip("\n"))

@@ -18,12 +18,12 @@ MOST_WORK = 1_000_000_000
 MOST_ANSWER = 268_435_456
 USUAL_ANSWER = 1_048_576
 HIGHEST = c_size_t(-1).value
-# The first two numbers of a library's version that this module can call.
+# The first two numbers of the version of a library that this module can call.
 VERSION = "0.2"
 
 
 class Text(Structure):
-    """`struct spki_text` that is given to a call. It keeps the octets."""
+    """`struct spki_text` as an argument. It keeps the octets alive."""
 
     _fields_ = [("octets", c_char_p), ("length", c_size_t)]
 
@@ -47,7 +47,7 @@ class Signed(Structure):
     _fields_ = [(f"{name}{part}", kind) for name in ("key", "message", "value", "octets") for part, kind in (("", c_void_p), ("_length", c_size_t))]
 
 
-# The members of `struct spki_signed` as numbers. A null address is 0.
+# Reads a `struct spki_signed` as eight numbers. A null address is 0.
 SIGNED = struct.Struct("8N")
 
 
@@ -67,16 +67,17 @@ class Memory(Protocol):
     """The memory of this process."""
 
     def __getitem__(self, places: slice) -> bytes:
-        """A copy of the octets from one address to another, as ctypes.string_at makes it in more steps."""
+        """A copy of the octets from one address up to another. `ctypes.string_at` makes the same, in more steps."""
 
 
-# All addresses as one array, of which a slice copies octets. Only slices that the library has named may be taken.
+# All memory as one array from the address 0, of which a slice copies octets. Only slices whose addresses the library has returned may be
+# taken.
 memory = cast(Memory, (ctypes.c_char * sys.maxsize).from_address(0))
 
 
-def of_this_version() -> str | None:
-    """The file name of the library of this version, `libspki_c.so.0.2`, or None if the loader does not find it. Other versions may be installed
-    beside it."""
+def file_of_this_version() -> str | None:
+    """The file name of the library of this version, `libspki_c.so.0.2`, or None if the loader does not find it. Other versions may be
+    installed beside it, and `find_library` returns any."""
     name = f"libspki_c.so.{VERSION}"
     try:
         ctypes.CDLL(name)
@@ -86,43 +87,45 @@ def of_this_version() -> str | None:
 
 
 def library_path() -> str:
-    """The file that SPKI_LIBRARY names, else the file beside this module, else what the loader finds: a library of this version, else any. `load`
-    tests the version. Raises ImportError if there is none."""
+    """The file that SPKI_LIBRARY names, else the file beside this module, else what the loader finds: a library of this version, else any.
+    `load` tests the version. Raises ImportError if none is found."""
     beside = os.path.join(os.path.dirname(os.path.abspath(__file__)), "libspki_c.so")
-    path = os.environ.get("SPKI_LIBRARY") or (beside if os.path.exists(beside) else of_this_version() or ctypes.util.find_library("spki_c"))
+    path = os.environ.get("SPKI_LIBRARY") or (beside if os.path.exists(beside) else file_of_this_version() or ctypes.util.find_library("spki_c"))
     if path is None:
         raise ImportError("libspki_c.so is not found: install it, or name the file in SPKI_LIBRARY")
     return path
 
 
 def load(path: str) -> ctypes.CDLL:
-    """Loads the library at a path. Raises ImportError if it is of another version than this module."""
+    """Loads the library at a path. Raises ImportError if it is of another version than this module, and OSError if it cannot be loaded."""
     loaded = ctypes.CDLL(path)
-    version: Callable[[], bytes] | None = getattr(loaded, "spki_version", None)
-    if version is not None:
+    call: Callable[[], bytes] | None = getattr(loaded, "spki_version", None)
+    if call is not None:
         loaded.spki_version.restype = c_char_p
-    said = version().decode() if version is not None else "before 0.1.0"
-    if said.split(".")[:2] != VERSION.split("."):
-        raise ImportError(f"{path} has version {said}, and this module needs {VERSION}")
+    version = call().decode() if call is not None else "before 0.1.0"
+    if version.split(".")[:2] != VERSION.split("."):
+        raise ImportError(f"{path} has version {version}, and this module needs {VERSION}")
     return loaded
 
 
 library = load(library_path())
-# (the same library, for calls that take less time than letting other threads of Python run meanwhile)
-at_once = ctypes.PyDLL(library._name)
-# The calls about a question. ctypes converts none of their arguments: they are objects of ctypes and octets, as mypy checks.
+# The same library for short calls. They keep the lock of the interpreter (GIL), since to release it would take longer than the call.
+library_with_gil = ctypes.PyDLL(library._name)
+# The calls about a question. ctypes converts none of their arguments: they are objects of ctypes, as mypy checks.
 ask: Callable[[c_void_p, c_void_p, c_void_p, c_void_p, c_size_t, c_void_p], int] = library.spki_guard_ask
-signature: Callable[[c_void_p, c_size_t, c_void_p], int] = at_once.spki_asked_signature
-count: Callable[[c_void_p], int] = at_once.spki_asked_count
-mark: Callable[[c_void_p, c_size_t], int] = at_once.spki_asked_mark
-possible: Callable[[c_void_p], bool] = at_once.spki_asked_possible
+signature: Callable[[c_void_p, c_size_t, c_void_p], int] = library_with_gil.spki_asked_signature
+count: Callable[[c_void_p], int] = library_with_gil.spki_asked_count
+mark: Callable[[c_void_p, c_size_t], int] = library_with_gil.spki_asked_mark
+possible: Callable[[c_void_p], bool] = library_with_gil.spki_asked_possible
 close: Callable[[c_void_p], None] = library.spki_asked_close
+# A call that writes lines about an opened question: its handle, the buffer, the size of the buffer, and the address of the length of the lines.
 Answers = Callable[[c_void_p, c_void_p, c_size_t, c_void_p], int]
 decide: Callable[[c_void_p, c_void_p, c_size_t, c_void_p], Decision] = library.spki_asked_decide
 explain: Answers = library.spki_asked_explain
 reduce: Answers = library.spki_asked_reduce
 
-# (a structure of one number, `struct spki_answered`, is returned as this number)
+# The types of the arguments, and below those of the results that are no `int`. A structure of one number, `struct spki_answered`, is returned as an
+# `int` is. `_answer` are the arguments for an answer: the buffer, its size, and the address of the length.
 _answer = [c_void_p, c_size_t, c_void_p]
 for _name, _types in {
     "guard_open": [c_char_p, c_size_t, c_uint, POINTER(Limits), c_void_p, *_answer], "guard_close": [c_void_p], "guard_entries": [c_void_p],
@@ -130,6 +133,6 @@ for _name, _types in {
 }.items():
     getattr(library, f"spki_{_name}").argtypes = _types
 library.spki_guard_close.restype = library.spki_asked_close.restype = None
-library.spki_guard_entries.restype = at_once.spki_asked_count.restype = c_size_t
-at_once.spki_asked_possible.restype = c_bool
+library.spki_guard_entries.restype = library_with_gil.spki_asked_count.restype = c_size_t
+library_with_gil.spki_asked_possible.restype = c_bool
 library.spki_asked_decide.restype = Decision

@@ -10,23 +10,24 @@ from dataclasses import dataclass, fields
 from datetime import datetime, timedelta, timezone
 from typing import NamedTuple, NoReturn, Union
 
-from . import _library as of
+from . import _library
 from ._words import Cause, Fault, Part
 
-# The last word of a line that begins with a capital letter; and a line of an explanation: the numbers of the entry and of the item, and the word.
+# The last word with a capital letter of a line; and a line of an explanation: the numbers of the entry and of the item, and the word.
 FAULT = re.compile(r".*\b([A-Z]\w*)")
 REASON = re.compile(r"^(?:entry (\d+) )?(?:item (\d+) )?(\w+)$", re.MULTILINE)
 EPOCH, SECOND = datetime(1970, 1, 1, tzinfo=timezone.utc), timedelta(seconds=1)
 
 
 class Refused(Exception):
-    """A line that begins with `refused`: a text is no input, or an allocation failed. Nothing is granted.
+    """A line that begins with `refused`: a text is not of the form that is required, a limit is exceeded, or an allocation failed. Nothing is
+    granted.
 
     The lines are those of the program `spki`; its manual lists them.
     """
 
     def __init__(self, line: str) -> None:
-        # (what is raised is copied and pickled by these arguments)
+        # (an exception is copied and pickled by the arguments of this call)
         super().__init__(line)
         self.line = line
         """The line without its line feed, as `refused sequence 3 Shape`."""
@@ -40,17 +41,17 @@ class Refused(Exception):
     @property
     def fault(self) -> Fault:
         """What is wrong. `Fault.OTHER` if the line names nothing that this module knows."""
-        found = FAULT.match(self.line)
-        return Fault(found[1] if found else "")
+        match = FAULT.match(self.line)
+        return Fault(match[1] if match else "")
 
 
 class Policy(enum.Enum):
-    """Which hashes name keys. SHA-1 is broken."""
+    """By which algorithms a hash may name a key. SHA-1 is broken."""
 
     STRICT = 0
-    """Hashes by SHA-256 and SHA-512 do."""
+    """By SHA-256 and SHA-512."""
     ALLOW_SHA1 = 1
-    """Hashes by SHA-1, SHA-256 and SHA-512 do."""
+    """By SHA-1, SHA-256 and SHA-512."""
 
 
 @dataclass(frozen=True, kw_only=True)
@@ -63,27 +64,28 @@ class Limits:
     certificates: int = 0
     """The most certificates of a sequence."""
     words: int = 0
-    """The most strings of a request."""
+    """The most strings of a request, with those in lists inside it."""
     nodes: int = 0
     """The most nodes of one tag times nodes of another whose intersection is computed."""
     work: int = 0
     """The most work of all certificates and entries together, as `struct spki_limits` of spki.h counts it."""
     answer: int = 0
-    """The most octets of the lines: a call takes address space for as many, of which only those of the answer are used."""
+    """The most octets of the lines of `explain` or `reduce`. A call reserves address space for as many, and uses the memory that the lines
+    need."""
 
     # Raises `TypeError` for a limit that is no `int`, and `ValueError` for one below 0 or over the highest.
     def __post_init__(self) -> None:
         for field in fields(self):
-            mosts = {"octets": of.MOST_OCTETS, "nodes": of.MOST_NODES, "work": of.MOST_WORK, "answer": of.MOST_ANSWER}
-            most = mosts.get(field.name, of.HIGHEST)
+            mosts = {"octets": _library.MOST_OCTETS, "nodes": _library.MOST_NODES, "work": _library.MOST_WORK, "answer": _library.MOST_ANSWER}
+            most = mosts.get(field.name, _library.HIGHEST)
             if not 0 <= int_of(getattr(self, field.name)) <= most:
                 raise ValueError(f"the limit `{field.name}` is a number from 0 to {most:,}")
 
     @classmethod
     def highest(cls) -> Limits:
-        """The highest limits. On some questions within them an explanation takes seconds."""
-        most = of.HIGHEST
-        return cls(octets=of.MOST_OCTETS, certificates=most, words=most, nodes=of.MOST_NODES, work=of.MOST_WORK, answer=of.MOST_ANSWER)
+        """The highest limits. They are not for questions of strangers: on some within them an explanation takes seconds."""
+        return cls(octets=_library.MOST_OCTETS, certificates=_library.HIGHEST, words=_library.HIGHEST, nodes=_library.MOST_NODES,
+                   work=_library.MOST_WORK, answer=_library.MOST_ANSWER)
 
 
 class Scheme(enum.Enum):
@@ -109,27 +111,28 @@ class Signature:
     @property
     def scheme(self) -> Scheme | None:
         """How the signature is made, by the form of its key. `None` for each other key, also one with P-384, which `spki_verify` knows."""
-        return next((it for it in Scheme if self.key.startswith(it.value)), None)
+        return next((scheme for scheme in Scheme if self.key.startswith(scheme.value)), None)
 
     @property
     def octets(self) -> bytes | None:
-        """The octets of a value that is one string: `sig` of `3:sig`. `None` for a list, such as `(7:sig-val..)`."""
+        """The octets of a value that is one string: `sig` of `3:sig`. `None` for any other, such as `(7:sig-val..)`."""
         length, colon, octets = self.value.partition(b":")
         return octets if colon and length.isdigit() else None
 
 
+# (looked up once: `signature_of` is called for each signature)
 _new, _set = object.__new__, object.__setattr__
 
 
 def signature_of(key: bytes, message: bytes, value: bytes) -> Signature:
-    """The `Signature` with these texts. It is made for each signature of a question, so it avoids the slow calls by which a frozen dataclass sets
-    its fields."""
-    made = _new(Signature)
-    _set(made, "__dict__", {"key": key, "message": message, "value": value})
-    return made
+    """The `Signature` with these texts. It is made for each signature of a question, so it avoids the slow calls by which a frozen
+    dataclass sets its fields."""
+    signature = _new(Signature)
+    _set(signature, "__dict__", {"key": key, "message": message, "value": value})
+    return signature
 
 
-# Whether a signature is valid. It answers `True` or `False`, and nothing else.
+# Says whether a signature is valid. It must return `True` or `False`: other results raise `TypeError`.
 Verify = Callable[[Signature], bool]
 
 
@@ -139,7 +142,8 @@ class NotProved(Exception):
 
 class ProvenKey:
     """A key that a client has proved to hold. A public key is public: without a proof, each client that sends Alice's key would have Alice's
-    rights. `by` makes one of a signed message of the service's own, and `assume` of a key that something else has proved."""
+    rights. `by` makes one of a message that the service made and the client signed, and `assume` one of a key that something else, such as
+    TLS, has proved."""
 
     __slots__ = ("_text",)
     _text: bytes
@@ -151,21 +155,22 @@ class ProvenKey:
     def assume(cls, key: bytes) -> ProvenKey:
         """The key `(public-key ..)` of a client that has proved to hold it elsewhere, as by TLS or SSH. Nothing checks that here: each client
         gets the rights of the key that is named."""
-        made = cls.__new__(cls)
-        object.__setattr__(made, "_text", octets_of(key))
-        return made
+        proven = cls.__new__(cls)
+        object.__setattr__(proven, "_text", octets_of(key))
+        return proven
 
     @classmethod
     def by(cls, signed: Signature, verify: Verify) -> ProvenKey:
-        """The key that has signed a message which the service itself made, with a nonce that it takes once. Raises `NotProved` if
-        the signature is not valid, or its message is a certificate, which proves nothing about who shows it."""
+        """The key that has signed a message. The service itself must have made the message, with a nonce that it accepts once: a signature of
+        anything else may be an old one, or have another purpose. `verify` says whether the signature is valid. Raises `NotProved` if it is
+        not, or if the message is a certificate: anyone can show a certificate, which proves nothing about who shows it."""
         if signed.message.startswith(b"(4:cert") or not answer_of(verify(signed)):
             raise NotProved("the client has not proved that it holds the key")
         return cls.assume(signed.key)
 
     @property
     def text(self) -> bytes:
-        """The octets of the key."""
+        """The octets of the key, as they were given."""
         return self._text
 
     def __setattr__(self, name: str, value: object) -> NoReturn:
@@ -195,32 +200,34 @@ class Question:
 
         The request is given by `words`, its strings, each as octets that may come from the client: several strings are the list of them,
         and one is the string itself. Or it is given by `text`, one value. `moment` is the time of the service's own clock, a `datetime` with a
-        time zone, or the text of a date. A time before 1970 is refused as `BadDate` when it is asked.
+        time zone, or the text of a date. A time before 1970 is refused as `BadDate` when it is asked. Raises `TypeError` for arguments of
+        other types, and if the request is given in both ways or in none.
         """
         if (words is None) == (text is None):
             raise TypeError("a request is given by `words` or by `text`, and not by both")
         if not isinstance(key, ProvenKey):
             raise TypeError(f"a question has a `ProvenKey`, and not {type(key).__name__}: use ProvenKey.by or ProvenKey.assume")
-        sequence, proven = octets_of(sequence), key.text
-        # (the structure that the library is given, by its address `_at`; equality, copies and `repr` use `_parts`)
-        self._given = given = of.Question(ctypes.sizeof(of.Question), of.Text(sequence, len(sequence)), of.Text(proven, len(proven)))
+        sequence = octets_of(sequence)
+        # (the library is given `_structure`, by its address; equality, copies and `repr` use `_parts`)
+        self._structure = structure = _library.Question(ctypes.sizeof(_library.Question))
+        structure.sequence, structure.key = _library.Text(sequence, len(sequence)), _library.Text(key.text, len(key.text))
         if text is not None:
             text = octets_of(text)
-            given.request = of.Text(text, len(text))
+            structure.request = _library.Text(text, len(text))
         elif words is not None:
             if isinstance(words, (bytes, str)):
                 raise TypeError("`words` is a sequence of strings, and not one of them")
             words = tuple(map(octets_of, words))
             # (a null address would mean that the request is a text, so an array of no strings has an address too)
-            given.words = (of.Text * max(1, len(words)))(*[of.Text(word, len(word)) for word in words])
-            given.word_count = len(words)
+            structure.words = (_library.Text * max(1, len(words)))(*[_library.Text(word, len(word)) for word in words])
+            structure.word_count = len(words)
         if isinstance(moment, bytes):
             moment = octets_of(moment)
-            given.moment = of.Text(moment, len(moment))
+            structure.moment = _library.Text(moment, len(moment))
         else:
-            given.seconds = pointer(c_int64(seconds_of(moment)))
+            structure.seconds = pointer(c_int64(seconds_of(moment)))
         self._parts = (sequence, key, words, text, moment)
-        self._at = c_void_p(addressof(given))
+        self._address = c_void_p(addressof(structure))
 
     @property
     def key(self) -> ProvenKey:
@@ -269,10 +276,10 @@ class Grant:
     least `not-after` of the entry and of all certificates. After it another entry may grant it. `None` if no window ends."""
 
     def holds_at(self, moment: datetime) -> bool:
-        """Whether a grant that was kept still holds at a moment, which must not precede the question's. It does not before 1970: such a moment is
-        that of a clock that failed.
+        """Whether a grant that was kept still holds at a moment, which must not precede the question's. It does not before 1970, since only
+        a clock that failed gives such a moment. Raises `TypeError` for a moment without a time zone.
 
-        It does not know of a list that was read anew, nor of a certificate that its verifier would reject by now."""
+        It does not know whether another list was read since, nor whether the verifier would now reject a signature."""
         seconds = seconds_of(moment)
         return seconds >= 0 and (self.until is None or seconds <= seconds_of(self.until))
 
@@ -333,16 +340,18 @@ def answer_of(answer: object) -> bool:
 
 
 def octets_of(text: bytes) -> bytes:
-    """The octets of a text. A subclass of bytes may say another length than it has, so its octets are copied. Raises `TypeError` for other types."""
+    """The octets of a text. A subclass of `bytes` may say another length than it has, so its octets are copied. Raises `TypeError` for other
+    types."""
     if not isinstance(text, bytes):
         raise TypeError(f"a text is bytes, and not {type(text).__name__}")
     return text if type(text) is bytes else memoryview(text).tobytes()
 
 
 def int_of(number: int) -> int:
-    """A number as an `int`. Raises `TypeError` for other types and for `bool`. ctypes would cut one that is too large, so callers test its range."""
+    """A number as an `int`. Raises `TypeError` for other types and for `bool`. ctypes would cut one that is too large, so callers test its
+    range."""
     if not isinstance(number, int) or isinstance(number, bool):
-        raise TypeError(f"this is an int, and not {type(number).__name__}")
+        raise TypeError(f"a number is an int, and not {type(number).__name__}")
     return int.__index__(number)
 
 
