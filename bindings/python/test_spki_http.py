@@ -5,6 +5,7 @@
 from __future__ import annotations
 
 import base64
+import dataclasses
 import http.server
 import os
 import re
@@ -12,6 +13,7 @@ import threading
 import unittest
 import urllib.error
 import urllib.request
+import warnings
 from collections.abc import Callable, Iterator
 from typing import Any
 
@@ -166,6 +168,29 @@ class Requests(unittest.TestCase):
         self.assertTrue(spki_verify.verify_texts(key=key, message=RESPONSE.encode(),
                                                  value=_fields.value_of("ecdsa-p256-sha256", base64.b64decode(OF_CURVE))))
 
+    def valid_message(self) -> tuple[spki_http.Message, int]:
+        """The first row that is valid, and its time."""
+        return next((message, now) for _, message, now, _, gives in rows() if gives == "valid")
+
+    def test_verifiers_answer_true_or_false(self) -> None:
+        """What a verifier returns beside these proves nothing, also if Python takes it for true."""
+        async def later(signature: object) -> bool:
+            return True
+
+        message, now = self.valid_message()
+        for wrong in (lambda it: 1, lambda it: "no", lambda it: None, lambda it: 0, later):
+            verifier = spki_http.Verifier("example.com", start=0, now=lambda: now, verify=wrong)  # type: ignore[arg-type]
+            with warnings.catch_warnings(), self.assertRaises(TypeError):
+                warnings.simplefilter("ignore")
+                verifier.check(message)
+
+    def test_no_host(self) -> None:
+        """A request without Host, for which `http.server` has None, is to no name of the service."""
+        message, now = self.valid_message()
+        for authority in ("", None):
+            nameless = dataclasses.replace(message, authority=authority)  # type: ignore[arg-type]
+            self.assertEqual(answer(verifier_at([now]), nameless), "other-authority")
+
     # Each nonce is kept for 360 s at least, in two sets of at most 2 nonces. `now` is in seconds.
     def test_nonces(self) -> None:
         store = spki_http.Memory(2)
@@ -226,6 +251,14 @@ class Clients(unittest.TestCase):
             with self.assertRaisesRegex(ValueError, absent):
                 signer.fields("GET", "https://files.example.org/a", b"", given, ["x-job", absent])
 
+    def test_what_cannot_be_signed(self) -> None:
+        """An address or a method that each verifier would refuse."""
+        for method, url in (("GET", "https://a.example/b c"), ("GET", "https://a.example/\u212a"), ("G T", "https://a.example/"),
+                            ("", "https://a.example/"), ("\u212a", "https://a.example/"), ("GET", "ftp://a.example/"),
+                            ("GET", "https://a:b@a.example/"), ("GET", "/b")):
+            with self.subTest(url), self.assertRaises(ValueError):
+                curve_signer().fields(method, url)
+
     # Requests by `urllib`, also the same one twice with other signers, and one to a name that is not signed for.
     def test_urllib(self) -> None:
         def send(signer: spki_http.Signer, method: str, body: bytes | None) -> bytes:
@@ -245,7 +278,7 @@ class Clients(unittest.TestCase):
     def test_requests(self) -> None:
         """`Auth` signs a request like that of `requests`, which has `body`, and one like that of `httpx`, which has `content`."""
         class Prepared:
-            def __init__(self, method: str, url: str, body: bytes | None, has_content: bool) -> None:
+            def __init__(self, method: str, url: str, body: bytes | str | None, has_content: bool) -> None:
                 # (99 is wrong: a length is not signed)
                 self.method, self.url, self.headers = method, url, {"Accept": "*/*", "Content-Length": "99"}
                 setattr(self, "content" if has_content else "body", body)
@@ -263,6 +296,13 @@ class Clients(unittest.TestCase):
             self.assertEqual({*other.headers}, {"Accept", "Content-Length"})
         with self.assertRaises(TypeError):
             spki_http.Auth(self.signers[0], self.name)(Prepared("PUT", self.url, iter(()), False))  # type: ignore[arg-type]
+        # (a string is sent as it was signed)
+        prepared = spki_http.Auth(self.signers[0], self.name)(Prepared("PUT", self.url, "\u00e9", False))
+        self.assertEqual((prepared.body, prepared.headers["Content-Digest"]), (b"\xc3\xa9", spki_http.content_digest(b"\xc3\xa9")))
+        # (a name and an address may both have the port of the scheme, or one of them)
+        for name, address in (("a.example", "https://A.example:443/"), ("a.example:443", "https://a.example/"),
+                              ("a.example:443", "https://a.example:443/")):
+            self.assertIn("Signature", spki_http.Auth(self.signers[0], name)(Prepared("GET", address, None, False)).headers)
 
 
 if __name__ == "__main__":

@@ -8,10 +8,13 @@ import re
 from dataclasses import dataclass
 
 LABEL = TAG = "spki"
+# The most octets of `Signature-Input` and of `Signature`, the most components, and the most characters of a key in transport form.
 MOST_INPUT, MOST_COMPONENTS, MOST_KEY = 8192, 32, 4096
+# The components that are no fields.
 DERIVED = ("@method", "@authority", "@target-uri", "@path", "@query")
 # The field with the key that signs, which is always covered.
 PUBLIC_KEY = "x-spki-public-key"
+# The parameters that are numbers, and those that are strings.
 NUMBERS, STRINGS = ("created", "expires"), ("nonce", "keyid", "alg", "tag")
 # The name of a member or of a parameter, the name of a field, a string in quotes without escapes, a number of at most 15 digits, base64 between
 # colons, and what is before a second member.
@@ -21,20 +24,23 @@ STRING = re.compile(r'"([ !#-\[\]-~]*)"')
 INTEGER = re.compile(r"(?:0|[1-9][0-9]{0,14})(?![0-9])")
 OCTETS = re.compile(r":([A-Za-z0-9+/]*={0,2}):")
 MORE = re.compile(r"[ \t]*,")
+# What is before a string in canonical form.
+LENGTH = re.compile(rb"(0|[1-9][0-9]{0,3}):")
+# How many octets a digest has.
 DIGESTS = {"sha-256": 32, "sha-512": 64}
-ECDSA = b"(7:sig-val(5:ecdsa(1:r%)(1:s%)))"
+ECDSA_VALUE = b"(7:sig-val(5:ecdsa(1:r%)(1:s%)))"
 # Of each algorithm: the templates of its keys and of the values of its signatures, which are canonical texts with `%` for each string, and how many
 # octets a signature has: 0 where the key says it.
 FORMS = {
     "ed25519": (b"(10:public-key(3:ecc(5:curve7:Ed25519)(5:flags5:eddsa)(1:q%)))", b"(7:sig-val(5:eddsa(1:r%)(1:s%)))", 64),
-    "ecdsa-p256-sha256": (b"(10:public-key(3:ecc(5:curve10:NIST P-256)(1:q%)))", ECDSA, 64),
-    "ecdsa-p384-sha384": (b"(10:public-key(3:ecc(5:curve10:NIST P-384)(1:q%)))", ECDSA, 96),
+    "ecdsa-p256-sha256": (b"(10:public-key(3:ecc(5:curve10:NIST P-256)(1:q%)))", ECDSA_VALUE, 64),
+    "ecdsa-p384-sha384": (b"(10:public-key(3:ecc(5:curve10:NIST P-384)(1:q%)))", ECDSA_VALUE, 96),
     "rsa-v1_5-sha256": (b"(10:public-key(3:rsa(1:n%)(1:e%)))", b"(7:sig-val(3:rsa(1:s%)))", 0),
 }
 
 
 class Refused(Exception):
-    """Why a request proves no key. `name` is one of docs/SIGNATURES.md."""
+    """Why a request proves no key. `name` is one of docs/SIGNATURES.md, "Refusals"."""
 
     def __init__(self, name: str) -> None:
         super().__init__(f"the request proves no key: {name}")
@@ -43,7 +49,7 @@ class Refused(Exception):
 
 @dataclass(frozen=True)
 class Input:
-    """The value of `Signature-Input`. `text` is that of `@signature-params`, as it was sent."""
+    """The value of `Signature-Input`. `text` is that of `@signature-params`, as it was sent. The times are in seconds since 1970."""
 
     text: str
     components: list[str]
@@ -56,12 +62,14 @@ class Input:
 
 
 class Parser:
-    """Reads a field from the left, behind its label `spki=`. Each method raises `Refused` where it finds something else than it reads."""
+    """Reads the value of a field from the left. Each method raises `Refused` if what it reads is not there. `position` is that of the rest,
+    which is not read yet."""
 
     def __init__(self, text: str) -> None:
+        """Reads the label `spki=`. Another one is `other-label`."""
         if len(text) > MOST_INPUT:
             raise Refused("malformed")
-        self.text, self.at = text, 0
+        self.text, self.position = text, 0
         name = self.take(NAME)
         self.expect("=")
         if name[0] != LABEL:
@@ -69,9 +77,10 @@ class Parser:
 
     def skip_if(self, text: str) -> bool:
         """Skips a text if the rest begins with it. Returns whether it does."""
-        found = self.text.startswith(text, self.at)
-        self.at += len(text) if found else 0
-        return found
+        if not self.text.startswith(text, self.position):
+            return False
+        self.position += len(text)
+        return True
 
     def expect(self, text: str) -> None:
         """Skips a text, with which the rest must begin: otherwise the field is `malformed`."""
@@ -80,63 +89,65 @@ class Parser:
 
     def take(self, pattern: re.Pattern[str]) -> re.Match[str]:
         """Reads what matches a pattern at the beginning of the rest, and returns the match. Otherwise the field is `malformed`."""
-        found = pattern.match(self.text, self.at)
-        if not found:
+        match = pattern.match(self.text, self.position)
+        if not match:
             raise Refused("malformed")
-        self.at = found.end()
-        return found
+        self.position = match.end()
+        return match
 
     def expect_end(self) -> None:
         """Raises `Refused` if something follows: `two-signatures` for a second member, and otherwise `malformed`."""
-        if self.at != len(self.text):
-            raise Refused("two-signatures" if MORE.match(self.text, self.at) else "malformed")
+        if self.position != len(self.text):
+            raise Refused("two-signatures" if MORE.match(self.text, self.position) else "malformed")
 
     def components(self) -> list[str]:
         """Reads the list of components, `("@method" ..)`. Returns their names in order."""
-        found: list[str] = []
+        names: list[str] = []
         self.expect("(")
         while not self.skip_if(")"):
-            if len(found) == MOST_COMPONENTS or found and not self.skip_if(" "):
+            if len(names) == MOST_COMPONENTS or names and not self.skip_if(" "):
                 raise Refused("malformed")
             name = self.take(STRING)[1]
-            if not is_component(name) or self.text.startswith(";", self.at):
+            # (behind `;` are parameters of a component)
+            if not is_component(name) or self.text.startswith(";", self.position):
                 raise Refused("unknown-component")
-            if name in found:
+            if name in names:
                 raise Refused("component-twice")
-            found.append(name)
-        return found
+            names.append(name)
+        return names
 
     def parameters(self) -> dict[str, str]:
-        """Reads the parameters, `;created=1700000000 ..`, and the end. Returns the texts by name, without quotes."""
-        found: dict[str, str] = {}
+        """Reads the parameters, `;created=1700000000 ..`, and the end. Returns the texts of their values by name, without quotes."""
+        texts: dict[str, str] = {}
         while self.skip_if(";"):
             name = self.take(NAME)[0]
             if name not in NUMBERS + STRINGS:
                 raise Refused("unknown-parameter")
-            if name in found:
+            if name in texts:
                 raise Refused("parameter-twice")
             self.expect("=")
-            found[name] = self.take(INTEGER)[0] if name in NUMBERS else self.take(STRING)[1]
+            texts[name] = self.take(INTEGER)[0] if name in NUMBERS else self.take(STRING)[1]
         self.expect_end()
-        return found
+        return texts
 
 
 def is_component(name: str) -> bool:
-    """Whether a name is one of a field in small letters, or of the five components that are derived."""
+    """Whether a signature may cover what has this name: a field, in small letters, or one of the five components of `DERIVED`. The two fields
+    of the signature itself may not be covered."""
     return name in DERIVED or FIELD.fullmatch(name) is not None and name not in ("signature", "signature-input")
 
 
 def input_of(text: str) -> Input:
     """Reads the value of `Signature-Input`. Raises `Refused`, also if a component or a parameter that the profile requires is missing."""
     parser = Parser(text)
-    begin = parser.at
-    components, found = parser.components(), parser.parameters()
+    begin = parser.position
+    components, parameters = parser.components(), parser.parameters()
     has_target = "@target-uri" in components or {"@path", "@query"} <= set(components)
     if not has_target or not {"@method", "@authority", PUBLIC_KEY} <= set(components):
         raise Refused("missing-component")
-    if len(found) != len(NUMBERS + STRINGS):
+    if len(parameters) != len(NUMBERS + STRINGS):
         raise Refused("missing-parameter")
-    return Input(text[begin:], components, int(found.pop("created")), int(found.pop("expires")), **found)
+    return Input(text[begin:], components, int(parameters.pop("created")), int(parameters.pop("expires")), **parameters)
 
 
 def signature_of(text: str) -> bytes:
@@ -161,8 +172,8 @@ def decoded(text: str) -> bytes | None:
 def digest_of(value: str) -> tuple[str, bytes]:
     """The algorithm, `sha-256` or `sha-512`, and the octets in the value of `Content-Digest`. Raises `Refused`."""
     name, _, rest = value.partition("=")
-    found = OCTETS.fullmatch(rest)
-    octets = decoded(found[1]) if found else None
+    match = OCTETS.fullmatch(rest)
+    octets = decoded(match[1]) if match else None
     if octets is None or len(octets) != DIGESTS.get(name):
         raise Refused("bad-digest")
     return name, octets
@@ -174,12 +185,12 @@ def content_digest(body: bytes) -> str:
 
 
 def hash_of(key: bytes) -> str:
-    """The SHA-256 hash of a key, in hexadecimal digits: its `keyid`."""
+    """The SHA-256 hash of a key in canonical form, in hexadecimal digits: its `keyid`."""
     return hashlib.sha256(key).hexdigest()
 
 
 def in_braces(key: bytes) -> str:
-    """A key in transport form: its base64 in braces."""
+    """The transport form of a key in canonical form: its base64 in braces."""
     return f"{{{base64.b64encode(key).decode()}}}"
 
 
@@ -192,43 +203,46 @@ def key_of(text: str) -> tuple[bytes, str, int]:
 
 
 def kind_of(key: bytes) -> tuple[str, int]:
-    """The algorithm of a canonical key, and how many octets a signature by it has: with RSA those of the modulus. Raises `Refused`."""
-    for name, (template, _, length) in FORMS.items():
+    """The algorithm of a key in canonical form, and how many octets a signature by it has: with RSA as many as the modulus. Raises `Refused`
+    with the name `bad-key`. Whether the numbers of the key are allowed is not tested: the verifier does that."""
+    for algorithm, (template, _, length) in FORMS.items():
         if strings := strings_of(key, template):
-            return name, length or len(strings[0].lstrip(b"\0"))
+            return algorithm, length or len(strings[0].lstrip(b"\0"))
     raise Refused("bad-key")
 
 
 def value_of(algorithm: str, octets: bytes) -> bytes:
-    """The canonical value, `(7:sig-val..)`, of the octets of a signature. They are one string of it with RSA, and otherwise two equal halves."""
-    half = len(octets) if algorithm.startswith("rsa") else len(octets) // 2
-    strings = [octets[:half], octets[half:]][:len(octets) // half]
-    return FORMS[algorithm][1].replace(b"%", b"%d:%s") % tuple(part for it in strings for part in (len(it), it))
+    """The canonical value, `(7:sig-val..)`, of the octets of a signature. With RSA they are one string in it, and otherwise two, of equal
+    length."""
+    half = len(octets) // 2
+    strings = [octets] if algorithm.startswith("rsa") else [octets[:half], octets[half:]]
+    return FORMS[algorithm][1].replace(b"%", b"%d:%s") % tuple(part for string in strings for part in (len(string), string))
 
 
 def octets_of(value: bytes, length: int = 0) -> bytes:
-    """The octets of a signature, as RFC 9421 sends them, from its canonical value: the strings of the value, joined. `length` is how many octets they
-    have together: each number is brought to its share of them by fewer or more octets 00 in front, since signers write these differently. With 0 the
-    strings stay as they are, and the two of ECDSA must be equally long. Those of Ed25519 always stay. Raises `ValueError` for any other text."""
-    for name, (_, template, _) in FORMS.items():
+    """The octets of a signature, as RFC 9421 sends them, from its canonical value: the strings of the value, joined. `length` is how many
+    octets a signature by the key has. Signers write more or fewer octets 00 in front of a number, so each string gets its equal share of
+    the length by these. With a length of 0 the strings stay as they are, and the two of ECDSA must be equally long. Those of Ed25519 always
+    stay, since they are no numbers. Raises `ValueError` for a text that is no value of a signature."""
+    for algorithm, (_, template, _) in FORMS.items():
         if strings := strings_of(value, template):
-            share = 0 if name == "ed25519" else length // len(strings)
-            return b"".join(it.lstrip(b"\0").rjust(share, b"\0") if share else it for it in strings)
+            share = 0 if algorithm == "ed25519" else length // len(strings)
+            return b"".join(string.lstrip(b"\0").rjust(share, b"\0") if share else string for string in strings)
     raise ValueError("this is no value of a signature")
 
 
 def strings_of(text: bytes, template: bytes) -> list[bytes]:
-    """The strings of a canonical text at the `%` places of a template of `FORMS`. An empty list if the text does not match it, or if a string has
-    over 9,999 octets."""
+    """The strings of a canonical text at the places of `%` in a template of `FORMS`. An empty list if the text does not match it, or if a
+    string has over 9,999 octets."""
     first, *rest = template.split(b"%")
-    at, found = len(first), []
+    position, strings = len(first), []
     if not text.startswith(first):
         return []
     for part in rest:
-        digits = re.compile(rb"(0|[1-9][0-9]{0,3}):").match(text, at)
-        end = digits.end() + int(digits[1]) if digits else -1
-        if not digits or text[end:end + len(part)] != part:
+        length = LENGTH.match(text, position)
+        end = length.end() + int(length[1]) if length else -1
+        if not length or text[end:end + len(part)] != part:
             return []
-        found.append(text[digits.end():end])
-        at = end + len(part)
-    return found if at == len(text) else []
+        strings.append(text[length.end():end])
+        position = end + len(part)
+    return strings if position == len(text) else []

@@ -9,6 +9,7 @@ from ._fields import Refused
 
 # The fields that must be covered wherever a request has them, besides the one with the certificates.
 CHAINED, DIGEST = "authorization", "content-digest"
+# A method, a path and perhaps a query, the value of a field, and the ports that are not named.
 METHOD = re.compile(r"[A-Za-z0-9!#$%&'*+.^_`|~-]+")
 TARGET = re.compile(r"/[!\"$-~]*")
 VALUE = re.compile(r"[\t -~]*")
@@ -19,7 +20,8 @@ PORTS = {"https": ":443", "http": ":80"}
 class Message:
     """A request: its method, the name that the client asks, its target as in the first line of HTTP/1.1, and its fields in their order.
 
-    `body` is None if it is not known. `has_body` is for servers that do not pass on the fields that say that there is a body.
+    `body` is None if it is not known: then it is not compared. `has_body` says that there is a body, for servers that do not pass on
+    Content-Length or Transfer-Encoding.
     """
 
     method: str
@@ -31,11 +33,11 @@ class Message:
 
     def values(self, name: str) -> list[str]:
         """The values of a field, whose name is given in small letters, without the spaces around them."""
-        return [value.strip(" \t") for known, value in self.fields if known.lower() == name]
+        return [value.strip(" \t") for field, value in self.fields if field.lower() == name]
 
     def may_have_body(self) -> bool:
         """Whether the request may have a body, so that its digest must be covered. Each method but GET and HEAD may have one."""
-        lengths = [it for it in self.values("content-length") if it != "0"]
+        lengths = [length for length in self.values("content-length") if length != "0"]
         return self.method not in ("GET", "HEAD") or self.has_body or bool(self.body or lengths or self.values("transfer-encoding"))
 
 

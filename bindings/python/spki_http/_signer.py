@@ -10,7 +10,7 @@ from collections.abc import Callable, Iterable
 from typing import Any
 
 from ._fields import LABEL, PUBLIC_KEY, TAG, content_digest, hash_of, in_braces, kind_of, octets_of
-from ._message import CHAINED, DIGEST, Message, base_of
+from ._message import CHAINED, DIGEST, METHOD, PORTS, TARGET, Message, authority_of, base_of
 from ._verifier import MOST_WINDOW
 
 SEQUENCE, KEY = "X-Spki-Sequence", "X-Spki-Public-Key"
@@ -20,81 +20,107 @@ class Signer:
     """Makes the fields of signed requests.
 
     `key` is the SPKI key in canonical form. `sign` returns the canonical value of a signature of a message, `(7:sig-val..)`. `sequence` has the
-    client's certificates in transport form, `{..}`, or is empty. `algorithm` is that of the key, and `length` how many octets a signature by it has.
+    client's certificates in transport form, `{..}`, or is empty. `algorithm` is that of the key, and `length` how many octets a signature by it
+    has.
     """
 
     def __init__(self, key: bytes, sign: Callable[[bytes], bytes], sequence: str = "") -> None:
+        """Raises `Refused` with the name `bad-key` for a key of no kind that docs/SIGNATURES.md has."""
         self.key, self.sign, self.sequence = key, sign, sequence
         self.algorithm, self.length = kind_of(key)
 
-    def fields(self, method: str, url: str, body: bytes = b"", fields: Iterable[tuple[str, str]] = (), covered: Iterable[str] = ()) -> dict[str, str]:
-        """The fields to set in a request, which replace its own fields of the same names. `fields` are those that it has. The signature covers what
-        the profile asks for, and the fields of `covered`, which are names in small letters. Raises `ValueError` for an address that cannot be signed,
-        and if the request has no field of a name in `covered`: it would be unsigned."""
+    def fields(self, method: str, url: str, body: bytes = b"", fields: Iterable[tuple[str, str]] = (),
+               covered: Iterable[str] = ()) -> dict[str, str]:
+        """The fields to set in a request, which replace its own fields of the same names. `fields` are those that it has. The signature covers
+        what the profile asks for, and the fields of `covered`, which are names in small letters.
+
+        Raises `ValueError` for an address or a method that cannot be signed, and if the request has no field of a name in `covered`: it would
+        be unsigned. Raises `Refused` for a covered field in two lines, or with other octets than visible ASCII, spaces and tabs."""
         parts = urllib.parse.urlsplit(url)
-        if parts.scheme not in ("https", "http") or not parts.hostname or parts.username is not None:
+        if parts.scheme not in PORTS or not parts.hostname or parts.username is not None:
             raise ValueError("no address of https or http, or one with a name and a password")
+        # (`urlsplit` does not say whether there is an empty query)
         target = (parts.path or "/") + (f"?{parts.query}" if "?" in url.partition("#")[0] else "")
-        # (`own` are the fields that are set, `given` those of the request, and `kept` those of them that are not replaced)
-        own, given = {KEY: in_braces(self.key), **({SEQUENCE: self.sequence} if self.sequence else {})}, [*fields]
-        if Message(method, parts.netloc, target, given, body).may_have_body():
-            own["Content-Digest"] = content_digest(body)
-        replaced = {name.lower() for name in own}
-        kept = [(name, value) for name, value in given if name.lower() not in replaced]
-        message = Message(method, parts.netloc, target, [*kept, *own.items()], body)
-        names = ["@method", "@authority", "@path", "@query", PUBLIC_KEY, *(it for it in (CHAINED, SEQUENCE.lower(), DIGEST) if message.values(it))]
-        more = [name for name in dict.fromkeys(covered) if name not in names]
-        if absent := [name for name in more if not message.values(name)]:
-            raise ValueError(f"the request has no field {absent[0]!r}, which the signature should cover")
-        names += more
+        if not METHOD.fullmatch(method) or not TARGET.fullmatch(target):
+            raise ValueError(f"no method of HTTP, or an address with a space or an octet that is not ASCII: {method} {target}")
+        sent, added = [*fields], {KEY: in_braces(self.key), **({SEQUENCE: self.sequence} if self.sequence else {})}
+        if Message(method, parts.netloc, target, sent, body).may_have_body():
+            added["Content-Digest"] = content_digest(body)
+        replaced = {name.lower() for name in added}
+        unchanged = [(name, value) for name, value in sent if name.lower() not in replaced]
+        message = Message(method, parts.netloc, target, [*unchanged, *added.items()], body)
+        names = _components(message, covered)
         parameters = self._parameters(names)
         octets = octets_of(self.sign(base_of(message, parts.scheme, names, parameters)), self.length)
-        return {**own, "Signature-Input": f"{LABEL}={parameters}", "Signature": f"{LABEL}=:{base64.b64encode(octets).decode()}:"}
+        return {**added, "Signature-Input": f"{LABEL}={parameters}", "Signature": f"{LABEL}=:{base64.b64encode(octets).decode()}:"}
 
     def _parameters(self, names: list[str]) -> str:
         """The value of `@signature-params` for components of these names, created now, with a new nonce."""
-        created, listed = int(time.time()), " ".join(f'"{name}"' for name in names)
+        created, components = int(time.time()), " ".join(f'"{name}"' for name in names)
         keyid, nonce = hash_of(self.key), secrets.token_urlsafe(16)
-        return f'({listed});created={created};expires={created + MOST_WINDOW};nonce="{nonce}";keyid="{keyid}";alg="{self.algorithm}";tag="{TAG}"'
+        return (f'({components});created={created};expires={created + MOST_WINDOW};nonce="{nonce}";keyid="{keyid}"'
+                f';alg="{self.algorithm}";tag="{TAG}"')
 
 
-class Auth:
+def _components(message: Message, covered: Iterable[str]) -> list[str]:
+    """The names of the components that the signature of a request covers: those of the profile, and the fields of `covered`. Raises
+    `ValueError` if the request has no field of a name in `covered`."""
+    names = ["@method", "@authority", "@path", "@query", PUBLIC_KEY]
+    names += [name for name in (CHAINED, SEQUENCE.lower(), DIGEST) if message.values(name)]
+    more = [name for name in dict.fromkeys(covered) if name not in names]
+    if absent := [name for name in more if not message.values(name)]:
+        raise ValueError(f"the request has no field {absent[0]!r}, which the signature should cover")
+    return names + more
+
+
+class _ToNames:
+    """A base of what signs the requests of a library for HTTP, if they go to one of some names."""
+
+    def __init__(self, signer: Signer, *names: str) -> None:
+        """`names` are those of services, with ports that are not the scheme's own."""
+        self.signer, self.names = signer, names
+
+    def _is_to_one(self, url: str) -> bool:
+        """Whether the host and port of an address are one of the names."""
+        parts = urllib.parse.urlsplit(url)
+        return parts.scheme in PORTS and authority_of(parts.scheme, parts.netloc) in {authority_of(parts.scheme, name) for name in self.names}
+
+
+class Auth(_ToNames):
     """Signs the requests of `requests` and of `httpx`, to one of some names: `requests.put(url, data=body, auth=Auth(signer, "files.example.org"))`.
 
     A request to any other name gets no signature and no certificates. But `requests` follows a redirection with the fields of the first request,
-    which prove nothing there: `allow_redirects=False` keeps the key and the certificates from other names. The body must be octets, and not a stream.
+    which prove nothing there: `allow_redirects=False` keeps the key and the certificates from other names. The body must be octets or a string,
+    and not a stream.
     """
-
-    def __init__(self, signer: Signer, *names: str) -> None:
-        self.signer, self.names = signer, {name.lower() for name in names}
 
     def __call__(self, request: Any) -> Any:
         """Adds the fields to a request to one of the names, and returns the request. `requests` and `httpx` call it for each request. Raises
-        `TypeError` for a body that is a stream."""
-        url = str(request.url)
-        if urllib.parse.urlsplit(url).netloc.lower() in self.names:
-            body = request.content if hasattr(request, "content") else request.body
-            octets = body.encode() if isinstance(body, str) else body or b""
-            if not isinstance(octets, bytes):
+        `TypeError` for a body that is a stream, or in `httpx` its exception `RequestNotRead`."""
+        if self._is_to_one(str(request.url)):
+            # (`httpx` has `content`, and `requests` has `body`)
+            body = (request.content if hasattr(request, "content") else request.body) or b""
+            if isinstance(body, str):
+                # (what is signed is sent: `http.client` would encode a string by Latin-1)
+                request.body = body = body.encode()
+            if not isinstance(body, bytes):
                 raise TypeError("a body that is signed must be octets")
+            # (the length says no more than the body, which is known, and `requests` computes it afterwards)
             fields = [(name, value) for name, value in request.headers.items() if name.lower() != "content-length"]
-            request.headers.update(self.signer.fields(request.method, url, octets, fields))
+            request.headers.update(self.signer.fields(request.method, str(request.url), body, fields))
         return request
 
 
-class Handler(urllib.request.BaseHandler):
+class Handler(_ToNames, urllib.request.BaseHandler):
     """Signs the requests of `urllib`, as `Auth` does: `urllib.request.build_opener(Handler(signer, "files.example.org"))`."""
 
     # (behind urllib's own handlers, of 500, which add fields first)
     handler_order = 900
 
-    def __init__(self, signer: Signer, *names: str) -> None:
-        self.signer, self.names = signer, {name.lower() for name in names}
-
     def https_request(self, request: urllib.request.Request) -> urllib.request.Request:
         """Adds the fields to a request to one of the names, and returns the request. `urllib` calls it for each request. Raises `TypeError` for a
         body that is a stream. A redirection does not take the fields along."""
-        if urllib.parse.urlsplit(request.full_url).netloc.lower() in self.names:
+        if self._is_to_one(request.full_url):
             body = request.data or b""
             if not isinstance(body, bytes):
                 raise TypeError("a body that is signed must be octets")

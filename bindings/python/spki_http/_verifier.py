@@ -14,7 +14,7 @@ from ._message import value_of as component_of
 
 # The seconds from `created` to `expires` at most, and those that a client's clock may be ahead.
 MOST_WINDOW, MOST_AHEAD = 300, 60
-# The characters of a nonce, and how many nonces each set of a `Memory` has at most.
+# The fewest and the most characters of a nonce, and the most nonces in each set of a `Memory`.
 LEAST_NONCE, MOST_NONCE = 16, 64
 USUAL_NONCES = 100_000
 # The sequence of a request that shows no certificates.
@@ -39,32 +39,34 @@ class Nonces(Protocol):
     """Keeps which nonces were used. Several verifiers may share one."""
 
     def take(self, key: bytes, nonce: str, now: int, seconds: int) -> None:
-        """Keeps a nonce of a key for so many seconds from `now`, in seconds since 1970. Raises `Refused` if it was used before, or if there is no
-        room."""
+        """Keeps a nonce of a key for `seconds` from `now`, which is in seconds since 1970. Raises `Refused` if it was used before, or if there
+        is no room."""
 
 
 class Memory:
-    """Nonces in two sets of at most `most` each, as digests of key and nonce. When the young set is as old as a nonce is kept, it replaces the old
-    one. `turned` is when the young set began, in seconds since 1970."""
+    """Keeps nonces in two sets of at most `most` each, as digests of key and nonce. New ones go into the young set. When this was begun as long
+    ago as a nonce is kept, it becomes the old one, and the old one is dropped. `young_since` is when it was begun, in seconds since 1970."""
 
     def __init__(self, most: int = USUAL_NONCES) -> None:
-        self.most, self.turned, self.lock = most, 0, threading.Lock()
+        self.most, self.young_since, self.lock = most, 0, threading.Lock()
         self.old: set[bytes] = set()
         self.young: set[bytes] = set()
 
     def take(self, key: bytes, nonce: str, now: int, seconds: int) -> None:
-        """Keeps a nonce of a key for so many seconds from `now`, in seconds since 1970. Raises `Refused` if it was used before, or if the young set
-        is full."""
-        name = hashlib.sha256(key + b"\0" + nonce.encode()).digest()[:16]
+        """Keeps a nonce of a key for `seconds` from `now`, which is in seconds since 1970. Raises `Refused` if it was used before, or if the
+        young set is full: nothing is forgotten early."""
+        # (the octet 0 separates key and nonce: a nonce has none. 16 octets of the digest are enough)
+        digest = hashlib.sha256(key + b"\0" + nonce.encode()).digest()[:16]
         with self.lock:
-            if now - self.turned >= seconds:
-                self.old = self.young if now - self.turned < 2 * seconds else set()
-                self.young, self.turned = set(), now
-            if name in self.old or name in self.young:
+            age = now - self.young_since
+            if age >= seconds:
+                self.old = self.young if age < 2 * seconds else set()
+                self.young, self.young_since = set(), now
+            if digest in self.old or digest in self.young:
                 raise Refused("nonce-seen")
             if len(self.young) >= self.most:
                 raise Refused("store-full")
-            self.young.add(name)
+            self.young.add(digest)
 
 
 @dataclass(frozen=True)
@@ -87,13 +89,14 @@ class Verifier:
 
     `scheme` is `https` or `http`. `sequence` is the name of the field with the certificates, in small letters. `nonces` keeps the used nonces, in a
     `Memory` if it is None. `now` is the clock, in seconds since 1970, and `verify` says whether a signature is valid: `spki_verify` if it is None.
-    `start` is 0 if the nonces outlast the process: otherwise what was created before it is refused, since its nonce may be forgotten.
+    A request that was created before `start`, in seconds since 1970, is refused, since its nonce may be forgotten. It is the time now if it is
+    None. Set it to 0 if the nonces outlast the process.
     """
 
     def __init__(self, *authorities: str, scheme: str = "https", sequence: str = "x-spki-sequence", nonces: Nonces | None = None,
                  start: float | None = None, now: Callable[[], float] = time.time,
                  verify: Callable[[Signed], bool] | None = None) -> None:
-        self.authorities = {authority_of(scheme, it) for it in authorities} - {""}
+        self.authorities = {authority_of(scheme, name) for name in authorities} - {""}
         self.scheme, self.sequence, self.now = scheme, sequence, now
         self.verify = usual_verify() if verify is None else verify
         self.nonces: Nonces = Memory() if nonces is None else nonces
@@ -107,11 +110,13 @@ class Verifier:
         return proof
 
     def take(self, proof: Proof) -> None:
-        """Uses up the nonce of a proof from `check`. NO PROOF COUNTS WITHOUT IT, but the caller may decide before. Raises `Refused`."""
+        """Uses up the nonce of a proof from `check`. NO PROOF COUNTS WITHOUT IT, but the caller may decide before that, so that strangers do not
+        fill the store. Raises `Refused`."""
         self.nonces.take(proof.key, proof.nonce, int(self.now()), MOST_WINDOW + MOST_AHEAD)
 
     def check(self, message: Message) -> Proof:
-        """The proof of a request, whose nonce is not used up: `take` must follow. Raises `Refused`."""
+        """The proof of a request, whose nonce is not used up: `take` must follow. Raises `Refused`, and `TypeError` if `verify` returns neither
+        `True` nor `False`."""
         # (the fields may be an iterator, which can be read once)
         message = replace(message, fields=[*message.fields])
         inputs, signatures = message.values("signature-input"), message.values("signature")
@@ -121,47 +126,56 @@ class Verifier:
             raise Refused("repeated-field")
         if not inputs or not signatures:
             raise Refused("malformed")
-        given, octets = input_of(inputs[0]), signature_of(signatures[0])
-        self._check_parameters(given)
-        text, digest = self._check_message(message, given)
+        signature_input, octets = input_of(inputs[0]), signature_of(signatures[0])
+        self._check_parameters(signature_input)
+        text, digest = self._check_message(message, signature_input)
         key, algorithm, length = key_of(component_of(message, self.scheme, PUBLIC_KEY))
-        if hash_of(key) != given.keyid:
+        if hash_of(key) != signature_input.keyid:
             raise Refused("other-key")
-        if algorithm != given.alg:
+        if algorithm != signature_input.alg:
             raise Refused("other-algorithm")
-        # (a key by RSA may have a modulus of no octets)
-        if not octets or len(octets) != length or not self.verify(Signed(key, text, value_of(algorithm, octets))):
+        if len(octets) != length or not self._is_valid(Signed(key, text, value_of(algorithm, octets))):
             raise Refused("invalid-signature")
-        shown = message.values(self.sequence)
-        proof = Proof(key, shown[0].encode() if shown else NOTHING_SHOWN, given.nonce, digest)
+        # (the field is covered if it is there, and so it has one line)
+        sequences = message.values(self.sequence)
+        proof = Proof(key, sequences[0].encode() if sequences else NOTHING_SHOWN, signature_input.nonce, digest)
         if message.body is not None and not proof.covers(message.body):
             raise Refused("other-digest")
         return proof
 
-    def _check_parameters(self, given: Input) -> None:
+    def _is_valid(self, signature: Signed) -> bool:
+        """Whether `verify` says that a signature is valid. Raises `TypeError` if it returns neither `True` nor `False`: a coroutine would count as
+        true."""
+        answer = self.verify(signature)
+        if answer is not True and answer is not False:
+            raise TypeError(f"a signature is valid by True or not by False, and not by {type(answer).__name__}")
+        return answer
+
+    def _check_parameters(self, signature_input: Input) -> None:
         """Tests the tag, the length of the nonce, and the times. Raises `Refused` by the first test that fails."""
-        now = int(self.now())
+        now, created, expires = int(self.now()), signature_input.created, signature_input.expires
         for is_wrong, name in (
-            (given.tag != TAG, "other-tag"), (not LEAST_NONCE <= len(given.nonce) <= MOST_NONCE, "bad-nonce"),
-            (not given.created < given.expires <= given.created + MOST_WINDOW, "bad-window"), (given.created > now + MOST_AHEAD, "too-early"),
-            (given.expires <= now, "expired"), (given.created < self.start, "before-start"),
+            (signature_input.tag != TAG, "other-tag"), (not LEAST_NONCE <= len(signature_input.nonce) <= MOST_NONCE, "bad-nonce"),
+            (not created < expires <= created + MOST_WINDOW, "bad-window"), (created > now + MOST_AHEAD, "too-early"),
+            (expires <= now, "expired"), (created < self.start, "before-start"),
         ):
             if is_wrong:
                 raise Refused(name)
 
-    def _check_message(self, message: Message, given: Input) -> tuple[bytes, tuple[str, bytes] | None]:
-        """Tests the method, the target, the authority, and that all is covered that must be. Returns the signed text,
-        and the algorithm and octets of the body's digest, or None if none is covered. Raises `Refused`."""
+    def _check_message(self, message: Message, signature_input: Input) -> tuple[bytes, tuple[str, bytes] | None]:
+        """Tests the method, the target, the authority, and that all is covered that must be. Returns the signed text, and the algorithm and
+        octets of the body's digest, or None if none is covered. Raises `Refused`."""
         if not METHOD.fullmatch(message.method):
             raise Refused("bad-method")
         if not TARGET.fullmatch(message.target):
             raise Refused("bad-target")
-        if authority_of(self.scheme, message.authority) not in self.authorities:
+        # (some servers give None if a request has no Host)
+        if not message.authority or authority_of(self.scheme, message.authority) not in self.authorities:
             raise Refused("other-authority")
-        text = base_of(message, self.scheme, given.components, given.text)
-        if any(message.values(name) and name not in given.components for name in (CHAINED, self.sequence, DIGEST)):
+        text = base_of(message, self.scheme, signature_input.components, signature_input.text)
+        if any(message.values(name) and name not in signature_input.components for name in (CHAINED, self.sequence, DIGEST)):
             raise Refused("uncovered-field")
-        if DIGEST not in given.components:
+        if DIGEST not in signature_input.components:
             if message.may_have_body():
                 raise Refused("body-without-digest")
             return text, None
