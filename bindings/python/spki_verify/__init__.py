@@ -23,23 +23,25 @@ Public = Union[Ed25519PublicKey, RSAPublicKey, EllipticCurvePublicKey]
 
 # The bits of a modulus of RSA, and of an exponent. All verifiers of this repository have these limits.
 LEAST_BITS, MOST_BITS, MOST_EXPONENT_BITS = 2048, 4096, 31
-# The octets of a key of Ed25519, and of each half of a signature by it.
+# The octets of a key of Ed25519, and of each half, r and s, of a signature by it.
 HALF = 32
 # A canonical text of more octets is no key and no value of a signature.
 MOST_OCTETS = 4096
 # The prime and the order of Ed25519.
 P_25519, ORDER_25519 = 2**255 - 19, 2**252 + 27742317777372353535851937790883648493
-# The two coordinates y of the four points of order 8.
-EIGHTHS = (0x05FC536D880238B13933C6D305ACDFD5F098EFF289F4C345B027B2C28F95E826, 0x7A03AC9277FDC74EC6CC392CFA53202A0F67100D760B3CBA4FD84D3D706A17C7)
-# The templates of keys and of values of signatures: canonical texts with `%` for each string that differs.
+# The two coordinates y of the four points of order 8 of Ed25519.
+ORDER_8_YS = (0x05FC536D880238B13933C6D305ACDFD5F098EFF289F4C345B027B2C28F95E826, 0x7A03AC9277FDC74EC6CC392CFA53202A0F67100D760B3CBA4FD84D3D706A17C7)
+# The templates of keys and of the values of signatures: canonical texts with `%` for each string that differs.
 ED25519_KEY = b"(10:public-key(3:ecc(5:curve7:Ed25519)(5:flags5:eddsa)(1:q%)))"
 RSA_KEY = b"(10:public-key(3:rsa(1:n%)(1:e%)))"
 ECDSA_KEY = b"(10:public-key(3:ecc(5:curve%)(1:q%)))"
-EDDSA, RSA, ECDSA_ = b"(7:sig-val(5:eddsa(1:r%)(1:s%)))", b"(7:sig-val(3:rsa(1:s%)))", b"(7:sig-val(5:ecdsa(1:r%)(1:s%)))"
+EDDSA_VALUE = b"(7:sig-val(5:eddsa(1:r%)(1:s%)))"
+RSA_VALUE = b"(7:sig-val(3:rsa(1:s%)))"
+ECDSA_VALUE = b"(7:sig-val(5:ecdsa(1:r%)(1:s%)))"
 
 
 class Curve(NamedTuple):
-    """A curve of ECDSA: its prime and its order, the octets of a coordinate, and the digest of the message."""
+    """A curve of ECDSA: its prime and its order, the octets of a coordinate, and the digest of a message that is signed."""
 
     curve: EllipticCurve
     prime: int
@@ -57,31 +59,32 @@ CURVES = {
 
 
 class Signed(Protocol):
-    """A signature as `spki.Signature` has it: canonical texts."""
+    """A signature that is to be verified, as `spki.Signature` and `spki_http` have it."""
 
     @property
     def key(self) -> bytes:
-        """The key that has to have signed."""
+        """The key by which the signature must be, in canonical form."""
 
     @property
     def message(self) -> bytes:
-        """What is signed."""
+        """The octets that are signed."""
 
     @property
     def value(self) -> bytes:
-        """The value in `(signature ..)`."""
+        """The value in `(signature ..)`, in canonical form."""
 
 
 def verify(signature: Signed) -> bool:
-    """Whether a signature is valid. Key and value are canonical texts; those of any other form are not valid."""
+    """Whether a signature is valid. It is not if its key or its value is in another form than docs/FORMATS.md has."""
     return verify_texts(key=signature.key, message=signature.message, value=signature.value)
 
 
 def verify_texts(*, key: bytes, message: bytes, value: bytes) -> bool:
-    """Whether `value` is a valid signature of `message` by `key`. Key and value are canonical texts; those of any other form are not valid."""
+    """Whether `value` is a valid signature of `message` by `key`, the two in canonical form. Those in another form, and an empty message, have
+    no valid signature."""
     public = public_of(key)
     try:
-        return public is not None and message != b"" and _is_signed(public, message, value)
+        return public is not None and message != b"" and _is_valid(public, message, value)
     except (InvalidSignature, OverflowError, ValueError):
         return False
 
@@ -90,26 +93,28 @@ def public_of(key: bytes) -> Public | None:
     """The public key of a canonical text. `None` if it is in none of the forms, or has a number or a point that docs/FORMATS.md, "What a
     verifier tests first", excludes."""
     try:
-        if found := _strings(key, ED25519_KEY):
-            return Ed25519PublicKey.from_public_bytes(found[0]) if _is_of_large_order(found[0]) else None
-        if found := _strings(key, ECDSA_KEY):
-            curve = CURVES.get(found[0])
-            return EllipticCurvePublicKey.from_encoded_point(curve.curve, found[1]) if curve and _are_coordinates(curve, found[1]) else None
-        return _rsa(*found) if (found := _strings(key, RSA_KEY)) else None
+        if strings := _strings(key, ED25519_KEY):
+            return Ed25519PublicKey.from_public_bytes(strings[0]) if _is_of_large_order(strings[0]) else None
+        if strings := _strings(key, ECDSA_KEY):
+            curve, point = CURVES.get(strings[0]), strings[1]
+            return EllipticCurvePublicKey.from_encoded_point(curve.curve, point) if curve and _are_coordinates(curve, point) else None
+        return _rsa_key(*strings) if (strings := _strings(key, RSA_KEY)) else None
     except ValueError:
         return None
 
 
 def number(value: int) -> bytes:
-    """A number of a key, big-endian, with a zero octet in front where the first bit is set."""
+    """The octets of a number of a key: big-endian, with an octet 00 in front if the first bit would be set."""
     return value.to_bytes(value.bit_length() // 8 + 1, "big")
 
 
 def _is_of_large_order(q: bytes) -> bool:
-    """Whether octets may be a key of Ed25519: by their coordinate y, they are not of a point of small order, and not a second text of a point. No y
-    below 2^192 is that of a random key. That they are a point is not tested."""
+    """Whether octets may be a key of Ed25519: by their coordinate y, they are not of a point of small order, for which anyone can make
+    signatures, and not a second text of a point. The points of order 1, 2 and 4 have a y of 1, p - 1 and 0. All y below 2^192 are refused with
+    them, which no random key has. That the octets are a point is not tested."""
+    # (the highest bit is the sign of x)
     y = int.from_bytes(q, "little") % 2**255
-    return len(q) == HALF and 2**192 <= y < P_25519 - 1 and y not in EIGHTHS
+    return len(q) == HALF and 2**192 <= y < P_25519 - 1 and y not in ORDER_8_YS
 
 
 def _are_coordinates(curve: Curve, q: bytes) -> bool:
@@ -118,47 +123,54 @@ def _are_coordinates(curve: Curve, q: bytes) -> bool:
     return len(q) == 1 + 2 * curve.octets and q[0] == 4 and x < curve.prime and y < curve.prime
 
 
-def _rsa(modulus: bytes, exponent: bytes) -> RSAPublicKey | None:
-    """The key of a modulus and an exponent. None if one is not as `number` writes it, or is even, or is beyond the limits at the top of this file."""
+def _rsa_key(modulus: bytes, exponent: bytes) -> RSAPublicKey | None:
+    """The key of a modulus and an exponent. None if one is not as `number` writes it, or is even, or is beyond the limits at the top of this
+    file."""
     n, e = int.from_bytes(modulus, "big"), int.from_bytes(exponent, "big")
     is_written = (modulus, exponent) == (number(n), number(e))
     is_within = LEAST_BITS <= n.bit_length() <= MOST_BITS and 3 <= e < 2**MOST_EXPONENT_BITS
     return RSAPublicNumbers(e, n).public_key() if is_written and is_within and n % 2 and e % 2 else None
 
 
-def _is_signed(public: Public, message: bytes, value: bytes) -> bool:
-    """True if a value is a signature by a public key. Otherwise False or an exception, such as `InvalidSignature`."""
+def _is_valid(public: Public, message: bytes, value: bytes) -> bool:
+    """True if a value is a signature of a message by a public key. Otherwise False, or one of the exceptions that `verify_texts` catches."""
     if isinstance(public, Ed25519PublicKey):
-        found = _strings(value, EDDSA)
-        if [len(it) for it in found] != [HALF, HALF] or int.from_bytes(found[1], "little") >= ORDER_25519:
+        halves = _strings(value, EDDSA_VALUE)
+        if [len(half) for half in halves] != [HALF, HALF] or int.from_bytes(halves[1], "little") >= ORDER_25519:
             return False
-        public.verify(b"".join(found), message)
+        public.verify(b"".join(halves), message)
         return True
-    numbers = [int.from_bytes(it, "big") for it in _strings(value, RSA if isinstance(public, RSAPublicKey) else ECDSA_)]
-    if isinstance(public, RSAPublicKey) and numbers and 1 <= numbers[0] < public.public_numbers().n:
+    template = RSA_VALUE if isinstance(public, RSAPublicKey) else ECDSA_VALUE
+    numbers = [int.from_bytes(string, "big") for string in _strings(value, template)]
+    if not numbers:
+        return False
+    if isinstance(public, RSAPublicKey):
+        if not 1 <= numbers[0] < public.public_numbers().n:
+            return False
         public.verify(numbers[0].to_bytes((public.key_size + 7) // 8, "big"), message, PKCS1v15(), SHA256())
         return True
-    if isinstance(public, EllipticCurvePublicKey) and numbers:
-        curve = next(it for it in CURVES.values() if it.curve.key_size == public.key_size)
-        if all(1 <= it < curve.order for it in numbers):
-            public.verify(encode_dss_signature(*numbers), message, ECDSA(curve.digest))
-            return True
-    return False
+    curve = next(each for each in CURVES.values() if each.curve.key_size == public.key_size)
+    if not all(1 <= each < curve.order for each in numbers):
+        return False
+    public.verify(encode_dss_signature(*numbers), message, ECDSA(curve.digest))
+    return True
 
 
 def _strings(text: bytes, template: bytes) -> list[bytes]:
-    """The strings of a canonical text at the `%` places of a template, such as `RSA_KEY`. An empty list if the text does not match it or is too
-    long."""
+    """The strings of a canonical text at the places of `%` in a template, such as `RSA_KEY`. An empty list if the text does not match it or
+    has more than `MOST_OCTETS`."""
     first, *rest = template.split(b"%")
-    at, found = len(first), []
+    position, strings = len(first), []
     if len(text) > MOST_OCTETS or not text.startswith(first):
         return []
     for part in rest:
-        colon = text.find(b":", at, at + 8)
-        length = int(text[at:colon]) if colon > at and text[at:colon].isdigit() else -1
+        colon = text.find(b":", position, position + len(b"4096:"))
+        digits = text[position:colon] if colon >= 0 else b""
+        length = int(digits) if digits.isdigit() else -1
         end = colon + 1 + length
-        if text[at:colon] != b"%d" % length or text[end:end + len(part)] != part:
+        # (a length has one form: without a 0 in front)
+        if digits != b"%d" % length or text[end:end + len(part)] != part:
             return []
-        found.append(text[colon + 1:end])
-        at = end + len(part)
-    return found if at == len(text) else []
+        strings.append(text[colon + 1:end])
+        position = end + len(part)
+    return strings if position == len(text) else []
