@@ -19,16 +19,18 @@ except ImportError:
         bdist_wheel = object
 
 HERE = os.path.dirname(os.path.abspath(__file__))
+# What crates/spki_c/archive.py writes.
 BUILT = os.path.join(HERE, "..", "..", "crates", "spki_c", "out", "libspki_c.so")
 
 
 def installed():
-    """The path of the library that pkg-config knows, or "" without pkg-config. The file may be missing."""
+    """The path of the library that pkg-config knows, or "" if it knows none or is missing itself. The file may be missing."""
     try:
         done = subprocess.run(["pkg-config", "--variable=libdir", "spki"], stdout=subprocess.PIPE, stderr=subprocess.DEVNULL, text=True)
     except FileNotFoundError:
         return ""
-    return os.path.join(done.stdout.strip(), "libspki_c.so")
+    folder = done.stdout.strip()
+    return os.path.join(folder, "libspki_c.so") if folder else ""
 
 
 def library():
@@ -47,14 +49,19 @@ class BuildWithLibrary(build_py):
 
     def run(self):
         super().run()
+        inside = os.path.join(self.build_lib, "spki", "libspki_c.so")
+        # (that of an earlier build in this folder: copy_file would keep it if it is newer)
+        if os.path.lexists(inside):
+            os.remove(inside)
         if os.environ.get("SPKI_LIBRARY") != "none":
-            self.copy_file(library(), os.path.join(self.build_lib, "spki", "libspki_c.so"))
+            self.copy_file(library(), inside)
 
 
 class OfPlatform(Distribution):
     """What is built runs on this platform alone."""
 
     def has_ext_modules(self):
+        """True: by that setuptools names the platform in the wheel. There are no modules in C, but a library."""
         return True
 
 
@@ -62,6 +69,7 @@ class WheelOfPlatform(bdist_wheel):
     """The wheel is for each Python 3 on this platform."""
 
     def get_tag(self):
+        """The Python, the ABI and the platform in the name of the wheel: no module depends on an ABI of Python."""
         return "py3", "none", super().get_tag()[2]
 
 

@@ -9,9 +9,11 @@ import ctypes
 import dataclasses
 import datetime as datetime_module
 import hashlib
+import importlib.util
 import multiprocessing
 import os
 import pickle
+import shutil
 import subprocess
 import sys
 import tempfile
@@ -19,6 +21,7 @@ import threading
 import unittest
 import warnings
 from datetime import datetime, timedelta, timezone
+from pathlib import Path
 from unittest import mock
 
 import spki
@@ -738,6 +741,26 @@ class Libraries(unittest.TestCase):
                               capture_output=True, text=True)
         self.assertNotEqual(done.returncode, 0)
         self.assertIn("/nowhere/libspki_c.so", done.stderr)
+
+
+@unittest.skipUnless(importlib.util.find_spec("setuptools"), "there is no setuptools; Debian: python3-setuptools")
+class Builds(unittest.TestCase):
+    def test_the_library_that_is_named_is_put_in(self):
+        """SPKI_LIBRARY names it also for a build in the folder of an earlier one: an older file, none, and one that is not there."""
+        with tempfile.TemporaryDirectory() as room:
+            skipped = shutil.ignore_patterns("build", "*.egg-info", "__pycache__")
+            folder = shutil.copytree(os.path.dirname(os.path.realpath(__file__)), os.path.join(room, "python"), ignore=skipped)
+            for name, seconds in (("new", 2_000_000_000), ("old", 1_000_000_000)):
+                with open(os.path.join(room, name), "w", encoding="ascii") as file:
+                    file.write(name)
+                os.utime(file.name, (seconds, seconds))
+            for name, wanted in (("new", ["new"]), ("old", ["old"]), ("none", []), ("absent", [])):
+                named = name if name == "none" else os.path.join(room, name)
+                words = [sys.executable, "setup.py", "-q", "build_py", "--build-lib", "made"]
+                done = subprocess.run(words, cwd=folder, env={**os.environ, "SPKI_LIBRARY": named}, capture_output=True, text=True)
+                self.assertEqual(done.returncode == 0, name != "absent", done.stderr)
+                libraries = Path(folder, "made", "spki").glob("*.so")
+                self.assertEqual([path.read_text("ascii") for path in libraries], wanted, name)
 
 
 if __name__ == "__main__":

@@ -13,19 +13,20 @@ import spki_verify
 
 
 async def is_granted(guard: spki.Guard, sequence: bytes, key: spki.ProvenKey, words: list[bytes], now: datetime) -> bool:
-    """Whether a request is granted. All signatures are verified at the same time. The valid ones are marked, and the marks decide."""
+    """Whether a request is granted. All signatures are verified at the same time. The valid ones are marked, and the marks decide. Raises
+    `spki.Refused` if the sequence, the key or the request cannot be read, which is a no too."""
     question = spki.Question(sequence, key, words=words, moment=now)
     with guard.ask(question) as asked:
         signatures = asked.signatures() if asked.is_possible else []
-        verified = (asyncio.to_thread(spki_verify.verify, it) for it in signatures)
+        verified = (asyncio.to_thread(spki_verify.verify, signature) for signature in signatures)
         for place, is_valid in enumerate(await asyncio.gather(*verified)):
             if is_valid:
                 asked.mark(place)
         return bool(asked.decide())
 
 
-# Prints `granted` or `denied` for the arguments ACL SEQUENCE KEY WORD ..
 async def main() -> None:
+    """Prints `granted` or `denied` for the arguments ACL SEQUENCE KEY WORD .. Raises an exception if a file cannot be read or a text is refused."""
     if len(sys.argv) < 5:
         sys.exit("usage: asynchronous.py ACL SEQUENCE KEY WORD ..")
     texts = []
@@ -41,4 +42,7 @@ async def main() -> None:
 
 
 if __name__ == "__main__":
-    asyncio.run(main())
+    try:
+        asyncio.run(main())
+    except (OSError, spki.Refused) as why:
+        sys.exit(str(why))

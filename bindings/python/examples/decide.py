@@ -21,8 +21,8 @@ def is_granted(guard: spki.Guard, sequence: bytes, key: spki.ProvenKey, words: l
     return bool(guard.decide(question, spki_verify.verify))
 
 
-# Prints `granted` or `denied` for the arguments ACL SEQUENCE KEY WORD .. If a file cannot be read or a text is refused, it raises an exception.
 def main() -> None:
+    """Prints `granted` or `denied` for the arguments ACL SEQUENCE KEY WORD .. Raises an exception if a file cannot be read or a text is refused."""
     if len(sys.argv) < 5:
         sys.exit("usage: decide.py ACL SEQUENCE KEY WORD ..")
     texts = []
