@@ -34,24 +34,24 @@ var signed = []string{
 	"3:sig",
 }
 
-// shown returns a question by b, who shows the certificate `pair` so many times. Under `list` it can be granted for 1 alone: behind the first the
-// subject is b, and the next issuer is a.
-func shown(times int) guard.Question {
+// questionWith returns a question by b, who shows the certificate `pair` so many times. Under `list` it can be granted for 1 alone: behind the first
+// the subject is b, and the next issuer is a.
+func questionWith(times int) guard.Question {
 	return guard.Question{
 		Sequence: []byte("(sequence " + strings.Repeat(pair, times) + ")"), Key: spki.AssumeKey([]byte("(public-key (test b))")),
 		Words: []string{"ftp", "host"}, Time: time.Date(2024, 1, 1, 0, 0, 0, 0, time.UTC),
 	}
 }
 
-// opened returns a guard of a list under the strict policy, which is closed when the test ends.
-func opened(t testing.TB, list string) *guard.Guard {
+// openGuard returns a guard of a list under the strict policy, which is closed when the test ends.
+func openGuard(t testing.TB, list string) *guard.Guard {
 	t.Helper()
-	made, err := guard.Open([]byte(list), guard.Strict, guard.Limits{})
+	opened, err := guard.Open([]byte(list), guard.Strict, guard.Limits{})
 	if err != nil {
 		t.Fatal(err)
 	}
-	t.Cleanup(made.Close)
-	return made
+	t.Cleanup(opened.Close)
+	return opened
 }
 
 // By own, a lets itself do everything: such a certificate may stand in front of another one, also twice. By forged, c has a certificate in the
@@ -63,10 +63,10 @@ const (
 		(signature (hash sha256 #b0c7e53153c3b09dad60263b3b4738aa1ae756cc4642305bcf4fdc4114ff0d5d#) (public-key (test a)) forged)`
 )
 
-// marked asks a guard a question, marks its signatures at these places, and returns it. It is closed when the test ends.
-func marked(t testing.TB, made *guard.Guard, question guard.Question, places ...int) *guard.Asked {
+// askMarked asks a guard a question, marks its signatures at these places, and returns it. It is closed when the test ends.
+func askMarked(t testing.TB, opened *guard.Guard, question guard.Question, places ...int) *guard.Asked {
 	t.Helper()
-	asked, err := made.Ask(question)
+	asked, err := opened.Ask(question)
 	if err != nil {
 		t.Fatal(err)
 	}
@@ -79,8 +79,8 @@ func marked(t testing.TB, made *guard.Guard, question guard.Question, places ...
 	return asked
 }
 
-// granted says whether a question is granted by its marks. The test ends if there is no decision.
-func granted(t testing.TB, asked *guard.Asked) bool {
+// isGranted says whether a question is granted by its marks. The test ends if there is no decision.
+func isGranted(t testing.TB, asked *guard.Asked) bool {
 	t.Helper()
 	decision, err := asked.Decide()
 	if err != nil {
@@ -95,16 +95,17 @@ func valid(guard.Signature) bool { return true }
 // invalid is a verifier for which no signature is valid.
 func invalid(guard.Signature) bool { return false }
 
+// TestVerifierIsGivenWhatIsSigned decides by a verifier that accepts the signature of `pair` alone, and by one that accepts none.
 func TestVerifierIsGivenWhatIsSigned(t *testing.T) {
 	calls := 0
-	decision, err := opened(t, list).Decide(shown(1), func(it guard.Signature) bool {
+	decision, err := openGuard(t, list).Decide(questionWith(1), func(signature guard.Signature) bool {
 		calls++
-		return reflect.DeepEqual([]string{string(it.Key), string(it.Message), string(it.Value)}, signed)
+		return reflect.DeepEqual([]string{string(signature.Key), string(signature.Message), string(signature.Value)}, signed)
 	})
 	if err != nil || !decision.Granted() || decision.Entry() != 1 || calls != 1 || decision.String() != "yes entry 1" {
 		t.Errorf("%v, %v, %d calls", decision, err, calls)
 	}
-	decision, err = opened(t, list).Decide(shown(1), invalid)
+	decision, err = openGuard(t, list).Decide(questionWith(1), invalid)
 	if err != nil || decision.Granted() || decision.Entry() != 0 || decision.String() != "no" {
 		t.Errorf("%v, %v", decision, err)
 	}
@@ -118,25 +119,25 @@ func TestZeroIsNoYes(t *testing.T) {
 	var usual guard.Policy
 	bySHA1 := fmt.Sprintf("(acl (entry (hash sha1 #%x#) (tag (*))))", sha1.Sum([]byte("(10:public-key(4:test1:b))")))
 	for policy, wanted := range map[guard.Policy]bool{usual: false, guard.Strict: false, guard.AllowSHA1: true} {
-		made, err := guard.Open([]byte(bySHA1), policy, guard.Limits{})
+		opened, err := guard.Open([]byte(bySHA1), policy, guard.Limits{})
 		if err != nil {
 			t.Fatal(err)
 		}
-		if decision, err := made.Decide(shown(0), invalid); err != nil || decision.Granted() != wanted {
+		if decision, err := opened.Decide(questionWith(0), invalid); err != nil || decision.Granted() != wanted {
 			t.Errorf("%v: %v, %v", policy, decision, err)
 		}
-		made.Close()
+		opened.Close()
 	}
 }
 
 // TestVerifierStopsAtTheFirstWrongOne shows three certificates, of which the second has a wrong signature. The third is not verified. The second
 // is item 3, since each signature is an item too.
 func TestVerifierStopsAtTheFirstWrongOne(t *testing.T) {
-	question, calls := shown(3), 0
+	question, calls := questionWith(3), 0
 	question.Sequence = []byte("(sequence " + pair + strings.Replace(pair, "sig)", "wrong)", 1) + pair + ")")
-	explanation, err := opened(t, list).Explain(question, func(it guard.Signature) bool {
+	explanation, err := openGuard(t, list).Explain(question, func(signature guard.Signature) bool {
 		calls++
-		return string(it.Value) == "3:sig"
+		return string(signature.Value) == "3:sig"
 	})
 	wanted := []guard.Reason{{Item: 3, Word: "NotAccepted"}}
 	if err != nil || calls != 2 || !reflect.DeepEqual(explanation.Reasons(), wanted) || wanted[0].String() != explanation.String() {
@@ -146,26 +147,26 @@ func TestVerifierStopsAtTheFirstWrongOne(t *testing.T) {
 
 // TestMarks marks what the question does not have: -255, 0x101 and other numbers that a verifier may have returned. Nothing is marked.
 func TestMarks(t *testing.T) {
-	asked := marked(t, opened(t, list), shown(1))
+	asked := askMarked(t, openGuard(t, list), questionWith(1))
 	if listed := asked.Signatures(); len(listed) != 1 || string(listed[0].Message) != signed[1] || !asked.Possible() {
 		t.Errorf("%q", listed)
 	}
 	for _, place := range []int{1, 2, 0x101, -1, -255, math.MaxInt, math.MinInt} {
-		if err := asked.Mark(place); !errors.Is(err, guard.ErrMisused) || granted(t, asked) {
+		if err := asked.Mark(place); !errors.Is(err, guard.ErrMisused) || isGranted(t, asked) {
 			t.Errorf("%d: %v", place, err)
 		}
 	}
 	for turn := 0; turn < 2; turn++ {
-		if err := asked.Mark(0); err != nil || !granted(t, asked) {
+		if err := asked.Mark(0); err != nil || !isGranted(t, asked) {
 			t.Error(err)
 		}
 	}
 }
 
-// verified asks a guard a question, marks its signatures at these places in order, and returns its Verified. The question is closed.
-func verified(t *testing.T, made *guard.Guard, question guard.Question, places ...int) guard.Verified {
+// verifiedOf asks a guard a question, marks its signatures at these places in order, and returns its Verified. The question is closed.
+func verifiedOf(t *testing.T, opened *guard.Guard, question guard.Question, places ...int) guard.Verified {
 	t.Helper()
-	asked, err := made.Ask(question)
+	asked, err := opened.Ask(question)
 	if err != nil {
 		t.Fatal(err)
 	}
@@ -181,99 +182,99 @@ func verified(t *testing.T, made *guard.Guard, question guard.Question, places .
 // TestVerifiedBefore decides by signatures that are known to be valid. A row has the places that are marked, how many marks count, and the entry that
 // grants the request, or 0.
 func TestVerifiedBefore(t *testing.T) {
-	made, question := opened(t, list), shown(1)
-	shows := question
-	shows.Sequence = []byte("(sequence " + own + pair + ")")
+	opened, question := openGuard(t, list), questionWith(1)
+	asking := question
+	asking.Sequence = []byte("(sequence " + own + pair + ")")
 	question.Sequence = nil
 	for _, row := range []struct {
 		places []int
 		most   int
 		wanted int
 	}{{nil, 2, 0}, {[]int{0}, 2, 0}, {[]int{1}, 2, 0}, {[]int{0, 1}, 2, 1}, {[]int{0, 1}, 1, 0}, {[]int{0, 1}, 99, 1}, {[]int{0, 1}, -1, 0}, {[]int{0}, 2, 0}} {
-		known := verified(t, made, shows, row.places...).First(row.most)
-		canonical, err := known.Canonical()
+		verified := verifiedOf(t, opened, asking, row.places...).First(row.most)
+		canonical, err := verified.Canonical()
 		if err != nil || !bytes.HasPrefix(canonical.Sequence(), []byte("(8:sequence")) {
 			t.Fatalf("%q, %v", canonical.Sequence(), err)
 		}
-		for _, each := range []guard.Verified{known, canonical} {
-			if met, err := made.DecideVerified(question, each); err != nil || met.Entry() != row.wanted {
-				t.Errorf("%v: %v, %v", row, met, err)
+		for _, each := range []guard.Verified{verified, canonical} {
+			if decision, err := opened.DecideVerified(question, each); err != nil || decision.Entry() != row.wanted {
+				t.Errorf("%v: %v, %v", row, decision, err)
 			}
 		}
 	}
 	var events []guard.Event
-	known := verified(t, made, shows, 0, 1)
-	_, _ = made.Logged(func(event guard.Event) { events = append(events, event); event.Question.Sequence[1] ^= 1 }).DecideVerified(question, known)
+	verified := verifiedOf(t, opened, asking, 0, 1)
+	_, _ = opened.Logged(func(event guard.Event) { events = append(events, event); event.Question.Sequence[1] ^= 1 }).DecideVerified(question, verified)
 	if len(events) != 1 || !events[0].Decision.Granted() {
 		t.Errorf("%v", events)
 	}
-	if !bytes.Equal(known.Sequence(), shows.Sequence) {
-		t.Errorf("the function of the log changed what is verified: %q", known.Sequence())
+	if !bytes.Equal(verified.Sequence(), asking.Sequence) {
+		t.Errorf("the function of the log changed what is verified: %q", verified.Sequence())
 	}
 }
 
 // TestVerifiedIsOfItsSequence shows that what is known of one sequence counts for no other one, for no other policy, and not without its marks.
 func TestVerifiedIsOfItsSequence(t *testing.T) {
-	made, question := opened(t, list), shown(1)
-	shows, forged := question, append([]byte(nil), question.Sequence...)
-	shows.Sequence = []byte("(sequence " + own + pair + ")")
-	known := verified(t, made, shows, 0, 1)
+	opened, question := openGuard(t, list), questionWith(1)
+	asking, forged := question, append([]byte(nil), question.Sequence...)
+	asking.Sequence = []byte("(sequence " + own + pair + ")")
+	verified := verifiedOf(t, opened, asking, 0, 1)
 	open, err := guard.Open([]byte(list), guard.AllowSHA1, guard.Limits{})
 	if err != nil {
 		t.Fatal(err)
 	}
 	defer open.Close()
 	question.Sequence = forged
-	if met, err := made.DecideVerified(question, known); !errors.Is(err, guard.ErrMisused) || met.Granted() {
-		t.Errorf("another sequence: %v, %v", met, err)
+	if decision, err := opened.DecideVerified(question, verified); !errors.Is(err, guard.ErrMisused) || decision.Granted() {
+		t.Errorf("another sequence: %v, %v", decision, err)
 	}
 	question.Sequence = nil
-	if met, err := open.DecideVerified(question, known); !errors.Is(err, guard.ErrMisused) || met.Granted() {
-		t.Errorf("another policy: %v, %v", met, err)
+	if decision, err := open.DecideVerified(question, verified); !errors.Is(err, guard.ErrMisused) || decision.Granted() {
+		t.Errorf("another policy: %v, %v", decision, err)
 	}
-	if met, err := made.DecideVerified(question, guard.Verified{}); err != nil || met.Granted() {
-		t.Errorf("no certificates: %v, %v", met, err)
+	if decision, err := opened.DecideVerified(question, guard.Verified{}); err != nil || decision.Granted() {
+		t.Errorf("no certificates: %v, %v", decision, err)
 	}
-	shows.Sequence[len(shows.Sequence)-2] ^= 1
-	known.Sequence()[0] ^= 1
-	if met, err := made.DecideVerified(question, known); err != nil || !met.Granted() {
-		t.Errorf("octets that changed since: %v, %v", met, err)
+	asking.Sequence[len(asking.Sequence)-2] ^= 1
+	verified.Sequence()[0] ^= 1
+	if decision, err := opened.DecideVerified(question, verified); err != nil || !decision.Granted() {
+		t.Errorf("octets that changed since: %v, %v", decision, err)
 	}
-	made.Close()
-	if met, err := made.DecideVerified(question, known); !errors.Is(err, guard.ErrClosed) || met.Granted() {
-		t.Errorf("a closed guard: %v, %v", met, err)
+	opened.Close()
+	if decision, err := opened.DecideVerified(question, verified); !errors.Is(err, guard.ErrClosed) || decision.Granted() {
+		t.Errorf("a closed guard: %v, %v", decision, err)
 	}
 }
 
 // TestMarksAreOfOneQuestion asks for two clients at once. What is marked for b grants nothing to c, who shows a forged certificate.
 func TestMarksAreOfOneQuestion(t *testing.T) {
-	made, question := opened(t, list), shown(0)
+	opened, question := openGuard(t, list), questionWith(0)
 	question.Sequence, question.Key = []byte("(sequence "+forged+")"), spki.AssumeKey([]byte("(public-key (test c))"))
-	good, bad, again := marked(t, made, shown(1)), marked(t, made, question), marked(t, made, shown(1))
+	good, bad, again := askMarked(t, opened, questionWith(1)), askMarked(t, opened, question), askMarked(t, opened, questionWith(1))
 	for _, asked := range []*guard.Asked{good, bad} {
-		err := asked.Verify(func(it guard.Signature) bool { return string(it.Value) == "3:sig" })
+		err := asked.Verify(func(signature guard.Signature) bool { return string(signature.Value) == "3:sig" })
 		if err != nil || !asked.Possible() {
 			t.Error(err)
 		}
 	}
-	if !granted(t, good) || granted(t, bad) || granted(t, again) {
+	if !isGranted(t, good) || isGranted(t, bad) || isGranted(t, again) {
 		t.Error("a mark counts for another question")
 	}
 	*good, *bad = *bad, *good
-	if granted(t, good) || !granted(t, bad) {
+	if isGranted(t, good) || !isGranted(t, bad) {
 		t.Error("a mark does not go with its question")
 	}
 }
 
 // TestClientsInThreads asks for two clients in several goroutines. Each answer is by the marks of its own question.
 func TestClientsInThreads(t *testing.T) {
-	made, forging := opened(t, list), shown(0)
+	opened, forging := openGuard(t, list), questionWith(0)
 	forging.Sequence, forging.Key = []byte("(sequence "+forged+")"), spki.AssumeKey([]byte("(public-key (test c))"))
 	var all sync.WaitGroup
 	serve := func(question guard.Question, wanted bool) {
 		defer all.Done()
 		for turn := 0; turn < 200; turn++ {
-			decision, err := made.Decide(question, func(it guard.Signature) bool { return string(it.Value) == "3:sig" })
+			decision, err := opened.Decide(question, func(signature guard.Signature) bool { return string(signature.Value) == "3:sig" })
 			if err != nil || decision.Granted() != wanted {
 				t.Error("a mark for another client counts")
 			}
@@ -281,7 +282,7 @@ func TestClientsInThreads(t *testing.T) {
 	}
 	for turn := 0; turn < 3; turn++ {
 		all.Add(2)
-		go serve(shown(1), true)
+		go serve(questionWith(1), true)
 		go serve(forging, false)
 	}
 	all.Wait()
@@ -289,14 +290,14 @@ func TestClientsInThreads(t *testing.T) {
 
 // TestMarksAreOfOnePlace shows two equal certificates, of which both have to be marked.
 func TestMarksAreOfOnePlace(t *testing.T) {
-	question := shown(0)
+	question := questionWith(0)
 	question.Sequence, question.Key = []byte("(sequence "+own+own+")"), spki.AssumeKey([]byte("(public-key (test a))"))
 	for place := 0; place < 2; place++ {
-		asked := marked(t, opened(t, list), question, place)
-		if granted(t, asked) || asked.Count() != 2 {
+		asked := askMarked(t, openGuard(t, list), question, place)
+		if isGranted(t, asked) || asked.Count() != 2 {
 			t.Errorf("the mark of place %d counts for both", place)
 		}
-		if err := asked.Mark(1 - place); err != nil || !granted(t, asked) {
+		if err := asked.Mark(1 - place); err != nil || !isGranted(t, asked) {
 			t.Error(err)
 		}
 	}
@@ -304,9 +305,9 @@ func TestMarksAreOfOnePlace(t *testing.T) {
 
 // TestVerifierThatFailsMarksNothing fails behind a valid signature.
 func TestVerifierThatFailsMarksNothing(t *testing.T) {
-	question, fault := shown(0), errors.New("no such key")
+	question, fault := questionWith(0), errors.New("no such key")
 	question.Sequence, question.Key = []byte("(sequence "+own+own+")"), spki.AssumeKey([]byte("(public-key (test a))"))
-	asked, calls := marked(t, opened(t, list), question), 0
+	asked, calls := askMarked(t, openGuard(t, list), question), 0
 	err := asked.VerifyContext(context.Background(), func(context.Context, guard.Signature) (bool, error) {
 		calls++
 		return true, map[int]error{2: fault}[calls]
@@ -314,7 +315,7 @@ func TestVerifierThatFailsMarksNothing(t *testing.T) {
 	if !errors.Is(err, fault) || calls != 2 {
 		t.Errorf("%v, %d calls", err, calls)
 	}
-	if err := asked.Mark(1); err != nil || granted(t, asked) {
+	if err := asked.Mark(1); err != nil || isGranted(t, asked) {
 		t.Error(err)
 	}
 }
@@ -323,12 +324,12 @@ func TestVerifierThatFailsMarksNothing(t *testing.T) {
 func TestNothingIsVerifiedInVain(t *testing.T) {
 	calls := 0
 	counted := func(guard.Signature) bool { calls++; return true }
-	for list, question := range map[string]guard.Question{list: shown(2), "(acl)": shown(1)} {
-		made := opened(t, list)
-		if decision, err := made.Decide(question, counted); err != nil || decision.Granted() || calls != 0 {
+	for list, question := range map[string]guard.Question{list: questionWith(2), "(acl)": questionWith(1)} {
+		opened := openGuard(t, list)
+		if decision, err := opened.Decide(question, counted); err != nil || decision.Granted() || calls != 0 {
 			t.Errorf("%v, %v, %d calls", decision, err, calls)
 		}
-		if _, err := made.Explain(question, counted); err != nil || calls == 0 {
+		if _, err := opened.Explain(question, counted); err != nil || calls == 0 {
 			t.Errorf("%v, %d calls", err, calls)
 		}
 		calls = 0
@@ -339,7 +340,7 @@ func TestNothingIsVerifiedInVain(t *testing.T) {
 func TestSignaturesAreOfTheSequence(t *testing.T) {
 	otherDigest := strings.Replace(pair, "#d7", "#d8", 1)
 	for _, text := range []string{pair, pair + pair, pair + otherDigest + pair, "(public-key (test c)) " + pair} {
-		question := shown(0)
+		question := questionWith(0)
 		question.Sequence = []byte("(sequence " + text + ")")
 		var wanted []guard.Signature
 		for turn, change := range []func(){
@@ -348,17 +349,17 @@ func TestSignaturesAreOfTheSequence(t *testing.T) {
 		} {
 			change()
 			for _, list := range []string{list, "(acl)", "(acl (entry (public-key (test b)) (tag (ftp))))"} {
-				asked, err := opened(t, list).Ask(question)
+				asked, err := openGuard(t, list).Ask(question)
 				if err != nil {
 					t.Fatal(err)
 				}
-				met := asked.Signatures()
+				listed := asked.Signatures()
 				asked.Close()
 				if wanted == nil {
-					wanted = met
+					wanted = listed
 				}
-				if !reflect.DeepEqual(met, wanted) || len(met) == 0 {
-					t.Errorf("turn %d: %q, wanted %q", turn, met, wanted)
+				if !reflect.DeepEqual(listed, wanted) || len(listed) == 0 {
+					t.Errorf("turn %d: %q, wanted %q", turn, listed, wanted)
 				}
 			}
 		}
@@ -367,14 +368,14 @@ func TestSignaturesAreOfTheSequence(t *testing.T) {
 
 // TestQuestionIsCopied changes the octets of a question after Ask. The answer is still that to the question as it was.
 func TestQuestionIsCopied(t *testing.T) {
-	question := shown(1)
-	asked := marked(t, opened(t, list), question, 0)
+	question := questionWith(1)
+	asked := askMarked(t, openGuard(t, list), question, 0)
 	for place := range question.Sequence {
 		question.Sequence[place] = 'x'
 	}
 	question.Words[0] = ""
 	for turn := 0; turn < 2; turn++ {
-		if !granted(t, asked) {
+		if !isGranted(t, asked) {
 			t.Error("no")
 		}
 	}
@@ -382,14 +383,14 @@ func TestQuestionIsCopied(t *testing.T) {
 
 // TestStringsAreStrings requests by words that have spaces and parentheses. Each stays one string. In a row the words are joined by commas.
 func TestStringsAreStrings(t *testing.T) {
-	made := opened(t, "(acl (entry (public-key (test b)) (tag (cache (* prefix /cache/team1/) read))))")
+	opened := openGuard(t, "(acl (entry (public-key (test b)) (tag (cache (* prefix /cache/team1/) read))))")
 	for words, wanted := range map[string]bool{
 		"cache,/cache/team1/a.o,read": true, "cache,/cache/team1/a.o read,write": false, "cache,/cache/team1/\x00),read": true,
 		"cache,,read": false, "cache": false,
 	} {
-		question := shown(0)
+		question := questionWith(0)
 		question.Words = strings.Split(words, ",")
-		if decision, err := made.Decide(question, valid); err != nil || decision.Granted() != wanted {
+		if decision, err := opened.Decide(question, valid); err != nil || decision.Granted() != wanted {
 			t.Errorf("%q: %v, %v", words, decision, err)
 		}
 	}
@@ -397,12 +398,12 @@ func TestStringsAreStrings(t *testing.T) {
 
 // TestTexts gives the request and the time as texts. The second request is `(ftp)` in transport form.
 func TestTexts(t *testing.T) {
-	made := opened(t, "(acl (entry (public-key (test b)) (tag (ftp host))))")
+	opened := openGuard(t, "(acl (entry (public-key (test b)) (tag (ftp host))))")
 	for text, wanted := range map[string]bool{"(ftp host)": true, "{KDM6ZnRwKQ==}": false, "ftp": false} {
-		question := shown(0)
+		question := questionWith(0)
 		question.Words, question.Request = nil, []byte(text)
 		question.Time, question.Moment = time.Time{}, []byte(`"2024-01-01_00:00:00"`)
-		if decision, err := made.Decide(question, valid); err != nil || decision.Granted() != wanted {
+		if decision, err := opened.Decide(question, valid); err != nil || decision.Granted() != wanted {
 			t.Errorf("%q: %v, %v", text, decision, err)
 		}
 	}
@@ -410,7 +411,7 @@ func TestTexts(t *testing.T) {
 
 // TestRefusals spoils one part of a question at a time, or the access list.
 func TestRefusals(t *testing.T) {
-	made := opened(t, list)
+	opened := openGuard(t, list)
 	for line, change := range map[string]func(*guard.Question){
 		"refused sequence Trailing 11": func(q *guard.Question) { q.Sequence = []byte("(sequence) x") },
 		"refused sequence Short":       func(q *guard.Question) { q.Sequence = nil },
@@ -420,9 +421,9 @@ func TestRefusals(t *testing.T) {
 		"refused at Short":             func(q *guard.Question) { q.Time = time.Time{} },
 		"refused at BadDate":           func(q *guard.Question) { q.Time = time.Unix(1<<40, 0) },
 	} {
-		question := shown(1)
+		question := questionWith(1)
 		change(&question)
-		decision, err := made.Decide(question, valid)
+		decision, err := opened.Decide(question, valid)
 		var refusal *guard.Refusal
 		if !errors.Is(err, guard.ErrRefused) || !errors.As(err, &refusal) || refusal.Error() != line || decision.Granted() {
 			t.Errorf("%s: %v, %v", line, decision, err)
@@ -434,7 +435,7 @@ func TestRefusals(t *testing.T) {
 		}
 	}
 	for _, list := range []string{"", "(acl (entry))", "(acl) x"} {
-		if made, err := guard.Open([]byte(list), guard.Strict, guard.Limits{}); !errors.Is(err, guard.ErrRefused) || made != nil {
+		if opened, err := guard.Open([]byte(list), guard.Strict, guard.Limits{}); !errors.Is(err, guard.ErrRefused) || opened != nil {
 			t.Errorf("%q: %v", list, err)
 		}
 	}
@@ -445,9 +446,9 @@ func TestTwoWaysAreMisuse(t *testing.T) {
 	for name, change := range map[string]func(*guard.Question){
 		"request": func(q *guard.Question) { q.Request = []byte("ftp") }, "time": func(q *guard.Question) { q.Moment = []byte(`"2024-01-01_00:00:00"`) },
 	} {
-		question := shown(1)
+		question := questionWith(1)
 		change(&question)
-		if decision, err := opened(t, list).Decide(question, valid); !errors.Is(err, guard.ErrMisused) || decision.Granted() {
+		if decision, err := openGuard(t, list).Decide(question, valid); !errors.Is(err, guard.ErrMisused) || decision.Granted() {
 			t.Errorf("%s: %v, %v", name, decision, err)
 		}
 	}
@@ -455,18 +456,18 @@ func TestTwoWaysAreMisuse(t *testing.T) {
 
 // TestUsualLimits exceeds the usual limits of 16 certificates, 64 words and 65,536 octets. The highest limits allow more.
 func TestUsualLimits(t *testing.T) {
-	made := opened(t, list)
-	many, words, long := shown(17), shown(1), shown(1)
+	opened := openGuard(t, list)
+	many, words, long := questionWith(17), questionWith(1), questionWith(1)
 	words.Words = make([]string, 65)
 	long.Words = []string{strings.Repeat("x", 65_536)}
 	for name, question := range map[string]guard.Question{"certificates": many, "words": words, "octets": long} {
-		if _, err := made.Decide(question, valid); !errors.Is(err, guard.ErrTooLong) {
+		if _, err := opened.Decide(question, valid); !errors.Is(err, guard.ErrTooLong) {
 			t.Errorf("%s: %v", name, err)
 		}
 	}
 	words.Words[0], words.Words = "x", words.Words[:64]
-	for name, question := range map[string]guard.Question{"certificates": shown(16), "words": words} {
-		if _, err := made.Decide(question, valid); err != nil {
+	for name, question := range map[string]guard.Question{"certificates": questionWith(16), "words": words} {
+		if _, err := opened.Decide(question, valid); err != nil {
 			t.Errorf("%s: %v", name, err)
 		}
 	}
@@ -475,7 +476,7 @@ func TestUsualLimits(t *testing.T) {
 		t.Fatal(err)
 	}
 	defer wide.Close()
-	for name, question := range map[string]guard.Question{"certificates": shown(40), "octets": long} {
+	for name, question := range map[string]guard.Question{"certificates": questionWith(40), "octets": long} {
 		if _, err := wide.Decide(question, valid); err != nil {
 			t.Errorf("%s: %v", name, err)
 		}
@@ -493,17 +494,17 @@ func TestUsualLimits(t *testing.T) {
 // TestLogged logs a yes, a no and a refusal. A log that panics lets nothing be granted.
 func TestLogged(t *testing.T) {
 	var events []guard.Event
-	made := opened(t, list).Logged(func(event guard.Event) { events = append(events, event) })
-	refused := shown(1)
+	opened := openGuard(t, list).Logged(func(event guard.Event) { events = append(events, event) })
+	refused := questionWith(1)
 	refused.Sequence = nil
-	for _, question := range []guard.Question{shown(1), shown(2), refused} {
-		decision, err := made.Decide(question, valid)
+	for _, question := range []guard.Question{questionWith(1), questionWith(2), refused} {
+		decision, err := opened.Decide(question, valid)
 		last := events[len(events)-1]
 		if last.Decision != decision || last.Err != err || last.Question.Time != question.Time || last.Took < 0 {
 			t.Errorf("%+v, %v, %v", last, decision, err)
 		}
 	}
-	if _, err := made.Require(context.Background(), shown(2), func(context.Context, guard.Signature) (bool, error) { return true, nil }); err == nil {
+	if _, err := opened.Require(context.Background(), questionWith(2), func(context.Context, guard.Signature) (bool, error) { return true, nil }); err == nil {
 		t.Error("a no is required")
 	}
 	if len(events) != 4 || !events[0].Decision.Granted() || events[1].Decision.Granted() || !errors.Is(events[2].Err, guard.ErrRefused) {
@@ -514,39 +515,40 @@ func TestLogged(t *testing.T) {
 			t.Error("a panic of a log is lost")
 		}
 	}()
-	_, _ = made.Logged(func(guard.Event) { panic("the disk is full") }).Decide(shown(1), valid)
+	_, _ = opened.Logged(func(guard.Event) { panic("the disk is full") }).Decide(questionWith(1), valid)
 }
 
 // TestMisuseIsLogged decides a question with a sequence of its own by a Verified.
 func TestMisuseIsLogged(t *testing.T) {
-	var made guard.Guard
+	var opened guard.Guard
 	var events []guard.Event
-	logged := made.Logged(func(event guard.Event) { events = append(events, event) })
-	if _, err := logged.DecideVerified(shown(1), guard.Verified{}); err != guard.ErrMisused || len(events) != 1 || events[0].Err != err {
+	logged := opened.Logged(func(event guard.Event) { events = append(events, event) })
+	if _, err := logged.DecideVerified(questionWith(1), guard.Verified{}); err != guard.ErrMisused || len(events) != 1 || events[0].Err != err {
 		t.Errorf("%+v, %v", events, err)
 	}
 }
 
 // TestLimitsOfZeroAreTheLibrarys sets one limit. The others are the usual ones, such as 16 certificates.
 func TestLimitsOfZeroAreTheLibrarys(t *testing.T) {
-	made, err := guard.Open([]byte(list), guard.Strict, guard.Limits{Answer: 1000})
+	opened, err := guard.Open([]byte(list), guard.Strict, guard.Limits{Answer: 1000})
 	if err != nil {
 		t.Fatal(err)
 	}
-	defer made.Close()
-	if decision, err := made.Decide(shown(1), valid); err != nil || !decision.Granted() {
+	defer opened.Close()
+	if decision, err := opened.Decide(questionWith(1), valid); err != nil || !decision.Granted() {
 		t.Errorf("%v, %v", decision, err)
 	}
-	if _, err := made.Decide(shown(17), valid); !errors.Is(err, guard.ErrTooLong) {
+	if _, err := opened.Decide(questionWith(17), valid); !errors.Is(err, guard.ErrTooLong) {
 		t.Error(err)
 	}
 }
 
+// TestLimitsBelowZero opens guards with a limit below zero. Each is ErrMisused.
 func TestLimitsBelowZero(t *testing.T) {
 	for _, limits := range []guard.Limits{
 		{Octets: -1}, {Certificates: -1}, {Words: -1}, {Nodes: -1}, {Work: -1}, {Answer: -1}, {Words: math.MinInt}, {Octets: 64, Answer: -64},
 	} {
-		if made, err := guard.Open([]byte(list), guard.Strict, limits); !errors.Is(err, guard.ErrMisused) || made != nil {
+		if opened, err := guard.Open([]byte(list), guard.Strict, limits); !errors.Is(err, guard.ErrMisused) || opened != nil {
 			t.Errorf("%+v: %v", limits, err)
 		}
 	}
@@ -555,27 +557,27 @@ func TestLimitsBelowZero(t *testing.T) {
 // TestAClockThatFailed asks at times that no clock gives: before 1970, and from the year 10000 on. An expired right is not granted. By the
 // nanosecond no time is the zero Time.
 func TestAClockThatFailed(t *testing.T) {
-	made := opened(t, `(acl (entry (public-key (test b)) (tag (*)) (not-after "1999-12-31_23:59:59")))`)
-	question := shown(0)
+	opened := openGuard(t, `(acl (entry (public-key (test b)) (tag (*)) (not-after "1999-12-31_23:59:59")))`)
+	question := questionWith(0)
 	question.Time = time.Unix(0, 0)
-	if decision, err := made.Decide(question, valid); err != nil || !decision.Granted() {
+	if decision, err := opened.Decide(question, valid); err != nil || !decision.Granted() {
 		t.Errorf("%v, %v", decision, err)
 	}
 	for _, seconds := range []int64{-1, -1 << 31, -62_135_596_801, math.MinInt64, 253_402_300_800, math.MaxInt64} {
 		question.Time = time.Unix(seconds, 1)
-		decision, err := made.Decide(question, valid)
+		decision, err := opened.Decide(question, valid)
 		var refusal *guard.Refusal
 		if !errors.As(err, &refusal) || refusal.Error() != "refused at BadDate" || decision.Granted() {
 			t.Errorf("%d: %v, %v", seconds, decision, err)
 		}
-		if _, err := made.Explain(question, valid); !errors.As(err, &refusal) || refusal.Fault() != "BadDate" {
+		if _, err := opened.Explain(question, valid); !errors.As(err, &refusal) || refusal.Fault() != "BadDate" {
 			t.Errorf("%d: %v", seconds, err)
 		}
-		if _, err := made.Ask(question); !errors.As(err, &refusal) || refusal.Fault() != "BadDate" {
+		if _, err := opened.Ask(question); !errors.As(err, &refusal) || refusal.Fault() != "BadDate" {
 			t.Errorf("%d: %v", seconds, err)
 		}
 	}
-	last := opened(t, `(acl (entry (public-key (test b)) (tag (*))))`)
+	last := openGuard(t, `(acl (entry (public-key (test b)) (tag (*))))`)
 	question.Time = time.Unix(253_402_300_799, 999_999_999)
 	if decision, err := last.Decide(question, valid); err != nil || !decision.Granted() {
 		t.Errorf("%v, %v", decision, err)
@@ -584,8 +586,8 @@ func TestAClockThatFailed(t *testing.T) {
 
 // TestUntil keeps a grant. It holds till the least window ends, and no second longer.
 func TestUntil(t *testing.T) {
-	ending := opened(t, `(acl (entry (public-key (test a)) (propagate) (tag (*)) (not-after "2026-06-30_23:59:59")))`)
-	last, question := time.Date(2026, 6, 30, 23, 59, 59, 0, time.UTC), shown(1)
+	ending := openGuard(t, `(acl (entry (public-key (test a)) (propagate) (tag (*)) (not-after "2026-06-30_23:59:59")))`)
+	last, question := time.Date(2026, 6, 30, 23, 59, 59, 0, time.UTC), questionWith(1)
 	kept, err := ending.Decide(question, valid)
 	if err != nil || !kept.Until().Equal(last) {
 		t.Errorf("%v, %v", kept.Until(), err)
@@ -596,11 +598,11 @@ func TestUntil(t *testing.T) {
 			t.Errorf("%v: %v, %v, %v", later, decision, err, kept.HoldsAt(question.Time))
 		}
 	}
-	endless, err := opened(t, list).Decide(shown(1), valid)
+	endless, err := openGuard(t, list).Decide(questionWith(1), valid)
 	if err != nil || !endless.Until().IsZero() || !endless.HoldsAt(last.Add(time.Second)) || endless.HoldsAt(time.Unix(-1, 0)) {
 		t.Errorf("%v, %v", endless, err)
 	}
-	no, err := ending.Decide(shown(1), invalid)
+	no, err := ending.Decide(questionWith(1), invalid)
 	if err != nil || !no.Until().IsZero() || no.HoldsAt(last) || (guard.Decision{}).HoldsAt(last) {
 		t.Errorf("%v, %v", no, err)
 	}
@@ -608,7 +610,7 @@ func TestUntil(t *testing.T) {
 
 // TestVerifierThatFails decides by verifiers that answer, fail, or do both, and by a context that ends before or between the signatures.
 func TestVerifierThatFails(t *testing.T) {
-	made, away := opened(t, list), errors.New("the key store is away")
+	opened, away := openGuard(t, list), errors.New("the key store is away")
 	stopped, stop := context.WithCancel(context.Background())
 	stop()
 	for name, row := range map[string]struct {
@@ -623,21 +625,21 @@ func TestVerifierThatFails(t *testing.T) {
 		"yes with an error":    {context.Background(), func(context.Context, guard.Signature) (bool, error) { return true, away }, false, away},
 		"a context that ended": {stopped, func(context.Context, guard.Signature) (bool, error) { return true, nil }, false, context.Canceled},
 	} {
-		decision, err := made.DecideContext(row.ctx, shown(1), row.verify)
+		decision, err := opened.DecideContext(row.ctx, questionWith(1), row.verify)
 		if decision.Granted() != row.granted || !errors.Is(err, row.wanted) {
 			t.Errorf("%s: %v, %v", name, decision, err)
 		}
 		if row.wanted == nil && !row.granted {
 			row.wanted = guard.ErrDenied
 		}
-		if entry, err := made.Require(row.ctx, shown(1), row.verify); (entry == 1) != row.granted || !errors.Is(err, row.wanted) {
+		if entry, err := opened.Require(row.ctx, questionWith(1), row.verify); (entry == 1) != row.granted || !errors.Is(err, row.wanted) {
 			t.Errorf("%s: %d, %v", name, entry, err)
 		}
 	}
 	ends, end := context.WithCancel(context.Background())
-	question, calls := shown(0), 0
+	question, calls := questionWith(0), 0
 	question.Sequence = []byte("(sequence " + own + own + pair + ")")
-	decision, err := made.DecideContext(ends, question, func(context.Context, guard.Signature) (bool, error) {
+	decision, err := opened.DecideContext(ends, question, func(context.Context, guard.Signature) (bool, error) {
 		calls++
 		end()
 		return true, nil
@@ -657,28 +659,28 @@ func byLongKey(t testing.TB, times, octets int) guard.Question {
 		t.Fatal(err)
 	}
 	signed := fmt.Sprintf("%s (signature (hash sha256 #%x#) %s sig)", certificate, sha256.Sum256(certificate), hash)
-	question := shown(0)
+	question := questionWith(0)
 	question.Sequence = []byte("(sequence " + key + strings.Repeat(signed, times) + ")")
 	return question
 }
 
 // TestSignaturesAreCopiedOneByOne bounds what is allocated: a signature is copied when it is its turn, and the key of many is one object.
 func TestSignaturesAreCopiedOneByOne(t *testing.T) {
-	made, err := guard.Open([]byte(list), guard.Strict, guard.Highest())
+	opened, err := guard.Open([]byte(list), guard.Strict, guard.Highest())
 	if err != nil {
 		t.Fatal(err)
 	}
-	defer made.Close()
+	defer opened.Close()
 	const times, octets = 200, 100_000
 	question := byLongKey(t, times, octets)
 	calls := 0
 	for name, decide := range map[string]func() error{
 		"all valid": func() error {
-			_, err := made.Explain(question, func(guard.Signature) bool { calls++; return true })
+			_, err := opened.Explain(question, func(guard.Signature) bool { calls++; return true })
 			return err
 		},
 		"all listed": func() error {
-			asked, err := made.Ask(question)
+			asked, err := opened.Ask(question)
 			if err != nil {
 				return err
 			}
@@ -707,7 +709,7 @@ func TestSignaturesAreCopiedOneByOne(t *testing.T) {
 // TestEachEndsWithItsQuestion closes a question while its first signature is looked at. Each stops there with ErrClosed, also if it is the last.
 func TestEachEndsWithItsQuestion(t *testing.T) {
 	for _, times := range []int{1, 3} {
-		asked, err := opened(t, list).Ask(shown(times))
+		asked, err := openGuard(t, list).Ask(questionWith(times))
 		if err != nil {
 			t.Fatal(err)
 		}
@@ -725,27 +727,27 @@ func TestEachEndsWithItsQuestion(t *testing.T) {
 
 // TestTooLarge limits the lines of an explanation to 5 octets. A decision needs no such room.
 func TestTooLarge(t *testing.T) {
-	made, err := guard.Open([]byte(list), guard.Strict, guard.Limits{Answer: 5})
+	opened, err := guard.Open([]byte(list), guard.Strict, guard.Limits{Answer: 5})
 	if err != nil {
 		t.Fatal(err)
 	}
-	defer made.Close()
-	if _, err := made.Explain(shown(1), valid); !errors.Is(err, guard.ErrTooLarge) {
+	defer opened.Close()
+	if _, err := opened.Explain(questionWith(1), valid); !errors.Is(err, guard.ErrTooLarge) {
 		t.Error(err)
 	}
-	if decision, err := made.Decide(shown(1), valid); err != nil || !decision.Granted() {
+	if decision, err := opened.Decide(questionWith(1), valid); err != nil || !decision.Granted() {
 		t.Errorf("%v, %v", decision, err)
 	}
 }
 
 // TestLongAnswersAreWhole explains and reduces a list of 500 entries.
 func TestLongAnswersAreWhole(t *testing.T) {
-	made := opened(t, "(acl "+strings.Repeat("(entry (public-key (test b)) (tag (*)))", 500)+")")
-	explanation, err := made.Explain(shown(0), valid)
-	if err != nil || made.Entries() != 500 || len(explanation.Reasons()) != 500 || explanation.Reasons()[499] != (guard.Reason{Entry: 500, Word: "grants"}) {
-		t.Errorf("%d, %v", made.Entries(), err)
+	opened := openGuard(t, "(acl "+strings.Repeat("(entry (public-key (test b)) (tag (*)))", 500)+")")
+	explanation, err := opened.Explain(questionWith(0), valid)
+	if err != nil || opened.Entries() != 500 || len(explanation.Reasons()) != 500 || explanation.Reasons()[499] != (guard.Reason{Entry: 500, Word: "grants"}) {
+		t.Errorf("%d, %v", opened.Entries(), err)
 	}
-	lines, err := made.Reduce(shown(0), valid)
+	lines, err := opened.Reduce(questionWith(0), valid)
 	if err != nil || !strings.HasSuffix(lines, "entry 500 (five (subject (public-key (test b))) (tag (*)))") {
 		t.Errorf("%.100q, %v", lines, err)
 	}
@@ -753,16 +755,16 @@ func TestLongAnswersAreWhole(t *testing.T) {
 
 // TestPanicOfVerifier shows that a panic of a verifier goes on to the caller, and that the guard can be asked afterwards.
 func TestPanicOfVerifier(t *testing.T) {
-	made := opened(t, list)
+	opened := openGuard(t, list)
 	func() {
 		defer func() {
 			if recover() == nil {
 				t.Error("the panic is gone")
 			}
 		}()
-		_, _ = made.Decide(shown(1), func(guard.Signature) bool { panic("no such key") })
+		_, _ = opened.Decide(questionWith(1), func(guard.Signature) bool { panic("no such key") })
 	}()
-	if decision, err := made.Decide(shown(1), valid); err != nil || !decision.Granted() {
+	if decision, err := opened.Decide(questionWith(1), valid); err != nil || !decision.Granted() {
 		t.Errorf("%v, %v", decision, err)
 	}
 }
@@ -806,6 +808,7 @@ func TestForms(t *testing.T) {
 	}
 }
 
+// Example opens a guard and decides a request of a client that shows no certificates.
 func Example() {
 	list, err := guard.Open([]byte("(acl (entry (public-key (test bob)) (tag (packages read (* prefix /manuals/)))))"), guard.Strict, guard.Limits{})
 	if err != nil {
@@ -823,10 +826,11 @@ func Example() {
 	// Output: yes entry 1 <nil>
 }
 
+// BenchmarkDecide times a decision with one certificate, without verifying its signature.
 func BenchmarkDecide(b *testing.B) {
-	made := opened(b, list)
+	opened := openGuard(b, list)
 	for turn := 0; turn < b.N; turn++ {
-		if decision, err := made.Decide(shown(1), valid); err != nil || !decision.Granted() {
+		if decision, err := opened.Decide(questionWith(1), valid); err != nil || !decision.Granted() {
 			b.Fatal(decision, err)
 		}
 	}

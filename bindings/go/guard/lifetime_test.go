@@ -12,18 +12,18 @@ import (
 // TestClose closes a guard before its question, and both twice. The question stays open after its guard. Every call after its own Close is
 // ErrClosed.
 func TestClose(t *testing.T) {
-	made := opened(t, list)
-	asked := marked(t, made, shown(1))
+	opened := openGuard(t, list)
+	asked := askMarked(t, opened, questionWith(1))
 	for turn := 0; turn < 2; turn++ {
-		made.Close()
+		opened.Close()
 	}
-	if err := asked.Mark(0); err != nil || !granted(t, asked) {
+	if err := asked.Mark(0); err != nil || !isGranted(t, asked) {
 		t.Errorf("a question ends with its guard: %v", err)
 	}
 	for turn := 0; turn < 2; turn++ {
 		asked.Close()
 	}
-	if _, err := made.Ask(shown(1)); !errors.Is(err, guard.ErrClosed) || made.Entries() != 0 {
+	if _, err := opened.Ask(questionWith(1)); !errors.Is(err, guard.ErrClosed) || opened.Entries() != 0 {
 		t.Error(err)
 	}
 	if decision, err := asked.Decide(); !errors.Is(err, guard.ErrClosed) || decision.Granted() || asked.Possible() {
@@ -37,7 +37,7 @@ func TestClose(t *testing.T) {
 
 // TestCloseOfNoSignatures closes a question that lists no signature. Before, an empty list is no error. After, each call is ErrClosed.
 func TestCloseOfNoSignatures(t *testing.T) {
-	asked := marked(t, opened(t, list), shown(0))
+	asked := askMarked(t, openGuard(t, list), questionWith(0))
 	if listed := asked.Signatures(); listed == nil || len(listed) != 0 || asked.Verify(valid) != nil {
 		t.Errorf("%v", listed)
 	}
@@ -64,33 +64,33 @@ func expectUnlisted(t *testing.T, asked *guard.Asked) {
 // in each of 20 turns, since finalizers run later. Closing one copy closes all of them, and each may be closed again.
 func TestCopies(t *testing.T) {
 	copies := func() (guard.Guard, guard.Asked) {
-		made, err := guard.Open([]byte(list), guard.Strict, guard.Limits{})
+		opened, err := guard.Open([]byte(list), guard.Strict, guard.Limits{})
 		if err != nil {
 			t.Fatal(err)
 		}
-		asked, err := made.Ask(shown(1))
+		asked, err := opened.Ask(questionWith(1))
 		if err == nil {
 			err = asked.Mark(0)
 		}
 		if err != nil {
 			t.Fatal(err)
 		}
-		return *made, *asked
+		return *opened, *asked
 	}
 	for turn := 0; turn < 20; turn++ {
-		made, asked := copies()
+		opened, asked := copies()
 		runtime.GC()
 		runtime.GC()
-		if decision, err := made.Decide(shown(1), valid); err != nil || !decision.Granted() {
+		if decision, err := opened.Decide(questionWith(1), valid); err != nil || !decision.Granted() {
 			t.Fatal(decision, err)
 		}
-		if !granted(t, &asked) {
+		if !isGranted(t, &asked) {
 			t.Fatal("a mark is lost")
 		}
-		other, same := made, asked
+		other, same := opened, asked
 		other.Close()
 		same.Close()
-		if _, err := made.Ask(shown(1)); !errors.Is(err, guard.ErrClosed) {
+		if _, err := opened.Ask(questionWith(1)); !errors.Is(err, guard.ErrClosed) {
 			t.Error(err)
 		}
 		if decision, err := asked.Decide(); !errors.Is(err, guard.ErrClosed) || decision.Granted() {
@@ -103,11 +103,11 @@ func TestCopies(t *testing.T) {
 
 // TestZerosAreClosed calls methods of the zero Guard and the zero Asked. They behave as closed ones.
 func TestZerosAreClosed(t *testing.T) {
-	var made guard.Guard
+	var opened guard.Guard
 	var asked guard.Asked
-	made.Close()
+	opened.Close()
 	asked.Close()
-	if decision, err := made.Decide(shown(1), valid); !errors.Is(err, guard.ErrClosed) || decision.Granted() || made.Entries() != 0 {
+	if decision, err := opened.Decide(questionWith(1), valid); !errors.Is(err, guard.ErrClosed) || decision.Granted() || opened.Entries() != 0 {
 		t.Errorf("%v, %v", decision, err)
 	}
 	if decision, err := asked.Decide(); !errors.Is(err, guard.ErrClosed) || decision.Granted() || asked.Count() != 0 {
@@ -118,15 +118,15 @@ func TestZerosAreClosed(t *testing.T) {
 
 // TestGoroutines uses one guard and one question in eight goroutines.
 func TestGoroutines(t *testing.T) {
-	made := opened(t, list)
-	asked := marked(t, made, shown(1))
+	opened := openGuard(t, list)
+	asked := askMarked(t, opened, questionWith(1))
 	var all sync.WaitGroup
 	for routine := 0; routine < 8; routine++ {
 		all.Add(1)
 		go func(isValid bool) {
 			defer all.Done()
 			for turn := 0; turn < 200; turn++ {
-				decision, err := made.Decide(shown(1), func(guard.Signature) bool { return isValid })
+				decision, err := opened.Decide(questionWith(1), func(guard.Signature) bool { return isValid })
 				if err != nil || decision.Granted() != isValid {
 					t.Errorf("%v, %v", decision, err)
 				}
@@ -145,14 +145,14 @@ func TestGoroutines(t *testing.T) {
 // TestCloseBesideQuestions closes a guard while four goroutines ask it. Each call is answered as before, or is ErrClosed.
 func TestCloseBesideQuestions(t *testing.T) {
 	for turn := 0; turn < 50; turn++ {
-		made := opened(t, list)
+		opened := openGuard(t, list)
 		var all sync.WaitGroup
 		for routine := 0; routine < 4; routine++ {
 			all.Add(1)
 			go func() {
 				defer all.Done()
 				for {
-					decision, err := made.Decide(shown(1), valid)
+					decision, err := opened.Decide(questionWith(1), valid)
 					if errors.Is(err, guard.ErrClosed) {
 						return
 					}
@@ -164,7 +164,7 @@ func TestCloseBesideQuestions(t *testing.T) {
 			}()
 		}
 		runtime.Gosched()
-		made.Close()
+		opened.Close()
 		all.Wait()
 	}
 }
@@ -172,18 +172,18 @@ func TestCloseBesideQuestions(t *testing.T) {
 // TestNobodyCloses leaves guards and questions to Go's collector. What is still used is not freed.
 func TestNobodyCloses(t *testing.T) {
 	for turn := 0; turn < 200; turn++ {
-		made, err := guard.Open([]byte(list), guard.Strict, guard.Limits{})
+		opened, err := guard.Open([]byte(list), guard.Strict, guard.Limits{})
 		if err != nil {
 			t.Fatal(err)
 		}
-		asked, err := made.Ask(shown(1))
+		asked, err := opened.Ask(questionWith(1))
 		if err != nil {
 			t.Fatal(err)
 		}
 		if turn%20 == 0 {
 			runtime.GC()
 		}
-		if err := asked.Mark(0); err != nil || !granted(t, asked) {
+		if err := asked.Mark(0); err != nil || !isGranted(t, asked) {
 			t.Fatal(err)
 		}
 	}

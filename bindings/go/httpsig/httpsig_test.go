@@ -53,7 +53,8 @@ func rowsOf(t testing.TB) (rows []row) {
 	return rows
 }
 
-// set sets the part of the row that a line gives. `word` is the first word of the line, and `text` is what follows it.
+// set sets the part of the row that a line gives. `word` is the first word of the line, and `text` is what follows it, without escapes. A line of
+// another kind, such as an empty one, is ignored.
 func (r *row) set(word, text string) {
 	switch word {
 	case "on":
@@ -461,6 +462,7 @@ func FuzzSigned(f *testing.F) {
 	})
 }
 
+// BenchmarkVerify times Check, with each kind of key.
 func BenchmarkVerify(b *testing.B) {
 	for name, signer := range signers(b) {
 		b.Run(name, func(b *testing.B) {

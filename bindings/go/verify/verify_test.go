@@ -48,6 +48,7 @@ func bySpkiCert(t testing.TB) []signed {
 	return rows
 }
 
+// TestCertificatesOfSpkiCert verifies the signature of each row.
 func TestCertificatesOfSpkiCert(t *testing.T) {
 	for _, row := range bySpkiCert(t) {
 		if !row.verifies() {
@@ -130,7 +131,7 @@ func TestKeysGoThereAndBack(t *testing.T) {
 	}
 }
 
-// rsaText writes a key of RSA with these octets as its numbers, whether they are allowed or not.
+// rsaText returns the text of a key of RSA with these octets as its numbers, whether they are allowed or not.
 func rsaText(modulus, exponent []byte) []byte {
 	return canonicalText(beforeModulus, modulus, beforeE, exponent, afterKey)
 }
