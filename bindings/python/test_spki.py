@@ -49,7 +49,7 @@ HIGHEST = spki.Limits.highest()
 
 
 def asked(sequence=SHOWN, key=KEY, words=WORDS, moment=NOW, text=None):
-    """A question, by default one that LIST grants. A `text` replaces the words."""
+    """A question, by default one that LIST grants if the signature of PAIR is valid. A `text` of the request replaces the words."""
     return spki.Question(sequence, spki.ProvenKey.assume(key), words=words if text is None else None, text=text, moment=moment)
 
 
@@ -63,7 +63,7 @@ def wrong(signature):
     return False
 
 
-class False1(bytes):
+class OfFalseLength(bytes):
     """Octets that say another length than they have."""
 
     def __len__(self):
@@ -150,7 +150,7 @@ class Opened(unittest.TestCase):
             self.assertEqual(SIGNED.octets, b"sig")
             self.assertEqual(len(opened), 1)
         with self.guard.ask(asked(SHOWN.replace(b" sig)", b" (sig-val x))"))) as opened:
-            self.assertEqual([it.octets for it in opened.signatures()], [None])
+            self.assertEqual([signature.octets for signature in opened.signatures()], [None])
 
     def test_marks(self):
         with self.guard.ask(asked()) as opened:
@@ -287,7 +287,7 @@ class Opened(unittest.TestCase):
     def test_equal_keys_are_one_object(self):
         opened, kept = spki.Guard(LIST, limits=HIGHEST).ask(asked(b"(sequence " + PAIR * 40 + b")")), []
         for listed in (opened.signatures(), list(opened)):
-            self.assertEqual(({id(it.key) for it in listed}, len(listed)), ({id(listed[0].key)}, 40))
+            self.assertEqual(({id(signature.key) for signature in listed}, len(listed)), ({id(listed[0].key)}, 40))
         opened.verify(lambda it: kept.append(it.key) is None)
         self.assertEqual(({id(key) for key in kept}, len(kept)), ({id(kept[0])}, 40))
 
@@ -340,8 +340,8 @@ class Copies(unittest.TestCase):
     def test_a_question_is_copied(self):
         for question in (asked(), asked(text=b"(ftp host)", moment=b'"2024-01-01_00:00:00"'), asked(words=[]), asked(moment=BEFORE)):
             again = eval(repr(question), {**vars(spki), "datetime": datetime_module})
-            for made in (copy.copy(question), copy.deepcopy(question), pickle.loads(pickle.dumps(question)), again):
-                self.assertEqual((made, hash(made), repr(made)), (question, hash(question), repr(question)))
+            for copied in (copy.copy(question), copy.deepcopy(question), pickle.loads(pickle.dumps(question)), again):
+                self.assertEqual((copied, hash(copied), repr(copied)), (question, hash(question), repr(question)))
             self.assertNotEqual(question, asked(key=b"(public-key (test c))"))
         self.assertTrue(self.guard.decide(copy.deepcopy(asked()), right))
         self.assertEqual(len({asked(), asked(words=list(WORDS)), asked(moment=NOW + timedelta(seconds=1))}), 2)
@@ -349,10 +349,10 @@ class Copies(unittest.TestCase):
 
     # The `repr` of a guard and of an opened question, open and closed.
     def test_names(self):
-        met = [repr(self.guard), repr(self.opened)]
+        names = [repr(self.guard), repr(self.opened)]
         self.guard.close()
         self.opened.close()
-        self.assertEqual(met + [repr(self.guard), repr(self.opened)], [
+        self.assertEqual(names + [repr(self.guard), repr(self.opened)], [
             "<spki.Guard of 1 entries, STRICT>", "<spki.Asked of 1 signatures>", "<spki.Guard of 1 entries, STRICT, closed>",
             "<spki.Asked of 1 signatures, closed>"])
 
@@ -408,8 +408,8 @@ class Keys(unittest.TestCase):
                 call()
         with self.assertRaises(AttributeError):
             key._text = b"(public-key (test a))"
-        for made in (copy.copy(key), copy.deepcopy(key), pickle.loads(pickle.dumps(key)), eval(repr(key), vars(spki))):
-            self.assertEqual((made, hash(made), asked().key), (key, hash(key), key))
+        for copied in (copy.copy(key), copy.deepcopy(key), pickle.loads(pickle.dumps(key)), eval(repr(key), vars(spki))):
+            self.assertEqual((copied, hash(copied), asked().key), (key, hash(key), key))
         self.assertNotEqual(key, KEY)
 
     # The three parts of a `Signature` are given by name, so that none is taken for another.
@@ -426,8 +426,10 @@ class Keys(unittest.TestCase):
 
 
 class Parts(unittest.TestCase):
-    """A string with spaces, parentheses or a length in it stays one string of the request."""
+    """The parts of a question."""
+
     def test_strings_are_strings(self):
+        """A string with spaces, parentheses or a length in it stays one string of the request."""
         guard = spki.Guard(b"(acl (entry (public-key (test b)) (tag (cache (* prefix /cache/team1/) read))))")
         for words, is_granted in [((b"cache", b"/cache/team1/a.o", b"read"), True), ((b"cache", b"/cache/team1/a.o read", b"write"), False),
                                   ((b"cache", b"/cache/team1/a.o 4:read", b"write"), False), ((b"cache", b"/cache/team1/\0)", b"read"), True),
@@ -463,9 +465,9 @@ class Parts(unittest.TestCase):
         self.assertTrue(guard.decide(asked(b"(sequence)", moment=EPOCH), right))
         for moment in (BEFORE, datetime.min.replace(tzinfo=timezone.utc), EPOCH.astimezone(timezone(timedelta(hours=9))) - timedelta(seconds=1)):
             for ask in (guard.decide, guard.explain, guard.reduce):
-                with self.assertRaises(spki.Refused, msg=moment) as met:
+                with self.assertRaises(spki.Refused, msg=moment) as raised:
                     ask(asked(b"(sequence)", moment=moment), right)
-                self.assertEqual(met.exception.line, "refused at BadDate")
+                self.assertEqual(raised.exception.line, "refused at BadDate")
 
     def test_refusals(self):
         guard = spki.Guard(LIST)
@@ -477,10 +479,10 @@ class Parts(unittest.TestCase):
             (asked(moment=BEFORE), "refused at BadDate", "BadDate"), (asked(moment=b"now"), "refused at BadDate", "BadDate"),
         ]:
             for ask in (guard.decide, guard.explain, guard.reduce):
-                with self.assertRaises(spki.Refused, msg=line) as met:
+                with self.assertRaises(spki.Refused, msg=line) as raised:
                     ask(question, right)
-                self.assertEqual((met.exception.line, str(met.exception), met.exception.fault), (line, line, fault))
-                self.assertEqual(met.exception.part, line.split()[1])
+                self.assertEqual((raised.exception.line, str(raised.exception), raised.exception.fault), (line, line, fault))
+                self.assertEqual(raised.exception.part, line.split()[1])
 
     def test_other_types_are_no_parts(self):
         for given in ({"sequence": "(sequence)"}, {"key": bytearray(KEY)}, {"words": "ftp"}, {"words": b"ftp"}, {"words": ("ftp",)}, {"words": 7},
@@ -514,24 +516,29 @@ class Parts(unittest.TestCase):
 
     def test_lengths_are_those_of_the_octets(self):
         """A subclass of bytes may say another length than it has. Nothing beyond its octets is read."""
-        guard = spki.Guard(False1(LIST))
-        self.assertTrue(guard.decide(asked(False1(SHOWN), False1(KEY), [False1(it) for it in WORDS]), right))
-        self.assertTrue(guard.decide(asked(text=False1(b"(ftp)"), moment=False1(b'"2024-01-01_00:00:00"')), right))
-        self.assertEqual(spki.canonical(False1(b"(a)")), b"(1:a)")
-        self.assertEqual(spki.string_at(False1(b"3:abc")), b"abc")
+        guard = spki.Guard(OfFalseLength(LIST))
+        self.assertTrue(guard.decide(asked(OfFalseLength(SHOWN), OfFalseLength(KEY), [OfFalseLength(it) for it in WORDS]), right))
+        self.assertTrue(guard.decide(asked(text=OfFalseLength(b"(ftp)"), moment=OfFalseLength(b'"2024-01-01_00:00:00"')), right))
+        self.assertEqual(spki.canonical(OfFalseLength(b"(a)")), b"(1:a)")
+        self.assertEqual(spki.string_at(OfFalseLength(b"3:abc")), b"abc")
 
     def test_long_forms(self):
-        """Nothing becomes longer than an octet that is printed in base64: 7 octets for 3."""
+        """Nothing becomes longer than an octet that is printed in base64: 7 octets for 3. A text that is too long takes no room by its
+        length."""
         self.assertEqual(len(spki.advanced(b"(" + b"1:\0" * 1000 + b")")), 7002)
+        with mock.patch.object(spki, "_AnswerMemory", side_effect=spki._AnswerMemory) as memory, self.assertRaises(spki.Refused) as raised:
+            spki.canonical(b" " * (1 << 24))
+        self.assertEqual(raised.exception.fault, "TooLong")
+        self.assertLess(memory.call_args.args[0], 1 << 22)
 
 
 class Guards(unittest.TestCase):
     def test_lists(self):
         self.assertEqual(spki.Guard(b"(acl)").entries, 0)
         self.assertEqual(spki.Guard(b"{KDM6YWNsKQ==}").entries, 0)
-        with self.assertRaises(spki.Refused) as met:
+        with self.assertRaises(spki.Refused) as raised:
             spki.Guard(b"(acl (entry))")
-        self.assertEqual(met.exception.line, "refused acl 1 Shape")
+        self.assertEqual(raised.exception.line, "refused acl 1 Shape")
 
     def test_long_answers(self):
         guard = spki.Guard(b"(acl " + LIST[5:-1] * 500 + b")")
@@ -567,17 +574,17 @@ class Guards(unittest.TestCase):
                 (asked(), spki.Limits(octets=64), "refused question TooLong"),
                 (asked(b"(sequence " + PAIR * 17 + b")"), spki.Limits(), "refused question TooManyCertificates"),
                 (asked(words=65 * [b"w"]), spki.Limits(), "refused question TooManyWords")]:
-            with self.assertRaises(spki.Refused) as met:
+            with self.assertRaises(spki.Refused) as raised:
                 spki.Guard(LIST, limits=limits).decide(question, right)
-            self.assertEqual(met.exception.line, line)
+            self.assertEqual(raised.exception.line, line)
         self.assertTrue(spki.Guard(LIST, limits=spki.Limits(octets=0, certificates=0, work=7)).decide(asked(), right))
         for limits in (spki.Limits(nodes=1), spki.Limits(work=1), spki.Limits(answer=5)):
             # (by a tag of three nodes)
             guard = spki.Guard(LIST.replace(b"(*)", b"(ftp host)"), limits=limits)
             self.assertTrue(guard.decide(asked(), right))
-            with self.assertRaises(spki.Refused) as met:
+            with self.assertRaises(spki.Refused) as raised:
                 guard.explain(asked(), right)
-            self.assertEqual((met.exception.line, met.exception.part), ("refused TooLarge", None))
+            self.assertEqual((raised.exception.line, raised.exception.part), ("refused TooLarge", None))
 
     def test_closing(self):
         with spki.Guard(LIST) as guard:
@@ -666,9 +673,9 @@ class Texts(unittest.TestCase):
         self.assertEqual(spki.canonical(b"(a #00#)"), b"(1:a1:\0)")
         self.assertEqual(spki.advanced(b"(1:a1:b)"), b"(a b)\n")
         self.assertEqual(spki.transport(b"(a)"), b"{KDE6YSk=}\n")
-        with self.assertRaises(spki.Refused) as met:
+        with self.assertRaises(spki.Refused) as raised:
             spki.canonical(b"(a ~)")
-        self.assertEqual(met.exception.line, "refused form Bad 3")
+        self.assertEqual(raised.exception.line, "refused form Bad 3")
 
     def test_strings(self):
         key = spki.canonical(b"(public-key (rsa-pkcs1-sha256 (e #010001#) (n #c000ff#)))")
@@ -682,14 +689,14 @@ class Texts(unittest.TestCase):
 
     def test_signature_without_memory(self):
         opened = spki.Guard(LIST).ask(asked())
-        with mock.patch.object(_library, "signature", return_value=_library.NO_MEMORY), self.assertRaises(spki.Refused) as met:
+        with mock.patch.object(_library, "signature", return_value=_library.NO_MEMORY), self.assertRaises(spki.Refused) as raised:
             opened.signatures()
-        self.assertEqual(met.exception.fault, "Memory")
+        self.assertEqual(raised.exception.fault, "Memory")
 
     def test_string_without_memory(self):
-        with mock.patch.object(spki.library, "spki_string", return_value=_library.NO_MEMORY), self.assertRaises(spki.Refused) as met:
+        with mock.patch.object(spki.library, "spki_string", return_value=_library.NO_MEMORY), self.assertRaises(spki.Refused) as raised:
             spki.string_at(b"3:abc")
-        self.assertEqual(met.exception.fault, "Memory")
+        self.assertEqual(raised.exception.fault, "Memory")
 
     # The library is replaced by calls that return a status which they do not have.
     def test_an_unknown_status_is_no_answer(self):
@@ -729,9 +736,9 @@ class Libraries(unittest.TestCase):
                 if is_used:
                     self.assertIsInstance(_library.load(path), ctypes.CDLL)
                     continue
-                with self.assertRaises(ImportError) as met:
+                with self.assertRaises(ImportError) as raised:
                     _library.load(path)
-                self.assertIn(f"has version {version}, and this module needs 0.2", str(met.exception))
+                self.assertIn(f"has version {version}, and this module needs 0.2", str(raised.exception))
         # (the library of mathematics says no version, like this one before it had versions)
         with self.assertRaises(ImportError):
             _library.load(ctypes.util.find_library("m"))
@@ -756,10 +763,10 @@ class Builds(unittest.TestCase):
                 os.utime(file.name, (seconds, seconds))
             for name, wanted in (("new", ["new"]), ("old", ["old"]), ("none", []), ("absent", [])):
                 named = name if name == "none" else os.path.join(room, name)
-                words = [sys.executable, "setup.py", "-q", "build_py", "--build-lib", "made"]
+                words = [sys.executable, "setup.py", "-q", "build_py", "--build-lib", "library"]
                 done = subprocess.run(words, cwd=folder, env={**os.environ, "SPKI_LIBRARY": named}, capture_output=True, text=True)
                 self.assertEqual(done.returncode == 0, name != "absent", done.stderr)
-                libraries = Path(folder, "made", "spki").glob("*.so")
+                libraries = Path(folder, "library", "spki").glob("*.so")
                 self.assertEqual([path.read_text("ascii") for path in libraries], wanted, name)
 
 

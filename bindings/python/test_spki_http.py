@@ -56,7 +56,7 @@ RESPONSE = """"@status": 200
 
 def unescaped(text: str) -> str:
     r"""A text of a row without its escapes, such as `\n` and `\xff`."""
-    return ESCAPE.sub(lambda found: chr(int(found[1], 16)) if found[1] else {"t": "\t", "n": "\n", "r": "\r", "\\": "\\"}[found[2]], text)
+    return ESCAPE.sub(lambda match: chr(int(match[1], 16)) if match[1] else {"t": "\t", "n": "\n", "r": "\r", "\\": "\\"}[match[2]], text)
 
 
 def rows() -> Iterator[tuple[str, spki_http.Message, int, int | None, str]]:
@@ -65,12 +65,12 @@ def rows() -> Iterator[tuple[str, spki_http.Message, int, int | None, str]]:
         blocks = [block.splitlines() for block in file.read().split("\n\n") if block.startswith("row ")]
     for lines in blocks:
         words = [(word, unescaped(rest)) for word, _, rest in (line.partition(" ") for line in lines)]
-        said = dict(words)
-        method, target, authority, now = said["on"].split("|")
+        parts = dict(words)
+        method, target, authority, now = parts["on"].split("|")
         fields = [(name, value) for word, text in words if word == "field" for name, _, value in [text.partition(": ")]]
-        body = said["body"].encode("latin-1") if "body" in said else None
-        again = int(said["again"]) if "again" in said else None
-        yield lines[0][4:], spki_http.Message(method, authority, target, fields, body), int(now), again, said["gives"]
+        body = parts["body"].encode("latin-1") if "body" in parts else None
+        again = int(parts["again"]) if "again" in parts else None
+        yield lines[0][4:], spki_http.Message(method, authority, target, fields, body), int(now), again, parts["gives"]
 
 
 def verifier_at(clock: list[int]) -> spki_http.Verifier:
@@ -92,32 +92,32 @@ def string(octets: bytes) -> bytes:
     return b"%d:%s" % (len(octets), octets)
 
 
-# A signer by a key of Ed25519, which sends the certificates CHAIN.
 def ed25519_signer(private: Ed25519PrivateKey) -> spki_http.Signer:
+    """A signer by a key of Ed25519, which sends the certificates CHAIN."""
     def sign(message: bytes) -> bytes:
-        made = private.sign(message)
-        return b"(7:sig-val(5:eddsa(1:r%s)(1:s%s)))" % (string(made[:32]), string(made[32:]))
+        signature = private.sign(message)
+        return b"(7:sig-val(5:eddsa(1:r%s)(1:s%s)))" % (string(signature[:32]), string(signature[32:]))
     public = private.public_key().public_bytes(Encoding.Raw, PublicFormat.Raw)
     return spki_http.Signer(b"(10:public-key(3:ecc(5:curve7:Ed25519)(5:flags5:eddsa)(1:q%s)))" % string(public), sign, CHAIN)
 
 
-# A signer by a new key of P-256, which sends no certificates.
 def curve_signer() -> spki_http.Signer:
+    """A signer by a new key of P-256, which sends no certificates."""
     private = ec.generate_private_key(ec.SECP256R1())
 
     def sign(message: bytes) -> bytes:
         numbers = decode_dss_signature(private.sign(message, ec.ECDSA(SHA256())))
-        return b"(7:sig-val(5:ecdsa(1:r%s)(1:s%s)))" % tuple(string(it.to_bytes(32, "big")) for it in numbers)
+        return b"(7:sig-val(5:ecdsa(1:r%s)(1:s%s)))" % tuple(string(number.to_bytes(32, "big")) for number in numbers)
     public = private.public_key().public_bytes(Encoding.X962, PublicFormat.UncompressedPoint)
     return spki_http.Signer(b"(10:public-key(3:ecc(5:curve10:NIST P-256)(1:q%s)))" % string(public), sign)
 
 
 class Handler(http.server.BaseHTTPRequestHandler):
-    """A service that answers the key of a request, or why it proves none."""
+    """A service that answers the key of a request, or 401 and why it proves none. The test sets `verifier`."""
 
     verifier: spki_http.Verifier
 
-    def answer_it(self) -> None:
+    def respond(self) -> None:
         """Answers a request."""
         body = self.rfile.read(int(self.headers.get("Content-Length", 0)))
         try:
@@ -130,10 +130,10 @@ class Handler(http.server.BaseHTTPRequestHandler):
         self.end_headers()
         self.wfile.write(proof.key)
 
-    do_GET = do_PUT = do_DELETE = answer_it
+    do_GET = do_PUT = do_DELETE = respond
 
     def log_message(self, *words: Any) -> None:
-        pass
+        """Writes no log."""
 
 
 class Requests(unittest.TestCase):
@@ -141,9 +141,9 @@ class Requests(unittest.TestCase):
 
     # With `again` the same request came so many seconds before, and was valid then.
     def test_rows(self) -> None:
-        read = [*rows()]
-        self.assertGreater(len(read), 200)
-        for name, message, now, again, gives in read:
+        table = [*rows()]
+        self.assertGreater(len(table), 200)
+        for name, message, now, again, gives in table:
             with self.subTest(name):
                 clock = [now - (again or 0)]
                 verifier = verifier_at(clock)
@@ -199,12 +199,12 @@ class Requests(unittest.TestCase):
             ("a", 1360, "nonce-seen"), ("b", 1459, "nonce-seen"), ("d", 900, ""), ("c", 1719, "nonce-seen"), ("a", 1720, ""),
             ("c", 1720, "nonce-seen"), ("c", 3000, ""), ("a", 3000, ""),
         ):
-            met = ""
+            refusal = ""
             try:
                 store.take(b"key", nonce, now, 360)
             except spki_http.Refused as why:
-                met = why.name
-            self.assertEqual(met, wanted, (nonce, now))
+                refusal = why.name
+            self.assertEqual(refusal, wanted, (nonce, now))
 
 
 class Clients(unittest.TestCase):
@@ -244,8 +244,8 @@ class Clients(unittest.TestCase):
         """The signature covers a field that the caller names, once. A name that the request has no field of is refused, also if it is one that the
         profile asks for where it is present."""
         signer, given = curve_signer(), [("X-Job", "7")]
-        made = signer.fields("PUT", "https://files.example.org/a", b"x", given, ["x-job", "x-job", "content-digest", "x-spki-public-key"])
-        covered = made["Signature-Input"].partition(")")[0]
+        fields = signer.fields("PUT", "https://files.example.org/a", b"x", given, ["x-job", "x-job", "content-digest", "x-spki-public-key"])
+        covered = fields["Signature-Input"].partition(")")[0]
         self.assertEqual([covered.count(f'"{name}"') for name in ("x-job", "content-digest", "x-spki-public-key")], [1, 1, 1])
         for absent in "x-jobs", "X-Job", "content-digest":
             with self.assertRaisesRegex(ValueError, absent):
@@ -270,10 +270,10 @@ class Clients(unittest.TestCase):
         for signer in self.signers:
             with urllib.request.build_opener(urllib.request.ProxyHandler({}), spki_http.Handler(signer, self.name)).open(again) as response:
                 self.assertEqual(response.read(), signer.key)
-        with self.assertRaises(urllib.error.HTTPError) as met:
+        with self.assertRaises(urllib.error.HTTPError) as raised:
             urllib.request.build_opener(urllib.request.ProxyHandler({}), spki_http.Handler(self.signers[0], "example.com")).open(self.url)
-        self.assertEqual((met.exception.code, met.exception.reason), (401, "absent"))
-        met.exception.close()
+        self.assertEqual((raised.exception.code, raised.exception.reason), (401, "absent"))
+        raised.exception.close()
 
     def test_requests(self) -> None:
         """`Auth` signs a request like that of `requests`, which has `body`, and one like that of `httpx`, which has `content`."""
