@@ -266,6 +266,29 @@ func TestCovered(t *testing.T) {
 	}
 }
 
+// A replacedKey signs by a private key that is not that of its public key.
+type replacedKey struct {
+	crypto.Signer
+	public crypto.PublicKey
+}
+
+// Public returns the public key of another private key.
+func (r replacedKey) Public() crypto.PublicKey { return r.public }
+
+// TestKeyOfAnotherCurve signs by a private key of P-384 whose public key is of P-256, which is an error and no panic.
+func TestKeyOfAnotherCurve(t *testing.T) {
+	curve, _ := ecdsa.GenerateKey(elliptic.P256(), rand.Reader)
+	longer, _ := ecdsa.GenerateKey(elliptic.P384(), rand.Reader)
+	signer, err := NewSigner(replacedKey{longer, curve.Public()})
+	if err != nil {
+		t.Fatal(err)
+	}
+	message := Message{Method: "GET", Authority: "example.com", Target: "/foo", Header: http.Header{}}
+	if err := signer.Sign("https", message); err == nil || message.Header.Get("Signature") != "" {
+		t.Errorf("%v, %q", err, message.Header)
+	}
+}
+
 // TestMethodsAreTokens signs and verifies requests with other methods. U+212A is a K that has the ASCII letter k as its small letter.
 func TestMethodsAreTokens(t *testing.T) {
 	signer, verifier := signers(t)[Ed25519], NewVerifier("example.com")

@@ -8,6 +8,7 @@ import (
 	"crypto/rsa"
 	"encoding/asn1"
 	"encoding/base64"
+	"errors"
 	"fmt"
 	"math/big"
 	"net/http"
@@ -131,10 +132,15 @@ func (s *Signer) signText(text []byte) ([]byte, error) {
 	if _, err := asn1.Unmarshal(octets, &pair); err != nil {
 		return nil, err
 	}
-	halves := make([]byte, signatureOctets[s.algorithm])
-	pair.R.FillBytes(halves[:len(halves)/2])
-	pair.S.FillBytes(halves[len(halves)/2:])
-	return halves, nil
+	half := signatureOctets[s.algorithm] / 2
+	if len(pair.R.Bytes()) > half || len(pair.S.Bytes()) > half {
+		// (as by a service that keeps keys, once it has another one: FillBytes would panic)
+		return nil, errors.New("the private key is of another curve than its public key")
+	}
+	octets = make([]byte, 2*half)
+	pair.R.FillBytes(octets[:half])
+	pair.S.FillBytes(octets[half:])
+	return octets, nil
 }
 
 // The compiler tests by these lines that the keys that NewSigner names are crypto.Signers.
