@@ -260,6 +260,12 @@ class Opened(unittest.TestCase):
         opened.mark(0)
         self.assertEqual((self.guard.require(asked(), right), opened.require()), (1, 1))
 
+    def test_exceptions_are_copied(self):
+        """A process may send them to another one."""
+        for exception in (spki.Denied(), spki.Refused("refused Memory"), spki.NotProved("no proof")):
+            for copied in (copy.copy(exception), pickle.loads(pickle.dumps(exception))):
+                self.assertEqual((type(copied), str(copied), vars(copied)), (type(exception), str(exception), vars(exception)))
+
     def test_a_grant_says_until_when_it_holds(self):
         """A grant holds till the least window ends, and no second longer."""
         last, second = datetime(2026, 6, 30, 23, 59, 59, tzinfo=timezone.utc), timedelta(seconds=1)

@@ -5,9 +5,11 @@
 from __future__ import annotations
 
 import base64
+import copy
 import dataclasses
 import http.server
 import os
+import pickle
 import re
 import threading
 import unittest
@@ -183,6 +185,12 @@ class Requests(unittest.TestCase):
             with warnings.catch_warnings(), self.assertRaises(TypeError):
                 warnings.simplefilter("ignore")
                 verifier.check(message)
+
+    def test_a_refusal_is_copied(self) -> None:
+        """A process may send it to another one."""
+        refused = spki_http.Refused("absent")
+        for copied in (copy.copy(refused), pickle.loads(pickle.dumps(refused))):
+            self.assertEqual((copied.name, str(copied)), ("absent", "the request proves no key: absent"))
 
     def test_no_host(self) -> None:
         """A request without Host, for which `http.server` has None, is to no name of the service."""

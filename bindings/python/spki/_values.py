@@ -287,8 +287,9 @@ class Grant:
 class Denied(Exception):
     """No entry grants the request."""
 
-    def __init__(self) -> None:
-        super().__init__("no entry grants the request")
+    # (no `__init__` passes this text on: an exception is copied and pickled by the arguments of its call, of which there are none)
+    def __str__(self) -> str:
+        return "no entry grants the request"
 
 
 class Reason(NamedTuple):

@@ -43,8 +43,12 @@ class Refused(Exception):
     """Why a request proves no key. `name` is one of docs/SIGNATURES.md, "Refusals"."""
 
     def __init__(self, name: str) -> None:
-        super().__init__(f"the request proves no key: {name}")
+        # (an exception is copied and pickled by the arguments of this call)
+        super().__init__(name)
         self.name = name
+
+    def __str__(self) -> str:
+        return f"the request proves no key: {self.name}"
 
 
 @dataclass(frozen=True)
