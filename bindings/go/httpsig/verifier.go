@@ -165,8 +165,8 @@ func signerOf(header http.Header, input *input) (key []byte, octets int, err err
 // sequenceOf returns the certificates that a request shows, or a sequence of none. It is called after checkMessage, which refuses a request whose
 // field of certificates is not covered or has two lines.
 func (v *Verifier) sequenceOf(header http.Header) []byte {
-	if shown := header.Get(v.Sequence); shown != "" {
-		return []byte(shown)
+	if sequence := header.Get(v.Sequence); sequence != "" {
+		return []byte(sequence)
 	}
 	return []byte("(sequence)")
 }

@@ -73,8 +73,8 @@ class Limits:
     """The most octets of the lines of `explain` or `reduce`. A call reserves address space for as many, and uses the memory that the lines
     need."""
 
-    # Raises `TypeError` for a limit that is no `int`, and `ValueError` for one below 0 or over the highest.
     def __post_init__(self) -> None:
+        """Raises `TypeError` for a limit that is no `int`, and `ValueError` for one below 0 or over the highest."""
         for field in fields(self):
             mosts = {"octets": _library.MOST_OCTETS, "nodes": _library.MOST_NODES, "work": _library.MOST_WORK, "answer": _library.MOST_ANSWER}
             most = mosts.get(field.name, _library.HIGHEST)

@@ -15,7 +15,7 @@ import (
 	"conguraki/spki/verify"
 )
 
-func must[T any](value T, err error) T { // (it returns the value, or ends the program if there is an error)
+func must[T any](value T, err error) T { // (it returns the value, or ends the program with a message if there is an error)
 	if err != nil {
 		log.Fatal(err)
 	}
@@ -27,16 +27,16 @@ func main() {
 		log.Fatal("usage: cache ACL FOLDER KEY SEQUENCE")
 	}
 	list := must(guard.Open(must(os.ReadFile(os.Args[1])), guard.Strict, guard.Limits{}))
-	client, sequence, kept, last := spki.AssumeKey(must(os.ReadFile(os.Args[3]))), must(os.ReadFile(os.Args[4])), guard.Decision{}, ""
+	client, sequence, decision, last := spki.AssumeKey(must(os.ReadFile(os.Args[3]))), must(os.ReadFile(os.Args[4])), guard.Decision{}, ""
 	for lines := bufio.NewScanner(os.Stdin); lines.Scan() || must(false, lines.Err()); { // (a line over 64 KiB ends the program by an error)
 		words := append(strings.SplitN(lines.Text(), " ", 3), "", "") // (action, path and text, of which some may be empty)
 		file, isNormal := os.Args[2]+words[1], words[1] != "/" && path.Clean("/"+words[1]) == words[1]
-		if asked := words[0] + " " + words[1]; asked != last || !kept.HoldsAt(time.Now()) {
+		if asked := words[0] + " " + words[1]; asked != last || !decision.HoldsAt(time.Now()) {
 			question := guard.Question{Key: client, Sequence: sequence, Words: []string{"cache", words[0], words[1]}, Time: time.Now()}
-			last = asked                                      // (while its grant `kept` holds, the same request is not decided again)
-			kept, _ = list.Decide(question, verify.Signature) // a refusal is no grant
+			last = asked                                          // (while its grant holds, the same request is not decided again)
+			decision, _ = list.Decide(question, verify.Signature) // (with an error it is a no)
 		}
-		if !isNormal || !kept.HoldsAt(time.Now()) {
+		if !isNormal || !decision.HoldsAt(time.Now()) {
 			fmt.Println("denied")
 		} else if words[0] == "write" {
 			fmt.Println(map[bool]string{true: "written", false: "not written"}[os.WriteFile(file, []byte(words[2]), 0o600) == nil], len(words[2]))
