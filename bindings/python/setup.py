@@ -24,7 +24,8 @@ BUILT = os.path.join(HERE, "..", "..", "crates", "spki_c", "out", "libspki_c.so"
 
 
 def installed():
-    """The path of the library that pkg-config knows, or "" if it knows none or is missing itself. The file may be missing."""
+    """The path of the library that pkg-config knows, or "" if it knows none or is missing itself. The file may be
+    missing."""
     try:
         done = subprocess.run(["pkg-config", "--variable=libdir", "spki"], stdout=subprocess.PIPE, stderr=subprocess.DEVNULL, text=True)
     except FileNotFoundError:

@@ -49,7 +49,8 @@ HIGHEST = spki.Limits.highest()
 
 
 def asked(sequence=SHOWN, key=KEY, words=WORDS, moment=NOW, text=None):
-    """A question, by default one that LIST grants if the signature of PAIR is valid. A `text` of the request replaces the words."""
+    """A question, by default one that LIST grants if the signature of PAIR is valid. A `text` of the request replaces
+    the words."""
     return spki.Question(sequence, spki.ProvenKey.assume(key), words=words if text is None else None, text=text, moment=moment)
 
 
@@ -529,8 +530,8 @@ class Parts(unittest.TestCase):
         self.assertEqual(spki.string_at(OfFalseLength(b"3:abc")), b"abc")
 
     def test_long_forms(self):
-        """Nothing becomes longer than an octet that is printed in base64: 7 octets for 3. A text that is too long takes no room by its
-        length."""
+        """Nothing becomes longer than an octet that is printed in base64: 7 octets for 3. A text that is too long takes
+        no room by its length."""
         self.assertEqual(len(spki.advanced(b"(" + b"1:\0" * 1000 + b")")), 7002)
         with mock.patch.object(spki, "_AnswerMemory", side_effect=spki._AnswerMemory) as memory, self.assertRaises(spki.Refused) as raised:
             spki.canonical(b" " * (1 << 24))
@@ -759,7 +760,8 @@ class Libraries(unittest.TestCase):
 @unittest.skipUnless(importlib.util.find_spec("setuptools"), "there is no setuptools; Debian: python3-setuptools")
 class Builds(unittest.TestCase):
     def test_the_library_that_is_named_is_put_in(self):
-        """SPKI_LIBRARY names it also for a build in the folder of an earlier one: an older file, none, and one that is not there."""
+        """SPKI_LIBRARY names it also for a build in the folder of an earlier one: an older file, none, and one that is
+        not there."""
         with tempfile.TemporaryDirectory() as room:
             skipped = shutil.ignore_patterns("build", "*.egg-info", "__pycache__")
             folder = shutil.copytree(os.path.dirname(os.path.realpath(__file__)), os.path.join(room, "python"), ignore=skipped)

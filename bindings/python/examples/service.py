@@ -1,5 +1,5 @@
-"""Lets clients read and write packages, by signed requests. Usage: service.py ACL NAME, behind a server with TLS. It answers 200 and the number of
-the entry that grants, 403 and why not, or 400 if the length of the body is no number from 0 to MOST."""
+"""Lets clients read and write packages, by signed requests. Usage: service.py ACL NAME, behind a server with TLS. It
+answers 200 and the number of the entry that grants, 403 and why not, or 400 for a body of over MOST octets."""
 import http.server
 import posixpath
 import sys

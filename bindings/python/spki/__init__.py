@@ -73,15 +73,16 @@ class _Handle(c_void_p, _NotCopied):
         self.process = os.getpid()
 
     def free(self, close: Callable[[c_void_p], None], current_process: Callable[[], int] = os.getpid) -> None:
-        """Frees the memory by `close`, in the process that has opened it. A child that was forked has a copy of the memory, which ends
-        with it. `current_process` is a parameter, as `close` of `__del__` is, for its default: when the interpreter ends, the names of
-        modules may be gone, and defaults are not."""
+        """Frees the memory by `close`, in the process that has opened it. A child that was forked has a copy of the
+        memory, which ends with it. `current_process` is a parameter, as `close` of `__del__` is, for its default: when
+        the interpreter ends, the names of modules may be gone, and defaults are not."""
         if self.process == current_process():
             close(self)
 
 
 class _GuardHandle(_Handle):
-    """A guard of the library. It is closed when nothing refers to it: no call is under way then, since a call refers to it."""
+    """A guard of the library. It is closed when nothing refers to it: no call is under way then, since a call refers to
+    it."""
 
     def __del__(self, close: Callable[[c_void_p], None] = library.spki_guard_close) -> None:
         self.free(close)
@@ -101,8 +102,8 @@ class _Closable(_NotCopied):
     _handle: c_void_p | None
 
     def _open_handle(self) -> c_void_p:
-        """The open handle. The caller keeps it in a variable as long as it calls the library, so that `close` in another thread does not
-        free it. Raises `ValueError` after `close`."""
+        """The open handle. The caller keeps it in a variable as long as it calls the library, so that `close` in
+        another thread does not free it. Raises `ValueError` after `close`."""
         handle = self._handle
         if handle is None:
             raise ValueError(f"the {type(self).__name__} is closed")
@@ -115,21 +116,21 @@ class _Closable(_NotCopied):
         self.close()
 
     def close(self) -> None:
-        """Closes it. Calls that are under way in other threads end as usual, and then its memory is freed. Later calls raise `ValueError`,
-        but for `close`, `repr` and `len`."""
+        """Closes it. Calls that are under way in other threads end as usual, and then its memory is freed. Later calls
+        raise `ValueError`, but for `close`, `repr` and `len`."""
         self._handle = None
 
 
 class Asked(_Closable, NoDecision):
     """A question that was read, which is decided by the marks that it carries. It stays open when its guard is closed.
 
-    A signature that is not marked is not valid, and a mark cannot be taken back. Several threads may use a question: a mark and any other
-    call wait for each other.
+    A signature that is not marked is not valid, and a mark cannot be taken back. Several threads may use a question: a
+    mark and any other call wait for each other.
     """
 
     def __init__(self, guard: c_void_p, question: Question, answer_octets: int) -> None:
-        """Opens a question for `Guard.ask`. `guard` is the handle of the guard, and `answer_octets` the most octets of an explanation or a
-        reduction. Raises as `_open_question` does."""
+        """Opens a question for `Guard.ask`. `guard` is the handle of the guard, and `answer_octets` the most octets of
+        an explanation or a reduction. Raises as `_open_question` does."""
         self._handle, self._answer_octets = _AskedHandle(_open_question(guard, question)), answer_octets
         self._count = _library.count(self._handle)
         # (while a signature is marked, the library permits no other call on the question)
@@ -140,7 +141,8 @@ class Asked(_Closable, NoDecision):
         return self._count
 
     def __iter__(self) -> Iterator[Signature]:
-        """The signatures on which the answers depend, one by one, in order. Each is copied when it is reached. Equal keys are one object."""
+        """The signatures on which the answers depend, one by one, in order. Each is copied when it is reached. Equal
+        keys are one object."""
         handle, keys = self._open_handle(), dict[bytes, bytes]()
         for place in range(self._count):
             yield _signature(handle, place, keys)
@@ -162,9 +164,9 @@ class Asked(_Closable, NoDecision):
             _mark(handle, index)
 
     def verify(self, verify: Verify) -> None:
-        """Marks each signature for which `verify(signature)` returns `True`, in order, up to the first `False`. Raises `TypeError` if it
-        returns anything else, such as a coroutine. Then, or if `verify` raises an exception, nothing is marked. To explain a denial, verify
-        also where `is_possible` is false."""
+        """Marks each signature for which `verify(signature)` returns `True`, in order, up to the first `False`. Raises
+        `TypeError` if it returns anything else, such as a coroutine. Then, or if `verify` raises an exception, nothing
+        is marked. To explain a denial, verify also where `is_possible` is false."""
         handle = self._open_handle()
         for place in range(_count_valid(handle, self._count, verify)):
             with self._lock:
@@ -179,7 +181,8 @@ class Asked(_Closable, NoDecision):
             return _library.possible(handle)
 
     def decide(self) -> Grant | None:
-        """The grant, if exactly the marked signatures are valid. `None` is a no. It may be called any number of times."""
+        """The grant, if exactly the marked signatures are valid. `None` is a no. It may be called any number of
+        times."""
         handle = self._open_handle()
         with self._lock:
             return _decide(handle)
@@ -189,15 +192,18 @@ class Asked(_Closable, NoDecision):
         return _entry_of(self.decide())
 
     def explain(self) -> Explanation:
-        """Says of each entry, by the marks, why it grants the request or does not. Raises `Refused` if a limit is exceeded."""
+        """Says of each entry, by the marks, why it grants the request or does not. Raises `Refused` if a limit is
+        exceeded."""
         return Explanation(self._lines(_library.explain))
 
     def reduce(self) -> Reduction:
-        """Which right, by the marks, remains of each entry after all certificates. Raises `Refused` if a limit is exceeded."""
+        """Which right, by the marks, remains of each entry after all certificates. Raises `Refused` if a limit is
+        exceeded."""
         return Reduction(self._lines(_library.reduce))
 
     def _lines(self, call: _library.Answers) -> str:
-        """The lines of a call, `_library.explain` or `_library.reduce`, without the last line feed. Raises `Refused`."""
+        """The lines of a call, `_library.explain` or `_library.reduce`, without the last line feed. Raises
+        `Refused`."""
         handle = self._open_handle()
         with self._lock:
             status, lines = _call_for_answer(self._answer_octets, call, handle)
@@ -208,14 +214,15 @@ class Asked(_Closable, NoDecision):
 class Guard(_Closable):
     """An access list that is read once and asked often, also by several threads at the same time.
 
-    `decide`, `explain` and `reduce` open a question, call `verify(signature)` for each signature that the answer depends on, in
-    order up to the first `False`, and answer. `decide` does not call it if the request would be denied even if all were valid. An exception
-    that `verify` raises is passed on, and nothing is granted. If it returns neither `True` nor `False`, they raise `TypeError`.
+    `decide`, `explain` and `reduce` open a question, call `verify(signature)` for each signature that the answer
+    depends on, in order up to the first `False`, and answer. `decide` does not call it if the request would be denied
+    even if all were valid. An exception that `verify` raises is passed on, and nothing is granted. If it returns
+    neither `True` nor `False`, they raise `TypeError`.
     """
 
     def __init__(self, access_list: bytes, policy: Policy = Policy.STRICT, limits: Limits = Limits()) -> None:
-        """Reads `(acl entry ..)`, in any of the three forms. Raises `Refused` if the text is no access list, and `TypeError` for arguments
-        of other types."""
+        """Reads `(acl entry ..)`, in any of the three forms. Raises `Refused` if the text is no access list, and
+        `TypeError` for arguments of other types."""
         if not isinstance(policy, Policy) or not isinstance(limits, Limits):
             raise TypeError("a guard has a `Policy` and `Limits`")
         text, self._policy, self._answer_octets = octets_of(access_list), policy, limits.answer or _library.USUAL_ANSWER
@@ -223,8 +230,9 @@ class Guard(_Closable):
         # (no structure of limits means the usual ones)
         structure = _library.Limits(ctypes.sizeof(_library.Limits), *numbers) if any(numbers) else None
         self._handle = handle = _GuardHandle()
-        _raise_unless_done(*_call_for_answer(_LINE_OCTETS, library.spki_guard_open, text, len(text), policy.value, structure,
-                                             byref(handle)))
+        status, line = _call_for_answer(_LINE_OCTETS, library.spki_guard_open, text, len(text), policy.value, structure,
+                                        byref(handle))
+        _raise_unless_done(status, line)
         self._entries: int = library.spki_guard_entries(handle)
 
     @property
@@ -237,13 +245,15 @@ class Guard(_Closable):
         return f"<spki.Guard of {self._entries} entries, {self._policy.name}{', closed' * (self._handle is None)}>"
 
     def ask(self, question: Question) -> Asked:
-        """Opens a question, whose signatures the caller marks. Raises `Refused` if a part of it cannot be read or exceeds a limit."""
+        """Opens a question, whose signatures the caller marks. Raises `Refused` if a part of it cannot be read or
+        exceeds a limit."""
         return Asked(self._open_handle(), question, self._answer_octets)
 
     def decide(self, question: Question, verify: Verify) -> Grant | None:
-        """The grant of the question's request. `None` is a no. Raises `Refused` if a part of the question cannot be read or exceeds a limit."""
-        # (the same as `ask`, `is_possible`, `verify` and `decide`, in less time: no other thread can close or mark this question, so it needs
-        # neither an object nor a lock)
+        """The grant of the question's request. `None` is a no. Raises `Refused` if a part of the question cannot be
+        read or exceeds a limit."""
+        # (the same as `ask`, `is_possible`, `verify` and `decide`, in less time: no other thread can close or mark this
+        # question, so it needs neither an object nor a lock)
         handle = c_void_p(_open_question(self._open_handle(), question))
         try:
             count = _library.count(handle)
@@ -254,19 +264,20 @@ class Guard(_Closable):
             _library.close(handle)
 
     def require(self, question: Question, verify: Verify) -> int:
-        """The number of the entry that grants the question's request. Raises `Denied` if none does, and `Refused` as `decide` does."""
+        """The number of the entry that grants the question's request. Raises `Denied` if none does, and `Refused` as
+        `decide` does."""
         return _entry_of(self.decide(question, verify))
 
     def explain(self, question: Question, verify: Verify) -> Explanation:
-        """Says of each entry why it grants the request or does not. Raises `Refused` if a part of the question cannot be read or exceeds a
-        limit, or if the explanation does."""
+        """Says of each entry why it grants the request or does not. Raises `Refused` if a part of the question cannot
+        be read or exceeds a limit, or if the explanation does."""
         with self.ask(question) as asked:
             asked.verify(verify)
             return asked.explain()
 
     def reduce(self, question: Question, verify: Verify) -> Reduction:
-        """Which right remains of each entry after all certificates. Raises `Refused` if a part of the question cannot be read or exceeds a
-        limit, or if the reduction does."""
+        """Which right remains of each entry after all certificates. Raises `Refused` if a part of the question cannot
+        be read or exceeds a limit, or if the reduction does."""
         with self.ask(question) as asked:
             asked.verify(verify)
             return asked.reduce()
@@ -298,20 +309,25 @@ def canonical(text: bytes) -> bytes:
 
 
 def advanced(text: bytes) -> bytes:
-    """The advanced form of a text, which `canonical` would accept, on one line, with a line feed at its end. Raises `Refused`."""
+    """The advanced form of a text, which `canonical` would accept, on one line, with a line feed at its end. Raises
+    `Refused`."""
     return _convert(_library.ADVANCED, octets_of(text))
 
 
 def transport(text: bytes) -> bytes:
-    """The transport form of a text, which `canonical` would accept, on one line, with a line feed at its end. Raises `Refused`."""
+    """The transport form of a text, which `canonical` would accept, on one line, with a line feed at its end. Raises
+    `Refused`."""
     return _convert(_library.TRANSPORT, octets_of(text))
 
 
 def _convert(command: int, text: bytes) -> bytes:
-    """What `_library.CANONICAL`, `_library.ADVANCED` or `_library.TRANSPORT`, the command, makes of a text. Raises `Refused`."""
-    # No form has more than three times the octets of another: an octet that is printed in base64 takes 7 for the 3 of its canonical text,
-    # and `a(b)`, again and again, takes 8 for 3 in transport form. A longer text is refused, so the room is bounded.
-    status, answer = _call_for_answer(3 * min(len(text), _library.MOST_OCTETS), library.spki_answer, command, text, len(text))
+    """What `_library.CANONICAL`, `_library.ADVANCED` or `_library.TRANSPORT`, the command, makes of a text. Raises
+    `Refused`."""
+    # No form has more than three times the octets of another: an octet that is printed in base64 takes 7 for the 3 of
+    # its canonical text, and `a(b)`, again and again, takes 8 for 3 in transport form. A longer text is refused, so the
+    # room is bounded.
+    room = 3 * min(len(text), _library.MOST_OCTETS)
+    status, answer = _call_for_answer(room, library.spki_answer, command, text, len(text))
     _raise_unless_done(status, answer)
     return answer
 
@@ -320,8 +336,8 @@ def _convert(command: int, text: bytes) -> bytes:
 
 
 class _CallMemory:
-    """Memory for what one call returns: a line, a handle or a signature. `at_..` are the addresses that the call is given. `needed` is the
-    length of the line, for which there are `octets`."""
+    """Memory for what one call returns: a line, a handle or a signature. `at_..` are the addresses that the call is
+    given. `needed` is the length of the line, for which there are `octets`."""
 
     def __init__(self) -> None:
         self.buffer, self.octets, self.needed = (c_char * _LINE_OCTETS)(), c_size_t(_LINE_OCTETS), c_size_t()
@@ -337,8 +353,8 @@ class _CallMemory:
 
 
 class _AnswerMemory:
-    """Memory for an answer of at most `octets` octets. The system provides as much of it as is used. `needed` is the length of the
-    answer."""
+    """Memory for an answer of at most `octets` octets. The system provides as much of it as is used. `needed` is the
+    length of the answer."""
 
     def __init__(self, octets: int) -> None:
         self.buffer, self.octets, self.needed = mmap.mmap(-1, octets, mmap.MAP_PRIVATE), c_size_t(octets), c_size_t()
@@ -347,8 +363,8 @@ class _AnswerMemory:
         self.at_buffer = c_void_p(addressof(self.first))
 
 
-# Memory that no call uses, to be used again, since making it takes some microseconds: for each kind as many as there were calls at the same
-# time. Behind them, the small numbers that `_size_argument` returns.
+# Memory that no call uses, to be used again, since making it takes some microseconds: for each kind as many as there
+# were calls at the same time. Behind them, the small numbers that `_size_argument` returns.
 _spare_calls: list[_CallMemory] = []
 _spare_answers: list[_AnswerMemory] = []
 _small_sizes = [c_size_t(number) for number in range(64)]
@@ -363,7 +379,8 @@ def _take_call_memory() -> _CallMemory:
 
 
 def _take_answer_memory() -> _AnswerMemory:
-    """Memory for an answer within the usual limit, which no other call uses. The caller appends it to `_spare_answers` afterwards."""
+    """Memory for an answer within the usual limit, which no other call uses. The caller appends it to `_spare_answers`
+    afterwards."""
     try:
         return _spare_answers.pop()
     except IndexError:
@@ -376,9 +393,9 @@ def _size_argument(number: int) -> c_size_t:
 
 
 def _call_for_answer(most: int, call: Callable[..., int], *arguments: object) -> tuple[int, bytes]:
-    """Calls the library with memory for an answer of `most` octets, or of the usual limit if that is more. `arguments` are those before the
-    ones for the answer. Returns the status and the answer, which is empty with `_library.TOO_SMALL`, and with `_library.NO_MEMORY` if the
-    memory for the answer could not be allocated."""
+    """Calls the library with memory for an answer of `most` octets, or of the usual limit if that is more. `arguments`
+    are those before the ones for the answer. Returns the status and the answer, which is empty with
+    `_library.TOO_SMALL`, and with `_library.NO_MEMORY` if the memory for the answer could not be allocated."""
     is_usual = most <= _library.USUAL_ANSWER
     try:
         memory = _take_answer_memory() if is_usual else _AnswerMemory(most)
@@ -392,8 +409,8 @@ def _call_for_answer(most: int, call: Callable[..., int], *arguments: object) ->
 
 
 def _open_question(guard: c_void_p, question: Question) -> int | None:
-    """Opens a question and returns its address, which the caller must free by `_library.close`. Raises `Refused` if a part of it cannot be
-    read or exceeds a limit, and `TypeError` if it is no `Question`."""
+    """Opens a question and returns its address, which the caller must free by `_library.close`. Raises `Refused` if a
+    part of it cannot be read or exceeds a limit, and `TypeError` if it is no `Question`."""
     if not isinstance(question, Question):
         raise TypeError(f"a guard is asked a `Question`, and not {type(question).__name__}")
     memory = _take_call_memory()
@@ -405,8 +422,8 @@ def _open_question(guard: c_void_p, question: Question) -> int | None:
 
 
 def _signature_addresses(handle: c_void_p, place: int, memory: _CallMemory) -> tuple[int, ...]:
-    """Eight numbers: address and length of the key, the message and the value of the signature at a place, from 0, and of the octets of the
-    value. `memory` is for the call."""
+    """Eight numbers: address and length of the key, the message and the value of the signature at a place, from 0, and
+    of the octets of the value. `memory` is for the call."""
     status = _library.signature(handle, _size_argument(place), memory.at_signed)
     if status != _library.DONE:
         raise _exception_of(status, b"")
@@ -414,27 +431,29 @@ def _signature_addresses(handle: c_void_p, place: int, memory: _CallMemory) -> t
 
 
 def _signature(handle: c_void_p, place: int, keys: dict[bytes, bytes]) -> Signature:
-    """Copies the signature of an opened question at a place, from 0. `keys` has the keys that were copied before, so that equal keys are one
-    object."""
+    """Copies the signature of an opened question at a place, from 0. `keys` has the keys that were copied before, so
+    that equal keys are one object."""
     call_memory = _take_call_memory()
-    at, length, message, message_length, value, value_length, _, _ = _signature_addresses(handle, place, call_memory)
+    at, length, message_at, message_length, value_at, value_length, *_ = _signature_addresses(handle, place, call_memory)
     _spare_calls.append(call_memory)
     memory, key = _library.memory, _library.memory[at:at + length]
-    return signature_of(keys.setdefault(key, key), memory[message:message + message_length], memory[value:value + value_length])
+    message, value = memory[message_at:message_at + message_length], memory[value_at:value_at + value_length]
+    return signature_of(keys.setdefault(key, key), message, value)
 
 
 def _count_valid(handle: c_void_p, count: int, verify: Verify) -> int:
-    """How many of the `count` signatures of an opened question are valid before the first that is not. Raises `TypeError` if `verify`
-    returns neither `True` nor `False`."""
+    """How many of the `count` signatures of an opened question are valid before the first that is not. Raises
+    `TypeError` if `verify` returns neither `True` nor `False`."""
     memory, call_memory, last_key = _library.memory, _take_call_memory(), b""
     try:
         for place in range(count):
-            at, length, message, message_length, value, value_length, _, _ = _signature_addresses(handle, place, call_memory)
+            at, length, message_at, message_length, value_at, value_length, *_ = _signature_addresses(handle, place, call_memory)
             key = memory[at:at + length]
             if key != last_key:
                 # (a verifier that keeps keys keeps one of many equal ones)
                 last_key = key
-            answer = verify(signature_of(last_key, memory[message:message + message_length], memory[value:value + value_length]))
+            message, value = memory[message_at:message_at + message_length], memory[value_at:value_at + value_length]
+            answer = verify(signature_of(last_key, message, value))
             if answer is not True:
                 answer_of(answer)
                 return place
@@ -444,7 +463,8 @@ def _count_valid(handle: c_void_p, count: int, verify: Verify) -> int:
 
 
 def _mark(handle: c_void_p, place: int) -> None:
-    """Says that the signature at a place, from 0, is valid. Callers have tested the place: another one is a `RuntimeError`."""
+    """Says that the signature at a place, from 0, is valid. Callers have tested the place: another one is a
+    `RuntimeError`."""
     status = _library.mark(handle, _size_argument(place))
     if status != _library.DONE:
         raise _exception_of(status, b"")
@@ -473,20 +493,21 @@ def _entry_of(grant: Grant | None) -> int:
 
 @functools.lru_cache(1024)
 def _grant_of(line: bytes, until: int) -> Grant:
-    """The grant of a line `yes entry N`, until a second since 1970, or `_library.ENDLESS`. A grant does not change, so one that was made is
-    used again."""
+    """The grant of a line `yes entry N`, until a second since 1970, or `_library.ENDLESS`. A grant does not change, so
+    one that was made is used again."""
     return Grant(int(line[len("yes entry "):]), None if until == _library.ENDLESS else moment_of(until))
 
 
 def _raise_unless_done(status: int, answer: bytes) -> None:
-    """Raises the exception of a call that failed, by its status and its answer. With `_library.DONE` nothing is raised."""
+    """Raises the exception of a call that failed, by its status and its answer. With `_library.DONE` nothing is
+    raised."""
     if status != _library.DONE:
         raise _exception_of(status, answer)
 
 
 def _exception_of(status: int, answer: bytes) -> Exception:
-    """The exception of a call that failed, by its status. With `_library.REFUSED` the answer is the line that says why. Otherwise the answer
-    is not used."""
+    """The exception of a call that failed, by its status. With `_library.REFUSED` the answer is the line that says why.
+    Otherwise the answer is not used."""
     if status == _library.NO_MEMORY:
         return Refused("refused Memory")
     if status != _library.REFUSED:

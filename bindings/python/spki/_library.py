@@ -70,14 +70,14 @@ class Memory(Protocol):
         """A copy of the octets from one address up to another. `ctypes.string_at` makes the same, in more steps."""
 
 
-# All memory as one array from the address 0, of which a slice copies octets. Only slices whose addresses the library has returned may be
-# taken.
+# All memory as one array from the address 0, of which a slice copies octets. Only slices whose addresses the library
+# has returned may be taken.
 memory = cast(Memory, (ctypes.c_char * sys.maxsize).from_address(0))
 
 
 def file_of_this_version() -> str | None:
-    """The file name of the library of this version, `libspki_c.so.0.2`, or None if the loader does not find it. Other versions may be
-    installed beside it, and `find_library` returns any."""
+    """The file name of the library of this version, `libspki_c.so.0.2`, or None if the loader does not find it. Other
+    versions may be installed beside it, and `find_library` returns any."""
     name = f"libspki_c.so.{VERSION}"
     try:
         ctypes.CDLL(name)
@@ -87,17 +87,19 @@ def file_of_this_version() -> str | None:
 
 
 def library_path() -> str:
-    """The file that SPKI_LIBRARY names, else the file beside this module, else what the loader finds: a library of this version, else any.
-    `load` tests the version. Raises ImportError if none is found."""
+    """The file that SPKI_LIBRARY names, else the file beside this module, else what the loader finds: a library of this
+    version, else any. `load` tests the version. Raises ImportError if none is found."""
     beside = os.path.join(os.path.dirname(os.path.abspath(__file__)), "libspki_c.so")
-    path = os.environ.get("SPKI_LIBRARY") or (beside if os.path.exists(beside) else file_of_this_version() or ctypes.util.find_library("spki_c"))
+    path = os.environ.get("SPKI_LIBRARY") or (beside if os.path.exists(beside) else file_of_this_version())
+    path = path or ctypes.util.find_library("spki_c")
     if path is None:
         raise ImportError("libspki_c.so is not found: install it, or name the file in SPKI_LIBRARY")
     return path
 
 
 def load(path: str) -> ctypes.CDLL:
-    """Loads the library at a path. Raises ImportError if it is of another version than this module, and OSError if it cannot be loaded."""
+    """Loads the library at a path. Raises ImportError if it is of another version than this module, and OSError if it
+    cannot be loaded."""
     loaded = ctypes.CDLL(path)
     call: Callable[[], bytes] | None = getattr(loaded, "spki_version", None)
     if call is not None:
@@ -109,7 +111,8 @@ def load(path: str) -> ctypes.CDLL:
 
 
 library = load(library_path())
-# The same library for short calls. They keep the lock of the interpreter (GIL), since to release it would take longer than the call.
+# The same library for short calls. They keep the lock of the interpreter (GIL), since to release it would take longer
+# than the call.
 library_with_gil = ctypes.PyDLL(library._name)
 # The calls about a question. ctypes converts none of their arguments: they are objects of ctypes, as mypy checks.
 ask: Callable[[c_void_p, c_void_p, c_void_p, c_void_p, c_size_t, c_void_p], int] = library.spki_guard_ask
@@ -118,14 +121,16 @@ count: Callable[[c_void_p], int] = library_with_gil.spki_asked_count
 mark: Callable[[c_void_p, c_size_t], int] = library_with_gil.spki_asked_mark
 possible: Callable[[c_void_p], bool] = library_with_gil.spki_asked_possible
 close: Callable[[c_void_p], None] = library.spki_asked_close
-# A call that writes lines about an opened question: its handle, the buffer, the size of the buffer, and the address of the length of the lines.
+# A call that writes lines about an opened question: its handle, the buffer, the size of the buffer, and the address of
+# the length of the lines.
 Answers = Callable[[c_void_p, c_void_p, c_size_t, c_void_p], int]
 decide: Callable[[c_void_p, c_void_p, c_size_t, c_void_p], Decision] = library.spki_asked_decide
 explain: Answers = library.spki_asked_explain
 reduce: Answers = library.spki_asked_reduce
 
-# The types of the arguments, and below those of the results that are no `int`. A structure of one number, `struct spki_answered`, is returned as an
-# `int` is. `_answer` are the arguments for an answer: the buffer, its size, and the address of the length.
+# The types of the arguments, and below those of the results that are no `int`. A structure of one number, `struct
+# spki_answered`, is returned as an `int` is. `_answer` are the arguments for an answer: the buffer, its size, and the
+# address of the length.
 _answer = [c_void_p, c_size_t, c_void_p]
 for _name, _types in {
     "guard_open": [c_char_p, c_size_t, c_uint, POINTER(Limits), c_void_p, *_answer], "guard_close": [c_void_p], "guard_entries": [c_void_p],

@@ -13,15 +13,16 @@ from typing import NamedTuple, NoReturn, Union
 from . import _library
 from ._words import Cause, Fault, Part
 
-# The last word with a capital letter of a line; and a line of an explanation: the numbers of the entry and of the item, and the word.
+# The last word with a capital letter of a line; and a line of an explanation: the numbers of the entry and of the item,
+# and the word.
 FAULT = re.compile(r".*\b([A-Z]\w*)")
 REASON = re.compile(r"^(?:entry (\d+) )?(?:item (\d+) )?(\w+)$", re.MULTILINE)
 EPOCH, SECOND = datetime(1970, 1, 1, tzinfo=timezone.utc), timedelta(seconds=1)
 
 
 class Refused(Exception):
-    """A line that begins with `refused`: a text is not of the form that is required, a limit is exceeded, or an allocation failed. Nothing is
-    granted.
+    """A line that begins with `refused`: a text is not of the form that is required, a limit is exceeded, or an
+    allocation failed. Nothing is granted.
 
     The lines are those of the program `spki`; its manual lists them.
     """
@@ -70,22 +71,24 @@ class Limits:
     work: int = 0
     """The most work of all certificates and entries together, as `struct spki_limits` of spki.h counts it."""
     answer: int = 0
-    """The most octets of the lines of `explain` or `reduce`. A call reserves address space for as many, and uses the memory that the lines
-    need."""
+    """The most octets of the lines of `explain` or `reduce`. A call reserves address space for as many, and uses the
+    memory that the lines need."""
 
     def __post_init__(self) -> None:
         """Raises `TypeError` for a limit that is no `int`, and `ValueError` for one below 0 or over the highest."""
+        mosts = {"octets": _library.MOST_OCTETS, "nodes": _library.MOST_NODES, "work": _library.MOST_WORK,
+                 "answer": _library.MOST_ANSWER}
         for field in fields(self):
-            mosts = {"octets": _library.MOST_OCTETS, "nodes": _library.MOST_NODES, "work": _library.MOST_WORK, "answer": _library.MOST_ANSWER}
             most = mosts.get(field.name, _library.HIGHEST)
             if not 0 <= int_of(getattr(self, field.name)) <= most:
                 raise ValueError(f"the limit `{field.name}` is a number from 0 to {most:,}")
 
     @classmethod
     def highest(cls) -> Limits:
-        """The highest limits. They are not for questions of strangers: on some within them an explanation takes seconds."""
-        return cls(octets=_library.MOST_OCTETS, certificates=_library.HIGHEST, words=_library.HIGHEST, nodes=_library.MOST_NODES,
-                   work=_library.MOST_WORK, answer=_library.MOST_ANSWER)
+        """The highest limits. They are not for questions of strangers: on some within them an explanation takes
+        seconds."""
+        return cls(octets=_library.MOST_OCTETS, certificates=_library.HIGHEST, words=_library.HIGHEST,
+                   nodes=_library.MOST_NODES, work=_library.MOST_WORK, answer=_library.MOST_ANSWER)
 
 
 class Scheme(enum.Enum):
@@ -125,8 +128,8 @@ _new, _set = object.__new__, object.__setattr__
 
 
 def signature_of(key: bytes, message: bytes, value: bytes) -> Signature:
-    """The `Signature` with these texts. It is made for each signature of a question, so it avoids the slow calls by which a frozen
-    dataclass sets its fields."""
+    """The `Signature` with these texts. It is made for each signature of a question, so it avoids the slow calls by
+    which a frozen dataclass sets its fields."""
     signature = _new(Signature)
     _set(signature, "__dict__", {"key": key, "message": message, "value": value})
     return signature
@@ -141,9 +144,9 @@ class NotProved(Exception):
 
 
 class ProvenKey:
-    """A key that a client has proved to hold. A public key is public: without a proof, each client that sends Alice's key would have Alice's
-    rights. `by` makes one of a message that the service made and the client signed, and `assume` one of a key that something else, such as
-    TLS, has proved."""
+    """A key that a client has proved to hold. A public key is public: without a proof, each client that sends Alice's
+    key would have Alice's rights. `by` makes one of a message that the service made and the client signed, and `assume`
+    one of a key that something else, such as TLS, has proved."""
 
     __slots__ = ("_text",)
     _text: bytes
@@ -161,9 +164,10 @@ class ProvenKey:
 
     @classmethod
     def by(cls, signed: Signature, verify: Verify) -> ProvenKey:
-        """The key that has signed a message. The service itself must have made the message, with a nonce that it accepts once: a signature of
-        anything else may be an old one, or have another purpose. `verify` says whether the signature is valid. Raises `NotProved` if it is
-        not, or if the message is a certificate: anyone can show a certificate, which proves nothing about who shows it."""
+        """The key that has signed a message. The service itself must have made the message, with a nonce that it
+        accepts once: a signature of anything else may be an old one, or have another purpose. `verify` says whether the
+        signature is valid. Raises `NotProved` if it is not, or if the message is a certificate: anyone can show a
+        certificate, which proves nothing about who shows it."""
         if signed.message.startswith(b"(4:cert") or not answer_of(verify(signed)):
             raise NotProved("the client has not proved that it holds the key")
         return cls.assume(signed.key)
@@ -196,12 +200,14 @@ class Question:
 
     def __init__(self, sequence: bytes, key: ProvenKey, *, words: Sequence[bytes] | None = None, text: bytes | None = None,
                  moment: datetime | bytes) -> None:
-        """`sequence` has the certificates and signatures that the client shows. `key` is the client's key, which it has proved to hold.
+        """`sequence` has the certificates and signatures that the client shows. `key` is the client's key, which it has
+        proved to hold.
 
-        The request is given by `words`, its strings, each as octets that may come from the client: several strings are the list of them,
-        and one is the string itself. Or it is given by `text`, one value. `moment` is the time of the service's own clock, a `datetime` with a
-        time zone, or the text of a date. A time before 1970 is refused as `BadDate` when it is asked. Raises `TypeError` for arguments of
-        other types, and if the request is given in both ways or in none.
+        The request is given by `words`, its strings, each as octets that may come from the client: several strings are
+        the list of them, and one is the string itself. Or it is given by `text`, one value. `moment` is the time of the
+        service's own clock, a `datetime` with a time zone, or the text of a date. A time before 1970 is refused as
+        `BadDate` when it is asked. Raises `TypeError` for arguments of other types, and if the request is given in both
+        ways or in none.
         """
         if (words is None) == (text is None):
             raise TypeError("a request is given by `words` or by `text`, and not by both")
@@ -210,7 +216,8 @@ class Question:
         sequence = octets_of(sequence)
         # (the library is given `_structure`, by its address; equality, copies and `repr` use `_parts`)
         self._structure = structure = _library.Question(ctypes.sizeof(_library.Question))
-        structure.sequence, structure.key = _library.Text(sequence, len(sequence)), _library.Text(key.text, len(key.text))
+        structure.sequence = _library.Text(sequence, len(sequence))
+        structure.key = _library.Text(key.text, len(key.text))
         if text is not None:
             text = octets_of(text)
             structure.request = _library.Text(text, len(text))
@@ -276,8 +283,9 @@ class Grant:
     least `not-after` of the entry and of all certificates. After it another entry may grant it. `None` if no window ends."""
 
     def holds_at(self, moment: datetime) -> bool:
-        """Whether a grant that was kept still holds at a moment, which must not precede the question's. It does not before 1970, since only
-        a clock that failed gives such a moment. Raises `TypeError` for a moment without a time zone.
+        """Whether a grant that was kept still holds at a moment, which must not precede the question's. It does not
+        before 1970, since only a clock that failed gives such a moment. Raises `TypeError` for a moment without a time
+        zone.
 
         It does not know whether another list was read since, nor whether the verifier would now reject a signature."""
         seconds = seconds_of(moment)
@@ -287,7 +295,8 @@ class Grant:
 class Denied(Exception):
     """No entry grants the request."""
 
-    # (no `__init__` passes this text on: an exception is copied and pickled by the arguments of its call, of which there are none)
+    # (no `__init__` passes this text on: an exception is copied and pickled by the arguments of its call, of which
+    # there are none)
     def __str__(self) -> str:
         return "no entry grants the request"
 
@@ -341,16 +350,16 @@ def answer_of(answer: object) -> bool:
 
 
 def octets_of(text: bytes) -> bytes:
-    """The octets of a text. A subclass of `bytes` may say another length than it has, so its octets are copied. Raises `TypeError` for other
-    types."""
+    """The octets of a text. A subclass of `bytes` may say another length than it has, so its octets are copied. Raises
+    `TypeError` for other types."""
     if not isinstance(text, bytes):
         raise TypeError(f"a text is bytes, and not {type(text).__name__}")
     return text if type(text) is bytes else memoryview(text).tobytes()
 
 
 def int_of(number: int) -> int:
-    """A number as an `int`. Raises `TypeError` for other types and for `bool`. ctypes would cut one that is too large, so callers test its
-    range."""
+    """A number as an `int`. Raises `TypeError` for other types and for `bool`. ctypes would cut one that is too large,
+    so callers test its range."""
     if not isinstance(number, int) or isinstance(number, bool):
         raise TypeError(f"a number is an int, and not {type(number).__name__}")
     return int.__index__(number)

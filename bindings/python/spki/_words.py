@@ -5,7 +5,8 @@ import enum
 
 
 class _Word(str, enum.Enum):
-    """A word of a line. A word that this version of the module does not know is `OTHER`: the line has the word itself."""
+    """A word of a line. A word that this version of the module does not know is `OTHER`: the line has the word
+    itself."""
 
     def __str__(self) -> str:
         return str(self.value)
@@ -40,7 +41,8 @@ class Fault(_Word):
     MEMORY = "Memory"
     """An allocation failed."""
     MISUSED = "Misused"
-    """A call that is made wrongly, in Rust. In Python it raises `IndexError`, `TypeError` or `ValueError`, and no line has this word."""
+    """A call that is made wrongly, in Rust. In Python it raises `IndexError`, `TypeError` or `ValueError`, and no line
+    has this word."""
     ONLINE = "Online"
     """A validity with `(online ..)`."""
     RANGE_LIMIT = "RangeLimit"

@@ -8,7 +8,8 @@ import re
 from dataclasses import dataclass
 
 LABEL = TAG = "spki"
-# The most octets of `Signature-Input` and of `Signature`, the most components, and the most characters of a key in transport form.
+# The most octets of `Signature-Input` and of `Signature`, the most components, and the most characters of a key in
+# transport form.
 MOST_INPUT, MOST_COMPONENTS, MOST_KEY = 8192, 32, 4096
 # The components that are no fields.
 DERIVED = ("@method", "@authority", "@target-uri", "@path", "@query")
@@ -53,7 +54,8 @@ class Refused(Exception):
 
 @dataclass(frozen=True)
 class Input:
-    """The value of `Signature-Input`. `text` is that of `@signature-params`, as it was sent. The times are in seconds since 1970."""
+    """The value of `Signature-Input`. `text` is that of `@signature-params`, as it was sent. The times are in seconds
+    since 1970."""
 
     text: str
     components: list[str]
@@ -66,8 +68,8 @@ class Input:
 
 
 class Parser:
-    """Reads the value of a field from the left. Each method raises `Refused` if what it reads is not there. `position` is that of the rest,
-    which is not read yet."""
+    """Reads the value of a field from the left. Each method raises `Refused` if what it reads is not there. `position`
+    is that of the rest, which is not read yet."""
 
     def __init__(self, text: str) -> None:
         """Reads the label `spki=`. Another one is `other-label`."""
@@ -121,7 +123,8 @@ class Parser:
         return names
 
     def parameters(self) -> dict[str, str]:
-        """Reads the parameters, `;created=1700000000 ..`, and the end. Returns the texts of their values by name, without quotes."""
+        """Reads the parameters, `;created=1700000000 ..`, and the end. Returns the texts of their values by name,
+        without quotes."""
         texts: dict[str, str] = {}
         while self.skip_if(";"):
             name = self.take(NAME)[0]
@@ -136,8 +139,8 @@ class Parser:
 
 
 def is_component(name: str) -> bool:
-    """Whether a signature may cover what has this name: a field, in small letters, or one of the five components of `DERIVED`. The two fields
-    of the signature itself may not be covered."""
+    """Whether a signature may cover what has this name: a field, in small letters, or one of the five components of
+    `DERIVED`. The two fields of the signature itself may not be covered."""
     return name in DERIVED or FIELD.fullmatch(name) is not None and name not in ("signature", "signature-input")
 
 
@@ -207,8 +210,9 @@ def key_of(text: str) -> tuple[bytes, str, int]:
 
 
 def kind_of(key: bytes) -> tuple[str, int]:
-    """The algorithm of a key in canonical form, and how many octets a signature by it has: with RSA as many as the modulus. Raises `Refused`
-    with the name `bad-key`. Whether the numbers of the key are allowed is not tested: the verifier does that."""
+    """The algorithm of a key in canonical form, and how many octets a signature by it has: with RSA as many as the
+    modulus. Raises `Refused` with the name `bad-key`. Whether the numbers of the key are allowed is not tested: the
+    verifier does that."""
     for algorithm, (template, _, length) in FORMS.items():
         if strings := strings_of(key, template):
             return algorithm, length or len(strings[0].lstrip(b"\0"))
@@ -216,18 +220,20 @@ def kind_of(key: bytes) -> tuple[str, int]:
 
 
 def value_of(algorithm: str, octets: bytes) -> bytes:
-    """The canonical value, `(7:sig-val..)`, of the octets of a signature. With RSA they are one string in it, and otherwise two, of equal
-    length."""
+    """The canonical value, `(7:sig-val..)`, of the octets of a signature. With RSA they are one string in it, and
+    otherwise two, of equal length."""
     half = len(octets) // 2
     strings = [octets] if algorithm.startswith("rsa") else [octets[:half], octets[half:]]
-    return FORMS[algorithm][1].replace(b"%", b"%d:%s") % tuple(part for string in strings for part in (len(string), string))
+    lengths_and_strings = tuple(part for string in strings for part in (len(string), string))
+    return FORMS[algorithm][1].replace(b"%", b"%d:%s") % lengths_and_strings
 
 
 def octets_of(value: bytes, length: int = 0) -> bytes:
-    """The octets of a signature, as RFC 9421 sends them, from its canonical value: the strings of the value, joined. `length` is how many
-    octets a signature by the key has. Signers write more or fewer octets 00 in front of a number, so each string gets its equal share of
-    the length by these. With a length of 0 the strings stay as they are, and the two of ECDSA must be equally long. Those of Ed25519 always
-    stay, since they are no numbers. Raises `ValueError` for a text that is no value of a signature."""
+    """The octets of a signature, as RFC 9421 sends them, from its canonical value: the strings of the value, joined.
+    `length` is how many octets a signature by the key has. Signers write more or fewer octets 00 in front of a number,
+    so each string gets its equal share of the length by these. With a length of 0 the strings stay as they are, and the
+    two of ECDSA must be equally long. Those of Ed25519 always stay, since they are no numbers. Raises `ValueError` for
+    a text that is no value of a signature."""
     for algorithm, (_, template, _) in FORMS.items():
         if strings := strings_of(value, template):
             share = 0 if algorithm == "ed25519" else length // len(strings)
@@ -236,8 +242,8 @@ def octets_of(value: bytes, length: int = 0) -> bytes:
 
 
 def strings_of(text: bytes, template: bytes) -> list[bytes]:
-    """The strings of a canonical text at the places of `%` in a template of `FORMS`. An empty list if the text does not match it, or if a
-    string has over 9,999 octets."""
+    """The strings of a canonical text at the places of `%` in a template of `FORMS`. An empty list if the text does not
+    match it, or if a string has over 9,999 octets."""
     first, *rest = template.split(b"%")
     position, strings = len(first), []
     if not text.startswith(first):

@@ -18,10 +18,11 @@ PORTS = {"https": ":443", "http": ":80"}
 
 @dataclass(frozen=True)
 class Message:
-    """A request: its method, the name that the client asks, its target as in the first line of HTTP/1.1, and its fields in their order.
+    """A request: its method, the name that the client asks, its target as in the first line of HTTP/1.1, and its fields
+    in their order.
 
-    `body` is None if it is not known: then it is not compared. `has_body` says that there is a body, for servers that do not pass on
-    Content-Length or Transfer-Encoding.
+    `body` is None if it is not known: then it is not compared. `has_body` says that there is a body, for servers that
+    do not pass on Content-Length or Transfer-Encoding.
     """
 
     method: str

@@ -19,9 +19,9 @@ SEQUENCE, KEY = "X-Spki-Sequence", "X-Spki-Public-Key"
 class Signer:
     """Makes the fields of signed requests.
 
-    `key` is the SPKI key in canonical form. `sign` returns the canonical value of a signature of a message, `(7:sig-val..)`. `sequence` has the
-    client's certificates in transport form, `{..}`, or is empty. `algorithm` is that of the key, and `length` how many octets a signature by it
-    has.
+    `key` is the SPKI key in canonical form. `sign` returns the canonical value of a signature of a message,
+    `(7:sig-val..)`. `sequence` has the client's certificates in transport form, `{..}`, or is empty. `algorithm` is
+    that of the key, and `length` how many octets a signature by it has.
     """
 
     def __init__(self, key: bytes, sign: Callable[[bytes], bytes], sequence: str = "") -> None:
@@ -31,18 +31,21 @@ class Signer:
 
     def fields(self, method: str, url: str, body: bytes = b"", fields: Iterable[tuple[str, str]] = (),
                covered: Iterable[str] = ()) -> dict[str, str]:
-        """The fields to set in a request, which replace its own fields of the same names. `fields` are those that it has. The signature covers
-        what the profile asks for, and the fields of `covered`, which are names in small letters.
+        """The fields to set in a request, which replace its own fields of the same names. `fields` are those that it
+        has. The signature covers what the profile asks for, and the fields of `covered`, which are names in small
+        letters.
 
-        Raises `ValueError` for an address or a method that cannot be signed, and if the request has no field of a name in `covered`: it would
-        be unsigned. Raises `Refused` for a covered field in two lines, or with other octets than visible ASCII, spaces and tabs."""
+        Raises `ValueError` for an address or a method that cannot be signed, and if the request has no field of a name
+        in `covered`: it would be unsigned. Raises `Refused` for a covered field in two lines, or with other octets than
+        visible ASCII, spaces and tabs."""
         parts = urllib.parse.urlsplit(url)
         if parts.scheme not in PORTS or not parts.hostname or parts.username is not None:
             raise ValueError("no address of https or http, or one with a name and a password")
         # (`urlsplit` does not say whether there is an empty query)
         target = (parts.path or "/") + (f"?{parts.query}" if "?" in url.partition("#")[0] else "")
         if not METHOD.fullmatch(method) or not TARGET.fullmatch(target):
-            raise ValueError(f"no method of HTTP, or an address with a space or an octet that is not ASCII: {method} {target}")
+            raise ValueError("no method of HTTP, or an address with a space or an octet that is not ASCII: "
+                             f"{method} {target}")
         sent, added = [*fields], {KEY: in_braces(self.key), **({SEQUENCE: self.sequence} if self.sequence else {})}
         if Message(method, parts.netloc, target, sent, body).may_have_body():
             added["Content-Digest"] = content_digest(body)
@@ -52,7 +55,8 @@ class Signer:
         names = _components(message, covered)
         parameters = self._parameters(names)
         octets = octets_of(self.sign(base_of(message, parts.scheme, names, parameters)), self.length)
-        return {**added, "Signature-Input": f"{LABEL}={parameters}", "Signature": f"{LABEL}=:{base64.b64encode(octets).decode()}:"}
+        signature = base64.b64encode(octets).decode()
+        return {**added, "Signature-Input": f"{LABEL}={parameters}", "Signature": f"{LABEL}=:{signature}:"}
 
     def _parameters(self, names: list[str]) -> str:
         """The value of `@signature-params` for components of these names, created now, with a new nonce."""
@@ -63,8 +67,8 @@ class Signer:
 
 
 def _components(message: Message, covered: Iterable[str]) -> list[str]:
-    """The names of the components that the signature of a request covers: those of the profile, and the fields of `covered`. Raises
-    `ValueError` if the request has no field of a name in `covered`."""
+    """The names of the components that the signature of a request covers: those of the profile, and the fields of
+    `covered`. Raises `ValueError` if the request has no field of a name in `covered`."""
     names = ["@method", "@authority", "@path", "@query", PUBLIC_KEY]
     names += [name for name in (CHAINED, SEQUENCE.lower(), DIGEST) if message.values(name)]
     more = [name for name in dict.fromkeys(covered) if name not in names]
@@ -83,15 +87,18 @@ class _ToNames:
     def _is_to_one(self, url: str) -> bool:
         """Whether the host and port of an address are one of the names."""
         parts = urllib.parse.urlsplit(url)
-        return parts.scheme in PORTS and authority_of(parts.scheme, parts.netloc) in {authority_of(parts.scheme, name) for name in self.names}
+        if parts.scheme not in PORTS:
+            return False
+        return authority_of(parts.scheme, parts.netloc) in [authority_of(parts.scheme, name) for name in self.names]
 
 
 class Auth(_ToNames):
-    """Signs the requests of `requests` and of `httpx`, to one of some names: `requests.put(url, data=body, auth=Auth(signer, "files.example.org"))`.
+    """Signs the requests of `requests` and of `httpx`, to one of some names: `requests.put(url, data=body,
+    auth=Auth(signer, "files.example.org"))`.
 
-    A request to any other name gets no signature and no certificates. But `requests` follows a redirection with the fields of the first request,
-    which prove nothing there: `allow_redirects=False` keeps the key and the certificates from other names. The body must be octets or a string,
-    and not a stream.
+    A request to any other name gets no signature and no certificates. But `requests` follows a redirection with the
+    fields of the first request, which prove nothing there: `allow_redirects=False` keeps the key and the certificates
+    from other names. The body must be octets or a string, and not a stream.
     """
 
     def __call__(self, request: Any) -> Any:

@@ -39,13 +39,14 @@ class Nonces(Protocol):
     """Keeps which nonces were used. Several verifiers may share one."""
 
     def take(self, key: bytes, nonce: str, now: int, seconds: int) -> None:
-        """Keeps a nonce of a key for `seconds` from `now`, which is in seconds since 1970. Raises `Refused` if it was used before, or if there
-        is no room."""
+        """Keeps a nonce of a key for `seconds` from `now`, which is in seconds since 1970. Raises `Refused` if it was
+        used before, or if there is no room."""
 
 
 class Memory:
-    """Keeps nonces in two sets of at most `most` each, as digests of key and nonce. New ones go into the young set. When this was begun as long
-    ago as a nonce is kept, it becomes the old one, and the old one is dropped. `young_since` is when it was begun, in seconds since 1970."""
+    """Keeps nonces in two sets of at most `most` each, as digests of key and nonce. New ones go into the young set.
+    When this was begun as long ago as a nonce is kept, it becomes the old one, and the old one is dropped.
+    `young_since` is when it was begun, in seconds since 1970."""
 
     def __init__(self, most: int = USUAL_NONCES) -> None:
         self.most, self.young_since, self.lock = most, 0, threading.Lock()
@@ -53,8 +54,8 @@ class Memory:
         self.young: set[bytes] = set()
 
     def take(self, key: bytes, nonce: str, now: int, seconds: int) -> None:
-        """Keeps a nonce of a key for `seconds` from `now`, which is in seconds since 1970. Raises `Refused` if it was used before, or if the
-        young set is full: nothing is forgotten early."""
+        """Keeps a nonce of a key for `seconds` from `now`, which is in seconds since 1970. Raises `Refused` if it was
+        used before, or if the young set is full: nothing is forgotten early."""
         # (the octet 0 separates key and nonce: a nonce has none. 16 octets of the digest are enough)
         digest = hashlib.sha256(key + b"\0" + nonce.encode()).digest()[:16]
         with self.lock:
@@ -87,10 +88,11 @@ class Proof:
 class Verifier:
     """Verifies requests to a service of these names, with ports that are not the scheme's own.
 
-    `scheme` is `https` or `http`. `sequence` is the name of the field with the certificates, in small letters. `nonces` keeps the used nonces, in a
-    `Memory` if it is None. `now` is the clock, in seconds since 1970, and `verify` says whether a signature is valid: `spki_verify` if it is None.
-    A request that was created before `start`, in seconds since 1970, is refused, since its nonce may be forgotten. It is the time now if it is
-    None. Set it to 0 if the nonces outlast the process.
+    `scheme` is `https` or `http`. `sequence` is the name of the field with the certificates, in small letters. `nonces`
+    keeps the used nonces, in a `Memory` if it is None. `now` is the clock, in seconds since 1970, and `verify` says
+    whether a signature is valid: `spki_verify` if it is None. A request that was created before `start`, in seconds
+    since 1970, is refused, since its nonce may be forgotten. It is the time now if it is None. Set it to 0 if the
+    nonces outlast the process.
     """
 
     def __init__(self, *authorities: str, scheme: str = "https", sequence: str = "x-spki-sequence", nonces: Nonces | None = None,
@@ -110,13 +112,13 @@ class Verifier:
         return proof
 
     def take(self, proof: Proof) -> None:
-        """Uses up the nonce of a proof from `check`. NO PROOF COUNTS WITHOUT IT, but the caller may decide before that, so that strangers do not
-        fill the store. Raises `Refused`."""
+        """Uses up the nonce of a proof from `check`. NO PROOF COUNTS WITHOUT IT, but the caller may decide before that,
+        so that strangers do not fill the store. Raises `Refused`."""
         self.nonces.take(proof.key, proof.nonce, int(self.now()), MOST_WINDOW + MOST_AHEAD)
 
     def check(self, message: Message) -> Proof:
-        """The proof of a request, whose nonce is not used up: `take` must follow. Raises `Refused`, and `TypeError` if `verify` returns neither
-        `True` nor `False`."""
+        """The proof of a request, whose nonce is not used up: `take` must follow. Raises `Refused`, and `TypeError` if
+        `verify` returns neither `True` nor `False`."""
         # (the fields may be an iterator, which can be read once)
         message = replace(message, fields=[*message.fields])
         inputs, signatures = message.values("signature-input"), message.values("signature")
@@ -144,8 +146,8 @@ class Verifier:
         return proof
 
     def _is_valid(self, signature: Signed) -> bool:
-        """Whether `verify` says that a signature is valid. Raises `TypeError` if it returns neither `True` nor `False`: a coroutine would count as
-        true."""
+        """Whether `verify` says that a signature is valid. Raises `TypeError` if it returns neither `True` nor `False`:
+        a coroutine would count as true."""
         answer = self.verify(signature)
         if answer is not True and answer is not False:
             raise TypeError(f"a signature is valid by True or not by False, and not by {type(answer).__name__}")
@@ -155,7 +157,8 @@ class Verifier:
         """Tests the tag, the length of the nonce, and the times. Raises `Refused` by the first test that fails."""
         now, created, expires = int(self.now()), signature_input.created, signature_input.expires
         for is_wrong, name in (
-            (signature_input.tag != TAG, "other-tag"), (not LEAST_NONCE <= len(signature_input.nonce) <= MOST_NONCE, "bad-nonce"),
+            (signature_input.tag != TAG, "other-tag"),
+            (not LEAST_NONCE <= len(signature_input.nonce) <= MOST_NONCE, "bad-nonce"),
             (not created < expires <= created + MOST_WINDOW, "bad-window"), (created > now + MOST_AHEAD, "too-early"),
             (expires <= now, "expired"), (created < self.start, "before-start"),
         ):
@@ -163,8 +166,8 @@ class Verifier:
                 raise Refused(name)
 
     def _check_message(self, message: Message, signature_input: Input) -> tuple[bytes, tuple[str, bytes] | None]:
-        """Tests the method, the target, the authority, and that all is covered that must be. Returns the signed text, and the algorithm and
-        octets of the body's digest, or None if none is covered. Raises `Refused`."""
+        """Tests the method, the target, the authority, and that all is covered that must be. Returns the signed text,
+        and the algorithm and octets of the body's digest, or None if none is covered. Raises `Refused`."""
         if not METHOD.fullmatch(message.method):
             raise Refused("bad-method")
         if not TARGET.fullmatch(message.target):
@@ -173,7 +176,8 @@ class Verifier:
         if not message.authority or authority_of(self.scheme, message.authority) not in self.authorities:
             raise Refused("other-authority")
         text = base_of(message, self.scheme, signature_input.components, signature_input.text)
-        if any(message.values(name) and name not in signature_input.components for name in (CHAINED, self.sequence, DIGEST)):
+        components = signature_input.components
+        if any(message.values(name) and name not in components for name in (CHAINED, self.sequence, DIGEST)):
             raise Refused("uncovered-field")
         if DIGEST not in signature_input.components:
             if message.may_have_body():

@@ -30,7 +30,8 @@ MOST_OCTETS = 4096
 # The prime and the order of Ed25519.
 P_25519, ORDER_25519 = 2**255 - 19, 2**252 + 27742317777372353535851937790883648493
 # The two coordinates y of the four points of order 8 of Ed25519.
-ORDER_8_YS = (0x05FC536D880238B13933C6D305ACDFD5F098EFF289F4C345B027B2C28F95E826, 0x7A03AC9277FDC74EC6CC392CFA53202A0F67100D760B3CBA4FD84D3D706A17C7)
+ORDER_8_YS = (0x05FC536D880238B13933C6D305ACDFD5F098EFF289F4C345B027B2C28F95E826,
+              0x7A03AC9277FDC74EC6CC392CFA53202A0F67100D760B3CBA4FD84D3D706A17C7)
 # The templates of keys and of the values of signatures: canonical texts with `%` for each string that differs.
 ED25519_KEY = b"(10:public-key(3:ecc(5:curve7:Ed25519)(5:flags5:eddsa)(1:q%)))"
 RSA_KEY = b"(10:public-key(3:rsa(1:n%)(1:e%)))"
@@ -41,7 +42,8 @@ ECDSA_VALUE = b"(7:sig-val(5:ecdsa(1:r%)(1:s%)))"
 
 
 class Curve(NamedTuple):
-    """A curve of ECDSA: its prime and its order, the octets of a coordinate, and the digest of a message that is signed."""
+    """A curve of ECDSA: its prime and its order, the octets of a coordinate, and the digest of a message that is
+    signed."""
 
     curve: EllipticCurve
     prime: int
@@ -80,8 +82,8 @@ def verify(signature: Signed) -> bool:
 
 
 def verify_texts(*, key: bytes, message: bytes, value: bytes) -> bool:
-    """Whether `value` is a valid signature of `message` by `key`, the two in canonical form. Those in another form, and an empty message, have
-    no valid signature."""
+    """Whether `value` is a valid signature of `message` by `key`, the two in canonical form. Those in another form, and
+    an empty message, have no valid signature."""
     public = public_of(key)
     try:
         return public is not None and message != b"" and _is_valid(public, message, value)
@@ -97,7 +99,9 @@ def public_of(key: bytes) -> Public | None:
             return Ed25519PublicKey.from_public_bytes(strings[0]) if _is_of_large_order(strings[0]) else None
         if strings := _strings(key, ECDSA_KEY):
             curve, point = CURVES.get(strings[0]), strings[1]
-            return EllipticCurvePublicKey.from_encoded_point(curve.curve, point) if curve and _are_coordinates(curve, point) else None
+            if curve is None or not _are_coordinates(curve, point):
+                return None
+            return EllipticCurvePublicKey.from_encoded_point(curve.curve, point)
         return _rsa_key(*strings) if (strings := _strings(key, RSA_KEY)) else None
     except ValueError:
         return None
@@ -109,9 +113,10 @@ def number(value: int) -> bytes:
 
 
 def _is_of_large_order(q: bytes) -> bool:
-    """Whether octets may be a key of Ed25519: by their coordinate y, they are not of a point of small order, for which anyone can make
-    signatures, and not a second text of a point. The points of order 1, 2 and 4 have a y of 1, p - 1 and 0. All y below 2^192 are refused with
-    them, which no random key has. That the octets are a point is not tested."""
+    """Whether octets may be a key of Ed25519: by their coordinate y, they are not of a point of small order, for which
+    anyone can make signatures, and not a second text of a point. The points of order 1, 2 and 4 have a y of 1, p - 1
+    and 0. All y below 2^192 are refused with them, which no random key has. That the octets are a point is not
+    tested."""
     # (the highest bit is the sign of x)
     y = int.from_bytes(q, "little") % 2**255
     return len(q) == HALF and 2**192 <= y < P_25519 - 1 and y not in ORDER_8_YS
@@ -124,8 +129,8 @@ def _are_coordinates(curve: Curve, q: bytes) -> bool:
 
 
 def _rsa_key(modulus: bytes, exponent: bytes) -> RSAPublicKey | None:
-    """The key of a modulus and an exponent. None if one is not as `number` writes it, or is even, or is beyond the limits at the top of this
-    file."""
+    """The key of a modulus and an exponent. None if one is not as `number` writes it, or is even, or is beyond the
+    limits at the top of this file."""
     n, e = int.from_bytes(modulus, "big"), int.from_bytes(exponent, "big")
     is_written = (modulus, exponent) == (number(n), number(e))
     is_within = LEAST_BITS <= n.bit_length() <= MOST_BITS and 3 <= e < 2**MOST_EXPONENT_BITS
@@ -133,7 +138,8 @@ def _rsa_key(modulus: bytes, exponent: bytes) -> RSAPublicKey | None:
 
 
 def _is_valid(public: Public, message: bytes, value: bytes) -> bool:
-    """True if a value is a signature of a message by a public key. Otherwise False, or one of the exceptions that `verify_texts` catches."""
+    """True if a value is a signature of a message by a public key. Otherwise False, or one of the exceptions that
+    `verify_texts` catches."""
     if isinstance(public, Ed25519PublicKey):
         halves = _strings(value, EDDSA_VALUE)
         if [len(half) for half in halves] != [HALF, HALF] or int.from_bytes(halves[1], "little") >= ORDER_25519:
@@ -157,8 +163,8 @@ def _is_valid(public: Public, message: bytes, value: bytes) -> bool:
 
 
 def _strings(text: bytes, template: bytes) -> list[bytes]:
-    """The strings of a canonical text at the places of `%` in a template, such as `RSA_KEY`. An empty list if the text does not match it or
-    has more than `MOST_OCTETS`."""
+    """The strings of a canonical text at the places of `%` in a template, such as `RSA_KEY`. An empty list if the text
+    does not match it or has more than `MOST_OCTETS`."""
     first, *rest = template.split(b"%")
     position, strings = len(first), []
     if len(text) > MOST_OCTETS or not text.startswith(first):
