@@ -41,6 +41,7 @@ def try_bodies(names: list[str], counts: Counts) -> None:
 
 def try_all(names: list[str], counts: Counts) -> None:
     """Tries every wrong body of these crates, or of all. `rt ci` proves the crates first, and tries those in must-fail/."""
+    toolchain.remove_kept_libraries()
     with Parts(plan.DEEP_MINUTES) as parts:
         counts.add_log(*parts.wait_and_print(parts.begin("rt", "ci", *names)))
     try_bodies([name for name, crate in toolchain.crates(*names).items() if bodies.paths_of(crate)], counts)

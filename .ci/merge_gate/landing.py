@@ -1,24 +1,15 @@
 """The gate: what must pass before a change lands."""
-import glob
-import os
-import shutil
 import sys
 
 from merge_gate import plan
 from merge_gate.report import Counts
 from merge_gate.run import Parts
-from merge_gate.toolchain import TOP
-
-
-def remove_kept_libraries() -> None:
-    """Removes the libraries that earlier runs have left: `rt ci` would put them back over those that it makes, and the library for C would be built
-    over old ones."""
-    for path in [*glob.glob(os.path.join(TOP, "crates", "*", "out", "rlib")), os.path.join(TOP, "crates", "spki_c", "out", "incremental")]:
-        shutil.rmtree(path, ignore_errors=True)
+from merge_gate.toolchain import remove_kept_libraries
 
 
 def land(parts: Parts, counts: Counts) -> None:
-    """Runs all parts of the gate. The proofs, the wrong bodies, the tests and the pages begin side by side. Stops if a page or a proof fails."""
+    """Runs all parts of the gate. The proofs, the tests and the pages begin side by side, the wrong bodies when all is proved. Stops if a page or a
+    proof fails."""
     proving = parts.begin("rt", "ci")
     testing = parts.begin("tests/run", "--beside", proving.log, "--cases", str(plan.CASES))
     for part, minutes in ((parts.begin("tests/run", "--pages"), plan.PAGES), (proving, plan.PROOFS)):

@@ -11,6 +11,7 @@ used stand here:
 | `rtlib.guarded` | ends the checks when this process ends. It must be called first in the main thread |
 """
 import functools
+import glob
 import importlib.machinery
 import os
 import shutil
@@ -66,3 +67,10 @@ def verdict_on(crate: Any, path: str, over: str) -> tuple[bool, str]:
     """Whether a crate's contract refuses an edit, and what is said of it. The whole crate is checked, beginning with what the folder `over` has."""
     verdict, said = rt_module().must_fail(crate, path, ONE, over)
     return verdict == rt_module().REFUSED and not any(words in said for words in SAYS_LITTLE), said
+
+
+def remove_kept_libraries() -> None:
+    """Removes the libraries that earlier runs have left: `rt ci` would put them back over those that it makes, and the library for C would be built
+    over old ones."""
+    for path in [*glob.glob(os.path.join(TOP, "crates", "*", "out", "rlib")), os.path.join(TOP, "crates", "spki_c", "out", "incremental")]:
+        shutil.rmtree(path, ignore_errors=True)
