@@ -535,6 +535,7 @@ class OfTags(Case):
     def test_the_first_member_that_differs_is_named(self):
         for tag, request, words in [("(a b c)", "(a b)", "has 2 members, and the tag at least 3"), ("(a (* set b c))", "(a d)", "no member of"),
                                     ("(a (b c))", "(a (b d))", "member 2 of member 2 of the request is `d`"), ("(a)", "a", "is the string `a`"),
+                                    ("(a b c)", "(a x y)", "member 2 of the request is `x`"),
                                     ("(* range date ge \"2026-01-01_00:00:00\")", "x", "the tag has `(* range")]:
             difference = tag_words.lacks(value_in(tag.encode()).value, value_in(request.encode()).value)
             self.assertIn(words, difference)

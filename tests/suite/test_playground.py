@@ -151,15 +151,15 @@ class Answers(OfPage):
         self.assertEqual([sum(example["wanted"].endswith(f" {word}") for example in EXAMPLES) for word in words], [1] * len(words))
 
     def test_the_case_is_of_what_was_typed(self) -> None:
-        """The case of an answer has what was typed. It has nothing else but signatures that the page has made up."""
-        for example in EXAMPLES[:14]:
-            question = example["question"]
+        """The case of an answer has what was typed, signatures that the page made up, the accepted ones, and the policy. A refused one has none."""
+        for question in (example["question"] for example in EXAMPLES if not example["wanted"].startswith("refused")):
             answer = self.page.ask("question", **question)
             case = read(run(built.program(), "canonical", answer["case"].encode())[1])
             typed = {name: read(run(built.program(), "canonical", question[name].encode())[1]) for name in ("acl", "sequence", "key")}
             shown = [item for item in case[3] if item[0] != b"signature" or item in typed["sequence"]]
             self.assertEqual((case[1], shown, case[4][1], case[5][1], case[6][1]),
                              (typed["acl"], typed["sequence"], typed["key"], [it.encode() for it in question["request"]], question["at"].encode()))
+            self.assertEqual((case[2][0], case[7:]), (b"accepted", [[b"policy", b"strict"]] if question["strict"] else []))
 
     def test_a_whole_case_has_the_answer_of_the_program(self) -> None:
         for name in ("granted", "no-delegation"):
