@@ -7,9 +7,9 @@ import re
 from collections.abc import Iterator
 from typing import Any
 
-# A remark or an import, which says nothing of what is promised. The head of a public function, up to its body. A public trait.
+# A remark or an import, which says nothing of what is promised. The head of a function, up to its body. A public trait.
 REMARK = re.compile(r"^\s*(?:--|//|use |ghost use |pub use ).*\n|^\s*\n", re.MULTILINE)
-HEAD = re.compile(r"^( *)pub (?:const |unsafe |extern \"C\" )*fn (?:.|\n)*?(?:\n\1| )\{\}?$", re.MULTILINE)
+HEAD = re.compile(r"^( *)(?:pub(?:\([\w:]+\))? |const |unsafe |extern \"C\" )*fn (?:.|\n)*?(?:\n\1| )\{\}?$", re.MULTILINE)
 TRAIT = re.compile(r"^pub (?:unsafe )?trait (?:.|\n)*?^\}", re.MULTILINE)
 
 
@@ -20,8 +20,8 @@ def read(path: str) -> str:
 
 
 def promises(crate: Any) -> Iterator[str]:
-    """What the wrong bodies of a crate are tried against, and they themselves: the contracts of its public functions, its public traits, and the
-    definitions of its specifications and of those of the crates below."""
+    """What the wrong bodies of a crate are tried against, and they themselves: the contracts of its functions, its public traits, and the definitions
+    of its specifications and of those of the crates below. A wrong body is an edit of a function that its contract must refuse."""
     for path in sorted(glob.glob(f"{crate.folder}/src/**/*.rt", recursive=True)):
         text = read(path)
         yield from (found[0] for pattern in (HEAD, TRAIT) for found in pattern.finditer(text))

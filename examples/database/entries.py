@@ -14,9 +14,9 @@ PRINCIPALS = (b"public-key", b"hash")
 ALGORITHMS = ("sha1", "sha256", "sha512")
 
 
-def places_of(key):
+def digests_of(key):
     """The digests by which the store finds the principals that can name a key, as octets. `key` is its text in canonical form. If the store finds
-    other principals too, that does no harm."""
+    other principals too, that does no harm: the guard decides by the entries themselves."""
     return [hashlib.new(algorithm, key).digest() for algorithm in ALGORITHMS]
 
 
@@ -52,7 +52,7 @@ def list_of(texts, policy=spki.Policy.STRICT, limits=LIMITS):
 
 
 class Service:
-    """Answers questions by the entries of a store: an object whose `found` returns the numbers and the texts of entries, by `places_of` a key."""
+    """Answers questions by the entries of a store: an object whose `found` returns the numbers and the texts of entries, by `digests_of` a key."""
 
     def __init__(self, store, policy=spki.Policy.STRICT, limits=LIMITS):
         self.store, self.policy, self.limits = store, policy, limits
@@ -69,7 +69,7 @@ class Service:
         # stand, and no entry grants whichever are found.
         with self.no_entries.ask(question) as asked:
             first = next(iter(asked), None)
-        rows = self.store.found(places_of(first.key if first else spki.canonical(question.key.text)))
+        rows = self.store.found(digests_of(first.key if first else spki.canonical(question.key.text)))
         with list_of([text for _, text in rows], self.policy, self.limits) as guard:
             decision = guard.decide(question, verify)
         return rows[decision.entry - 1][0] if decision else None

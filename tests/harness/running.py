@@ -40,8 +40,8 @@ class Outcome:
 
 
 def module_of(test: unittest.TestCase) -> str:
-    """The module of a test, without the folder."""
-    return type(test).__module__.removeprefix("suite.")
+    """The module of a test, without the folder. Of one that is skipped as a whole, unittest makes a test that has its name."""
+    return test.id().rpartition(".")[2] if is_whole_module(test) else type(test).__module__.removeprefix("suite.")
 
 
 def short_name(test: unittest.TestCase) -> str:
@@ -161,7 +161,7 @@ def parts_of(tests: Iterable[unittest.TestCase]) -> list[tuple[str, list[unittes
     """The tests in parts (name of the class, tests), those that take longest first. A class in a module of APART has several parts."""
     by_class: dict[str, list[unittest.TestCase]] = {}
     for test in tests:
-        name = test.id().rpartition(".")[2] if is_whole_module(test) else f"{module_of(test)}.{type(test).__qualname__}"
+        name = module_of(test) if is_whole_module(test) else f"{module_of(test)}.{type(test).__qualname__}"
         by_class.setdefault(name, []).append(test)
     parts = []
     for name, of_class in by_class.items():

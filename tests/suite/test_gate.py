@@ -85,15 +85,13 @@ class Records(unittest.TestCase):
     """What the deep run has recorded."""
 
     def test_text(self) -> None:
-        """A record is about contracts of public functions and definitions, and neither about bodies nor about remarks."""
+        """A record is about contracts of functions and definitions, and neither about bodies nor about remarks."""
         def heads(text: str) -> list[str]:
             return [found[0] for found in records.HEAD.finditer(records.REMARK.sub("", text))]
 
-        public = SOURCE.replace("\nfn", "\npub fn").replace("pub(crate) fn", "pub fn")
-        self.assertEqual(heads(SOURCE), [])
-        self.assertEqual(heads(public), ["pub fn is_it(n: usize) -> bool\n    ensures { result }\n{", "    pub fn length(&self) -> usize {"])
-        self.assertEqual(heads(public.replace("n < MOST", "true").replace("/// Its", "/// The")), heads(public))
-        self.assertNotEqual(heads(public.replace("{ result }", "{ ⊤ }")), heads(public))
+        self.assertEqual(heads(SOURCE), ["fn is_it(n: usize) -> bool\n    ensures { result }\n{", "    pub(crate) fn length(&self) -> usize {"])
+        self.assertEqual(heads(SOURCE.replace("n < MOST", "true").replace("/// Its", "/// The")), heads(SOURCE))
+        self.assertNotEqual(heads(SOURCE.replace("{ result }", "{ ⊤ }")), heads(SOURCE))
 
 
 class Verdicts(unittest.TestCase):

@@ -565,6 +565,8 @@ class InChromium(OfPage):
         return self.browser.execute_script("return document.activeElement.id || document.activeElement.textContent")
 
     def test_examples_have_the_answers_of_the_program(self) -> None:
+        """The page shows the line of `check`, and behind a no its first reason, if there is one. A refusal is that of the example. A certificate has
+        its own number there: item 1 of a sequence is certificate 1, item 2 its signature, and item 3 certificate 2."""
         for place, example in enumerate(EXAMPLES):
             with self.subTest(example["name"]):
                 self.browser.execute_script("const it = document.getElementById('example'); it.value = arguments[0];"
