@@ -8,7 +8,7 @@ use spki_decision::{Decision, EntryFold, Evidence, Explanation, Reduction};
 use spki_reduce::{Five, Fold, Four, Issuer, Joined};
 use spki_tag::{Ground, Tag};
 use std::alloc::Global;
-use std::fmt::{Debug, Display};
+use std::fmt::Debug;
 
 /// The octets that are answered to a row, or why there are none.
 pub type Reply = Result<Vec<u8>, Failure>;
@@ -57,12 +57,6 @@ pub fn octets(alloc: Global, octets: &[u8]) -> Reply {
 /// A value as an answer, as `Debug` writes it.
 pub fn shown<T: Debug>(alloc: Global, value: &T) -> Reply {
     Ok(format!(in alloc; "{value:?}")?.into_bytes())
-}
-
-/// The answer for a fault that is no variant of `Failure`, in the form that `Failure::said` has: the name `kind`, the fault and its text,
-/// such as `Text(TooLong): text too long`.
-pub fn refused<F: Debug + Display>(alloc: Global, kind: &str, fault: &F) -> Reply {
-    Ok(format!(in alloc; "{kind}({fault:?}): {fault}")?.into_bytes())
 }
 
 /// The octets of all parts one after another, as an answer.
@@ -269,8 +263,13 @@ impl Answered for Reduction<'_> {
 fn lines_of(alloc: Global, folds: &[EntryFold]) -> Reply {
     let mut out = Vec::new(alloc);
     for fold in folds {
-        out.extend_from_slice(&fold.answered(alloc)?)?;
-        out.push(b'\n')?;
+        push_line(alloc, &mut out, fold)?;
     }
     Ok(out)
+}
+
+/// Appends the line of one entry.
+fn push_line(alloc: Global, out: &mut Vec<u8>, fold: &EntryFold) -> Result<(), Failure> {
+    out.extend_from_slice(&fold.answered(alloc)?)?;
+    Ok(out.push(b'\n')?)
 }

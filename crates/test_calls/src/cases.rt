@@ -3,7 +3,7 @@
 use crate::answers::{Called, Reply, answer, call_on};
 use crate::guards;
 use crate::texts::at;
-use crate::verifier::RowVerifier;
+use crate::verifier::{CalledBy, RowVerifier, with_verifier};
 use spki_case::Case;
 use spki_decision::{decide, explain, judge, reduce_case};
 use std::alloc::Global;
@@ -31,24 +31,50 @@ impl<'x> Called<'x> for Case<'_> {
 
 /// The answer of `Case::read`: how many entries the access list has and, after a space, how many items the sequence has.
 fn counted(alloc: Global, case: &Case) -> Reply {
-    let (entries, items) = (case.acl.len(), case.sequence.len());
-    Ok(format!(in alloc; "{entries} {items}")?.into_bytes())
+    two_numbers(alloc, case.acl.len(), case.sequence.len())
 }
 
-/// Does a call on a case by the verifier that `rows` names: `all`, `broken`, or an accepted list.
-fn with_verifier(alloc: Global, name: &str, case: &Case, rows: &[u8]) -> Reply {
-    let verifier = RowVerifier::read(alloc, rows)?;
-    let reply = by_verifier(alloc, name, case, &verifier);
-    drop(verifier);
-    reply
+/// Two numbers and a space between them, as an answer.
+fn two_numbers(alloc: Global, one: usize, other: usize) -> Reply {
+    Ok(format!(in alloc; "{one} {other}")?.into_bytes())
 }
 
-/// Does the call with this name on a case by a verifier. The `_` arm is `reduce_case`.
-fn by_verifier(alloc: Global, name: &str, case: &Case, verifier: &RowVerifier) -> Reply {
+/// What a call on a case asks for. It is matched in place of the call's name: the proof of each comparison of a name goes through all parts of
+/// the case that is at hand.
+#[derive(Clone, Copy)]
+enum Wanted {
+    /// Which certificates are verified.
+    Evidence,
+    /// The decision.
+    Decision,
+    /// Why each entry grants or does not.
+    Explanation,
+    /// What each entry becomes.
+    Reduction,
+}
+
+/// What the call with this name asks for. The `_` arm is `reduce_case`.
+fn wanted_by(name: &str) -> Wanted {
     match name {
-        "judge" => answer(alloc, judge(alloc, &case.sequence, case.policy, verifier)),
-        "decide" => answer(alloc, decide(alloc, case, verifier)),
-        "explain" => answer(alloc, explain(alloc, case, verifier)),
-        _ => answer(alloc, reduce_case(alloc, case, verifier)),
+        "judge" => Wanted::Evidence,
+        "decide" => Wanted::Decision,
+        "explain" => Wanted::Explanation,
+        _ => Wanted::Reduction,
     }
+}
+
+impl CalledBy for Case<'_> {
+    fn call_by(&self, alloc: Global, name: &str, verifier: &RowVerifier) -> Reply {
+        match wanted_by(name) {
+            Wanted::Evidence => judged(alloc, self, verifier),
+            Wanted::Decision => answer(alloc, decide(alloc, self, verifier)),
+            Wanted::Explanation => answer(alloc, explain(alloc, self, verifier)),
+            Wanted::Reduction => answer(alloc, reduce_case(alloc, self, verifier)),
+        }
+    }
+}
+
+/// The answer of `judge` on a case's sequence.
+fn judged(alloc: Global, case: &Case, verifier: &RowVerifier) -> Reply {
+    answer(alloc, judge(alloc, &case.sequence, case.policy, verifier))
 }

@@ -47,13 +47,24 @@ impl<'x> Called<'x> for Doc<'_> {
 /// `most` is the number of octets of the text, which is at least the number of nodes.
 fn nodes(alloc: Global, document: &Doc, most: usize) -> Reply {
     let mut out = format!(in alloc; "root {}\n", document.root().0)?.into_bytes();
+    push_nodes(alloc, &mut out, document, most)?;
+    Ok(out)
+}
+
+/// Appends the line of each node, and that of the first number up to `most` that is no node.
+fn push_nodes(
+    alloc: Global,
+    out: &mut Vec<u8>,
+    document: &Doc,
+    most: usize,
+) -> Result<(), AllocError> {
     for n in 0..=most {
-        push_node(alloc, &mut out, document, NodeId(n))?;
+        push_node(alloc, out, document, NodeId(n))?;
         if document.start(NodeId(n)).is_none() {
             break;
         }
     }
-    Ok(out)
+    Ok(())
 }
 
 /// Appends the line of node `n`: what `push_numbers` appends, the node's canonical text, and for a string its octets and its display hint.
@@ -80,8 +91,12 @@ fn push_numbers(
 ) -> Result<(), AllocError> {
     let start = document.start(n);
     let count = document.parts(n);
-    let parts = [0, 1, 2].map(|i| document.part(n, i));
-    let line = format!(in alloc; "{start:?} {count:?} {parts:?}")?;
+    let (one, two, three) = (
+        document.part(n, 0),
+        document.part(n, 1),
+        document.part(n, 2),
+    );
+    let line = format!(in alloc; "{start:?} {count:?} [{one:?}, {two:?}, {three:?}]")?;
     Ok(out.extend_from_slice(line.as_bytes())?)
 }
 
@@ -112,6 +127,15 @@ fn read(alloc: Global, name: &str, document: &Doc, n: NodeId, octets: &[u8]) -> 
         "read_key" => answer(alloc, read_key(document, n)),
         "read_hash" => read_hash(alloc, document, n, octets),
         "read_date" => answer(alloc, read_date(document, n)),
+        _ => read_parts(alloc, name, document, n),
+    }
+}
+
+/// As `read`, for the values that have several parts.
+fn read_parts(alloc: Global, name: &str, document: &Doc, n: NodeId) -> Reply
+    requires { IsSome (node document.now n.0) }
+{
+    match name {
         "read_acl" => answer(alloc, read_acl(alloc, document, n)),
         "read_sequence" => answer(alloc, read_sequence(alloc, document, n)),
         "Tag::read" => read_tag(alloc, document, n),

@@ -1,6 +1,7 @@
 //! Why a row has no answer.
 
-use crate::answers::Reply;
+use crate::answers::{Reply, octets};
+use arrayvec::ArrayString;
 use hex::FromHexError;
 use sexpr_core::FormFault;
 use spki_case::{CaseFault, RowsFault};
@@ -10,73 +11,108 @@ use spki_reduce::ReduceFault;
 use spki_service::{AclFault, AskFault};
 use spki_tag::{MeetFault, TagFault};
 use std::alloc::{AllocError, AllocFailed, Global};
+use std::fmt::{Debug, Display, Write};
 use std::io;
 use std::io::ErrorKind;
-use thiserror::Error;
 
-/// Why a row has no answer. Each variant without a comment is a fault that calls of the libraries return.
-#[derive(Debug, Drop, Error)]
+/// Why a call has no result. A fault of the libraries is written out at once: each function that may fail is proved for each state of this type, and
+/// those of the faults are many.
+#[derive(Clone, Copy, Debug)]
 pub enum Failure {
     /// Memory ran out.
-    #[error("out of memory")]
     Memory,
     /// The row is malformed: an unknown call, or texts that are no hexadecimal digits.
-    #[error("no row")]
     Unknown,
-    #[error(transparent)]
-    Form(#[from] FormFault),
-    #[error(transparent)]
-    Tag(#[from] TagFault),
-    #[error(transparent)]
-    Meet(#[from] MeetFault),
-    #[error(transparent)]
-    Cert(#[from] CertFault),
-    #[error(transparent)]
-    Kind(#[from] CertFaultKind),
-    #[error(transparent)]
-    Reduce(#[from] ReduceFault),
-    #[error(transparent)]
-    Case(#[from] CaseFault),
-    #[error(transparent)]
-    Rows(#[from] RowsFault),
-    #[error(transparent)]
-    Decision(#[from] GuardFault),
-    #[error(transparent)]
-    Acl(#[from] AclFault),
-    #[error(transparent)]
-    Ask(#[from] AskFault),
+    /// A fault that a call of the libraries returned, as `fault` writes it.
+    Fault(ArrayString<240>),
 }
 
 impl Failure {
-    /// Whether memory ran out.
-    fn is_memory(&self) -> bool {
-        matches!(
-            self,
-            Failure::Memory
-                | Failure::Form(FormFault::Memory)
-                | Failure::Tag(TagFault::Memory)
-                | Failure::Meet(MeetFault::Memory)
-                | Failure::Cert(CertFault {
-                    kind: CertFaultKind::Memory,
-                    ..
-                })
-                | Failure::Kind(CertFaultKind::Memory)
-                | Failure::Reduce(ReduceFault::Memory)
-                | Failure::Case(CaseFault::Memory)
-                | Failure::Rows(RowsFault::Memory)
-                | Failure::Decision(GuardFault::Memory)
-                | Failure::Acl(AclFault::Memory)
-                | Failure::Ask(AskFault::Memory)
-        )
+    /// A fault of the libraries and its text, as the answer to a row: for example `Form(Short): the text ends too soon`, where `kind` is `Form`.
+    /// `Memory` if the fault is that memory ran out. `Unknown` if the text is too long for `Fault`: no text of a fault is.
+    pub fn fault<F: Debug + Display>(kind: &str, fault: &F, is_memory: bool) -> Failure {
+        if is_memory {
+            return Failure::Memory;
+        }
+        let mut text = ArrayString::new();
+        match write!(&mut text, "{kind}({fault:?}): {fault}") {
+            Ok(()) => Failure::Fault(text),
+            Err(_) => Failure::Unknown,
+        }
     }
 
-    /// The fault and its text, as the answer to a row: for example `Form(Short): the text ends too soon`. Err is `Memory` if the fault is
-    /// that memory ran out.
+    /// The fault that a call returned, as the answer to a row. Err if there is no answer.
     pub fn said(self, alloc: Global) -> Reply {
-        if self.is_memory() {
-            return Err(Failure::Memory);
+        match self {
+            Failure::Fault(text) => octets(alloc, text.as_bytes()),
+            failure => Err(failure),
         }
-        Ok(format!(in alloc; "{self:?}: {self}")?.into_bytes())
+    }
+}
+
+impl From<FormFault> for Failure {
+    fn from(fault: FormFault) -> Failure {
+        Failure::fault("Form", &fault, matches!(fault, FormFault::Memory))
+    }
+}
+
+impl From<TagFault> for Failure {
+    fn from(fault: TagFault) -> Failure {
+        Failure::fault("Tag", &fault, matches!(fault, TagFault::Memory))
+    }
+}
+
+impl From<MeetFault> for Failure {
+    fn from(fault: MeetFault) -> Failure {
+        Failure::fault("Meet", &fault, matches!(fault, MeetFault::Memory))
+    }
+}
+
+impl From<CertFault> for Failure {
+    fn from(fault: CertFault) -> Failure {
+        Failure::fault("Cert", &fault, matches!(fault.kind, CertFaultKind::Memory))
+    }
+}
+
+impl From<CertFaultKind> for Failure {
+    fn from(fault: CertFaultKind) -> Failure {
+        Failure::fault("Kind", &fault, matches!(fault, CertFaultKind::Memory))
+    }
+}
+
+impl From<ReduceFault> for Failure {
+    fn from(fault: ReduceFault) -> Failure {
+        Failure::fault("Reduce", &fault, matches!(fault, ReduceFault::Memory))
+    }
+}
+
+impl From<CaseFault> for Failure {
+    fn from(fault: CaseFault) -> Failure {
+        Failure::fault("Case", &fault, matches!(fault, CaseFault::Memory))
+    }
+}
+
+impl From<RowsFault> for Failure {
+    fn from(fault: RowsFault) -> Failure {
+        Failure::fault("Rows", &fault, matches!(fault, RowsFault::Memory))
+    }
+}
+
+impl From<GuardFault> for Failure {
+    fn from(fault: GuardFault) -> Failure {
+        Failure::fault("Decision", &fault, matches!(fault, GuardFault::Memory))
+    }
+}
+
+impl From<AclFault> for Failure {
+    fn from(fault: AclFault) -> Failure {
+        Failure::fault("Acl", &fault, matches!(fault, AclFault::Memory))
+    }
+}
+
+impl From<AskFault> for Failure {
+    fn from(fault: AskFault) -> Failure {
+        Failure::fault("Ask", &fault, matches!(fault, AskFault::Memory))
     }
 }
 

@@ -17,6 +17,14 @@ pub(crate) fn call(alloc: Global, name: &str, texts: &[Vec<u8>]) -> Option<Reply
         "read_advanced" => Some(answer(alloc, read_advanced(alloc, text))),
         "unwrap_braces" => Some(answer(alloc, unwrap_braces(alloc, text))),
         "print_advanced" | "wrap" => Some(call_on(alloc, decode(alloc, text), name, texts)),
+        _ => call_on_octets(alloc, name, texts),
+    }
+}
+
+/// As `call`, for the calls that take octets and not a tree.
+fn call_on_octets(alloc: Global, name: &str, texts: &[Vec<u8>]) -> Option<Reply> {
+    let text = at(texts, 0);
+    match name {
         "append_verbatim" => Some(verbatim(alloc, text)),
         "wrap_octets" => Some(answer(alloc, wrap_octets(alloc, text))),
         "octets_in_braces" => Some(answer(alloc, octets_in_braces(alloc, text))),

@@ -6,11 +6,11 @@ use crate::answers::{Called, Reply, answer, call_on, shown, word};
 use crate::failure::Failure;
 use crate::owned_questions;
 use crate::texts::{at, behind, number, word_of};
-use crate::verifier::RowVerifier;
+use crate::verifier::{CalledBy, RowVerifier, with_verifier};
 use spki_cert::Policy;
 use spki_decision::{Decision, Grant, GuardFault, Reduction};
 use spki_service::{
-    AskFault, Guard, Limits, Moment, PreparedQuestion, Question, RequestInput, Texts,
+    AclFault, AskFault, Guard, Limits, Moment, PreparedQuestion, Question, RequestInput, Texts,
 };
 use std::alloc::{AllocError, Global};
 
@@ -18,23 +18,14 @@ use std::alloc::{AllocError, Global};
 pub(crate) fn call(alloc: Global, name: &str, texts: &[Vec<u8>]) -> Option<Reply> {
     match name {
         "Limits::new" => Some(new_limits(alloc, texts)),
-        "Guard::read"
-        | "Guard::ask"
-        | "Guard::texts"
-        | "PreparedQuestion::decide"
-        | "PreparedQuestion::decide_by"
-        | "PreparedQuestion::grant"
-        | "PreparedQuestion::grant_by"
-        | "PreparedQuestion::explain"
-        | "PreparedQuestion::explain_by"
-        | "PreparedQuestion::reduce"
-        | "PreparedQuestion::reduce_by"
-        | "PreparedQuestion::reduce_into"
-        | "PreparedQuestion::is_possible" => {
-            Some(call_on(alloc, guard(alloc, texts), name, texts))
-        }
+        _ if is_of_guard(name) => Some(call_on(alloc, guard(alloc, texts), name, texts)),
         _ => owned_questions::call(alloc, name, texts),
     }
+}
+
+/// Whether the call with this name is done on a guard, or on a question that is read for one.
+fn is_of_guard(name: &str) -> bool {
+    matches!(name, "Guard::read" | "Guard::ask" | "Guard::texts") || wanted_by(name).is_some()
 }
 
 /// The name of the limits that the six texts are, as `name_of` says it: octets, certificates, strings, nodes, work and answer, in this
@@ -75,16 +66,17 @@ fn limits(octets: &[u8], nodes: &[u8]) -> Option<Limits> {
     Limits::new(octets, usize::MAX, usize::MAX, nodes, 2_000_000, 1_048_576)
 }
 
-/// The guard of the first four texts: the access list, its policy (`strict`, or else open), and the most octets and nodes.
-pub fn guard(alloc: Global, texts: &[Vec<u8>]) -> Result<Guard, Failure> {
+/// The guard of the first four texts: the access list, its policy (`strict`, or else open), and the most octets and nodes. If `limits` had
+/// none, the fault would be `Memory`, for which a row has no answer.
+pub fn guard(alloc: Global, texts: &[Vec<u8>]) -> Result<Guard, AclFault> {
     let policy = match word_of(at(texts, 1)) {
         "strict" => Policy::Strict,
         _ => Policy::Open,
     };
-    let Some(limits) = limits(at(texts, 2), at(texts, 3)) else {
-        return Err(Failure::Unknown);
-    };
-    Ok(Guard::read(alloc, at(texts, 0), policy, limits)?)
+    match limits(at(texts, 2), at(texts, 3)) {
+        Some(limits) => Guard::read(alloc, at(texts, 0), policy, limits),
+        None => Err(AclFault::Memory),
+    }
 }
 
 /// The question of four texts: the sequence, the key, the request and the moment.
@@ -119,18 +111,28 @@ impl<'x> Called<'x> for Guard {
 /// The decision on a question whose moment is seconds since 1970-01-01 UTC and whose request is strings. The texts are the key, the
 /// seconds, and the strings. The question has no certificates, so `decide_by` needs no marks.
 fn ask_words(alloc: Global, guard: &Guard, texts: &[Vec<u8>]) -> Reply {
+    let words = words_of(alloc, behind(texts, 2))?;
+    let question = with_words(texts, &words);
+    ask(alloc, "PreparedQuestion::decide_by", guard, &question, &[])
+}
+
+/// The texts as strings of a request.
+fn words_of<'a>(alloc: Global, texts: &'a [Vec<u8>]) -> Result<Vec<&'a [u8]>, AllocError> {
     let mut words = Vec::new(alloc);
-    for text in behind(texts, 2) {
+    for text in texts {
         words.push(text.as_slice())?;
     }
-    let question = Question {
+    Ok(words)
+}
+
+/// The question of `ask_words`, with the strings that were taken from its texts.
+fn with_words<'a>(texts: &'a [Vec<u8>], words: &'a [&'a [u8]]) -> Question<'a> {
+    Question {
         sequence: b"(8:sequence)",
         key: at(texts, 0),
-        request: RequestInput::Words(&words),
+        request: RequestInput::Words(words),
         moment: Moment::Seconds(seconds(at(texts, 1))),
-    };
-    let read = guard.texts(alloc, &question)?;
-    of_texts(alloc, "PreparedQuestion::decide_by", guard, read, &[])
+    }
 }
 
 /// Seconds in decimal digits. 0 for any other text.
@@ -164,60 +166,94 @@ fn marked<'a>(
     marks: &[u8],
 ) -> Result<PreparedQuestion<'a>, AskFault> {
     let mut asked = guard.ask(alloc, texts)?;
+    mark_all(&mut asked, marks);
+    Ok(asked)
+}
+
+/// Marks a question for `marked`.
+fn mark_all(asked: &mut PreparedQuestion, marks: &[u8]) {
     for (place, octet) in marks.iter().enumerate() {
         if *octet == b'1' {
             asked.mark(place);
         }
     }
-    Ok(asked)
 }
 
-/// The calls on a question. Four are by a verifier, which is the first of `texts`. The `_` arm is all others, by the question's marks.
-impl<'x> Called<'x> for PreparedQuestion<'_> {
-    fn call(&self, alloc: Global, name: &str, texts: &'x [Vec<u8>]) -> Reply {
-        match name {
-            "PreparedQuestion::decide"
+/// What a call on a question asks for. The functions below match it, and not the name of the call: a name is compared where no question is at
+/// hand, since the proof of each comparison goes through all that is.
+#[derive(Clone, Copy)]
+enum Wanted {
+    /// Its decision.
+    Decision,
+    /// Its grant.
+    Grant,
+    /// Why each entry grants it or does not.
+    Explanation,
+    /// What each entry becomes.
+    Reduction,
+    /// The same, in a vector of the caller.
+    ReductionInto,
+    /// Whether it can be granted at all.
+    Possibility,
+}
+
+/// What the call with this name asks for. None if there is no such call.
+fn wanted_by(name: &str) -> Option<Wanted> {
+    match name {
+        "PreparedQuestion::decide" | "PreparedQuestion::decide_by" => Some(Wanted::Decision),
+        "PreparedQuestion::grant" | "PreparedQuestion::grant_by" => Some(Wanted::Grant),
+        "PreparedQuestion::explain" | "PreparedQuestion::explain_by" => Some(Wanted::Explanation),
+        "PreparedQuestion::reduce" | "PreparedQuestion::reduce_by" => Some(Wanted::Reduction),
+        "PreparedQuestion::reduce_into" => Some(Wanted::ReductionInto),
+        "PreparedQuestion::is_possible" => Some(Wanted::Possibility),
+        _ => None,
+    }
+}
+
+/// Whether the call with this name is by a verifier, and not by marks.
+fn is_by_verifier(name: &str) -> bool {
+    matches!(
+        name,
+        "PreparedQuestion::decide"
             | "PreparedQuestion::grant"
             | "PreparedQuestion::explain"
-            | "PreparedQuestion::reduce" => { with_verifier(alloc, name, self, at(texts, 0)) }
-            _ => with_marks(alloc, name, self),
+            | "PreparedQuestion::reduce"
+    )
+}
+
+/// The calls on a question. Four are by a verifier, which is the first of `texts`, and the others by the question's marks.
+impl<'x> Called<'x> for PreparedQuestion<'_> {
+    fn call(&self, alloc: Global, name: &str, texts: &'x [Vec<u8>]) -> Reply {
+        if is_by_verifier(name) {
+            with_verifier(alloc, name, self, at(texts, 0))
+        } else {
+            with_marks(alloc, wanted_by(name), self)
         }
     }
 }
 
-/// Does a call on a question by the verifier that `rows` names: `all`, `broken`, or an accepted list.
-fn with_verifier(alloc: Global, name: &str, asked: &PreparedQuestion, rows: &[u8]) -> Reply {
-    let verifier = RowVerifier::read(alloc, rows)?;
-    let reply = by_verifier(alloc, name, asked, &verifier);
-    drop(verifier);
-    reply
-}
-
-/// Does the call with this name on a question by a verifier. The `_` arm is `PreparedQuestion::reduce`.
-fn by_verifier(
-    alloc: Global,
-    name: &str,
-    asked: &PreparedQuestion,
-    verifier: &RowVerifier,
-) -> Reply {
-    match name {
-        "PreparedQuestion::decide" => answer(alloc, asked.decide(alloc, verifier)),
-        "PreparedQuestion::grant" => granted(alloc, asked.grant(alloc, verifier)),
-        "PreparedQuestion::explain" => answer(alloc, asked.explain(alloc, verifier)),
-        _ => answer(alloc, asked.reduce(alloc, verifier)),
+/// The calls of `is_by_verifier`. The `_` arm is `PreparedQuestion::reduce`.
+impl CalledBy for PreparedQuestion<'_> {
+    fn call_by(&self, alloc: Global, name: &str, verifier: &RowVerifier) -> Reply {
+        match wanted_by(name) {
+            Some(Wanted::Decision) => answer(alloc, self.decide(alloc, verifier)),
+            Some(Wanted::Grant) => granted(alloc, self.grant(alloc, verifier)),
+            Some(Wanted::Explanation) => answer(alloc, self.explain(alloc, verifier)),
+            _ => answer(alloc, self.reduce(alloc, verifier)),
+        }
     }
 }
 
-/// Does the call with this name on a question by its marks, which say for each of its signatures whether it is valid. `is_possible` ignores
-/// them. The `_` arm is `PreparedQuestion::reduce_into`.
-fn with_marks(alloc: Global, name: &str, asked: &PreparedQuestion) -> Reply {
-    match name {
-        "PreparedQuestion::decide_by" => answer(alloc, asked.decide_by(alloc)),
-        "PreparedQuestion::grant_by" => granted(alloc, asked.grant_by(alloc)),
-        "PreparedQuestion::is_possible" => answer(alloc, asked.is_possible(alloc)),
-        "PreparedQuestion::explain_by" => answer(alloc, asked.explain_by(alloc)),
-        "PreparedQuestion::reduce_by" => answer(alloc, asked.reduce_by(alloc)),
-        _ => answer(alloc, reduction(alloc, asked)),
+/// Answers what is wanted of a question by its marks, which say for each of its signatures whether it is valid. `is_possible` ignores them.
+fn with_marks(alloc: Global, wanted: Option<Wanted>, asked: &PreparedQuestion) -> Reply {
+    match wanted {
+        Some(Wanted::Decision) => answer(alloc, asked.decide_by(alloc)),
+        Some(Wanted::Grant) => granted(alloc, asked.grant_by(alloc)),
+        Some(Wanted::Possibility) => answer(alloc, asked.is_possible(alloc)),
+        Some(Wanted::Explanation) => answer(alloc, asked.explain_by(alloc)),
+        Some(Wanted::Reduction) => answer(alloc, asked.reduce_by(alloc)),
+        Some(Wanted::ReductionInto) => answer(alloc, reduction(alloc, asked)),
+        None => Err(Failure::Unknown),
     }
 }
 

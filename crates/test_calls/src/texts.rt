@@ -1,5 +1,7 @@
 //! The texts of a row, and the values that they are read as.
 
+ghost use Rattle.std.specs.Prelude.{◌<◌};
+
 use crate::failure::Failure;
 use sexpr_core::Doc;
 use sexpr_core::syntax::Node;
@@ -49,50 +51,74 @@ pub fn read<'a, T: OfNode<'a> + Drop>(alloc: Global, text: &'a [u8]) -> Result<T
 /// A tag.
 impl<'a> OfNode<'a> for Tag {
     fn of_node(alloc: Global, node: &Node<'_, 'a>) -> Result<Tag, Failure> {
-        Tag::of(alloc, node).map_err(Failure::Tag)
+        Ok(Tag::of(alloc, node)?)
     }
 }
 
 /// A request.
 impl<'a> OfNode<'a> for Ground {
     fn of_node(alloc: Global, node: &Node<'_, 'a>) -> Result<Ground, Failure> {
-        Ground::of(alloc, node).map_err(Failure::Tag)
+        Ok(Ground::of(alloc, node)?)
     }
 }
 
 /// A date.
 impl<'a> OfNode<'a> for Date {
     fn of_node(_: Global, node: &Node<'_, 'a>) -> Result<Date, Failure> {
-        date_of(node).map_err(Failure::Kind)
+        Ok(date_of(node)?)
     }
 }
 
 /// A key.
 impl<'a> OfNode<'a> for Key<'a> {
     fn of_node(_: Global, node: &Node<'_, 'a>) -> Result<Key<'a>, Failure> {
-        key_of(node).map_err(Failure::Kind)
+        Ok(key_of(node)?)
     }
 }
 
 /// An entry of an access list.
 impl<'a> OfNode<'a> for Entry<'a> {
     fn of_node(alloc: Global, node: &Node<'_, 'a>) -> Result<Entry<'a>, Failure> {
-        entry_of(alloc, node).map_err(Failure::Kind)
+        Ok(entry_of(alloc, node)?)
     }
 }
 
 /// The entries of an access list.
 impl<'a> OfNode<'a> for Vec<Entry<'a>> {
     fn of_node(alloc: Global, node: &Node<'_, 'a>) -> Result<Vec<Entry<'a>>, Failure> {
-        acl_of(alloc, node).map_err(Failure::Cert)
+        Ok(acl_of(alloc, node)?)
+    }
+}
+
+/// A type whose values can be read from several texts of a row.
+pub trait OfTexts<'a>: Sized {
+    /// Reads a value from its texts. Err is the first fault of them, or `Memory`.
+    fn of_texts(alloc: Global, texts: &'a [Vec<u8>]) -> Result<Self, Failure>;
+}
+
+/// Reads all texts as values of type `T`, each from `size` texts.
+pub fn all<'a, T: OfTexts<'a> + Drop>(
+    alloc: Global,
+    texts: &'a [Vec<u8>],
+    size: usize,
+) -> Result<Vec<T>, Failure>
+    requires { 0 < size }
+{
+    let mut values = Vec::new(alloc);
+    for some in texts.chunks(size) {
+        values.push(T::of_texts(alloc, some)?)?;
+    }
+    Ok(values)
+}
+
+/// A key, of one text.
+impl<'a> OfTexts<'a> for Key<'a> {
+    fn of_texts(alloc: Global, texts: &'a [Vec<u8>]) -> Result<Key<'a>, Failure> {
+        read(alloc, at(texts, 0))
     }
 }
 
 /// Reads each text as a key.
 pub fn keys<'a>(alloc: Global, texts: &'a [Vec<u8>]) -> Result<Vec<Key<'a>>, Failure> {
-    let mut keys = Vec::new(alloc);
-    for text in texts {
-        keys.push(read(alloc, text)?)?;
-    }
-    Ok(keys)
+    all(alloc, texts, 1)
 }

@@ -4,7 +4,7 @@
 use crate::answers::{Answered, Called, Reply, answer, call_on, shown};
 use crate::cases;
 use crate::failure::Failure;
-use crate::texts::{at, behind, number, read};
+use crate::texts::{OfTexts, all, at, behind, number, read};
 use spki_cert::{Date, Entry, Key, Octets, Policy};
 use spki_reduce::{Five, Four, Issuer, Step, Work, fold_chain, fold_owned};
 use spki_tag::Ground;
@@ -23,8 +23,8 @@ pub(crate) fn call(alloc: Global, name: &str, texts: &[Vec<u8>]) -> Option<Reply
         "Five::resolve" | "Five::into_resolve" | "Four::then" => {
             Some(call_on(alloc, four(alloc, behind(texts, 3)), name, texts))
         }
-        "fold_chain" => Some(chain(alloc, texts)),
-        "fold_owned" => Some(owned_chain(alloc, texts)),
+        "fold_chain" => Some(call_on(alloc, steps(alloc, behind(texts, 3)), name, texts)),
+        "fold_owned" => Some(call_on(alloc, steps(alloc, behind(texts, 5)), name, texts)),
         _ => cases::call(alloc, name, texts),
     }
 }
@@ -65,21 +65,61 @@ fn four<'a>(alloc: Global, texts: &'a [Vec<u8>]) -> Result<Four<'a>, Failure> {
 }
 
 /// The tuple that three texts are: an authorization if the second is empty, otherwise a definition of this name.
-fn step<'a>(alloc: Global, texts: &'a [Vec<u8>]) -> Result<Step<'a>, Failure> {
-    if at(texts, 1).is_empty() {
-        five(alloc, texts).map(Step::Auth)
-    } else {
-        four(alloc, texts).map(Step::Name)
+impl<'a> OfTexts<'a> for Step<'a> {
+    fn of_texts(alloc: Global, texts: &'a [Vec<u8>]) -> Result<Step<'a>, Failure> {
+        if at(texts, 1).is_empty() {
+            five(alloc, texts).map(Step::Auth)
+        } else {
+            four(alloc, texts).map(Step::Name)
+        }
     }
 }
 
 /// The tuples of the texts, three texts for each.
 fn steps<'a>(alloc: Global, texts: &'a [Vec<u8>]) -> Result<Vec<Step<'a>>, Failure> {
-    let mut steps = Vec::new(alloc);
-    for tuple in texts.chunks(3) {
-        steps.push(step(alloc, tuple)?)?;
+    all(alloc, texts, 3)
+}
+
+/// A tuple that can be the first of a chain. `N` is what is joined with it: a tuple, or all after it.
+trait Joins<N> {
+    /// The join, as an answer.
+    fn join(&self, alloc: Global, next: &N) -> Reply;
+}
+
+/// The join of a first tuple with what comes after it, or the fault if the first was not read. The first tuple is dropped here.
+fn joined<N, T: Joins<N> + Drop>(alloc: Global, first: Result<T, Failure>, next: &N) -> Reply {
+    match first {
+        Ok(first) => first.join(alloc, next),
+        Err(failure) => Err(failure),
     }
-    Ok(steps)
+}
+
+/// By `Five::then`.
+impl<'x> Joins<Five<'x>> for Five<'x> {
+    fn join(&self, alloc: Global, next: &Five<'x>) -> Reply {
+        answer(alloc, self.then(alloc, next, Policy::Open))
+    }
+}
+
+/// By `Five::resolve`: the first name of the authorization's subject is resolved.
+impl<'x> Joins<Four<'x>> for Five<'x> {
+    fn join(&self, alloc: Global, next: &Four<'x>) -> Reply {
+        answer(alloc, self.resolve(alloc, next, Policy::Open))
+    }
+}
+
+/// By `Four::then`: the first name of the definition's subject is resolved.
+impl<'x> Joins<Four<'x>> for Four<'x> {
+    fn join(&self, alloc: Global, next: &Four<'x>) -> Reply {
+        answer(alloc, self.then(alloc, next, Policy::Open))
+    }
+}
+
+/// By `fold_chain`.
+impl<'x> Joins<Vec<Step<'x>>> for Five<'x> {
+    fn join(&self, alloc: Global, next: &Vec<Step<'x>>) -> Reply {
+        answer(alloc, fold_chain(alloc, self, next, Policy::Open))
+    }
 }
 
 /// The authorization is the first tuple of the row for `Five::write` and for `Five::missing_grant`, the `_` arm. `texts` are those after
@@ -88,7 +128,7 @@ impl<'x> Called<'x> for Five<'x> {
     fn call(&self, alloc: Global, name: &str, texts: &'x [Vec<u8>]) -> Reply {
         match name {
             "Five::write" => self.answered(alloc),
-            "Five::then" => then(alloc, texts, self),
+            "Five::then" => joined(alloc, five(alloc, texts), self),
             _ => missing(alloc, self, texts),
         }
     }
@@ -113,43 +153,19 @@ fn missing_at(alloc: Global, five: &Five, holder: &Key, request: &Ground, moment
     )
 }
 
-/// The join of the authorization that the first three texts are with `next`.
-fn then<'x>(alloc: Global, texts: &'x [Vec<u8>], next: &Five<'x>) -> Reply {
-    let first = five(alloc, texts)?;
-    let joined = first.then(alloc, next, Policy::Open);
-    drop(first);
-    answer(alloc, joined)
-}
-
 /// The definition is the row's second tuple, and `texts` are all. Each call joins the first tuple with it. The `_` arm is
 /// `Five::into_resolve`.
 impl<'x> Called<'x> for Four<'x> {
     fn call(&self, alloc: Global, name: &str, texts: &'x [Vec<u8>]) -> Reply {
         match name {
-            "Four::then" => four_then(alloc, texts, self),
-            "Five::resolve" => resolve(alloc, texts, self),
+            "Four::then" => joined(alloc, four(alloc, texts), self),
+            "Five::resolve" => joined(alloc, five(alloc, texts), self),
             _ => into_resolve(alloc, texts, self),
         }
     }
 }
 
-/// The join of the definition that the first three texts are with `definition`: this resolves the first name of its subject.
-fn four_then<'x>(alloc: Global, texts: &'x [Vec<u8>], definition: &Four<'x>) -> Reply {
-    let first = four(alloc, texts)?;
-    let joined = first.then(alloc, definition, Policy::Open);
-    drop(first);
-    answer(alloc, joined)
-}
-
-/// The authorization that the first three texts are, with the first name of its subject resolved by a definition.
-fn resolve<'x>(alloc: Global, texts: &'x [Vec<u8>], definition: &Four<'x>) -> Reply {
-    let first = five(alloc, texts)?;
-    let joined = first.resolve(alloc, definition, Policy::Open);
-    drop(first);
-    answer(alloc, joined)
-}
-
-/// As `resolve`, by the call that consumes the authorization.
+/// The authorization that the first three texts are, with the first name of its subject resolved by the call that consumes it.
 fn into_resolve<'x>(alloc: Global, texts: &'x [Vec<u8>], definition: &Four<'x>) -> Reply {
     let first = five(alloc, texts)?;
     answer(alloc, first.into_resolve(definition, Policy::Open))
@@ -163,22 +179,22 @@ fn bound(text: &[u8]) -> Option<usize> {
     }
 }
 
-/// The fold of the authorization of the first three texts with the tuples after them.
-fn chain(alloc: Global, texts: &[Vec<u8>]) -> Reply {
-    let steps = steps(alloc, behind(texts, 3))?;
-    let first = five(alloc, texts)?;
-    let fold = fold_chain(alloc, &first, &steps, Policy::Open);
-    drop(first);
-    answer(alloc, fold)
+/// The tuples after the first, with which the first is folded. `texts` are all. The `_` arm is `fold_owned`.
+impl<'x> Called<'x> for Vec<Step<'x>> {
+    fn call(&self, alloc: Global, name: &str, texts: &'x [Vec<u8>]) -> Reply {
+        match name {
+            "fold_chain" => joined(alloc, five(alloc, texts), self),
+            _ => owned_chain(alloc, self, texts),
+        }
+    }
 }
 
-/// As `chain`, by the call that consumes the authorization. Before the tuples are two texts: the most nodes, at most 1,000,000, and the bound on
+/// The fold by the call that consumes the authorization. Before the tuples are two texts: the most nodes, at most 1,000,000, and the bound on
 /// work, or an empty text for none.
-fn owned_chain(alloc: Global, texts: &[Vec<u8>]) -> Reply {
-    let steps = steps(alloc, behind(texts, 5))?;
+fn owned_chain<'x>(alloc: Global, steps: &[Step<'x>], texts: &'x [Vec<u8>]) -> Reply {
     let first = five(alloc, behind(texts, 2))?;
     let most = number(at(texts, 0)).min(1_000_000);
     let mut work = Work::new(bound(at(texts, 1)));
-    let fold = fold_owned(alloc, first, &steps, Policy::Open, most, &mut work);
+    let fold = fold_owned(alloc, first, steps, Policy::Open, most, &mut work);
     answer(alloc, fold)
 }

@@ -3,6 +3,7 @@
 ghost use Rattle.std.specs.Prelude.{◌↔◌, ◌⊎◌, IsTrue, IfOk};
 ghost use Rattle.spki_case.specs.View.{verified_by};
 
+use crate::answers::Reply;
 use crate::failure::Failure;
 use spki_case::{AcceptedTable, Verifier};
 use spki_cert::Key;
@@ -58,4 +59,23 @@ impl Verifier for RowVerifier<'_> {
         let is_listed = self.listed.accepts(alloc, key, message, value)?;
         Ok(self.all || is_listed)
     }
+}
+
+/// A value on which calls are done by a verifier.
+pub(crate) trait CalledBy {
+    /// Does the call with this name by a verifier, and returns its answer.
+    fn call_by(&self, alloc: Global, name: &str, verifier: &RowVerifier) -> Reply;
+}
+
+/// Does a call on a value by the verifier that `rows` names: `all`, `broken`, or an accepted list.
+pub(crate) fn with_verifier<T: CalledBy>(
+    alloc: Global,
+    name: &str,
+    value: &T,
+    rows: &[u8],
+) -> Reply {
+    let verifier = RowVerifier::read(alloc, rows)?;
+    let reply = value.call_by(alloc, name, &verifier);
+    drop(verifier);
+    reply
 }

@@ -22,7 +22,7 @@ use test_callers::streams::{TextFault, text_from};
 use test_callers::tags::{NarrowFault, narrowed};
 use test_callers::texts::same_value;
 use test_callers::values::first_member;
-use test_calls::answers::{Reply, answer, octets, refused, shown, word};
+use test_calls::answers::{Reply, answer, octets, shown, word};
 use test_calls::failure::Failure;
 use test_calls::texts::{at, behind, keys, number, read};
 
@@ -58,7 +58,7 @@ fn whole(alloc: Global, text: &[u8], most: usize) -> Reply {
     match text_from(alloc, &mut client, most) {
         Ok(text) => Ok(text),
         Err(TextFault::Memory) => Err(Failure::Memory),
-        Err(fault) => refused(alloc, "Text", &fault),
+        Err(fault) => Err(Failure::fault("Text", &fault, false)),
     }
 }
 
@@ -82,7 +82,7 @@ fn of_narrowed(alloc: Global, tag: Result<Tag, NarrowFault>) -> Reply {
         Ok(tag) => answer(alloc, tag),
         Err(NarrowFault::Tag(TagFault::Memory)) => Err(Failure::Memory),
         Err(NarrowFault::Meet(MeetFault::Memory)) => Err(Failure::Memory),
-        Err(fault) => refused(alloc, "Narrow", &fault),
+        Err(fault) => Err(Failure::fault("Narrow", &fault, false)),
     }
 }
 
@@ -201,7 +201,7 @@ fn of_answered(alloc: Global, decisions: Result<(Decision, Decision), ServiceFau
         Err(ServiceFault::Memory) => Err(Failure::Memory),
         Err(ServiceFault::List(AclFault::Memory)) => Err(Failure::Memory),
         Err(ServiceFault::Question(AskFault::Memory)) => Err(Failure::Memory),
-        Err(fault) => refused(alloc, "Service", &fault),
+        Err(fault) => Err(Failure::fault("Service", &fault, false)),
     }
 }
 

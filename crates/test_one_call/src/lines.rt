@@ -6,7 +6,7 @@ use spki_guard::{
     answer_opened, check_accepted, intersect, is_granted, is_possible, open_question,
 };
 use std::alloc::Global;
-use test_calls::answers::{Reply, answer, joined, refused, shown, word};
+use test_calls::answers::{Reply, answer, joined, shown, word};
 use test_calls::failure::Failure;
 use test_calls::guards::{guard, question};
 use test_calls::owned_questions::{mark_all, shared};
@@ -29,7 +29,7 @@ fn intersection(alloc: Global, text: &[u8]) -> Reply {
     match intersect(alloc, text) {
         Ok(tag) => answer(alloc, tag),
         Err(IntersectFault::Memory) => Err(Failure::Memory),
-        Err(fault) => refused(alloc, "Intersect", &fault),
+        Err(fault) => Err(Failure::fault("Intersect", &fault, false)),
     }
 }
 
@@ -56,8 +56,7 @@ fn refused_list(alloc: Global, texts: &[Vec<u8>]) -> Reply {
             drop(guard);
             word(alloc, "read")
         }
-        Err(Failure::Acl(fault)) => line(alloc, spki_guard::refused_list(alloc, fault)),
-        Err(failure) => Err(failure),
+        Err(fault) => line(alloc, spki_guard::refused_list(alloc, fault)),
     }
 }
 
