@@ -135,7 +135,7 @@ fn with_words<'a>(texts: &'a [Vec<u8>], words: &'a [&'a [u8]]) -> Question<'a> {
     }
 }
 
-/// Seconds in decimal digits. 0 for any other text.
+/// Seconds in decimal digits, with `-` in front if they are negative. 0 for any other text, or a number that an i64 does not hold.
 fn seconds(text: &[u8]) -> i64 {
     word_of(text).parse().unwrap_or(0)
 }
