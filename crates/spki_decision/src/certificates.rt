@@ -1,7 +1,7 @@
 //! The certificates of a sequence, with their signatures.
 
 ghost use Rattle.std.specs.Prelude.{◌≡◌, ◌++◌, map, IfOk, OnOk, MatchOption, option_copied};
-ghost use Rattle.spki_reduce.specs.Reduction.{step_tuple, five_tuple, four_tuple, auth_tuple, name_tuple};
+ghost use Rattle.spki_reduce.specs.Reduction.{five, four, step_tuple, auth_tuple, name_tuple};
 ghost use Rattle.spki_case.specs.Case.{certificates, signature_in, issuer_of, octets_of};
 ghost use Rattle.spki_decision.specs.CertificateTests.{tuple_of, certificate_of, shown_of};
 ghost use Rattle.spki_decision.specs.Judged.{IsItem, IsOther, is_operation, as_signature, certificate_at};
@@ -58,37 +58,37 @@ impl<'s, 'a> Certificate<'s, 'a> {
         ensures { IfOk result (λ step. step_tuple step ≡ tuple_of holder.now (certificate_of self.now)) }
     {
         match self {
-            Certificate::Auth(cert) => Ok(Step::Auth(five_of(cert, holder)?)),
-            Certificate::Name(cert) => Ok(Step::Name(four_of(cert, holder)?)),
+            Certificate::Auth(cert) => auth_step(cert, holder),
+            Certificate::Name(cert) => name_step(cert, holder),
         }
     }
 }
 
-/// An authorization certificate's 5-tuple. Its issuer is the key `holder`: the certificate may name its issuer by a hash, and a tuple has
-/// a key. Err if memory ran out, or if there are too many copies to count.
-fn five_of<'a>(cert: &AuthCert<'a>, holder: &Key<'a>) -> Result<Five<'a>, AllocError>
-    ensures { IfOk result (λ f. five_tuple f ≡ auth_tuple holder.now cert.now) }
+/// An authorization certificate's 5-tuple, as a step. Its issuer is the key `holder`: the certificate may name its issuer by a hash, and a
+/// tuple has a key. Err if memory ran out, or if there are too many copies to count.
+fn auth_step<'a>(cert: &AuthCert<'a>, holder: &Key<'a>) -> Result<Step<'a>, AllocError>
+    ensures { IfOk result (λ step. step_tuple step ≡ five (auth_tuple holder.now cert.now)) }
 {
-    Ok(Five {
-        issuer: Issuer::Key(holder.share()),
+    Ok(Step::Auth(Five {
         subject: cert.subject.clone()?,
-        propagate: cert.propagate,
         tag: cert.tag.clone()?,
+        issuer: Issuer::Key(holder.share()),
+        propagate: cert.propagate,
         window: cert.window,
-    })
+    }))
 }
 
-/// A name certificate's 4-tuple, which defines the name in the name space of `holder`, the issuer's key. Err if memory ran out, or if there
-/// are too many copies to count.
-fn four_of<'a>(cert: &NameCert<'a>, holder: &Key<'a>) -> Result<Four<'a>, AllocError>
-    ensures { IfOk result (λ f. four_tuple f ≡ name_tuple holder.now cert.now) }
+/// A name certificate's 4-tuple, as a step. It defines the name in the name space of `holder`, the issuer's key. Err if memory ran out, or
+/// if there are too many copies to count.
+fn name_step<'a>(cert: &NameCert<'a>, holder: &Key<'a>) -> Result<Step<'a>, AllocError>
+    ensures { IfOk result (λ step. step_tuple step ≡ four (name_tuple holder.now cert.now)) }
 {
-    Ok(Four {
+    Ok(Step::Name(Four {
+        subject: cert.subject.clone()?,
         key: holder.share(),
         name: cert.name.share(),
-        subject: cert.subject.clone()?,
         window: cert.window,
-    })
+    }))
 }
 
 /// Whether the item is an operation, `(do ..)`: it may be between a certificate and its signature, and has no effect.

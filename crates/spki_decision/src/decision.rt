@@ -1,4 +1,5 @@
-//! Deciding a case (RFC 2693, section 6).
+//! Deciding a case (RFC 2693, section 6). A value with many parts is freed by a call of `drop`, so that the proof does not go through its
+//! parts at each exit.
 
 ghost use Rattle.std.specs.Prelude.{◌≡◌, ◌<◌, ◌↔◌, ◌⊎◌, ℕ, IfOk, OnOk, IsErrOf, IsTrue};
 ghost use Rattle.spki_case.specs.View.{model};
@@ -90,11 +91,16 @@ fn first_within_limit<'a, L: Ledger>(
     let mut budget = Budget::of(case, steps);
     let mut ticks = Ticks::<L>::new(blank);
     for (index, entry) in case.acl.iter().enumerate() {
-        require_small(alloc, entry, steps, case, &mut budget, &mut ticks)?;
+        if let Err(fault) = require_small(alloc, entry, steps, case, &mut budget, &mut ticks) {
+            drop(requirement);
+            return Err(fault.into());
+        }
         if requirement.grants(entry, case) {
+            drop(requirement);
             return Ok(Decision::Yes(index + 1));
         }
     }
+    drop(requirement);
     Ok(Decision::No)
 }
 
@@ -122,6 +128,6 @@ fn require_small<'a, L: Ledger>(
     if budget.sizes.are_small(&entry.tag, steps, case.uncounted) {
         return Ok(());
     }
-    fold_entry(alloc, entry, steps, case, budget, ticks)?;
+    drop(fold_entry(alloc, entry, steps, case, budget, ticks)?);
     Ok(())
 }

@@ -1,5 +1,6 @@
 //! The subject that certificates require of an entry, whatever their tags and windows are (RFC 2693, sections 6.3 and 6.4). `ticks` counts the
-//! work, and exists only in contracts.
+//! work, and exists only in contracts. A value with many parts is freed by a call of `drop`, so that the proof does not go through its parts
+//! at each exit.
 
 ghost use Rattle.std.specs.Prelude.{◌≡◌, ◌≢◌, ◌≤◌, ◌<◌, ◌+◌, ◌↔◌, ◌∷◌, ◌++◌, ℕ, List, drop, length, IsTrue, IfOk, IfNone, IfSome};
 ghost use Rattle.spki_reduce.specs.{Reduction.{five, four, five_tuple, four_tuple, step_tuple}, Chain.{tuples_of}};
@@ -113,7 +114,9 @@ impl<'a> RequiredSubject<'a> {
         ensures cost { ticks.new ≤ ticks.old + subject_weight next.now.subject }
         ensures grows { ticks.old ≤ ticks.new }
     {
-        if !self.is_met_by(&next.subject, next.propagate, policy, ticks) {
+        let is_met = self.is_met_by(&next.subject, next.propagate, policy, ticks);
+        drop(self);
+        if !is_met {
             return None;
         }
         match &next.issuer {
@@ -142,15 +145,17 @@ impl<'a> RequiredSubject<'a> {
         ensures grows { ticks.old ≤ ticks.new }
     {
         if !is_name_of(&definition.subject.principal, &self.key, policy, ticks) {
+            drop(self);
             return Ok(None);
         }
+        drop(self.key);
         let Some(rest) = names_after(self.names, &definition.subject.names, ticks) else {
             return Ok(None);
         };
         ticks.tick();
         Ok(Some(RequiredSubject {
-            key: definition.key.share(),
             names: rest.behind_name(definition.name.share())?,
+            key: definition.key.share(),
             delegation: self.delegation,
         }))
     }
@@ -173,6 +178,7 @@ fn names_after<'a, L: Ledger>(
     for place in 0..front.len() {
         count_name(front.at(place), ticks);
         if !has_first(&rest, front.at(place)) {
+            drop(rest);
             return None;
         }
         rest = rest.behind_first();

@@ -20,15 +20,15 @@ returns-then-grants-clause-within_limit g c =
     let tuples = tuples_of c.args.steps.now in
     let e = c.entry-item.result in
     let here = stands case _ _ e c.deref-entry-items.ensures.value c.loop-index-test.true c.entry-item.is in
-    let told = c.in_ok-require_small.ensures in
+    let told = c.in_default.ensures in
     let spent = one_spent case tuples c.loop-index.index e here (work_left c.loop-index.budget) c.loop-index.invariant.spent
     (work_left c.require_small.new.budget) told.charged.0 told.charged.1 told.charged.2 in (
       small_yet case tuples c.loop-index.index e here told.within_limit c.loop-index.invariant.small_before,
       all_spent case tuples (c.loop-index.index + 1) (work_left c.require_small.new.budget) spent,
     )
 
-pub returns-in_err-require_small-clause-too_large : goal.returns-in_err-require_small-clause-too_large
-returns-in_err-require_small-clause-too_large g c h =
+pub returns-in-Err-clause-too_large : goal.returns-in-Err-clause-too_large
+returns-in-Err-clause-too_large g c h =
     let case = model c.args.case.now in
     let tuples = tuples_of c.args.steps.now in
     let e = c.entry-item.result in
@@ -47,11 +47,11 @@ loop-index-preserved g c =
     let tuples = tuples_of c.args.steps.now in
     let e = c.entry-item.result in
     let here = stands case _ _ e c.deref-entry-items.ensures.value c.loop-index-test.true c.entry-item.is in
-    let told = c.in_ok-require_small.ensures in
+    let told = c.in_default.ensures in
     record {
       none_before = not_yet case tuples c.loop-index.index e here c.grants.result c.if-grants.false
           (c.grants.ensures tuples c.in_ok-requirement.ensures.answer).1 c.loop-index.invariant.none_before;
-      small_before = small_yet case tuples c.loop-index.index e here c.in_ok-require_small.ensures.within_limit c.loop-index.invariant.small_before;
+      small_before = small_yet case tuples c.loop-index.index e here c.in_default.ensures.within_limit c.loop-index.invariant.small_before;
       spent = one_spent case tuples c.loop-index.index e here (work_left c.loop-index.budget) c.loop-index.invariant.spent
           (work_left c.require_small.new.budget) told.charged.0 told.charged.1 told.charged.2;
       sizes = told.sizes;

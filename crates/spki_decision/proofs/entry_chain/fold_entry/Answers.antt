@@ -11,6 +11,24 @@ along : {T E P Q : Type 0} (r : Result T E) → (P → Q) → OnOk r P → OnOk 
 along (Ok x) f p = f p
 along (Err e) f p = tt
 
+pub returns-then-are_small-clause-fold : goal.returns-then-are_small-clause-fold
+returns-then-are_small-clause-fold g c = rw c.in_ok-own.ensures at c.fold_owned_counted.ensures.fold
+
+pub returns-then-are_small-clause-value : goal.returns-then-are_small-clause-value
+returns-then-are_small-clause-value g c = rw c.in_ok-own.ensures at c.fold_owned_counted.ensures.value
+
+pub returns-then-are_small-clause-excluded : goal.returns-then-are_small-clause-excluded
+returns-then-are_small-clause-excluded g c = rw c.in_ok-own.ensures at c.fold_owned_counted.ensures.excluded
+
+pub returns-else-are_small-clause-fold : goal.returns-else-are_small-clause-fold
+returns-else-are_small-clause-fold g c = rw c.in_ok-own.ensures at c.fold_owned_counted-else-are_small.ensures.fold
+
+pub returns-else-are_small-clause-value : goal.returns-else-are_small-clause-value
+returns-else-are_small-clause-value g c = rw c.in_ok-own.ensures at c.fold_owned_counted-else-are_small.ensures.value
+
+pub returns-else-are_small-clause-excluded : goal.returns-else-are_small-clause-excluded
+returns-else-are_small-clause-excluded g c = rw c.in_ok-own.ensures at c.fold_owned_counted-else-are_small.ensures.excluded
+
 pub returns-in_err-own-clause-cost : goal.returns-in_err-own-clause-cost
 returns-in_err-own-clause-cost g c = none_joined _ _ _ _ _ _
 

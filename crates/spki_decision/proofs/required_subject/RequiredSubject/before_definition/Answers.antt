@@ -10,7 +10,7 @@ returns-clause-answer g c =
     let named : names c.args.policy definition.principal c.args.self.key ≡ true = sym c.is_name_of.ensures.answer ∙ c.if-not-is_name_of.false in
     let begun : c.args.self.names ≡ definition.names ++ c.in-Some.rest = rw c.in-Some.is at c.names_after.ensures.some in
     let names_are : c.in_ok-behind_name.field-0 ≡ definition.name ∷ c.in-Some.rest =
-    c.in_ok-behind_name.ensures ∙ ap (λ n. n ∷ c.in-Some.rest) c.share-2.ensures in
+    c.in_ok-behind_name.ensures ∙ ap (λ n. n ∷ c.in-Some.rest) c.share.ensures in
     defined_before c.args.policy c.args.self definition
-    (record { key = c.share.result; names = c.in_ok-behind_name.field-0; delegation = c.args.self.delegation })
-    c.in-Some.rest named begun c.share.ensures names_are refl
+    (record { key = c.share-2.result; names = c.in_ok-behind_name.field-0; delegation = c.args.self.delegation })
+    c.in-Some.rest named begun c.share-2.ensures names_are refl
