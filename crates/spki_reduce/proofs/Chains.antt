@@ -1,6 +1,6 @@
 -- What a chain that stops says of its tuples in any bracketing.
 use Rattle.std.proofs.Common.{◌≡◌, ℕ, suc, ◌+◌, ◌*◌, ◌≤◌, ◌<◌, Bool, true, false, List, [], ◌∷◌, ◌++◌, Some, sym, ◌∙◌, ap, subst, arith, flat_map, append-nil, take, drop, slice_get, length, get_or, add-one, option_map, rules}
-use Rattle.std.proofs.lemmas.{Bool.{and_left, both_ways}, List.{take-append-drop, Folds.{list_all-append}}, Grind.{flat_map-append}}
+use Rattle.std.proofs.lemmas.{Bool.{and_left, both_ways}, List.{take-append-drop, take_all, length-map, Folds.{list_all-append}}, Grind.{flat_map-append}}
 use Rattle.std.proofs.lemmas.Option.{slice_get_within, get_or_from_slice_get, slice_get-map, slice_get-get_or}
 use Rattle.std.proofs.Math.{Nat.{mul-le-mul_left, mul-le-mul_right}, Seq.{take-suc}}
 use Rattle.std.specs.List.{list_all}
@@ -21,6 +21,9 @@ use Rattle.spki_reduce.proofs.ReducedForms as folding
 pub more_at : (xs : List Tuple) (n : ℕ) (x : Tuple) → slice_get xs n ≡ Some x → take (suc n) xs ≡ take n xs ++ x ∷ []
 more_at xs n x is =
     take-suc xs n x (slice_get_within xs n x is) ∙ ap (λ y. take n xs ++ y ∷ []) (get_or_from_slice_get xs n x x is)
+
+pub whole : (steps : List Step) (place : ℕ) → length steps ≤ place → take place (tuples_of steps) ≡ tuples_of steps
+whole steps place past = take_all place (tuples_of steps) (omega (arith, past, length-map steps step_tuple))
 
 pub never : (b : Bool) → b ≡ false → b ≡ true → ⊥
 never b e f = both_ways b e f

@@ -73,6 +73,14 @@ joined-cost policy f next n joins h =
     costs_step policy (five_tuple f) f.tag (five (five_tuple next)) n joins h in
     (omega (arith, is, cost_is f.tag next f.subject.names), omega (arith, is, cost-some f.tag f.subject.names next))
 
+-- the ticks of joining it, before the names of the next subject are counted, and after
+pub met_ticks : (cost names n old met : ℕ) → cost + names ≤ n → met ≤ old + 3 * cost → met ≤ old + 3 * n
+met_ticks cost names n old met within few = omega arith
+
+pub next_ticks : (cost names n old met count new : ℕ) → cost + names ≤ n → met ≤ old + 3 * cost → new ≡ met + count → count ≡ names
+    → new ≤ old + 3 * n
+next_ticks cost names n old met count new within few is counted = omega arith
+
 -- and to resolve its first name by a definition
 pub resolved-cost : (policy : Policy) (f : Five) (definition : Four) (n : ℕ) → Reaches policy (five_tuple f) (four (four_tuple definition))
     → IsCostOf policy (five_tuple f) f.tag (four (four_tuple definition)) n

@@ -1,9 +1,9 @@
 -- The work of folding a chain: what a step adds to it, and that a chain has one.
-use Rattle.std.proofs.Common.{◌≡◌, ◌⊎◌, inl, inr, ℕ, zero, suc, ◌+◌, ◌≤◌, ◌<◌, List, ◌∷◌, Option, Some, None, refl, sym, ◌∙◌, ap, subst, arith, add-one, length, take, slice_get, get_or, rules}
-use Rattle.std.proofs.lemmas.{Bool.{cases_lt}, Option.{same_Some}}
+use Rattle.std.proofs.Common.{◌≡◌, ◌⊎◌, inl, inr, ℕ, zero, suc, ◌+◌, ◌*◌, ◌≤◌, ◌<◌, List, ◌∷◌, Option, Some, None, refl, sym, ◌∙◌, ap, subst, arith, add-one, length, take, slice_get, get_or, rules}
+use Rattle.std.proofs.lemmas.{Bool.{cases_lt}, List.{length-map}, Option.{same_Some}}
 use Rattle.spki_cert.specs.declared.principal.Policy.{Policy}
 use Rattle.spki_reduce.specs.declared.{fold.Cause.{Cause}, tuple.{Five.{Five}, Step.{Step}}}
-use Rattle.spki_reduce.specs.Chain.{tuples_of, all_tags, FoldsTo, HasMet, StopsAt, Reaches, ReachedAt, step_cost, IsCost, IsWorkOf, IsCostOf, Takes, IsOver, IsOverworked}
+use Rattle.spki_reduce.specs.Chain.{tuples_of, all_tags, FoldsTo, HasMet, StopsAt, Reaches, ReachedAt, step_cost, IsCost, IsWorkOf, IsCostOf, Takes, IsOver, IsOverworked, AreTicksOfSteps}
 use Rattle.spki_reduce.specs.Reduction.{Tuple, five, five_tuple, step_tuple, from_left, met}
 use Rattle.spki_reduce.proofs.{Derivations.{one_root}, ReducedForms.{reaches, reaches_back}, Chains.{step_stands, through}}
 use Rattle.spki_reduce.proofs.Through.{AreTagged, unstopped}
@@ -55,6 +55,25 @@ pub over : (a b : Option ℕ) (n m : ℕ) → Takes a b n → IsOver b m → IsO
 over None (Some b) n m h k = absurd h
 over (Some a) (Some b) n m h k = omega (arith, h, k)
 over a None n m h k = absurd k
+
+-- ---- the ticks of the steps up to one that is looked at
+
+module _
+    {policy : Policy} {first : Tuple} {step : Step} {f : Five} (steps : List Step) (place : ℕ)
+    (within : place < length steps) (read : step ≡ get_or steps place step)
+    (folds : FoldsTo policy first (take place (tuples_of steps)) f) (has_met : HasMet first (take place (tuples_of steps)) f)
+    (left before after : Option ℕ) (old here now new so_far n : ℕ) (is : IsWorkOf policy first (tuples_of steps) place so_far)
+    (taken_before : Takes left before so_far) (few : here ≤ old + 4 * so_far)
+    (costs : IsCostOf policy (five_tuple f) f.tag (step_tuple step) n) (takes : Takes before after n) where
+  pub ticks_here : now ≡ here + 1 → new ≤ now + 3 * n → AreTicksOfSteps left after old new policy first (tuples_of steps)
+  ticks_here looked more = record {
+    steps = place + 1;
+    within = omega (arith, within, length-map steps step_tuple);
+    work = so_far + n;
+    is = work_here steps place within read folds has_met so_far n is costs;
+    taken = taken left before after so_far n taken_before takes;
+    ticks = omega (arith, few, looked, more);
+  }
 
 -- ---- behind a stop
 

@@ -100,10 +100,16 @@ impl<'a> Five<'a> {
                 return Ok(Joined::Stopped(cause));
             }
         };
-        let Five { issuer, tag, .. } = self;
-        let tag = tag.meet_counted(alloc, &next.tag, most, ticks)?;
+        let met = match self.tag.meet_counted(alloc, &next.tag, most, ticks) {
+            Ok(met) => met,
+            Err(fault) => {
+                drop(self);
+                return Err(fault.into());
+            }
+        };
+        drop((self.subject, self.tag));
         ticks.read(next.subject.names.len());
-        Ok(narrowed(issuer, tag, next, window)?)
+        Ok(narrowed(self.issuer, met, next, window)?)
     }
 
     /// Resolves the first name of this authorization's subject by a name's definition (RFC 2693, section 6.4). The result

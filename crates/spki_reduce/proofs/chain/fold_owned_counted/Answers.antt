@@ -1,9 +1,9 @@
-use Rattle.std.proofs.Common.{◌≡◌, inl, inr, sym, ◌∙◌, ap, subst, ◌+◌, ◌<◌, length, arith, Result, Ok, Err, IsErrAnd, rules}
+use Rattle.std.proofs.Common.{◌≡◌, inl, inr, sym, ◌∙◌, ap, subst, ◌+◌, length, arith, Result, Ok, Err, IsErrAnd, rules}
 use Rattle.std.proofs.lemmas.List.{length-map}
 use Rattle.spki_reduce.specs.{declared.fault.ReduceFault.TheVariants.{TooLarge}, Reduction.{five, five_tuple, step_tuple}}
-use Rattle.spki_reduce.specs.Chain.{tuples_of, left_of, Takes}
-use Rattle.spki_reduce.proofs.{ReducedForms.{same_issuer}, Chains.{stops_here, goes_on, met_here, too_large_here, excluded, unsupported}}
-use Rattle.spki_reduce.proofs.{Through.{small_here, small_stopped, steps_tagged}, Working.{work_here, work_stopped, taken, over}}
+use Rattle.spki_reduce.specs.Chain.{tuples_of, left_of, Takes, FoldsTo, HasMet, TooLargeAt}
+use Rattle.spki_reduce.proofs.{ReducedForms.{same_issuer}, Chains.{whole, stops_here, goes_on, met_here, too_large_here, excluded, unsupported}}
+use Rattle.spki_reduce.proofs.{Through.{small_here, small_stopped, steps_tagged}, Working.{work_here, work_stopped, ticks_here, taken, over}}
 use Rattle.spki_reduce.proofs.chain.fold_owned_counted.Goals as goal
 
 -- what the exit of a `?` returns
@@ -14,25 +14,25 @@ same_fault (Err y) inner fault h k = let same : y ≡ fault = cc in sym h ∙ sa
 pub returns-in_err-next-clause-too_large : goal.returns-in_err-next-clause-too_large
 returns-in_err-next-clause-too_large g c e =
     let same = same_fault c.from_residual.result c.in_err-next.field-0.0 TooLarge c.from_residual.ensures.1 e in
-    inl (too_large_here c.args.steps.now c.loop-place.place (omega arith) c.index-steps-place.is c.loop-place.invariant.folds
+    inl (too_large_here c.args.steps.now c.loop-place.place c.loop-place-test.true c.index-steps-place.is c.loop-place.invariant.folds
     c.loop-place.invariant.value c.args.most (c.in_err-next.ensures.too_large (ap Err same)))
 
 pub returns-in-Err-clause-too_large : goal.returns-in-Err-clause-too_large
 returns-in-Err-clause-too_large g c e =
     let so_far = c.loop-place.invariant.worked in
-    let place : c.loop-place.place < length c.args.steps.now = omega arith in
+    let place = c.loop-place-test.true in
     inr (record {
       steps = c.loop-place.place + 1;
       within = omega (arith, place, length-map c.args.steps.now step_tuple);
       work = so_far.0 + c.cost_with.ensures.0;
-      is = work_here c.args.steps.now c.loop-place.place place c.index-steps-place.is c.loop-place.invariant.folds
+      is = work_here c.args.steps.now c.loop-place.place c.loop-place-test.true c.index-steps-place.is c.loop-place.invariant.folds
           c.loop-place.invariant.value so_far.0 c.cost_with.ensures.0 so_far.1 c.cost_with.ensures.2;
       over = over _ _ so_far.0 c.cost_with.ensures.0 so_far.2 (c.in-Err.ensures.over c.cost_with.ensures.0 c.cost_with.ensures.1);
     })
 
 pub returns-in-Stopped-clause-fold : goal.returns-in-Stopped-clause-fold
 returns-in-Stopped-clause-fold g c =
-    stops_here c.args.steps.now c.loop-place.place (omega arith) c.index-steps-place.is c.loop-place.invariant.folds
+    stops_here c.args.steps.now c.loop-place.place c.loop-place-test.true c.index-steps-place.is c.loop-place.invariant.folds
     c.loop-place.invariant.value c.in-Stopped.cause (rw c.in-Stopped.is at c.in_ok-next.ensures.joined)
     (rw c.in-Stopped.is at c.in_ok-next.ensures.value)
 
@@ -46,15 +46,15 @@ returns-in-Stopped-clause-unsupported g c =
 
 pub returns-in-Stopped-clause-within_limit : goal.returns-in-Stopped-clause-within_limit
 returns-in-Stopped-clause-within_limit g c =
-    small_stopped c.args.steps.now c.loop-place.place (omega arith) c.index-steps-place.is c.loop-place.invariant.folds
+    small_stopped c.args.steps.now c.loop-place.place c.loop-place-test.true c.index-steps-place.is c.loop-place.invariant.folds
     c.loop-place.invariant.value c.loop-place.invariant.within_limit c.in_ok-next.ensures.within_limit c.in-Stopped.cause
     (returns-in-Stopped-clause-fold g c)
 
 pub returns-in-Stopped-clause-worked : goal.returns-in-Stopped-clause-worked
 returns-in-Stopped-clause-worked g c =
     let so_far = c.loop-place.invariant.worked in
-    let place : c.loop-place.place < length c.args.steps.now = omega arith in
-    let here = work_here c.args.steps.now c.loop-place.place place c.index-steps-place.is c.loop-place.invariant.folds
+    let place = c.loop-place-test.true in
+    let here = work_here c.args.steps.now c.loop-place.place c.loop-place-test.true c.index-steps-place.is c.loop-place.invariant.folds
     c.loop-place.invariant.value so_far.0 c.cost_with.ensures.0 so_far.1 c.cost_with.ensures.2 in (
       so_far.0 + c.cost_with.ensures.0,
       work_stopped c.args.policy (five (five_tuple c.args.first)) (tuples_of c.args.steps.now) (steps_tagged c.args.steps.now)
@@ -68,15 +68,15 @@ loop-place-preserved g c =
     let made = rw c.in-Done.is at c.in_ok-next.ensures.joined in
     let so_far = c.loop-place.invariant.worked in
     record {
-      folds = goes_on c.args.steps.now c.loop-place.place (omega arith) c.index-steps-place.is c.loop-place.invariant.folds
+      folds = goes_on c.args.steps.now c.loop-place.place c.loop-place-test.true c.index-steps-place.is c.loop-place.invariant.folds
           c.loop-place.invariant.value c.in-Done.next made;
-      value = (rw c.in-Done.is at c.in_ok-next.ensures.value) ∙ met_here c.args.steps.now c.loop-place.place (omega arith)
+      value = (rw c.in-Done.is at c.in_ok-next.ensures.value) ∙ met_here c.args.steps.now c.loop-place.place c.loop-place-test.true
           c.index-steps-place.is c.loop-place.invariant.folds c.loop-place.invariant.value;
-      within_limit = small_here c.args.steps.now c.loop-place.place (omega arith) c.index-steps-place.is c.loop-place.invariant.folds
+      within_limit = small_here c.args.steps.now c.loop-place.place c.loop-place-test.true c.index-steps-place.is c.loop-place.invariant.folds
           c.loop-place.invariant.value c.loop-place.invariant.within_limit c.in_ok-next.ensures.within_limit;
       worked = (
         so_far.0 + c.cost_with.ensures.0,
-        work_here c.args.steps.now c.loop-place.place (omega arith) c.index-steps-place.is c.loop-place.invariant.folds
+        work_here c.args.steps.now c.loop-place.place c.loop-place-test.true c.index-steps-place.is c.loop-place.invariant.folds
             c.loop-place.invariant.value so_far.0 c.cost_with.ensures.0 so_far.1 c.cost_with.ensures.2,
         taken _ _ _ so_far.0 c.cost_with.ensures.0 so_far.2 (c.in_default.ensures.taken c.cost_with.ensures.0 c.cost_with.ensures.1),
         omega (
@@ -107,28 +107,33 @@ returns-in-Err-clause-cost g c =
 pub returns-in_err-next-clause-cost : goal.returns-in_err-next-clause-cost
 returns-in_err-next-clause-cost g c =
     let so_far = c.loop-place.invariant.worked in
-    record {
-      steps = c.loop-place.place + 1;
-      within = omega (arith, length-map c.args.steps.now step_tuple);
-      work = so_far.0 + c.cost_with.ensures.0;
-      is = work_here c.args.steps.now c.loop-place.place (omega arith) c.index-steps-place.is c.loop-place.invariant.folds
-          c.loop-place.invariant.value so_far.0 c.cost_with.ensures.0 so_far.1 c.cost_with.ensures.2;
-      taken = taken _ _ _ so_far.0 c.cost_with.ensures.0 so_far.2 (c.in_default.ensures.taken c.cost_with.ensures.0 c.cost_with.ensures.1);
-      ticks = omega (arith, so_far.3, c.in_err-next.ensures.cost c.cost_with.ensures.0 c.cost_with.ensures.2);
-    }
+    let (n, counted, costs) = c.cost_with.ensures in
+    ticks_here c.args.steps.now c.loop-place.place c.loop-place-test.true c.index-steps-place.is c.loop-place.invariant.folds
+    c.loop-place.invariant.value _ (left_of c.loop-place.work) _ _ _ _ _ so_far.0 n so_far.1 so_far.2 so_far.3 costs (c.in_default.ensures.taken n counted) c.tick.ensures
+    (c.in_err-next.ensures.cost n costs)
 
 pub returns-in-Stopped-clause-cost : goal.returns-in-Stopped-clause-cost
 returns-in-Stopped-clause-cost g c =
     let so_far = c.loop-place.invariant.worked in
-    record {
-      steps = c.loop-place.place + 1;
-      within = omega (arith, length-map c.args.steps.now step_tuple);
-      work = so_far.0 + c.cost_with.ensures.0;
-      is = work_here c.args.steps.now c.loop-place.place (omega arith) c.index-steps-place.is c.loop-place.invariant.folds
-          c.loop-place.invariant.value so_far.0 c.cost_with.ensures.0 so_far.1 c.cost_with.ensures.2;
-      taken = taken _ _ _ so_far.0 c.cost_with.ensures.0 so_far.2 (c.in_default.ensures.taken c.cost_with.ensures.0 c.cost_with.ensures.1);
-      ticks = omega (arith, so_far.3, c.in_ok-next.ensures.cost c.cost_with.ensures.0 c.cost_with.ensures.2);
-    }
+    let (n, counted, costs) = c.cost_with.ensures in
+    ticks_here c.args.steps.now c.loop-place.place c.loop-place-test.true c.index-steps-place.is c.loop-place.invariant.folds
+    c.loop-place.invariant.value _ (left_of c.loop-place.work) _ _ _ _ _ so_far.0 n so_far.1 so_far.2 so_far.3 costs (c.in_default.ensures.taken n counted) c.tick.ensures
+    (c.in_ok-next.ensures.cost n costs)
+
+pub returns-clause-fold : goal.returns-clause-fold
+returns-clause-fold g c =
+    subst (λ ts. FoldsTo c.args.policy (five (five_tuple c.args.first)) ts c.loop-place.folded)
+    (whole c.args.steps.now c.loop-place.place c.loop-place-test.false) c.loop-place.invariant.folds
+
+pub returns-clause-value : goal.returns-clause-value
+returns-clause-value g c =
+    subst (λ ts. HasMet (five (five_tuple c.args.first)) ts c.loop-place.folded)
+    (whole c.args.steps.now c.loop-place.place c.loop-place-test.false) c.loop-place.invariant.value
+
+pub returns-clause-within_limit : goal.returns-clause-within_limit
+returns-clause-within_limit g c =
+    subst (λ ts. ¬ TooLargeAt c.args.most c.args.policy (five (five_tuple c.args.first)) ts)
+    (whole c.args.steps.now c.loop-place.place c.loop-place-test.false) c.loop-place.invariant.within_limit
 
 pub returns-clause-cost : goal.returns-clause-cost
 returns-clause-cost g c =

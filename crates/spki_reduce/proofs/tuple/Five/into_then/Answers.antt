@@ -1,7 +1,6 @@
-use Rattle.std.proofs.Common.{◌<◌, arith, rules}
-use Rattle.spki_reduce.specs.{Reduction.{five, five_tuple}, declared.{tuple.Five.{Five}, fold.Joined.{Joined, TheVariants.{Done, Stopped}}}}
-use Rattle.spki_reduce.specs.{Joining.{MatchJoined}, Chain.{Reaches}}
-use Rattle.spki_reduce.proofs.{Costs.{joined-cost}, ReducedForms.{along, narrowed_joins, stops_by_tags}}
+use Rattle.std.proofs.Common.{◌<◌}
+use Rattle.spki_reduce.specs.{declared.{tuple.Five.{Five}, fold.Joined.{Joined, TheVariants.{Done, Stopped}}}, Joining.{MatchJoined}}
+use Rattle.spki_reduce.proofs.{Costs.{joined-cost, met_ticks, next_ticks}, ReducedForms.{along, narrowed_joins, stops_by_tags, joins_but_for_tags}}
 use Rattle.spki_reduce.proofs.tuple.Five.into_then.Goals as goal
 
 always : (joined : Joined Five) (P : Type 0) → P → MatchJoined joined (λ f. P) (λ cause. Unit {0})
@@ -14,32 +13,35 @@ returns-clause-joined g c =
     let right = c.args.next.now in
     let policy = c.args.policy in
     let window = c.in-Ok.window in
-    let tag = c.in_ok-tag.tag in
-    let exact = c.in_ok-tag.ensures.exact in
+    let tag = c.in-Ok-meet_counted.met in
+    let exact = c.in-Ok-meet_counted.ensures.exact in
     let (issues, allowed, meets, overlap) = c.in-Ok.ensures.joins in
     along c.in_ok-narrowed.field-0 _ _ _ _ c.in_ok-narrowed.ensures
-    (narrowed_joins policy left right window issues allowed overlap meets tag exact c.in_ok-tag.ensures.bounds)
+    (narrowed_joins policy left right window issues allowed overlap meets tag exact c.in-Ok-meet_counted.ensures.bounds)
     (stops_by_tags policy left right window issues allowed overlap tag exact)
 
-pub returns-in_err-tag-clause-cost : goal.returns-in_err-tag-clause-cost
-returns-in_err-tag-clause-cost g c n h =
-    let joins : Reaches c.args.policy (five_tuple c.args.self) (five (five_tuple c.args.next.now)) = search rules in
-    let is = joined-cost c.args.policy c.args.self c.args.next.now n joins h in
-    omega (arith, is.0, is.1, c.in_err-tag.ensures.cost)
+pub returns-in-Err-meet_counted-clause-cost : goal.returns-in-Err-meet_counted-clause-cost
+returns-in-Err-meet_counted-clause-cost g c n h =
+    let (issues, allowed, meets, overlap) = c.in-Ok.ensures.joins in
+    let joins = joins_but_for_tags c.args.policy c.args.self c.args.next.now c.in-Ok.window issues allowed overlap in
+    met_ticks _ _ n _ _ (joined-cost c.args.policy c.args.self c.args.next.now n joins h).0 c.in-Err-meet_counted.ensures.cost
 
 pub returns-in_err-narrowed-clause-cost : goal.returns-in_err-narrowed-clause-cost
 returns-in_err-narrowed-clause-cost g c n h =
-    let joins : Reaches c.args.policy (five_tuple c.args.self) (five (five_tuple c.args.next.now)) = search rules in
-    let is = joined-cost c.args.policy c.args.self c.args.next.now n joins h in
-    omega (arith, is.0, is.1, c.in_ok-tag.ensures.cost)
+    let (issues, allowed, meets, overlap) = c.in-Ok.ensures.joins in
+    let joins = joins_but_for_tags c.args.policy c.args.self c.args.next.now c.in-Ok.window issues allowed overlap in
+    next_ticks _ _ n _ _ _ _ (joined-cost c.args.policy c.args.self c.args.next.now n joins h).0 c.in-Ok-meet_counted.ensures.cost
+    c.read.ensures c.len.ensures
 
 pub returns-clause-cost : goal.returns-clause-cost
 returns-clause-cost g c n h =
-    let joins : Reaches c.args.policy (five_tuple c.args.self) (five (five_tuple c.args.next.now)) = search rules in
-    let is = joined-cost c.args.policy c.args.self c.args.next.now n joins h in
-    omega (arith, is.0, is.1, c.in_ok-tag.ensures.cost)
+    let (issues, allowed, meets, overlap) = c.in-Ok.ensures.joins in
+    let joins = joins_but_for_tags c.args.policy c.args.self c.args.next.now c.in-Ok.window issues allowed overlap in
+    next_ticks _ _ n _ _ _ _ (joined-cost c.args.policy c.args.self c.args.next.now n joins h).0 c.in-Ok-meet_counted.ensures.cost
+    c.read.ensures c.len.ensures
 
 pub returns-clause-some : goal.returns-clause-some
 returns-clause-some g c n h =
-    let joins : Reaches c.args.policy (five_tuple c.args.self) (five (five_tuple c.args.next.now)) = search rules in
+    let (issues, allowed, meets, overlap) = c.in-Ok.ensures.joins in
+    let joins = joins_but_for_tags c.args.policy c.args.self c.args.next.now c.in-Ok.window issues allowed overlap in
     always c.in_ok-narrowed.field-0 (0 < n) (joined-cost c.args.policy c.args.self c.args.next.now n joins h).1
