@@ -81,6 +81,9 @@ pub next_ticks : (cost names n old met count new : ℕ) → cost + names ≤ n �
     → new ≤ old + 3 * n
 next_ticks cost names n old met count new within few is counted = omega arith
 
+pub next_grows : (old met count new names : ℕ) → old < met → new ≡ met + count → count ≡ names → old + names < new
+next_grows old met count new names some is counted = omega arith
+
 -- and to resolve its first name by a definition
 pub resolved-cost : (policy : Policy) (f : Five) (definition : Four) (n : ℕ) → Reaches policy (five_tuple f) (four (four_tuple definition))
     → IsCostOf policy (five_tuple f) f.tag (four (four_tuple definition)) n

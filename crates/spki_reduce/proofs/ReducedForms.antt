@@ -12,7 +12,7 @@ use Rattle.spki_reduce.specs.declared.tuple.{Five.{Five}, Four.{Four}}
 use Rattle.spki_reduce.specs.declared.last_tests.MissingGrant.{MissingGrant, TheVariants.{NotTheKey, TagLacks, WindowLacks}}
 use Rattle.spki_reduce.specs.Reduction.{five, four, SomeMoment, Issues, resolved, linked, five_tuple, four_tuple, FiveTuple, FourTuple, Tuple, tags_of, IsFor, Begins, Joins, Delegate, Resolve, in_each, within_each, NoMoment, met, nodes_product, deepest, issuer_of, own, Grants, IsMissingGrant, IsSupported}
 use Rattle.spki_reduce.specs.Joining.{JoinButForTags, Stops, IsHandedOn, BecomesFive, BecomesFour, MatchJoined, TooLargeFor, ReducesToFive}
-use Rattle.spki_reduce.specs.Chain.{Reaches, FoldsTo}
+use Rattle.spki_reduce.specs.Chain.{Reaches, ResolvesTimely, FoldsTo}
 use Rattle.spki_reduce.proofs.Derivations.{from_left-more, from_left-leaves, one_root}
 
 -- ---- what joins of the code are in the model
@@ -59,6 +59,14 @@ module _
   stops_by_tags tag exact cause h = search (rules, joins_but_for_tags, both)
 
 -- ---- names
+
+pub resolves_timely : (policy : Policy) (left : Five) (right : Four) (rest : List (List ℕ))
+    → IsTrue (names policy left.subject.principal right.key) × (left.subject.names ≡ right.name ∷ rest)
+    → Overlap left.window right.window → ResolvesTimely policy (five_tuple left) (four_tuple right)
+resolves_timely policy left right rest begins overlap = record {
+  begins = record { rest = rest; named = begins.0; name = begins.1 };
+  timely = overlapping left.window right.window overlap;
+}
 
 module _
     (policy : Policy) (window : Window) (right : Four) (rest : List (List ℕ)) (subject : Subject)

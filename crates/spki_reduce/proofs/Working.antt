@@ -75,6 +75,13 @@ module _
     ticks = omega (arith, few, looked, more);
   }
 
+-- the work of all steps, once none is left
+pub whole_work : (policy : Policy) (first : Tuple) (steps : List Step) (place n : ℕ) → length steps ≤ place → place ≤ length steps
+    → IsWorkOf policy first (tuples_of steps) place n → IsWorkOf policy first (tuples_of steps) (length (tuples_of steps)) n
+whole_work policy first steps place n past within work =
+    let same : place ≡ length (tuples_of steps) = omega (arith, past, within, length-map steps step_tuple) in
+    subst (λ k. IsWorkOf policy first (tuples_of steps) k n) same work
+
 -- ---- behind a stop
 
 module _ (policy : Policy) (first : Tuple) (others : List Tuple) where

@@ -3,7 +3,7 @@ use Rattle.std.proofs.lemmas.List.{length-map}
 use Rattle.spki_reduce.specs.{declared.fault.ReduceFault.TheVariants.{TooLarge}, Reduction.{five, five_tuple, step_tuple}}
 use Rattle.spki_reduce.specs.Chain.{tuples_of, left_of, Takes, FoldsTo, HasMet, TooLargeAt}
 use Rattle.spki_reduce.proofs.{ReducedForms.{same_issuer}, Chains.{whole, stops_here, goes_on, met_here, too_large_here, excluded, unsupported}}
-use Rattle.spki_reduce.proofs.{Through.{small_here, small_stopped, steps_tagged}, Working.{work_here, work_stopped, ticks_here, taken, over}}
+use Rattle.spki_reduce.proofs.{Through.{small_here, small_stopped, steps_tagged}, Working.{work_here, work_stopped, whole_work, ticks_here, taken, over}}
 use Rattle.spki_reduce.proofs.chain.fold_owned_counted.Goals as goal
 
 -- what the exit of a `?` returns
@@ -134,6 +134,15 @@ pub returns-clause-within_limit : goal.returns-clause-within_limit
 returns-clause-within_limit g c =
     subst (λ ts. ¬ TooLargeAt c.args.most c.args.policy (five (five_tuple c.args.first)) ts)
     (whole c.args.steps.now c.loop-place.place c.loop-place-test.false) c.loop-place.invariant.within_limit
+
+pub returns-clause-worked : goal.returns-clause-worked
+returns-clause-worked g c =
+    let so_far = c.loop-place.invariant.worked in (
+      so_far.0,
+      whole_work c.args.policy (five (five_tuple c.args.first)) c.args.steps.now c.loop-place.place so_far.0 c.loop-place-test.false
+          c.loop-place.auto.place-end so_far.1,
+      so_far.2,
+    )
 
 pub returns-clause-cost : goal.returns-clause-cost
 returns-clause-cost g c =

@@ -1,6 +1,6 @@
-use Rattle.std.proofs.Common.{◌<◌}
+use Rattle.std.proofs.Common.{◌<◌, ◌∙◌, sym}
 use Rattle.spki_reduce.specs.{declared.{tuple.Five.{Five}, fold.Joined.{Joined, TheVariants.{Done, Stopped}}}, Joining.{MatchJoined}}
-use Rattle.spki_reduce.proofs.{Costs.{joined-cost, met_ticks, next_ticks}, ReducedForms.{along, narrowed_joins, stops_by_tags, joins_but_for_tags}}
+use Rattle.spki_reduce.proofs.{Costs.{joined-cost, met_ticks, next_ticks, next_grows}, ReducedForms.{along, narrowed_joins, stops_by_tags, joins_but_for_tags}}
 use Rattle.spki_reduce.proofs.tuple.Five.into_then.Goals as goal
 
 always : (joined : Joined Five) (P : Type 0) → P → MatchJoined joined (λ f. P) (λ cause. Unit {0})
@@ -45,3 +45,12 @@ returns-clause-some g c n h =
     let (issues, allowed, meets, overlap) = c.in-Ok.ensures.joins in
     let joins = joins_but_for_tags c.args.policy c.args.self c.args.next.now c.in-Ok.window issues allowed overlap in
     always c.in_ok-narrowed.field-0 (0 < n) (joined-cost c.args.policy c.args.self c.args.next.now n joins h).1
+
+pub returns-clause-each : goal.returns-clause-each
+returns-clause-each g c =
+    always c.in_ok-narrowed.field-0 _ (next_grows _ _ _ _ _ c.in-Ok-meet_counted.ensures.grows c.read.ensures c.len.ensures)
+
+pub returns-clause-value : goal.returns-clause-value
+returns-clause-value g c =
+    let met = c.in-Ok-meet_counted.ensures.value in
+    along c.in_ok-narrowed.field-0 _ _ _ _ c.in_ok-narrowed.ensures (λ f h. h.0.tag_is ∙ met) (λ cause h none. sym met ∙ h.1)
