@@ -1,6 +1,6 @@
 -- The chains of a case's entries with all certificates: when no step is too large, where they stop, what the entries
 -- become, and their work.
-use Rattle.std.proofs.Common.{◌≡◌, ℕ, suc, ◌*◌, ◌<◌, ◌≤◌, List, ◌∷◌, Some, length, take, slice_get, subst, arith, rules, inl, ◌+◌, false, [], ◌++◌, fold, drop, refl, sym, ap, ◌∙◌, le_trans, ◌⊎◌, inr, zero, suc, Option, ◌-◌, map, get_or, ◌||◌, Vec, mul-le-mul_left, mul-le-mul_right, Global, true, leb-true, Bool}
+use Rattle.std.proofs.Common.{◌≡◌, ℕ, ◌*◌, ◌<◌, ◌≤◌, List, ◌∷◌, Some, length, take, slice_get, subst, arith, rules, inl, ◌+◌, false, [], ◌++◌, fold, drop, refl, sym, ap, ◌∙◌, le_trans, ◌⊎◌, inr, zero, suc, Option, ◌-◌, map, get_or, ◌||◌, Vec, mul-le-mul_left, mul-le-mul_right, Global, true, leb-true, Bool}
 use Rattle.std.proofs.lemmas.Option.{slice_get_within, get_or_from_slice_get, slice_get-get_or, none-some, same_Some}
 use Rattle.std.proofs.lemmas.{List.{take-append-drop, length-map, length-append, take_more}, Grind.{flat_map-append}}
 use Rattle.std.proofs.lemmas.{Bool.{and_parts, not-true, lt-leb}, Slice.Zip.{AllZip-long, all_zipped_more}}
@@ -197,9 +197,9 @@ module _ (c : Case) (e : Entry) (steps : List Step) (kept : List ShownCert) (sam
         item_is = ap (λ s. s.item) (sym here);
       }
 
--- a stop is counted, since steps have numbers from 1
-pub counts_stop : (old new step place : ℕ) → step ≡ suc place → old + step ≤ new → old < new
-counts_stop old new step place numbered counted = omega arith
+pub no_steps : (steps : List Step) → tuples_of steps ≡ [] → steps ≡ []
+no_steps [] e = refl
+no_steps (s ∷ steps) e = absurd cc
 
 -- an entry is refused: its chain is too large, or the work with it is
 pub refused_here : (c : Case) (tuples : List Tuple) (place : ℕ) (e : Entry) (here : slice_get c.entries place ≡ Some e) (left : Option ℕ)

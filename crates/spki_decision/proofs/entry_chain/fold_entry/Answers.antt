@@ -1,6 +1,6 @@
-use Rattle.std.proofs.Common.{refl, sym, ◌∙◌, inl, inr, Result, Ok, Err, OnOk}
-use Rattle.spki_reduce.proofs.Working.{none_taken}
-use Rattle.spki_decision.proofs.Charges.{none_joined, unbounded}
+use Rattle.std.proofs.Common.{refl, sym, ap, ◌∙◌, inl, inr, Result, Ok, Err, OnOk}
+use Rattle.spki_reduce.{specs.Reduction.{FiveTuple}, proofs.Working.{none_taken}}
+use Rattle.spki_decision.proofs.{Charges.{none_joined, unbounded}, EntryChains.{no_steps}}
 use Rattle.spki_decision.proofs.entry_chain.fold_entry.Goals as goal
 
 always : {T E P : Type 0} (r : Result T E) → P → OnOk r P
@@ -28,6 +28,28 @@ returns-else-are_small-clause-value g c = rw c.in_ok-own.ensures at c.fold_owned
 
 pub returns-else-are_small-clause-excluded : goal.returns-else-are_small-clause-excluded
 returns-else-are_small-clause-excluded g c = rw c.in_ok-own.ensures at c.fold_owned_counted-else-are_small.ensures.excluded
+
+pub returns-then-are_small-clause-within_limit : goal.returns-then-are_small-clause-within_limit
+returns-then-are_small-clause-within_limit g c = rw c.in_ok-own.ensures at c.fold_owned_counted.ensures.within_limit
+
+pub returns-else-are_small-clause-within_limit : goal.returns-else-are_small-clause-within_limit
+returns-else-are_small-clause-within_limit g c = rw c.in_ok-own.ensures at c.fold_owned_counted-else-are_small.ensures.within_limit
+
+pub returns-then-are_small-clause-alone : goal.returns-then-are_small-clause-alone
+returns-then-are_small-clause-alone g c none =
+    rw c.in_ok-own.ensures at (c.fold_owned_counted.ensures.alone (no_steps c.args.steps.now none))
+
+pub returns-then-are_small-clause-issuer : goal.returns-then-are_small-clause-issuer
+returns-then-are_small-clause-issuer g c =
+    rw (ap (λ (t : FiveTuple). t.issuer) c.in_ok-own.ensures) at c.fold_owned_counted.ensures.issuer
+
+pub returns-else-are_small-clause-alone : goal.returns-else-are_small-clause-alone
+returns-else-are_small-clause-alone g c none =
+    rw c.in_ok-own.ensures at (c.fold_owned_counted-else-are_small.ensures.alone (no_steps c.args.steps.now none))
+
+pub returns-else-are_small-clause-issuer : goal.returns-else-are_small-clause-issuer
+returns-else-are_small-clause-issuer g c =
+    rw (ap (λ (t : FiveTuple). t.issuer) c.in_ok-own.ensures) at c.fold_owned_counted-else-are_small.ensures.issuer
 
 pub returns-in_err-own-clause-cost : goal.returns-in_err-own-clause-cost
 returns-in_err-own-clause-cost g c = none_joined _ _ _ _ _ _
