@@ -1,6 +1,6 @@
-"""Lets clients read and write packages, by signed requests. Usage: service.py ACL NAME, behind a server with TLS. It
-answers 200 and the number of the entry that grants, 403 and why not, or 400 for a body of over MOST octets."""
+"""Lets clients read and write packages, by signed requests. Usage: service.py ACL NAME, behind a server with TLS."""
 import http.server
+import pathlib
 import posixpath
 import sys
 from datetime import datetime, timezone
@@ -9,19 +9,14 @@ import spki
 import spki_http
 import spki_verify
 
-# The most octets of a body, and what each method asks for.
 MOST, ACTIONS = 65_536, {"GET": b"read", "PUT": b"write"}
 
 
 class Handler(http.server.BaseHTTPRequestHandler):
-    timeout = 60  # (seconds in which the client sends nothing)
-
-    def answer(self) -> None:
-        """Answers a request."""
+    def answer(self) -> None:  # (200 and the number of the entry, or 403 and why not; 400 if the length of the body is none from 0 to MOST)
         host, status = ", ".join(self.headers.get_all("Host", [])), 400
         try:
-            length = int(self.headers.get("Content-Length", 0))
-            body, status = self.rfile.read(range(MOST + 1).index(length)), 403  # (`index` raises ValueError for another length)
+            body, status = self.rfile.read(range(MOST + 1).index(int(self.headers.get("Content-Length", 0)))), 403  # (or a ValueError by `index`)
             proof = verifier.prove(self.command, host, self.path, self.headers.items(), body)
             if posixpath.normpath(self.path) != self.path or "%" in self.path or "?" in self.path:
                 raise ValueError("the path is not normal")
@@ -35,13 +30,11 @@ class Handler(http.server.BaseHTTPRequestHandler):
         self.end_headers()
         self.wfile.write(f"{text}\n".encode())
 
-    do_GET = do_PUT = answer
+    do_GET, do_PUT, timeout = answer, answer, 60  # (a client may send nothing for so many seconds)
 
 
-if len(sys.argv) != 3:
-    sys.exit(__doc__)
-with open(sys.argv[1], "rb") as file:
-    guard, verifier = spki.Guard(file.read()), spki_http.Verifier(sys.argv[2])
+acl, name = sys.argv[1:] if len(sys.argv) == 3 else sys.exit(__doc__)
+guard, verifier = spki.Guard(pathlib.Path(acl).read_bytes()), spki_http.Verifier(name)
 with http.server.ThreadingHTTPServer(("127.0.0.1", 0), Handler) as server:
     print(server.server_port, flush=True)
     server.serve_forever()

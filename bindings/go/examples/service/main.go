@@ -1,8 +1,8 @@
-// Command service lets clients read packages, by signed requests. Usage: service ACL NAME, behind a server with TLS. A granted request gets 200 and an
-// empty body, each other one 403.
+// Command service lets clients read packages, by signed requests. Usage: service ACL NAME, behind a server with TLS.
 package main
 
 import (
+	"flag"
 	"fmt"
 	"log"
 	"net"
@@ -17,17 +17,15 @@ import (
 )
 
 func main() {
-	if len(os.Args) != 3 {
-		log.Fatal("usage: service ACL NAME")
-	}
-	octets, fileError := os.ReadFile(os.Args[1])
+	flag.Parse()
+	octets, fileError := os.ReadFile(flag.Arg(0))
 	list, listError := guard.Open(octets, guard.Strict, guard.Limits{})
 	listener, portError := net.Listen("tcp", "127.0.0.1:0")
 	if fileError != nil || listError != nil || portError != nil {
 		log.Fatal(fileError, listError, portError)
 	}
 	fmt.Println(listener.Addr().(*net.TCPAddr).Port)
-	verifier := httpsig.NewVerifier(os.Args[2]) // (the name by which clients ask for the service)
+	verifier := httpsig.NewVerifier(flag.Arg(1)) // (the name by which clients ask for the service; a granted request gets 200 and an empty body)
 	log.Fatal(http.Serve(listener, http.HandlerFunc(func(answer http.ResponseWriter, request *http.Request) {
 		var decision guard.Decision
 		proof, err := verifier.Request(request)
