@@ -56,7 +56,7 @@ fn answer<V: Verifier>(
 ///
 /// # Errors
 ///
-/// `List` if the list is no access list, `Question` if a question is refused, `Memory` if memory ran out.
+/// `List` if the list is refused, `Question` if a question is, each also for lack of memory. `Memory` at a decision.
 pub fn answer_both<V: Verifier>(
     alloc: Global,
     list: &[u8],

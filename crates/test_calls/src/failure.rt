@@ -1,4 +1,4 @@
-//! Why a row has no answer.
+//! Why a call has no result.
 
 use crate::answers::{Reply, octets};
 use arrayvec::ArrayString;
@@ -41,7 +41,7 @@ impl Failure {
         }
     }
 
-    /// The fault that a call returned, as the answer to a row. Err if there is no answer.
+    /// The text of a fault, which is the answer to a row. Err is `Memory` or `Unknown` itself, or `Memory` if memory ran out for the copy.
     pub fn said(self, alloc: Global) -> Reply {
         match self {
             Failure::Fault(text) => octets(alloc, text.as_bytes()),
