@@ -239,7 +239,7 @@ func (r *rig) answer(question guard.Question) string {
 }
 
 // TestQuestionsToStore asks a store while another client changes it. Each answer must be that of the guard of the whole list, in a state between
-// the one that was polled last and the present one. `met` counts the answers by their first two letters: yes, no, refused.
+// the one that was polled last and the present one. `counts` counts the answers by their first two letters: yes, no, refused.
 func TestQuestionsToStore(t *testing.T) {
 	r := newRig(t, time.Minute)
 	for count := 0; count < 60; count++ {

@@ -60,7 +60,7 @@ static void write_octets(const void *octets, size_t length)
         exit(BROKEN);
 }
 
-/* Reads a block and sets its length. It ends where its octets do, so that a read past the end is seen by a sanitizer. The caller frees it. */
+/* Reads a block into memory of its own, and sets its length. One without octets has memory too, so its address is not null. The caller frees it. */
 static unsigned char *read_block(uint64_t *length)
 {
     *length = read_number();

@@ -186,6 +186,7 @@ class OfWriting(Room):
                             (("entry", "--to", "bob.pub", "--tag", TAG, "--acl", "-"), "acl.sexp"), (("show", "--svg", "-", "-"), "to-bob")]:
             with self.subTest(words), open(self.at(name), encoding="ascii") as stream, mock.patch.object(sys, "stdin", stream):
                 self.assertTrue(self.cert(*words))
+                self.assertFalse(os.path.exists(self.at("-")))
         with open(self.at("alice"), encoding="ascii") as stream, mock.patch.object(sys, "stdin", stream):
             self.assertIn("was read already", self.cert("key", "-", "-", wanted=2))
 

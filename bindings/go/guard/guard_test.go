@@ -190,7 +190,7 @@ func TestVerifiedBefore(t *testing.T) {
 		places []int
 		most   int
 		wanted int
-	}{{nil, 2, 0}, {[]int{0}, 2, 0}, {[]int{1}, 2, 0}, {[]int{0, 1}, 2, 1}, {[]int{0, 1}, 1, 0}, {[]int{0, 1}, 99, 1}, {[]int{0, 1}, -1, 0}, {[]int{0}, 2, 0}} {
+	}{{nil, 2, 0}, {[]int{0}, 2, 0}, {[]int{1}, 2, 0}, {[]int{0, 1}, 2, 1}, {[]int{0, 1}, 1, 0}, {[]int{0, 1}, 99, 1}, {[]int{0, 1}, -1, 0}, {[]int{1, 0}, 2, 0}} {
 		verified := verifiedOf(t, opened, asking, row.places...).First(row.most)
 		canonical, err := verified.Canonical()
 		if err != nil || !bytes.HasPrefix(canonical.Sequence(), []byte("(8:sequence")) {
