@@ -90,12 +90,13 @@ class InGo(OfGo):
     def test_shared(self) -> None:
         """With the tag spki_shared the library is the one that pkg-config knows: here the installed one. CGO_LDFLAGS is emptied, since
         `golang.settings` puts the folder of the built library there, by `-L`. Go passes that before the flags of pkg-config, so the linker would
-        find the built library and not the installed one."""
+        find the built library and not the installed one. Go's cache has the flags that pkg-config gave in an earlier run, and of these flags alone it
+        does not see that they changed: CGO_CPPFLAGS has it compile anew."""
         with tempfile.TemporaryDirectory() as room:
             subprocess.run([os.path.join(TOP, "install.sh"), room, self.program, self.library], check=True, stdout=subprocess.DEVNULL,
                            timeout=golang.SECONDS)
             self.go(golang.MODULE, "test", "-tags", "spki_shared", "./guard", PKG_CONFIG_PATH=os.path.join(room, "lib", "pkgconfig"),
-                    LD_LIBRARY_PATH=os.path.join(room, "lib"), CGO_LDFLAGS="")
+                    LD_LIBRARY_PATH=os.path.join(room, "lib"), CGO_LDFLAGS="", CGO_CPPFLAGS=f"-I{room}")
 
 
 class Authd(OfGo):
