@@ -48,7 +48,4 @@ def write(crate: Any) -> None:
 
 def is_right(crate: Any) -> bool:
     """Whether the record of a crate is that of its present promises and wrong bodies."""
-    try:
-        return read(path_of(crate)).strip() == sum_of(crate)
-    except FileNotFoundError:
-        return False
+    return read(path_of(crate)).strip() == sum_of(crate)
