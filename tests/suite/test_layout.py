@@ -64,8 +64,8 @@ class Layout(unittest.TestCase):
         self.assertEqual(faults, {}, f"run rt fmt in {', '.join(faults)}")
 
     def test_records(self) -> None:
-        """All wrong bodies of a crate were refused by its present promises. If not, `.ci/deep CRATE` tries them, and writes the record. A crate without
-        a record is only printed."""
+        """All wrong bodies of a crate were refused by its present promises. If not, `.ci/deep CRATE` tries them, and writes the record. A crate
+        without a record is only printed."""
         crates = [crate for crate in toolchain.crates().values() if bodies.paths_of(crate)]
         lacking = [crate.name for crate in crates if not os.path.exists(records.path_of(crate))]
         if lacking:
