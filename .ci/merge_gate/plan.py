@@ -8,8 +8,8 @@ MINUTES, PAGES, PROOFS, TESTS, TRIALS = 150, 30, 120, 60, 60
 # How many minutes each part of the deep run may take.
 DEEP_MINUTES = 300
 
-# The wrong bodies that the gate tries, by crate: cheap ones, since the deep run has recorded that all are refused. `rt ci` itself tries those of
-# must-fail/.
+# The wrong bodies that the gate tries, by crate: cheap ones, since the deep run has recorded that all of a crate are refused. `rt ci` itself tries
+# those of must-fail/.
 TRIED = {
     "sexpr_core": ["leading-zero", "bad-at-zero"],
     "sexpr_text": ["token-begins-with-digit"],
@@ -20,7 +20,7 @@ TRIED = {
     "spki_reduce": ["undelegated", "last-must-delegate", "window-never-stops"],
     "spki_decision": ["moment-of-the-entry-alone", "request-in-first-tag-only"],
     "spki_service": ["unmarked-certificate-granted"],
-    "spki_guard": ["shape-for-all"],
+    "spki_guard": ["typed-octets", "echo", "shape-for-all"],
     "spki_c": ["yes-for-written"]}
 
 # What the deep run runs behind the wrong bodies: the program that it needs beside Python, and its words.
