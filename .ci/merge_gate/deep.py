@@ -24,15 +24,15 @@ def try_bodies(names: list[str], counts: Counts) -> None:
     if lacking:
         return counts.add(False, f"no wrong body was tried, since rt ci has not left the libraries {', '.join(sorted(lacking))}")
 
-    def verdicts(crate: Any) -> tuple[Any, list[str], list[tuple[bool, str]]]:
-        """A crate, the files of those of its wrong bodies that are tried, and of each whether it is refused, and the line about it."""
+    def verdicts(crate: Any) -> tuple[Any, list[tuple[bool, str]]]:
+        """A crate, and of each of its wrong bodies that are tried whether it is refused, and the line about it."""
         own = [name for name in names if name.partition("/")[0] == crate.name]
         chosen = bodies.paths_of(crate) if crate.name in own else [bodies.path_of_edit(crate, name) for name in own]
         with tempfile.TemporaryDirectory(prefix="trials-") as over:
-            return crate, chosen, [*bodies.tried(crate, chosen, over)]
+            return crate, [*bodies.tried(crate, chosen, over)]
 
     with concurrent.futures.ThreadPoolExecutor(2) as pool:
-        for crate, chosen, results in pool.map(verdicts, crates.values()):
+        for crate, results in pool.map(verdicts, crates.values()):
             for is_refused, line in results:
                 counts.add(is_refused, line)
             if crate.name in names and all(is_refused for is_refused, _ in results):
