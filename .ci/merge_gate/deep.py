@@ -11,7 +11,7 @@ from typing import Any
 
 from merge_gate import bodies, plan, records, toolchain
 from merge_gate.report import Counts
-from merge_gate.run import Parts
+from merge_gate.run import run
 
 SEED = re.compile(r"^\d+ cases, seed ([0-9a-f]{8}): ", re.MULTILINE)
 
@@ -42,8 +42,7 @@ def try_bodies(names: list[str], counts: Counts) -> None:
 def try_all(names: list[str], counts: Counts) -> None:
     """Tries every wrong body of these crates, or of all. `rt ci` proves the crates first, and tries those in must-fail/."""
     toolchain.remove_kept_libraries()
-    with Parts(plan.DEEP_MINUTES) as parts:
-        counts.add_log(*parts.wait_and_print(parts.begin("rt", "ci", *names)))
+    counts.add_log(*run(["rt", "ci", *names], plan.DEEP_MINUTES))
     try_bodies([name for name, crate in toolchain.crates(*names).items() if bodies.paths_of(crate)], counts)
 
 
@@ -57,8 +56,7 @@ def run_all(counts: Counts) -> None:
         if not shutil.which(needs):
             counts.left_out.append(f"{' '.join(words)} (there is no {needs})")
             continue
-        with Parts(plan.DEEP_MINUTES) as parts:
-            output, status = parts.wait_and_print(parts.begin(*words))
+        output, status = run(words, plan.DEEP_MINUTES)
         counts.add_log(output, status, has_counts=words[0] == "tests/run")
         seed = next(iter(SEED.findall(output)), seed)
     used = os.times()

@@ -7,11 +7,6 @@ LAST = re.compile(r"^(\d+) passed, (\d+) failed(?:$| \()")
 LEFT_OUT = re.compile(r"^(?:skipped: (.*)|(.*) (?:is|are) left out)$", re.MULTILINE)
 
 
-def last_counts(output: str) -> re.Match[str] | None:
-    """The counts in the last line of a command's output, which are `[1]` and `[2]`. None if the line is not 'N passed, M failed'."""
-    return LAST.match(output.rstrip("\n").rpartition("\n")[2])
-
-
 class Counts:
     """What passed, what failed, and what was left out because a tool is missing."""
 
@@ -29,7 +24,7 @@ class Counts:
     def add_log(self, output: str, status: int, has_counts: bool = True) -> None:
         """Counts the output of a command that ended with this status, by its last line 'N passed, M failed'. A command without this line
         has failed. But if it never writes one (`has_counts` is false), its status says whether it passed."""
-        counts = last_counts(output)
+        counts = LAST.match(output.rstrip("\n").rpartition("\n")[2])
         passed, failed = (int(counts[1]), int(counts[2])) if counts else (int(not has_counts and status == 0), int(has_counts))
         self.passed += passed
         self.failed += failed or int(status != 0)

@@ -1,6 +1,6 @@
 """The parts of the gate: what bash runs of its file, which functions a wrong body changes, which output of a check
-refuses it, which promises the deep run has tried, how logs are counted, that all that a command writes is printed, and
-that one which takes too long is ended. The texts of the toolchain are those that it printed in runs."""
+refuses it, which promises the deep run has tried, how logs are counted, what the gate runs, that all that a command writes
+is printed, and that one which takes too long is ended. The texts of the toolchain are those that it printed in runs."""
 import contextlib
 import io
 import os
@@ -11,8 +11,9 @@ import unittest
 from unittest import mock
 
 from harness.support import TESTS, TOP, text_of, waits_for
-from merge_gate import bodies, deep, plan, records, run, toolchain
+from merge_gate import bodies, deep, landing, plan, records
 from merge_gate.report import Counts
+from merge_gate.run import run
 
 SOURCE = """use std::alloc::Global;
 
@@ -60,12 +61,6 @@ class Bodies(unittest.TestCase):
 
     def test_no_function(self) -> None:
         self.assertEqual(functions_changed("usize = 3", "usize = 4"), {None})
-
-    def test_table(self) -> None:
-        """Each wrong body that the gate tries changes functions alone."""
-        for name, crate in toolchain.crates(*plan.TRIED).items():
-            for body in plan.TRIED[name]:
-                self.assertTrue(bodies.body_of(bodies.path_of_edit(crate, body), crate.folder).functions, f"{name}/{body}")
 
     def test_one_check(self) -> None:
         """Wrong bodies of functions with different names are tried by one check, of the text with all of them."""
@@ -172,42 +167,39 @@ class Logs(unittest.TestCase):
 class Commands(unittest.TestCase):
     """Commands that run."""
 
-    def run_part(self, *words: str, minutes: float = 1.0) -> tuple[str, int, str]:
-        """What a command writes, its status, and what is printed about it. After so many minutes it is ended."""
-        with contextlib.redirect_stdout(io.StringIO()) as printed, run.Parts(1) as parts:
-            output, status = parts.wait_and_print(parts.begin(*words), minutes)
-        return output, status, printed.getvalue()
+    def run_bounded(self, *words: str, minutes: float = 1.0) -> tuple[str, int]:
+        """What a command writes, as it is printed, and its status. After so many minutes it is ended."""
+        with contextlib.redirect_stdout(io.StringIO()) as printed:
+            output, status = run([*words], minutes)
+        self.assertEqual(printed.getvalue(), output)
+        return output, status
 
     def test_printed(self) -> None:
-        self.assertEqual(self.run_part("sh", "-c", "echo one; sleep 0.1; echo two >&2; exit 3"), ("one\ntwo\n", 3, "one\ntwo\n"))
+        self.assertEqual(self.run_bounded("sh", "-c", "echo one; sleep 0.1; echo two >&2; exit 3"), ("one\ntwo\n", 3))
 
     def test_late(self) -> None:
-        """A command that takes too long has failed, and is ended with all that it began, also by `setsid`."""
-        output, status, printed = self.run_part("sh", "-c", "sleep 99 & echo $!; setsid sleep 98 & echo $!; wait", minutes=0.01)
-        self.assertRegex(printed, r"ended: sh -c, for 0 minutes\. Its last lines:\n\d+\n\d+\n\nsh -c, for 0 minutes: failed")
-        waits_for("what it began has ended", lambda: all(map(is_gone, output.split("\n")[:2])))
+        """A command that takes too long has failed, and is ended with what it began."""
+        output, status = self.run_bounded("sh", "-c", "sleep 99 & echo $!; wait", minutes=0.01)
+        waits_for("what it began has ended", lambda: is_gone(output.split("\n")[0]))
         counts = Counts()
         counts.add_log(output, status)
         self.assertEqual((counts.passed, counts.failed), (0, 1))
 
-    def test_still_running(self) -> None:
-        """Every SECONDS_BETWEEN_LINES seconds a line names the commands that still run."""
-        with mock.patch.object(run, "SECONDS_BETWEEN_LINES", 0.1):
-            self.assertIn("still running:\n    sleep 1, for 0 minutes\n", self.run_part("sleep", "1")[2])
-
     def test_ended(self) -> None:
-        """The end of the context of `Parts` ends a command that still runs."""
-        with contextlib.redirect_stdout(io.StringIO()), run.Parts(1) as parts:
-            part = parts.begin("sleep", "1000")
-        self.assertIsNotNone(part.process.poll())
+        """A signal that ends the gate ends the command that it runs."""
+        begun = ["sh", "-c", "echo $$; exec sleep 99"]
+        gate = subprocess.Popen([sys.executable, "-c", f"from merge_gate.run import run; run({begun}, 1)"], cwd=os.path.join(TOP, ".ci"),
+                                stdout=subprocess.PIPE, stderr=subprocess.DEVNULL, text=True)
+        with gate:
+            process = (gate.stdout or sys.stdin).readline().strip()
+            gate.terminate()
+            waits_for("the command has ended", lambda: is_gone(process))
+        self.assertNotEqual(gate.returncode, 0)
 
-    def test_wait(self) -> None:
-        """`wait_until_proved` ends when the log of `rt ci` says of each crate that it is proved or kept. If the log has the last line of `rt ci`, it
-        returns the crates that are missing."""
-        with tempfile.NamedTemporaryFile("w") as log:
-            log.write("rt: low proved\nrt: high is kept: an earlier run proved it\n")
-            log.flush()
-            self.assertEqual(run.wait_until_proved({"low", "high"}, log.name), set())
-            log.write("1 passed, 1 failed (first: above)\n")
-            log.flush()
-            self.assertEqual(run.wait_until_proved({"low", "top"}, log.name), {"top"})
+    def test_gate(self) -> None:
+        """The gate runs its parts in order, up to the first that fails, and counts them."""
+        parts = [(1, ["echo", line]) for line in ("2 passed, 0 failed", "1 passed, 3 failed", "4 passed, 0 failed")]
+        with contextlib.redirect_stdout(io.StringIO()) as printed, mock.patch.object(plan, "GATE", parts), \
+                mock.patch.object(landing, "remove_kept_libraries"):
+            self.assertEqual(landing.main(), 1)
+        self.assertEqual(printed.getvalue().split("\n")[-2], "3 passed, 3 failed")

@@ -1,7 +1,7 @@
 """Tests before anything is proved what else would fail late: that each source file is laid out as `rt fmt` lays it out, that each wrong
-body can be applied, that CONTRIBUTING.md lists those of must-fail/ and those of wrong/ that `.ci/run` tries, that all were tried against the
-present promises, that no file is a link, and that CONTRIBUTING.md's line on the last run of `.ci/deep` names a commit of the history, no
-failure, and the seed of 1,000,000 texts or that only wrong bodies were tried."""
+body can be applied, that CONTRIBUTING.md lists those of must-fail/, that the others were tried against the present promises, that no file is a
+link, and that CONTRIBUTING.md's line on the last run of `.ci/deep` names a commit of the history, no failure, and the seed of 1,000,000 texts
+or that only wrong bodies were tried."""
 import glob
 import os
 import re
@@ -13,12 +13,12 @@ from collections.abc import Iterator
 
 from harness.support import output_of, text_of
 from harness.support import TOP as ROOT
-from merge_gate import bodies, plan, records, toolchain
+from merge_gate import bodies, records, toolchain
 
 WRONG_BODIES = ("crates/*/wrong/*.edit", "crates/*/must-fail/*.edit")
 # A line of an edit that the toolchain reads.
 READ = re.compile(r"(file: |old: |new:|$)")
-# A row of CONTRIBUTING.md: a crate, and its wrong bodies: those of must-fail/, and those of wrong/ that `.ci/run` tries.
+# A row of CONTRIBUTING.md: a crate, and its wrong bodies in must-fail/.
 LISTED = re.compile(r"^\| `(\w+)` \| (`[\w-]+`(?:, `[\w-]+`)*) \|$", re.MULTILINE)
 # The line that a run without names prints, or one on runs with names.
 LINE = re.compile(r"Last run of `\.ci/deep`: commit ([0-9a-f]{12,40}), \d+ passed, 0 failed, "
@@ -34,8 +34,8 @@ def files_laid_out_wrongly(crate: str) -> str:
 
 
 def faults_of_wrong_bodies() -> Iterator[str]:
-    """A line for each wrong body that cannot be applied, or that only one of `.ci/run` and the list of CONTRIBUTING.md has."""
-    tried = {(crate, name) for crate, names in plan.TRIED.items() for name in names}
+    """A line for each wrong body that cannot be applied, or that only one of must-fail/ and the list of CONTRIBUTING.md has."""
+    tried = set()
     for crate in sorted(os.listdir(os.path.join(ROOT, "crates"))):
         folder = os.path.join(ROOT, "crates", crate)
         for path in (path for pattern in WRONG_BODIES for path in sorted(glob.glob(os.path.join(ROOT, pattern.replace("*", crate, 1))))):
@@ -64,14 +64,9 @@ class Layout(unittest.TestCase):
         self.assertEqual(faults, {}, f"run rt fmt in {', '.join(faults)}")
 
     def test_records(self) -> None:
-        """All wrong bodies of a crate were refused by its present promises. If not, `.ci/deep CRATE` tries them, and writes the record. A crate
-        without a record is only printed."""
+        """All wrong bodies of a crate were refused by its present promises. If not, `.ci/deep CRATE` tries them, and writes the record."""
         crates = [crate for crate in toolchain.crates().values() if bodies.paths_of(crate)]
-        lacking = [crate.name for crate in crates if not os.path.exists(records.path_of(crate))]
-        if lacking:
-            print(f"note: .ci/deep has no record for {', '.join(lacking)}")
-        stale = [crate.name for crate in crates if crate.name not in lacking and not records.is_right(crate)]
-        self.assertEqual(stale, [], "run .ci/deep with these crates")
+        self.assertEqual([crate.name for crate in crates if not records.is_right(crate)], [], "run .ci/deep with these crates")
 
     def test_wrong_bodies(self) -> None:
         faults = list(faults_of_wrong_bodies())
@@ -82,7 +77,7 @@ class Layout(unittest.TestCase):
         self.assertEqual([line for line in git("ls-files", "-s").stdout.splitlines() if line.startswith("120000")], [])
 
     def test_last_deep_run(self) -> None:
-        """In a whole clone the commit must be in the history. How many wrong bodies were added since is only printed."""
+        """In a whole clone the commit must be in the history."""
         commits = LINE.findall(text_of("CONTRIBUTING.md"))
         self.assertEqual(len(commits), 1, "CONTRIBUTING.md has not one line on the last run of .ci/deep, with 0 failed, and the seed of 1,000,000 "
                                           "texts or 'wrong bodies only'")
@@ -91,5 +86,3 @@ class Layout(unittest.TestCase):
             return
         is_known = not git("merge-base", "--is-ancestor", commits[0], "HEAD").returncode
         self.assertTrue(is_known, f"the last run of .ci/deep was of {commits[0]}, which is not in the history")
-        added = git("diff", "--diff-filter=A", "--find-renames", "--name-only", commits[0], "--", *WRONG_BODIES).stdout.split()
-        print(f"note: {len(added)} wrong bodies were added since the last run of .ci/deep, of {commits[0]}")
