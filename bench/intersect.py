@@ -1,6 +1,6 @@
 #!/usr/bin/env python3
 """Counts the instructions of `spki intersect` on pairs of sets, and prints how they grow with the members; and the peak
-memory of the largest answers, of 998,001 members, and of one of 250 MB.
+memory of the answers with the most members, 998,001 or 110,224 lists of three nodes, and of one of 250 MB.
 
 Instructions are counted by `perf stat`, or by valgrind where that is not there; those of meeting two strings, which starting
 the program takes anyway, are taken off. Build the program first (`rt run` in crates/spki).
@@ -17,7 +17,7 @@ from shared import PROGRAM as BUILT, group, string  # noqa: E402
 
 PROGRAM = sys.argv[1] if len(sys.argv) > 1 else BUILT
 MEMBERS = [125, 250, 500, 999]
-# For 8 times the members at most so many times the instructions; and the most MiB for an answer of 998,001 members.
+# For 8 times the members at most so many times the instructions; and the most MiB for an answer with the most members.
 MOST_RATIO, MOST_MEMORY = 12.0, 256
 # The most memory for an answer of 250 MB: its tag has 250,001 nodes, which share the octets of one string.
 MOST_LONG = 64
@@ -79,7 +79,7 @@ def instructions(count, one, other):
 
 
 def main():
-    """Measures all. Ends with status 1 if a limit is passed."""
+    """Measures all. Ends with status 1 if a limit is exceeded."""
     count = choose_counter()
     start = instructions(count, string("a"), string("b"))
     missed = False
@@ -94,6 +94,7 @@ def main():
         print(f"{make.__name__:<16}" + "".join(f"{number:>12,}" for number in counts) + f"   {ratio:.1f}   {verdict}")
     print(f"(instructions, by {count.__name__.split('_')[-1]}; at most {MOST_RATIO:.0f} times)")
     for name, make in WIDEST.items():
+        # (a list has three nodes, and the product of the nodes of both tags is at most 1,000,000)
         memory = peak(PROGRAM, "intersect", intersection(*make(999 if name != "lists" else 332)))
         missed = missed or memory > MOST_MEMORY
         print(f"most members of {name:<10} {memory:>7.1f} MiB   {'pass' if memory <= MOST_MEMORY else 'miss'}")

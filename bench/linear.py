@@ -156,7 +156,7 @@ def long_issuer(entries, certificates, members):
 
 
 def long_name(names, certificates, members):
-    """A case of an entry for a name of so many words, and one definition many times, of its first word by itself."""
+    """A case of an entry for a subject of so many names behind a key, and one definition many times, of the first name by itself."""
     first = name(OWNER, "n")
     return repeated([entry(name(OWNER, *["n"] * names))], definition(first, first), certificates)
 

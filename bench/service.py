@@ -16,7 +16,8 @@
   free is how far 8 threads count beside one. A thread that decides must not wait for another one.
 
 The first four and Rust are compared by instructions, and where valgrind is not there they are left out; the questions by processor time.
-Other programs only add to a time. So each time is the least of some turns, and while it is over its limit, of more turns with pauses.
+Other programs only add to a time. So each time is the least of some turns, and while it is over its limit, of more turns with pauses. The time to
+open a question of 1 MiB alone is taken once.
 All ratios are taken in one run. Build the library first (crates/spki_c/archive.py).
 Usage: bench/service.py [LIBRARY]
 """
@@ -69,13 +70,13 @@ ANSWERS = {1: "no", 2: "refused", 6: "done", 9: "yes"}
 
 
 class Driver:
-    """The program of service.c, in a folder of its own."""
+    """The program of service.c, in a folder that has it and the texts that it reads."""
 
     def __init__(self, room, library):
         self.room, self.program, self.library = room, os.path.join(room, "service"), library
         words = ["cc", *FLAGS, "-I", os.path.join(TOP, "crates", "spki_c"), "-o", self.program, os.path.join(BENCH, "service.c"), library]
         if subprocess.run(words).returncode:
-            sys.exit(f"bench/service.c does not compile with {library}: build it by crates/spki_c/archive.py")
+            sys.exit(f"bench/service.c does not compile with {library}, which crates/spki_c/archive.py builds")
 
     def file(self, name, octets):
         """Writes a file with these octets, and returns its path."""
@@ -367,8 +368,9 @@ def lists_in_lists(entries, depth):
 
 
 def equal_strings(entries, *prefixes):
-    """A case of entries for the first issuer, whose lines are far longer than an answer: the tags of the certificates have a long string in common,
-    as often as the product of these numbers. It begins as a token and is none, so that a printer reads it to its end."""
+    """A case of entries for the first issuer. In a reduction each has a far longer line than an answer may have: `prefixes` are how often the set of
+    each certificate has the empty prefix, and the last certificate has a string of 44,000 octets, which the intersection of all has as often as the
+    product of these numbers. The string is no token, but printable, so that a printer looks at all of it to find its form."""
     sets = [group(string("*"), string("set"), *[group(string("*"), string("prefix"), string(""))] * members) for members in prefixes]
     tags = [*sets, group(string("*"), string("set"), string("a" + " " * 43_999))]
     keys = keys_of(len(tags))

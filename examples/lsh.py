@@ -80,7 +80,8 @@ def list_of_hash(algorithm, digest):
 
 
 def tries_of_keys(home):
-    """What is tried with an RSA and a DSA key: a remark, the actual and the expected output."""
+    """What is tried with an RSA and a DSA key: a remark, the actual and the expected value. For RSA, -l is the number of bits, and for DSA a
+    level of NIST: 0 has 512 bits."""
     for name, options in (("RSA", ("-l", "1024")), ("DSA", ("-a", "dsa", "-l", "0"))):
         files = home.key_files(name, options)
         for kind, text in files.items():

@@ -79,8 +79,9 @@ func (v *requestVerifier) isSigned(inquiry *inquiry) bool {
 	return v != nil && len(inquiry.header["Signature"])+len(inquiry.header["Signature-Input"]) > 0
 }
 
-// clientOf returns the client of a request: by its signature, with the proof, or else by its TLS certificate, with nil for the proof. If the signature is
-// refused, it fails, whatever certificate is there: behind another proxy that would be the proxy's. Without either it fails with errNoCertificate.
+// clientOf returns the client of a request: by its signature, with the proof, or else by its TLS certificate, with nil for the proof. If the
+// signature is refused, it fails, whatever certificate is there: behind another proxy that would be the proxy's. Without either it fails with
+// errNoCertificate. Of a certificate it fails as keyOf does.
 func (d *decider) clientOf(inquiry *inquiry) (client, *httpsig.Proof, error) {
 	if d.requests.isSigned(inquiry) {
 		message := httpsig.Message{

@@ -154,6 +154,7 @@ class Opened(unittest.TestCase):
             self.assertEqual([signature.octets for signature in opened.signatures()], [None])
 
     def test_marks(self):
+        """A mark takes a place that is listed, and no number that would be one if it were cut to fewer bits. No answer takes marks."""
         with self.guard.ask(asked()) as opened:
             self.assertTrue(opened.is_possible)
             self.assertEqual(opened.decide(), None)

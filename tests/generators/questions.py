@@ -101,7 +101,7 @@ def case_question(rng: random.Random) -> Question:
 
 
 def value(rng: random.Random, depth: int = 3) -> Value:
-    """Any value, of up to `depth` lists inside one another and one of LISTS in these. A whole value, of depth 3, is a tag by chance."""
+    """Any value, of up to `depth` lists inside one another, or in place of any one of LISTS. A whole value, of depth 3, is a tag by chance."""
     if depth == 3 and rng.random() < 0.1:
         return tags.tag(rng, 3)
     kind = rng.random()

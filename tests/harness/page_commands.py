@@ -146,7 +146,7 @@ def help_of(*words: str) -> str:
 
 
 def commands_of_help() -> Iterator[Command]:
-    """The examples in the help of `spki-cert` and of its commands."""
+    """The examples in the help of `spki-cert` and of its commands, but those of `key new`, which asks for a passphrase."""
     whole = help_of()
     for words in [[], *([word] for word in re.findall(r"^ {4}([a-z]+) {2,}", whole, re.MULTILINE))]:
         yield from (Command("help", "help", line) for line in EXAMPLE.findall(help_of(*words) if words else whole))

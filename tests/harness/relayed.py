@@ -6,7 +6,7 @@ import os
 import struct
 import subprocess
 from collections.abc import Callable
-from ctypes import POINTER, Array, Structure, addressof, byref, c_bool, c_int, c_int64, c_size_t, c_void_p, sizeof, string_at
+from ctypes import POINTER, Array, Structure, addressof, byref, c_bool, c_int, c_int64, c_void_p, sizeof, string_at
 from typing import Any, BinaryIO, cast
 
 from harness.guard_door import Asked, Decision, Listed, Text
@@ -178,8 +178,8 @@ class Relayed:
             if at:
                 request.block(bytes(length))
                 request.arguments = [(False, at), (False, length)]
-                copies.append(ctypes.create_string_buffer(self.relay(0, request)[1][0][1], length + 1))
-                setattr(listed, name, c_size_t(addressof(copies[-1])).value)
+                copies.append(ctypes.create_string_buffer(self.relay(0, request)[1][0][1]))
+                setattr(listed, name, addressof(copies[-1]))
         # (a copy lasts as long as what points to it)
         listed.copies = copies
 

@@ -49,14 +49,14 @@ class Behind(served.Site):
                 self.write(f"etc/{name}", self.replaced(file.read()))
 
     def replaced(self, text: str) -> str:
-        """The text of a file of the example, with the folders, names and ports of this site."""
+        """The text of a file of the example, with the folders of this site, and its name or address."""
         for name, here in (("/etc/spki-files", "etc"), ("/run/spki-authd", "run"), ("/run/spki-files", "run/files"), ("/srv/files", "files"),
                            ("/etc/haproxy", "etc"), ("/etc/apache2", "etc"), ("/var/lock/apache2", "tmp"), ("/var/log/nginx", "log")):
             text = text.replace(name, self.at(here))
         return text.replace("files.example.org", self.host())
 
     def host(self) -> str:
-        """The name of the site, as its configuration has it."""
+        """The name or address of the site, as its configuration has it."""
         return "localhost"
 
     def restart_with(self, more: More) -> None:
@@ -206,16 +206,17 @@ class Apache(Behind):
     hole = [("spki.lua", "function decide(r)\n", "    if r.method == 'DELETE' then return apache2.DECLINED end\n")]
 
     def prepare(self) -> None:
-        """Writes the files that Apache reads: also main.conf, which loads its modules and includes the example."""
+        """Writes the files that Apache reads: also main.conf, which loads its modules and includes the example. For root it lets www-data, as which
+        Apache then serves, reach what it serves and locks. Raises CalledProcessError if there is no such user."""
         super().prepare()
         modules = "".join(f"LoadModule {name}_module {FOLDER_OF_MODULES}/mod_{name}.so\n" for name in MODULES)
-        is_root = os.getuid() == 0
+        # (the socket is of root's group, and without a line on its group Apache would go on as root)
+        server_user = "User www-data\nGroup root" if os.getuid() == 0 else ""
         self.write("etc/main.conf", f"ServerRoot {self.room}\nServerName localhost\nTimeout 1\nKeepAliveTimeout 1\n"
                    f"PidFile run/httpd.pid\nErrorLog log/error.log\n"
-                   f"Listen 127.0.0.1:{self.port}\n{modules}TypesConfig /etc/mime.types\n{'User www-data' if is_root else ''}\n# more\n"
+                   f"Listen 127.0.0.1:{self.port}\n{modules}TypesConfig /etc/mime.types\n{server_user}\n# more\n"
                    f"Include etc/files.conf\n")
-        if is_root:
-            # Apache does not serve as root: its user reaches the socket by its group, and must own the files.
+        if server_user:
             os.chmod(self.room, 0o755)
             subprocess.run(["chown", "-R", "www-data", self.at("files"), self.at("tmp")], check=True)
 

@@ -35,21 +35,21 @@ static int is_text(const void *octets, size_t length, const char *wanted)
     return length == strlen(wanted) && !memcmp(octets, wanted, length);
 }
 
-/* Opens a guard, whose list must be read. The caller closes it. */
+/* Opens a guard, whose list must be read: then the library sets `needed` to 0, whatever it was. The caller closes it. */
 static spki_guard *open_guard(const char *list, enum spki_policy policy)
 {
     spki_guard *guard = NULL;
     size_t needed = 12345;
-    expect(spki_guard_open(list, strlen(list), policy, NULL, &guard, NULL, 0, &needed) == SPKI_DONE && guard && !needed, "a list is refused");
+    expect(spki_guard_open(list, strlen(list), policy, NULL, &guard, NULL, 0, &needed) == SPKI_DONE && guard && !needed, "no guard is opened");
     return guard;
 }
 
-/* Opens a question, which must be read. The caller closes it. */
+/* Opens a question, which must be read: then the library sets `needed` to 0, whatever it was. The caller closes it. */
 static spki_asked *open_question(const spki_guard *guard, const struct spki_question *question)
 {
     spki_asked *asked = NULL;
     size_t needed = 12345;
-    expect(spki_guard_ask(guard, question, &asked, NULL, 0, &needed) == SPKI_DONE && asked && !needed, "a question is refused");
+    expect(spki_guard_ask(guard, question, &asked, NULL, 0, &needed) == SPKI_DONE && asked && !needed, "no question is opened");
     return asked;
 }
 

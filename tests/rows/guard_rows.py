@@ -25,7 +25,7 @@ SHAPES = {"Canonical": lambda text: text, "Advanced": lambda text: printed(forms
 
 
 def case(entries: str, rows: str = "", items: str = "", asks: str = KB, request: str = "(ftp)") -> bytes:
-    """The canonical text of a case, by the texts of its entries, of its rows and of the items of its sequence, and by the key that asks."""
+    """The canonical text of a case, by the texts of its entries, its rows and the items of its sequence, by the key that asks and its request."""
     return canonical(chains.case(entries, rows, items, asks, request))
 
 
@@ -55,7 +55,7 @@ def rows_of(text: bytes) -> bytes:
 
 
 def members_of(text: bytes) -> Any:
-    """The members of a case, as a tuple of any type."""
+    """The members of a case, of which the first is the word `case`. The type is `Any` so that each can be taken by its number."""
     return forms.read(text)
 
 

@@ -29,7 +29,7 @@ def one_string(size, form):
 
 
 def lengths():
-    """Yields (name, command, text, answer): a string and a case with whitespace behind it, of 1,048,576 octets, and of 1, 2 or as many again more."""
+    """Yields (name, command, text, answer): a string and whitespace of 1,048,576 octets, and of 1, 2 or as many again more; and a case."""
     for form in FORMS:
         text, canonical = one_string(MOST_OCTETS, form)
         name = f"{len(text)} octets in {form} form"

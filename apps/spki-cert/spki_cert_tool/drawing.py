@@ -71,7 +71,7 @@ class Drawing:
         return shape_name
 
     def arrow(self, begin: bytes, end: bytes, colour: str, *lines: str) -> None:
-        """Adds an arrow between two shapes by their names, with those of the lines that are not empty."""
+        """Adds an arrow between two shapes by their names, in RED, GREEN or BLACK, with those of the lines that are not empty."""
         self.arrows.append(Arrow(begin, end, [line for line in lines if line], colour))
 
     def terms(self, value: Value) -> list[str]:

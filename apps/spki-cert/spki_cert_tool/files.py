@@ -343,7 +343,7 @@ def replace(place: str, octets: bytes, mode: int, before: os.stat_result | None)
             os.fsync(handle)
         put_in_place(temporary, place, is_new=before is None)
         state = "written"
-        wait_for_disk(os.path.dirname(place))
+        wait_for_disk(place)
     finally:
         try:
             os.unlink(temporary)
@@ -369,28 +369,28 @@ def put_in_place(temporary: str, place: str, is_new: bool) -> None:
         os.rename(temporary, place)
 
 
-def wait_for_disk(folder: str) -> None:
-    """Waits until the names in a folder are on the disk. Does nothing if the folder may not be read, or its file system cannot sync folders (EINVAL).
+def wait_for_disk(place: str) -> None:
+    """Waits until the name of a file is on the disk. Does nothing if its folder may not be read, or the file system cannot sync folders (EINVAL).
     Raises Failed if the system reports another error: the file is in its place then."""
     try:
-        handle = os.open(folder, os.O_RDONLY)
+        handle = os.open(os.path.dirname(place), os.O_RDONLY)
     except PermissionError:
         return
     except OSError as why:
-        raise not_on_disk(folder, why) from None
+        raise not_on_disk(place, why) from None
     try:
         os.fsync(handle)
     except OSError as why:
         if why.errno != errno.EINVAL:
-            raise not_on_disk(folder, why) from None
+            raise not_on_disk(place, why) from None
     finally:
         with contextlib.suppress(OSError):
             os.close(handle)
 
 
-def not_on_disk(folder: str, why: OSError) -> Failed:
-    """The exception for a file that is in its place in a folder, although the system does not say that it is on the disk."""
-    return Failed(f"{folder}: the file is written, but the system does not say that it is on the disk: {why.strerror}")
+def not_on_disk(place: str, why: OSError) -> Failed:
+    """The exception for a file that is in its place, although the system does not say that its name there is on the disk."""
+    return Failed(f"{place}: the file is written, but the system does not say that its name is on the disk: {why.strerror}")
 
 
 @contextlib.contextmanager

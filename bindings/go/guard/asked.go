@@ -67,7 +67,7 @@ type (
 	ProvenKey = spki.ProvenKey
 )
 
-// Count returns the number of signatures that the decision depends on.
+// Count returns the number of signatures on which the answers depend, also after Close.
 func (a *Asked) Count() int {
 	return a.count
 }

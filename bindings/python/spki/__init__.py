@@ -388,8 +388,8 @@ def _take_answer_memory() -> _AnswerMemory:
 
 
 def _size_argument(number: int) -> c_size_t:
-    """A number as an argument of the library. Small ones are made once."""
-    return _small_sizes[number] if number < len(_small_sizes) else c_size_t(number)
+    """A number as an argument of the library. Small ones are made once. One below 0 is a number that no question has as a place."""
+    return _small_sizes[number] if 0 <= number < len(_small_sizes) else c_size_t(number)
 
 
 def _call_for_answer(most: int, call: Callable[..., int], *arguments: object) -> tuple[int, bytes]:

@@ -70,9 +70,6 @@ length-verbatim octets = omega (arith, length-append (decimal (length octets)) (
 end_is : (r : Record) (v : Value) → r ≡ record_of r.start v → r.end ≡ r.start + length (canon v)
 end_is r v e = ap (λ (q : Record). q.end) e
 
-pub ends_within : (text : List ℕ) (r : Record) (v : Value) → IsPlace text r v → r.end ≤ length text
-ends_within text r v p = search (rules, end_is, length-append)
-
 -- the text from the node on
 from_start : (text : List ℕ) (r : Record) (v : Value) → (p : IsPlace text r v) → drop r.start text ≡ canon v ++ p.after
 from_start text r v p = ap (drop r.start) p.parts ∙ drop_at p.before (canon v ++ p.after) r.start p.begins

@@ -3,7 +3,7 @@ use Rattle.std.proofs.Common.{◌≡◌, ◌≢◌, ℕ, ◌+◌, ◌≤◌, min
 use Rattle.std.proofs.lemmas.Bool.Decides.{nat_tests}
 use Rattle.sexpr_core.specs.{Value.{decimal}, Reading.{StandsAt}}
 use Rattle.sexpr_core.proofs.Texts.{IsDigit, zero_once, AreDigits, AreDigits-decimal, decimal_same, decimal_starts, verbatim_is, Passes, one_front}
-use Rattle.sexpr_text.specs.AdvancedForm.{is_digit, is_token_octet, IsToken, IsQuoted, IsMarked, Simple}
+use Rattle.sexpr_text.specs.AdvancedForm.{is_digit, is_token_octet, IsToken, IsMarked, Simple}
 use Rattle.sexpr_text.specs.Reads.{Reads, ReadsCount, ReadsOctets, ReadsString, StringAt, Stops}
 use Rattle.sexpr_text.proofs.{Marked.{is_mark, marked_first, one_marked, marked_few}, OneValue.{Cut, cut, IsBehind, simple_first}}
 
@@ -139,9 +139,6 @@ counted_elsewhere text at first number to c end n octets a rest short opens low 
 
 pub marked_string : (text : List ℕ) (at end : ℕ) (octets : List ℕ) → Reads IsMarked text at octets end → ReadsString text at octets end
 marked_string text at end octets m = search rules
-
-pub quoted_string : (text : List ℕ) (at end : ℕ) (octets : List ℕ) → Reads IsQuoted text at octets end → ReadsString text at octets end
-quoted_string text at end octets r = search (rules, marked_string)
 
 pub nothing_stands : (text : List ℕ) (at : ℕ) (a rest : List ℕ) → StringAt text at a rest → drop at text ≡ [] → ⊥
 nothing_stands text at a rest s e = search (rules, simple_first)

@@ -78,10 +78,6 @@ octal_refused text at c stands other_octet = stops_here (OctalStands at) text at
 
 -- ---- escapes
 
-pub high_refused : (text : List ℕ) (at : ℕ) (fault : FormFault) → RefusesPart (DigitStands at) text at fault
-    → RefusesPart (PieceStands (92 ∷ 120 ∷ []) at) text at fault
-high_refused text at fault h = search (rules, refused_later, hexadecimal_piece)
-
 pub low_refused : (text : List ℕ) (at m : ℕ) (fault : FormFault) → ReadsDigit text at m → RefusesPart (DigitStands (at + 1)) text (at + 1) fault
     → RefusesPart (PieceStands (92 ∷ 120 ∷ []) at) text at fault
 low_refused text at m fault r h =

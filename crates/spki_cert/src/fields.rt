@@ -288,8 +288,8 @@ fn is_word_among(words: &[Octets], word: &[u8]) -> bool
     words.iter().any(|w| w.as_slice() == word)
 }
 
-/// The field as a list with its head. None, which the caller refuses, if the field is no list that begins with a string without a display
-/// hint, or if its head is one of `heads`, those of the fields before it.
+/// The field as a list with its head, if no field before it has this head. None, which the caller refuses, if it is no list that begins with a
+/// string without a display hint, or if its head is one of `heads`, those of the fields before it.
 fn new_field<'d, 'a>(field: &Node<'d, 'a>, heads: &[Octets]) -> Option<HeadedList<'d, 'a>>
     ensures { MatchOption result ((head : List ℕ) → IsNew field.now heads.now head → ⊥)
         (λ list. (list ≡ field.now) × ((head : List ℕ) × IsNew field.now heads.now head)) }

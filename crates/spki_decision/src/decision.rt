@@ -48,9 +48,10 @@ impl Decision {
 ///
 /// # Errors
 ///
-/// `TooLarge` only if the certificates pass their tests, and for an entry with no granted entry before it the tag of a certificate is
-/// too large for what the entry and the certificates before it became: the product of the nodes of both tags is over the case's
-/// `most_nodes`. Or the work of the entries up to this one is over `most_work`. `Memory` if memory ran out, here or in the verifier.
+/// `TooLarge` only if the certificates pass their tests, and one of two things is true of an entry with no granted entry before it. The tag of a
+/// certificate is too large for what the entry and the certificates before it became: the product of the nodes of both tags is over the
+/// case's `most_nodes`. Or the work of the entries up to this one, without those that are spared by `uncounted`, is over `most_work`. `Memory`
+/// if memory ran out, here or in the verifier.
 #[tactic(auto, using(crate::proofs::EntryChains::one_fails, crate::proofs::CertificateTests::none_shown))]
 pub fn decide<V: Verifier>(alloc: Global, case: &Case, verifier: &V) -> Result<Decision, GuardFault>
     ensures exact { IfOk result (IsDecision (model case.now) (V.accepted verifier.now)) }
@@ -61,6 +62,7 @@ pub fn decide<V: Verifier>(alloc: Global, case: &Case, verifier: &V) -> Result<D
     match judge(alloc, &case.sequence, case.policy, verifier)? {
         Evidence::Fails { .. } => Ok(Decision::No),
         Evidence::Verified(steps) => {
+            // `Brand` and `Blank` are for a count of ticks, which exists only in contracts: see `spki_tag::Ticks`.
             first_within_limit::<Brand>(alloc, case, &steps, Blank::new(1))
         }
     }

@@ -95,8 +95,8 @@ impl<'a> ShownKeys<'a> {
     }
 }
 
-/// The first of `keys` whose digest by the algorithm is `digest`. None if there is none. It is found in `index`, which is made of `keys`
-/// first if it is None. Err if memory ran out.
+/// The first of `keys` whose digest by the algorithm is `digest`. None if there is none. It is found in `index`, the index of `keys` by the
+/// digests of this algorithm, which is made first if it is None. Err if memory ran out.
 fn first_in<'a>(
     index: &mut Option<FirstKeys<'a>>,
     alloc: Global,

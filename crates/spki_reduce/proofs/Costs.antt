@@ -55,11 +55,6 @@ pub costs_step : (policy : Policy) (left : FiveTuple) (tag : Tag) (right : Tuple
 costs_step policy left tag right n joins (inl h) = h.1
 costs_step policy left tag right n joins (inr h) = absurd (h.0 joins)
 
-pub costs_none : (policy : Policy) (left : FiveTuple) (tag : Tag) (right : Tuple) (n : ℕ) → (Reaches policy left right → ⊥)
-    → IsCostOf policy left tag right n → n ≡ 0
-costs_none policy left tag right n apart (inl h) = absurd (apart h.0)
-costs_none policy left tag right n apart (inr h) = h.1
-
 -- a step that joins costs something
 pub cost-some : (tag : Tag) (path : List (List ℕ)) (next : Five) → 0 < step_cost tag path (five (five_tuple next))
 cost-some tag path next = omega (arith, costs_over tag next path 1 (omega arith))

@@ -105,12 +105,13 @@ pub fn fold_owned<'a>(
     ensures worked { OnOk result ((n : ℕ) × IsWork policy (five (five_tuple first.entry)) (tuples_of steps.now) n
         × Takes (left_of work.old) (left_of work.new) n) }
 {
+    // `Brand` and `Blank` are for a count of ticks, which exists only in contracts: see `spki_tag::Ticks`.
     fold_with_new_count::<Brand>(alloc, first, steps, policy, most, work, Blank::new(1))
 }
 
 /// Does what `fold_owned` does, with its errors `TooLarge` and `Memory`: calls `fold_owned_counted` with a new count of ticks, kept in the
-/// ledger of the toolchain that `blank` opens. The count exists only in contracts, and is dropped afterwards. This is a function of its own,
-/// since only the call of a generic function can pick the type `L` of a count.
+/// new ledger of `L` that `blank` opens. The count exists only in contracts, and is dropped afterwards. `Ticks` says why this is a function of
+/// its own.
 fn fold_with_new_count<'a, L: Ledger>(
     alloc: Global,
     first: Five<'a>,

@@ -234,8 +234,9 @@ impl<'a> Five<'a> {
         }
     }
 
-    /// The intersection of the windows of this authorization and the next, if they join, their tags left out of account. Err is
-    /// the first cause why they do not: `NotIssuer`, `NoDelegation` or `NoValidity`.
+    /// The intersection of the windows of this authorization and the next, if they join, their tags left out of account: the issuer and
+    /// the delegation are tested too. `policy` says by which hashes a principal may name a key. Err is the first cause why they do not:
+    /// `NotIssuer`, `NoDelegation` or `NoValidity`.
     pub(crate) fn window_with(&self, next: &Five, policy: Policy) -> Result<Window, Cause>
         ensures joins { IfOk result (λ window. Issues policy (five_tuple self.now) (five_tuple next.now)
             × (self.now.propagate ≡ true) × IsMeet self.now.window next.now.window window

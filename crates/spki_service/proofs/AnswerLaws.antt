@@ -8,9 +8,9 @@ use Rattle.spki_decision.specs.declared.{evidence.Stop.{Stop, TheVariants.{NotAc
 use Rattle.spki_decision.specs.declared.{reduction.{EntryFold.{EntryFold}, Reduction.{Reduction}}, grant.Grant.{Grant}}
 use Rattle.spki_decision.specs.CertificateTests.{signed_of, Signed, IsAccepted, asked, AgreeOn, with_entries, FailsAt, AreShown, every, RefusedAt}
 use Rattle.spki_decision.specs.Requirements.{AreKept, IsKept, IsLeftOut, kept_case}
-use Rattle.spki_decision.specs.Granted.{IsYes, IsFailure, SomeTooLarge, AreFoldsOf, IsEntryFold, HasLargeTags, HasMuchWork, IsCharge, IsOvercharged}
+use Rattle.spki_decision.specs.Granted.{IsYes, IsFailure, AreFoldsOf, IsEntryFold, HasLargeTags, HasMuchWork, IsCharge, IsOvercharged}
 use Rattle.spki_decision.specs.{Answered.{IsExplained, IsReduced}, Until.{decision_of, EndsWith, HoldsUntil}}
-use Rattle.spki_decision.proofs.ListedSignatures.{decision_by, not_accepted, agrees, refused_item, explained_by, reduced_by, failure_by, folds_by, some_large_by}
+use Rattle.spki_decision.proofs.ListedSignatures.{decision_by, not_accepted, agrees, refused_item, explained_by, reduced_by}
 use Rattle.spki_decision.proofs.{CertificateTests.{decided, none_shown, one_list}, OneDecision.{decision_one}, KeptEntries.{renumbered}}
 use Rattle.spki_decision.proofs.{Until.{windows_are, yes_till}, EntryChains.{failure, FoldedTo, one_folded, too_large_here, all_folded}}
 use Rattle.spki_service.specs.GuardQuestions.{PreparedModel, asked_at, Decides, Grants, AllMarked, DecidesMarked, GrantsMarked, AnswersMarked, AreReducedMarked, MarksTell, Answers, OfCase, AreReduced}
@@ -96,21 +96,6 @@ module _ (a : PreparedModel) (verified : Verified) where
     reduced_all (Err Memory) h = tt
     reduced_all r h = λ es are. reduced_by (with_entries a.case es) every verified agree r (h es are)
 
-    folds_all : (failure : Option Failure) (folds : List EntryFold) → AreReduced a every failure folds → AreReduced a verified failure folds
-    folds_all (Some f) folds (none, h) =
-        (none, λ es are. failure_by (with_entries a.case es) every verified agree f.item f.stop (h es are))
-    folds_all None folds (h, dated, end) =
-        (λ es are. folds_by (with_entries a.case es) every verified agree folds (h es are), dated, end)
-
-    pub folded_all : (takes : List EntryFold → Type 0) (r : Result (Option Failure) GuardFault)
-        → IfOk r (λ failure. (folds : List EntryFold) × takes folds × AreReduced a every failure folds)
-        → IfOk r (λ failure. (folds : List EntryFold) × takes folds × AreReduced a verified failure folds)
-    folded_all takes (Ok failure) (folds, taken, h) = (folds, taken, folds_all failure folds h)
-    folded_all takes (Err fault) h = tt
-
-    pub large_all : OfCase a (λ c. SomeTooLarge c every) → OfCase a (λ c. SomeTooLarge c verified)
-    large_all h = λ es are. some_large_by (with_entries a.case es) every verified agree (h es are)
-
   -- ---- one is refused
 
   module _ (item : ℕ) (stop : Stop) (fails : FailsAt a.case.policy verified a.case.items item stop) where
@@ -135,9 +120,6 @@ module _ (a : PreparedModel) (verified : Verified) where
 
     pub reduced_none : (item : ℕ) → item ≡ r.refused.item → Answers (λ c x. IsReduced c verified x) a (Ok (reduction.Evidence item NotAccepted))
     reduced_none item same = λ es are. (failed item NotAccepted (fails item same) es are, tt)
-
-    pub folds_none : (item : ℕ) → item ≡ r.refused.item → AreReduced a verified (Some (record { item = item; stop = NotAccepted })) []
-    folds_none item same = folds_failed item NotAccepted (fails item same)
 
 -- ---- marks that tell what a verifier accepts
 

@@ -2,7 +2,7 @@
 use Rattle.std.proofs.Common.{◌≡◌, ℕ, ◌+◌, ◌-◌, ◌*◌, ◌/◌, ◌%◌, ◌<◌, ◌≤◌, true, false, ◌&&◌, nat_le, List, Option, Some, None, MatchOption, refl, sym, ap, subst, ◌∙◌, true≢false, arith, rules, inl, inr, neg_ℤ, ℤ, pos, negsuc, ◌*ℤ◌, ◌<ℤ◌, ◌≤ℤ◌, unsigned_abs}
 use Rattle.std.proofs.lemmas.{Bool.{and_from, Decides.{nat_tests}}, Int.{by_lt_z}}
 use Rattle.jiff_core.specs.declared.civil.{time.Time.{Time}, date.Date.{Date}, datetime.DateTime.{DateTime}}
-use Rattle.jiff_core.specs.{Calendar.{IsCivilDate, days_from_civil}, Date.{epoch_day}, DateTime.{civil_nanos, IsCivilNanos}}
+use Rattle.jiff_core.specs.{Calendar.{IsCivilDate, days_from_civil}, Date.{epoch_day}, DateTime.{civil_nanos}}
 use Rattle.jiff_core.proofs.{SignedLemmas.{signed_arith}, MarchLemmas.{day_count-early}}
 use Rattle.jiff_core.proofs.{CalendarLemmas.{days_in_month_bounds, days_from_civil-day_count}, DateLemmas.{civil, epoch_day_injective, epoch_day-lt}}
 use Rattle.jiff_core.proofs.DateTimeLemmas.{civil_nanos-parts, civil_nanos_range, civil_nanos_injective, time_nanos_bound, time_nanos_injective}
@@ -47,9 +47,6 @@ first_day =
 first_year : first_date.year ≡ pos 0
 unfolding first_date
 first_year = refl
-
-pub none_beyond : (seconds : ℤ) → (IsCivilNanos (seconds *ℤ pos 1_000_000_000) → ⊥) → IsAtNoDate seconds
-none_beyond seconds h = search (rules, by_lt_z, neg_ℤ, signed_arith)
 
 -- and those of no date are not those of one
 pub no_date : (seconds : ℤ) (octets : List ℕ) → IsAtNoDate seconds → ¬ IsDateAt seconds octets

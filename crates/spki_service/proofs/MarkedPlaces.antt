@@ -1,12 +1,11 @@
 -- Marks by which a service says which of the listed signatures are valid: what they say, and the first place without one.
-use Rattle.std.proofs.Common.{◌≡◌, ℕ, ◌<◌, List, Bool, Some, None, length, slice_get, sym, ap, ◌∙◌, zero, suc, [], ◌∷◌, refl, arith, subst, inl, inr, map, option_map}
-use Rattle.std.proofs.lemmas.Option.{slice_get_within, slice_get-get_or, slice_get-map}
+use Rattle.std.proofs.Common.{◌≡◌, ℕ, ◌<◌, List, Bool, Some, None, length, slice_get, sym, ap, ◌∙◌, zero, suc, [], ◌∷◌, refl, arith, subst, inl, inr}
+use Rattle.std.proofs.lemmas.Option.{slice_get_within, slice_get-get_or}
 use Rattle.std.specs.List.{AllByRecursion}
 use Rattle.spki_case.specs.Case.{Verified}
-use Rattle.spki_decision.specs.CertificateTests.{Signed, IsAccepted, asked, RefusedAt, signed_of}
+use Rattle.spki_decision.specs.CertificateTests.{Signed, IsAccepted, asked, RefusedAt}
 use Rattle.spki_service.specs.{AccessLists.{GuardModel}, declared.texts.Texts.{Texts}}
 use Rattle.spki_service.specs.GuardQuestions.{PreparedModel, IsFirstUnmarked, AllMarked, IsUnmarked, ByMarks, IsReadFrom}
-use Rattle.spki_decision.specs.declared.signed.Signed as examined
 
 -- ---- signatures and their places
 
@@ -84,12 +83,6 @@ module _ (signed : List Signed) (marks : List Bool) (count : ℕ) (counted : cou
   unmarked_there place h =
       let stands = slice_get-get_or signed place blank (subst (λ n. place < n) counted h.0) in
       (_, unmarked_at place _ h stands)
-
--- ---- as the code lists signatures
-
-pub listed_at : (kept : List examined.Signed) (place : ℕ) (one : examined.Signed) → slice_get kept place ≡ Some one
-    → slice_get (map signed_of kept) place ≡ Some (signed_of one)
-listed_at kept place one stands = slice_get-map signed_of kept place ∙ ap (option_map signed_of) stands
 
 -- ---- a question with other marks
 

@@ -54,9 +54,9 @@ impl<'a> PreparedQuestion<'a> {
         }
     }
 
-    /// Does the work of `grant_by`, whose caller has no count of ticks: calls `grant_by_counted` with a new one, which `blank` opens. The
-    /// count, of operations, exists only in contracts, and is dropped afterwards. `Ticks` says why this is a function of its own. Err if
-    /// memory ran out.
+    /// Does the work of `grant_by`, whose caller has no count of ticks: calls `grant_by_counted` with a new one, in the ledger `blank`, which must be
+    /// a new one of `L`. The count, of operations, exists only in contracts, and is dropped afterwards. `Ticks` says why this is a function of
+    /// its own. None if nothing is granted. Err if memory ran out.
     pub(crate) fn grant_by_with_new_count<L: Ledger>(
         &self,
         alloc: Global,
@@ -88,9 +88,9 @@ impl<'a> PreparedQuestion<'a> {
         }
     }
 
-    /// Does the work of `granted`, whose caller has no count of ticks: calls `granted_counted` with a new one, which `blank` opens. The
-    /// count, of operations, exists only in contracts, and is dropped afterwards. `Ticks` says why this is a function of its own. Err if
-    /// memory ran out.
+    /// Does the work of `granted`, whose caller has no count of ticks: calls `granted_counted` with a new one, in the ledger `blank`, which must be
+    /// a new one of `L`. The count, of operations, exists only in contracts, and is dropped afterwards. `Ticks` says why this is a function of
+    /// its own. None if nothing is granted. Err if memory ran out.
     pub(crate) fn granted_with_new_count<L: Ledger>(
         &self,
         alloc: Global,

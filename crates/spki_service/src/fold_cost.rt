@@ -52,9 +52,9 @@ impl<'a> PreparedQuestion<'a> {
         }
     }
 
-    /// Does the work of `explain_by`, whose caller has no count of ticks: calls `explain_by_counted` with a new one, which `blank` opens. The
-    /// count, of operations, exists only in contracts, and is dropped afterwards. `Ticks` says why this is a function of its own. Err is
-    /// `TooLarge` or `Memory`, as for `explain_by_counted`.
+    /// Does the work of `explain_by`, whose caller has no count of ticks: calls `explain_by_counted` with a new one, in the ledger `blank`, which
+    /// must be a new one of `L`. The count, of operations, exists only in contracts, and is dropped afterwards. `Ticks` says why this is a
+    /// function of its own. Err is `TooLarge` or `Memory`, as for `explain_by_counted`.
     pub(crate) fn explain_by_with_new_count<L: Ledger>(
         &self,
         alloc: Global,
@@ -92,9 +92,9 @@ impl<'a> PreparedQuestion<'a> {
         }
     }
 
-    /// Does the work of `reduce_by`, whose caller has no count of ticks: calls `reduce_by_counted` with a new one, which `blank` opens. The
-    /// count, of operations, exists only in contracts, and is dropped afterwards. `Ticks` says why this is a function of its own. Err is
-    /// `TooLarge` or `Memory`, as for `reduce_by_counted`.
+    /// Does the work of `reduce_by`, whose caller has no count of ticks: calls `reduce_by_counted` with a new one, in the ledger `blank`, which
+    /// must be a new one of `L`. The count, of operations, exists only in contracts, and is dropped afterwards. `Ticks` says why this is a
+    /// function of its own. Err is `TooLarge` or `Memory`, as for `reduce_by_counted`.
     pub(crate) fn reduce_by_with_new_count<L: Ledger>(
         &self,
         alloc: Global,
@@ -162,8 +162,8 @@ impl<'a> PreparedQuestion<'a> {
     }
 
     /// The explanation if all listed signatures are valid, for `explain`, whose caller has no count of ticks: calls `explained_counted` with
-    /// a new one, which `blank` opens. The count, of operations, exists only in contracts, and is dropped afterwards. `Ticks` says why this
-    /// is a function of its own. Err is `TooLarge` or `Memory`, as for `explained_counted`.
+    /// a new one, in the ledger `blank`, which must be a new one of `L`. The count, of operations, exists only in contracts, and is dropped
+    /// afterwards. `Ticks` says why this is a function of its own. Err is `TooLarge` or `Memory`, as for `explained_counted`.
     pub(crate) fn explained_with_new_count<L: Ledger>(
         &self,
         alloc: Global,
@@ -197,8 +197,8 @@ impl<'a> PreparedQuestion<'a> {
     }
 
     /// The reduction if all listed signatures are valid, for `reduce`, whose caller has no count of ticks: calls `reduced_counted` with a new
-    /// one, which `blank` opens. The count, of operations, exists only in contracts, and is dropped afterwards. `Ticks` says why this is a
-    /// function of its own. Err is `TooLarge` or `Memory`, as for `reduced_counted`.
+    /// one, in the ledger `blank`, which must be a new one of `L`. The count, of operations, exists only in contracts, and is dropped afterwards.
+    /// `Ticks` says why this is a function of its own. Err is `TooLarge` or `Memory`, as for `reduced_counted`.
     pub(crate) fn reduced_with_new_count<L: Ledger>(
         &self,
         alloc: Global,

@@ -244,7 +244,7 @@ impl Tag {
     }
 
     /// Does what `meet_within` does. It makes the count of ticks that `meet_counted` needs, and is generic since only a call of a generic
-    /// function can pick the type `L` of a count. `blank` opens the count, which exists only in contracts, and must be that of `L`. Err is
+    /// function can pick the type `L` of a count. The count, which exists only in contracts, is in the ledger `blank`, a new one of `L`. Err is
     /// `TooLarge` if the product of the numbers of nodes of both tags is over `most`, or `Memory`.
     fn meet_with_new_count<L: Ledger>(
         &self,

@@ -22,7 +22,7 @@ impl Tag {
     }
 
     /// Does what `holds` does. It makes the count of ticks that `holds_counted` needs, and is generic since only a call of a generic
-    /// function can pick the type `L` of a count. `blank` opens the count, which exists only in contracts, and must be that of `L`.
+    /// function can pick the type `L` of a count. The count, which exists only in contracts, is in the ledger `blank`, a new one of `L`.
     fn holds_with_new_count<L: Ledger>(&self, request: &Ground, blank: Blank) -> bool
         requires name { blank.name ≡ L.name }
         requires parts { blank.parts ≡ L.parts }

@@ -51,7 +51,7 @@ fn nodes(alloc: Global, document: &Doc, most: usize) -> Reply {
     Ok(out)
 }
 
-/// Appends the line of each node, and that of the first number up to `most` that is no node.
+/// Appends the lines of the numbers from 0 on, up to the first that is no node, and to `most` at most.
 fn push_nodes(
     alloc: Global,
     out: &mut Vec<u8>,
