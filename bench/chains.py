@@ -99,7 +99,7 @@ def beside_openssl():
 
 
 def main():
-    """Measures all. Ends with status 1 if a limit is passed or an answer is wrong. Of the large tags only the memory counts, whatever the answer is."""
+    """Measures all. Ends with status 1 if a limit is exceeded or an answer is wrong. Of large tags only the memory counts, whatever the answer."""
     worst = largest_growth()
     print(f"largest ratio for 4 times the certificates: {worst:.2f} (at most {LIMIT_RATIO})")
     slowest = most = 0.0

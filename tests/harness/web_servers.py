@@ -206,8 +206,7 @@ class Apache(Behind):
     hole = [("spki.lua", "function decide(r)\n", "    if r.method == 'DELETE' then return apache2.DECLINED end\n")]
 
     def prepare(self) -> None:
-        """Writes the files that Apache reads: also main.conf, which loads its modules and includes the example. For root it lets www-data, as which
-        Apache then serves, reach what it serves and locks. Raises CalledProcessError if there is no such user."""
+        """Writes what Apache reads: also main.conf, which loads its modules and includes the example. Root gives files to www-data, who serves."""
         super().prepare()
         modules = "".join(f"LoadModule {name}_module {FOLDER_OF_MODULES}/mod_{name}.so\n" for name in MODULES)
         # (the socket is of root's group, and without a line on its group Apache would go on as root)
