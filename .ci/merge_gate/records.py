@@ -47,5 +47,5 @@ def write(crate: Any) -> None:
 
 
 def is_right(crate: Any) -> bool:
-    """Whether the record of a crate is that of its present promises and wrong bodies."""
-    return read(path_of(crate)).strip() == sum_of(crate)
+    """Whether a crate has a record, and it is that of its present promises and wrong bodies."""
+    return os.path.exists(path_of(crate)) and read(path_of(crate)).strip() == sum_of(crate)
