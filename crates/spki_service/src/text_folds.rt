@@ -19,8 +19,8 @@ use std::alloc::Global;
 /// entries, and `steps` the tuples of all certificates, in order: one for each. An entry is read just before it is joined with them, and
 /// nothing of it is kept. The case's own access list, which is empty in a question, is not examined. All entries share one budget: the work
 /// that may still be done. `fold_texts_counted` is this loop with a count of ticks (operations that contracts count). This one is for
-/// `reduce_into`, which has no count: it cannot open one as other calls do, since the toolchain does not infer the type of a ledger, in which
-/// a count is kept, in a call that also takes a sink.
+/// `reduce_into`, which has no count: it cannot open one as other calls do, since the toolchain picks no ledger, in which a count is kept, for
+/// a function with a bound that names a lifetime, as `FoldSink<'a>` does.
 ///
 /// # Errors
 ///
