@@ -21,8 +21,8 @@ import os
 import shutil
 import sys
 import tempfile
-import threading
 import time
+from concurrent.futures import ThreadPoolExecutor
 
 from authd_site import Site, processor_seconds, reload, resident
 
@@ -79,16 +79,14 @@ def at_half_load(site, seconds, full):
 
 def run_soak(site, process, seconds):
     """The figures under load with a reload each second, and a list of the daemon's resident memory after each reload, in KiB."""
-    figures = []
-    load = threading.Thread(target=lambda: figures.append(site.load(site.nginx[2], seconds, CONNECTIONS[0])))
-    load.start()
     memory = []
-    while load.is_alive():
-        reload(process)
-        time.sleep(1)
-        memory.append(resident(process))
-    load.join()
-    return figures[0], memory
+    with ThreadPoolExecutor(1) as pool:
+        load = pool.submit(site.load, site.nginx[2], seconds, CONNECTIONS[0])
+        while not load.done():
+            reload(process)
+            time.sleep(1)
+            memory.append(resident(process))
+    return load.result(), memory
 
 
 def growth(memory):

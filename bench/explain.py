@@ -68,14 +68,17 @@ def print_reductions():
 
 
 def most_of_long_keys():
-    """The most MiB of `reduce` of entries whose certificate is for a key of half the text, which has one string or very many."""
+    """The most MiB of `reduce` of entries whose certificate is for a key of half the text. The key has one string, or very many. Prints a line for
+    each of the two. Ends the process if `reduce` does not answer."""
     most = 0.0
     issuer, other = keys_of(1)
     for parts in ([string(b"\x01" * (MOST_OCTETS // 2 - 100))], [string("")] * 250_000):
         links = [(certificate(issuer, group(string("public-key"), group(string("rsa"), *parts))), issuer)]
         one = len(case([entry(issuer)], links, asks=other)) - len(case([], links, asks=other))
         entries = (MOST_OCTETS - len(case([], links, asks=other))) // one
-        seconds, memory = used(PROGRAM, "reduce", case([entry(issuer)] * entries, links, asks=other))
+        text = case([entry(issuer)] * entries, links, asks=other)
+        subprocess.run([PROGRAM, "reduce"], input=text, stdout=subprocess.DEVNULL, check=True)
+        seconds, memory = used(PROGRAM, "reduce", text)
         print(f"{entries:,} entries and a certificate for a key of {len(parts):,} strings: {seconds:.2f} s, {memory:.0f} MiB", flush=True)
         most = max(most, memory)
     return most

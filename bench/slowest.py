@@ -290,7 +290,7 @@ def most_seconds(call: Call, recipe: Any, written: int = 0) -> float:
 
 
 def most_mebibytes(call: Call, recipe: Any) -> float:
-    """The most MiB that a call may take on a text. Only texts of calls with a limit for each entry have entries."""
+    """The most MiB that a call may take on a text. The `Form` of a conversion has no entries: they are read only for a limit by the entry."""
     return call.mebibytes + (call.entry_mebibytes * recipe.entries.count if call.entry_mebibytes else 0)
 
 

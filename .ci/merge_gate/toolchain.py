@@ -7,7 +7,7 @@ used stand here:
 | `checked` | checks a copy of a crate with other texts, over the libraries that `rt ci` leaves. `rt check` proves these libraries again |
 | `unread` | whether a line says that an edited text could not be read. The texts of such lines are the toolchain's own |
 | `must_fail`, `REFUSED` | the verdict on one edit. `rt must-fail` proves the whole crate first, and knows no file outside of must-fail/ |
-| `rtlib.crates_below`, `rtlib.ALLOW_C` | the crates as `checked` and `must_fail` take them, with no functions in C |
+| `rtlib.crates_below`, `rtlib.ALLOW_C` | the crates as `checked` and `must_fail` take them, also with `below`, with no functions in C |
 | `rtlib.guarded` | ends the checks when this process ends. It must be called first in the main thread |
 """
 import functools
@@ -41,7 +41,7 @@ def rt_module() -> Any:
 
 
 def crates(*names: str) -> dict[str, Any]:
-    """The crates with these names, or all, the lowest first. Ends the process if one is missing."""
+    """The crates with these names, or all, those that use the fewest others first. Ends the process if one is missing."""
     every = {it.name: it for it in sorted(rt_module().rtlib.crates_below(TOP), key=lambda it: len(it.below()))}
     missing = sorted(set(names) - every.keys())
     if missing:

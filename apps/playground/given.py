@@ -30,7 +30,8 @@ def members(sent, name, kind, wanted):
 
 
 def words_of(sent):
-    """The strings of the request of the object that the page sent, as octets. Raises `Refused`."""
+    """The strings of the request of the object that the page sent, as octets: none if it has no request. What is no character becomes `?`. Raises
+    `Refused` if the request is no list of strings."""
     return tuple(word.encode(errors="replace") for word in members(sent, "request", str, "a list of strings"))
 
 

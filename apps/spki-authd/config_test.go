@@ -21,6 +21,9 @@ func TestLeastConfig(t *testing.T) {
 	if config.Headers != wanted || config.CertificateForm != escapedPEM || config.RefusedStatus != 400 || config.Limits != usualLimits || *config.Cache != usualCache {
 		t.Errorf("%+v", config)
 	}
+	if config.SocketMode != "0660" || config.Policy != "strict" || config.LogSync != syncSeconds || config.Control != config.Listen+controlSuffix {
+		t.Errorf("%+v", config)
+	}
 }
 
 // with returns the least configuration with more fields in front, such as `"cache": 0`.

@@ -283,7 +283,8 @@ func TestStoreThatGoesBack(t *testing.T) {
 	s.expect(t, "another history", 200)
 }
 
-// TestStoredChains leaves certificates in a store, which other daemons find soon. Where the store does not answer, neither yes nor no is said.
+// TestStoredChains leaves certificates in a store, where another daemon finds them, and asks the store again only when what it knows is too old. Where
+// the store does not answer, neither yes nor no is said.
 func TestStoredChains(t *testing.T) {
 	s := newStored(t, `, "chains": {"postgres": {"host": "/run", "database": "d", "user": "u"}}`+ofSite)
 	s.table.kept = map[digest][]keptChain{}

@@ -212,7 +212,7 @@ func TestCutLines(t *testing.T) {
 	}
 }
 
-// TestReaderThatIsGone writes to a pipe that nobody reads any more.
+// TestReaderThatIsGone writes to a pipe that nobody reads any more: the line is counted as lost.
 func TestReaderThatIsGone(t *testing.T) {
 	reader, to, err := os.Pipe()
 	if err != nil {

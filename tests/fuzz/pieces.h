@@ -279,10 +279,10 @@ static void put_entry(struct input *in, struct text *to)
     end(to);
 }
 
-/* In one of sixteen cases changes an octet of a text, or cuts off its end. */
+/* In one of sixteen cases changes an octet of a text, or cuts off its end: not if the input is used up, which would be the same each time. */
 static void spoil(struct input *in, struct text *text)
 {
-    unsigned how = below(in, 32), at = below(in, 256) * 256u + below(in, 256);
+    unsigned how = below(in, 32), high = below(in, 256), at = high * 256u + below(in, 256);
     if (!text->length || how < 30 || !in->left)
         return;
     at %= text->length;

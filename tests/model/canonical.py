@@ -58,7 +58,8 @@ def members_at(text: bytes, at: int, open_lists: int) -> tuple[Value, int]:
 
 
 def string_at(text: bytes, at: int, place: str) -> tuple[bytes, int]:
-    """The octets of the string that begins at an offset, and the offset behind it. `place` is the row of PLACES if none begins there."""
+    """The octets of the string that begins at an offset, and the offset behind it. Raises FormFault: Short, also at the end of the text, or Bad,
+    with the row `place` of PLACES if no string begins there."""
     octet_at(text, at)
     length = LENGTH.match(text, at)
     if not length:

@@ -74,7 +74,7 @@ class Key:
 
 @dataclass(frozen=True, slots=True)
 class Hash:
-    """A hash of a key's canonical text."""
+    """A hash of a canonical text: of a key, or of what is signed."""
 
     algorithm: bytes
     digest: bytes

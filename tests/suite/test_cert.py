@@ -792,7 +792,8 @@ int main(int count, char **words)
     @needs.needs("mypy")
     def test_types(self):
         words = ("mypy", "--strict", "-p", "spki_cert_tool", "--cache-dir", os.path.join(TESTS, "out", "mypy-strict"))
-        self.assertEqual(output_of(*words, cwd=os.path.join(TOP, "apps", "spki-cert"), seconds=SECONDS)[0], 0)
+        status, output = output_of(*words, cwd=os.path.join(TOP, "apps", "spki-cert"), seconds=SECONDS)[:2]
+        self.assertEqual(status, 0, output)
 
     def test_it_is_installed(self):
         """install.sh takes a program and libraries that are built; empty files do here. --uninstall leaves no file, nor is one made beside the

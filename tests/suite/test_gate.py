@@ -181,9 +181,7 @@ class Commands(unittest.TestCase):
         """A command that takes too long has failed, and is ended with what it began."""
         output, status = self.run_bounded("sh", "-c", "sleep 99 & echo $!; wait", minutes=0.01)
         waits_for("what it began has ended", lambda: is_gone(output.split("\n")[0]))
-        counts = Counts()
-        counts.add_log(output, status)
-        self.assertEqual((counts.passed, counts.failed), (0, 1))
+        self.assertNotEqual(status, 0)
 
     def test_ended(self) -> None:
         """A signal that ends the gate ends the command that it runs."""

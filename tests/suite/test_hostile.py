@@ -92,7 +92,7 @@ class Example:
     name: str
     command: str
     text: bytes
-    answer: tuple
+    answer: tuple | bytes | None
 
     def __str__(self):
         return f"{self.command} on {self.name}"
@@ -309,8 +309,8 @@ def in_less_memory(program, example):
 
 
 def within_limits(program, example):
-    """One run of much work, which must take at most MOST_SECONDS and MOST_MEMORY MiB. Its answer must begin with that of the example. Returns the
-    number of runs, of refusals, and the faults."""
+    """An example of much work, which must take at most MOST_SECONDS and MOST_MEMORY MiB, and end with a status of the program. Its output must begin
+    with that of the example. Returns 1 for one example, 0 refusals, and the faults."""
     ended = program.run(example.command, example.text)
     seconds, mebibytes = memory.used(program.path, example.command, example.text)
     print(f"{example.name:<40}{example.command:<10}{len(example.text):>9}{len(ended.out):>9}{seconds:>8.2f} s{mebibytes:>8.1f} MiB", flush=True)

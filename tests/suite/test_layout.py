@@ -79,10 +79,8 @@ class Layout(unittest.TestCase):
     def test_last_deep_run(self) -> None:
         """In a whole clone the commit must be in the history."""
         commits = LINE.findall(text_of("CONTRIBUTING.md"))
-        self.assertEqual(len(commits), 1, "CONTRIBUTING.md has not one line on the last run of .ci/deep, with 0 failed, and the seed of 1,000,000 "
-                                          "texts or 'wrong bodies only'")
+        self.assertEqual(len(commits), 1, "CONTRIBUTING.md has not one line on the last run of .ci/deep, as LINE has it")
         if git("rev-parse", "--is-shallow-repository").stdout.strip() != "false":
             print("note: this is no whole clone, so the commit of the last run of .ci/deep is not looked for")
             return
-        is_known = not git("merge-base", "--is-ancestor", commits[0], "HEAD").returncode
-        self.assertTrue(is_known, f"the last run of .ci/deep was of {commits[0]}, which is not in the history")
+        self.assertEqual(git("merge-base", "--is-ancestor", commits[0], "HEAD").returncode, 0, f"{commits[0]} is not in the history")

@@ -144,7 +144,7 @@ class Sites(OfSite):
                 self.check_ann()
 
     def test_included(self) -> None:
-        """A file that Ann writes includes none that she may not read."""
+        """A file that Ann writes includes nothing: what she may not read would get out."""
         self.restart_nginx("ssi on; ssi_types *;", "")
         page = '<!--#include virtual="/secret/plan.txt" -->'
         self.assertEqual(self.site.status("ann", "PUT", "/web/page.html", body=page), 201)

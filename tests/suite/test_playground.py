@@ -334,8 +334,8 @@ class Answers(OfPage):
         self.assertEqual((answer.get("line"), answer["labelFaults"][0]["line"]), ("yes entry 1", 1))
 
     def test_counts_of_the_picture(self) -> None:
-        """The picture says how many entries the list has, and how many certificates of a long chain are left out, if there are any. A certificate
-        for the key that has the right already is one step, and any other one is two."""
+        """The picture says how many entries the list has, and how many certificates of a long chain are left out: it has at most 60 steps, 5 of them
+        without certificates. A certificate for another key than before is two steps, and one for the same key is one: the last row."""
         key = STORY["key"]
         self.assertEqual([self.page.ask("question", **{**STORY, "acl": acl})["chain"]["steps"][0]["whole"] for acl in (
             f"(acl (entry {key} (tag x)))", f"(acl (entry {key} (tag x)) (entry {key} (tag x)))")], ["1 entry", "2 entries"])

@@ -24,7 +24,7 @@ class OfSites(unittest.TestCase):
     @classmethod
     def setUpClass(cls) -> None:
         class Signed(cls.kind):  # type: ignore[name-defined, misc]
-            """The site, with its name in the configuration of the daemon."""
+            """The site, with its name and a folder of certificates in the configuration of the daemon."""
 
             def prepare(self) -> None:
                 super().prepare()

@@ -1,7 +1,7 @@
 """Draws the delegation chain of a case as SVG. A certificate is an arrow, and what stops the chain is red.
 
 The chain is that of the entry that grants the request, else of the entry whose chain goes furthest. The library says what stops it, and
-what right is left at its end. Other entries are left out. Long texts are broken into lines, and nothing is cut off.
+what right is left at its end. Other entries are left out. Long texts are broken into lines, and nothing but white space is cut off.
 """
 from __future__ import annotations
 
@@ -48,7 +48,7 @@ class Arrow(NamedTuple):
 
 class Drawing:
     """The shapes and arrows that are drawn. A hash of one of `keys`, or of a key that has a label, is that key. Without `labels` keys are written as
-    they are. A line of text has at most `width` letters."""
+    they are. A line of a key, a request, a tag or a validity has at most `width` letters."""
 
     def __init__(self, keys: Iterable[Value], labels: Labels | None, width: int) -> None:
         keys_of_labels = labels.keys.by_hash.values() if labels is not None else ()

@@ -78,7 +78,7 @@ def remove(store: Store, given: argparse.Namespace) -> int:
 
 
 def end(store: Store, given: argparse.Namespace) -> int:
-    """Ends certificates by their SHA-256 digests, and says how many had not ended before. Raises Wrong before any is ended if a digest is none."""
+    """Ends certificates by their SHA-256 digests, and says how many had not ended before. Raises Wrong before any is ended if a word is no digest."""
     if wrong := [digest for digest in given.digests if not DIGEST.match(digest)]:
         raise Wrong(f"{wrong[0]!r} is no digest of 64 hexadecimal digits in small letters")
     put(f"certificates ended: {sum(store.end(bytes.fromhex(digest), given.remark) for digest in given.digests)}")

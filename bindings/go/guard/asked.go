@@ -187,15 +187,15 @@ func (a *Asked) Decide() (Decision, error) {
 	return decide(handle)
 }
 
-// Explain says of each entry why it grants the request or does not, or which certificate stops all of them. The error is ErrTooLarge if a limit is
-// exceeded, ErrMemory, or ErrClosed.
+// Explain says of each entry why it grants the request or does not, or which certificate stops all of them, if exactly the marked signatures are
+// valid. The error is ErrTooLarge if a limit is exceeded, ErrMemory, or ErrClosed.
 func (a *Asked) Explain() (Explanation, error) {
 	text, err := a.lines(explainCommand)
 	return Explanation{text}, err
 }
 
-// Reduce returns which right remains of each entry after all certificates: the lines of the program's command reduce. The errors are those of
-// Explain.
+// Reduce returns which right remains of each entry after all certificates, if exactly the marked signatures are valid: the lines of the program's
+// command reduce. The errors are those of Explain.
 func (a *Asked) Reduce() (string, error) {
 	return a.lines(reduceCommand)
 }

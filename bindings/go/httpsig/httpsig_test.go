@@ -398,7 +398,8 @@ func TestBodyByHTTP2(t *testing.T) {
 	}
 }
 
-// TestUnknownBodyIsNotSigned signs messages that have a body. One that is not known has no digest, also if it is that of a request to a server.
+// TestUnknownBodyIsNotSigned signs messages with a body, without one, and with one that is announced, by HasBody or Content-Length, but is not there: the
+// last are refused, since nothing can be digested.
 func TestUnknownBodyIsNotSigned(t *testing.T) {
 	signer := signers(t)[Ed25519]
 	for _, row := range []struct {

@@ -55,7 +55,8 @@ func (p *parser) trySkip(text string) bool {
 	return true
 }
 
-// skipLabel skips the label of the first member and its `=`. The error is OtherLabel for another label than `spki`, and Malformed if there is none.
+// skipLabel skips the label of the first member and its `=`. The error is Malformed if one of the two is missing, and OtherLabel for another label
+// than `spki`.
 func (p *parser) skipLabel() error {
 	name := p.name()
 	if name == "" || !p.trySkip("=") {

@@ -42,7 +42,7 @@ func transport(canonical []byte) string {
 	return "{" + base64.StdEncoding.EncodeToString(canonical) + "}"
 }
 
-// hashOf returns the SHA-256 hash of a key, in hexadecimal digits: its `keyid`.
+// hashOf returns the SHA-256 hash of a key in canonical form, in hexadecimal digits: its `keyid`.
 func hashOf(key []byte) string {
 	hash := sha256.Sum256(key)
 	return hex.EncodeToString(hash[:])

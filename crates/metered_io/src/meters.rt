@@ -154,7 +154,7 @@ impl<W: Write> Write for Metered<W> {
     ghost contents = { λ m. W.contents (inner_of m) };
 
     /// Writes to the writer inside, and returns its answer. Counts the call, and as a fault an error other than
-    /// `Interrupted`, or 0 octets written of a buffer that is not empty. `flushed` is then false. `ended` does not change.
+    /// `Interrupted`, or 0 octets written of a buffer that is not empty. After each call `flushed` is false. `ended` does not change.
     fn write(&mut self, buf: &[u8]) -> io::Result<usize>
         ensures bound { WritesAtMost result buf.now }
         ensures bytes { WriteAppends (W.contents (inner_of self.old)) (W.contents (inner_of self.new)) result buf.now }

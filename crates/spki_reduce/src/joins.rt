@@ -64,8 +64,8 @@ impl<'a> Five<'a> {
     /// nodes of both tags is `most`, which must be at most 1,000,000. The work is added to `ticks`, a count that exists only in contracts.
     /// Err is `TooLarge` if they join except for their tags, and the product is over `most`; or `Memory`.
     ///
-    /// A tick is one of `Tag::meet_counted` (a pair of tags that is looked at, a member that is copied, an octet that is compared), or a name
-    /// of the next subject. There are at most three for each unit of `cost_with`, so none if they do not join and their tags are not the
+    /// A tick is one of `Tag::meet_counted` (a pair of tags that is looked at, a member that is copied, an octet of a string), or a name of
+    /// the next subject. There are at most three for each unit of `cost_with`, so none if they do not join and their tags are not the
     /// cause.
     pub(crate) fn into_then<L: Ledger>(
         self,

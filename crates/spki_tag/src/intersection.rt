@@ -1,5 +1,6 @@
 //! The intersection of tags (RFC 2693, section 6.3.1). `ticks` counts the work, and exists only in contracts. A tick is a pair of tags that
-//! is looked at, a member that is copied, or an octet of the second tag's strings that is compared. `meet_cost` is the nodes of the first
+//! is looked at, a member that is copied, or an octet of the head of a list of the second tag; an octet of its other strings is three, since it is
+//! compared up to three times. Making and searching an index is not counted. `meet_cost` is the nodes of the first
 //! tag times the `Tag::node_cost` of the second. An intersection takes at most three times that many ticks.
 
 ghost use Rattle.std.specs.Prelude.{◌≡◌, ◌+◌, ◌*◌, ◌<◌, ◌≤◌, ◌↔◌, ◌++◌, ◌&&◌, [], max, true, false, IfOk, OnOk, IsErrOf, MatchOption, All, length};
@@ -268,8 +269,9 @@ impl Tag {
     }
 
     /// Does what `meet_within` does, and adds its work to `ticks`, which exists only in contracts: one for each pair of tags that is looked
-    /// at, each member that is copied, and each octet of the other tag's strings that is compared. It adds at most three times the nodes of
-    /// this tag times the other's `node_cost`. `most` must be at most 1,000,000.
+    /// at, each member that is copied and each octet of the head of a list of the other tag, and three for each octet of its other strings, where
+    /// it meets one. It adds at most three times the nodes of this tag times the other's `node_cost`, and at least one. `most` must be at most
+    /// 1,000,000.
     ///
     /// # Errors
     ///

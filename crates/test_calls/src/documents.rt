@@ -51,7 +51,7 @@ fn nodes(alloc: Global, document: &Doc, most: usize) -> Reply {
     Ok(out)
 }
 
-/// Appends the lines of the numbers from 0 on, up to the first that is no node, and to `most` at most.
+/// Appends the lines of the numbers from 0 on, up to and with the first that is no node, and to `most` at most. Err if memory ran out.
 fn push_nodes(
     alloc: Global,
     out: &mut Vec<u8>,

@@ -95,8 +95,9 @@ fn answer_to(alloc: Global, guard: &SharedGuard, query: Query, texts: &[Vec<u8>]
     }
 }
 
-/// Marks signatures of a question as valid, and returns what answers it. `other marks` if a mark has no signature at its place. For a
-/// decision it is `other answers` if `is_granted` or the grant is not as the decision says, or if a granted question is not possible.
+/// Marks signatures of a question as valid, those at whose places `marks` has the digit 1, and returns what answers it. `other marks` if a
+/// mark has no signature at its place. For a decision it is `other answers` if `is_granted` or the grant is not as the decision says, or if a
+/// granted question is not possible. Err if memory ran out, also for the line of a decision, which has a grant nevertheless.
 fn answer_of(alloc: Global, query: Query, mut opened: OwnedQuestion, marks: &[u8]) -> Reply {
     if !mark_all(&mut opened, marks) {
         drop(opened);
@@ -107,7 +108,8 @@ fn answer_of(alloc: Global, query: Query, mut opened: OwnedQuestion, marks: &[u8
     let is_same = is_granted(&opened) == is_yes && grant.is_some() == is_yes;
     let is_fit = is_possible(&opened) || !is_granted(&opened);
     drop(opened);
-    if query == Query::Decide && !(is_same && is_fit) {
+    let is_decided = query == Query::Decide && answer.verdict != Verdict::Refused;
+    if is_decided && !(is_same && is_fit) {
         drop(answer);
         return word(alloc, "other answers");
     }

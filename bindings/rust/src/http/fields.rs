@@ -140,7 +140,8 @@ impl<'a> Parser<'a> {
         })
     }
 
-    /// The names in the list of components, which is in parentheses.
+    /// The names in the list of components, which is in parentheses, with one space between two. Fails with `UnknownComponent` also for one with
+    /// parameters, with `ComponentTwice`, and with `Malformed`, also for more than `MOST_COMPONENTS`.
     fn components(&mut self) -> Result<Vec<&'a str>, Unproved> {
         let mut names = Vec::new();
         self.expect("(")?;
@@ -203,7 +204,7 @@ pub(super) fn is_token_octet(octet: u8) -> bool {
     octet.is_ascii_alphanumeric() || b"!#$%&'*+-.^_`|~".contains(&octet)
 }
 
-/// Whether a name is one of a field in small letters, or of the five components that are derived.
+/// Whether a name is one of a field in small letters, but not of the two with signatures, or of the five components that are derived.
 fn is_component(name: &str) -> bool {
     let is_small = |octet: u8| is_token_octet(octet) && !octet.is_ascii_uppercase();
     DERIVED.contains(&name)
