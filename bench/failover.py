@@ -1,11 +1,12 @@
 #!/usr/bin/env python3
-"""Measures a failover of the servers of a store by the clock, and ends with another status if an answer is wrong.
+"""Measures a failover of the servers of a store by the clock. The status is 1 if an answer is wrong or a promise broken.
 
 A primary has two replicas, and a change is on two servers before it is acknowledged, also after the failover. Each replica has a daemon, which a
 client asks for three people again and again. An entry is removed, and the primary and all its processes are killed by SIGKILL. With --cut it runs on,
 and its network is cut: what is sent to it is lost, as if its machine had no power. After some seconds the replica that received most is promoted by
-`pg_ctl promote`, and the other one is told to follow it. Each line has seconds since the failure: the begin and the end of the promotion, and of each
-daemon, that of the promoted replica first, the first 503, the first answer after the last one, and how long that was after the promotion.
+`pg_ctl promote`, and the other one is told to follow it. Each line has `stale_seconds`; the seconds since the failure at which the promotion began
+and ended, and of each daemon, that of the promoted replica first, the first 503, the first answer after the last one, how long that took, and how long
+it was after the promotion; the last grant by the removed entry; and how many answers there were, how many wrong, and how many broken promises.
 
 An answer is wrong if the removed entry grants in a request that began over `stale_seconds` after the removal, if the entry that stays does not grant,
 or if somebody without an entry is granted something. A promise is broken if there is a 503 though the promotion ended `stale_seconds` - 2 after the
@@ -214,7 +215,7 @@ def main():
     parser.add_argument("--cut", action="store_true", help="cut the primary off, in place of killing it")
     parser.add_argument("--stale", type=int, nargs="+", default=[3, 10], help="`stale_seconds` of the daemons")
     parser.add_argument("--wait", type=float, nargs="+", help="seconds from the failure to the promotion")
-    parser.add_argument("--times", type=int, default=1)
+    parser.add_argument("--times", type=int, default=1, help="how often all is measured")
     parser.add_argument("library", nargs="?", default=LIBRARY)
     given, wrong = parser.parse_args(), 0
     with tempfile.TemporaryDirectory() as room:

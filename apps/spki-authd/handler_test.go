@@ -44,7 +44,7 @@ func newSite(t testing.TB, fields string) *site {
 	return here
 }
 
-// sequencesShown returns the sequences that Bob and Carol show, in transport form: Bob's certificate, and both.
+// sequencesShown returns the sequences that Bob and Carol show, in transport form: the certificate to Bob, and both.
 func (s *site) sequencesShown() (bob, carol string) {
 	bobs := s.alice.sign(s.toBob)
 	return sequence(bobs), sequence(bobs, s.bob.sign(s.toCarol))

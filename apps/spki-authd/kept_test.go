@@ -217,7 +217,8 @@ func TestEndedIsNotKept(t *testing.T) {
 	if err := s.keeper.reload(s.config, false, s.now()); err != nil {
 		t.Fatal(err)
 	}
-	if status, reply := s.leaves(t, s.bob, bobs); status != 400 || reply != answerRefused || !strings.HasSuffix(s.lastLine(t).Reason, "has ended") {
+	status, reply := s.leaves(t, s.bob, bobs)
+	if status != 400 || reply != answerRefused || !strings.HasSuffix(s.lastLine(t).Reason, "has ended") || s.keeps(t, s.bob) {
 		t.Errorf("%d, %+v", status, s.lastLine(t))
 	}
 }

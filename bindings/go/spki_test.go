@@ -47,6 +47,7 @@ func TestScheme(t *testing.T) {
 	for key, wanted := range map[string]spki.Scheme{
 		"(10:public-key(3:ecc(5:curve7:Ed25519)(5:flags5:eddsa)(1:q1:x)))": spki.Ed25519, "(10:public-key(3:rsa(1:n1:x)(1:e1:x)))": spki.RSA,
 		"(10:public-key(3:ecc(5:curve10:NIST P-256)(1:q1:x)))": spki.P256, "(10:public-key(4:test1:b))": spki.Unknown, "": spki.Unknown,
+		"(10:public-key(3:ecc(5:curve10:NIST P-384)(1:q1:x)))": spki.Unknown,
 	} {
 		if scheme := (spki.Signature{Key: []byte(key)}).Scheme(); scheme != wanted {
 			t.Errorf("%s: %d", key, scheme)

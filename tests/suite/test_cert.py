@@ -479,7 +479,7 @@ class OfMistakes(Case):
         self.write("folder/private.pem", self.private())
         os.chmod(self.at("folder/private.pem"), 0o644)
         output = self.cert("check", "folder", wanted=1)
-        self.assertIn("folder/private.pem:1:1: a private key that others may read: its mode is 644", output)
+        self.assertIn("folder/private.pem:1:1: a private key that others have access to: its mode is 644", output)
         self.assertIn("2 files, 0 refused, 1 remarks; 1 other files left out", output)
         os.chmod(self.at("folder/private.pem"), 0o600)
         self.cert("check", "folder")

@@ -1,4 +1,4 @@
-"""Tests the Go module of bindings/go and the daemon spki-authd: their own tests with the race detector, gofmt and go vet. The module is asked
+"""Tests the Go module of bindings/go and the daemon spki-authd: their own tests with the race detector, and linters. The module is asked
 what the program is asked, as `test_bindings.py` asks the other bindings. The daemon is asked with keys and certificates that `spki-cert` and
 OpenSSL made. Among the long tests, headers, signatures and signed requests are fuzzed for two to five minutes each."""
 import contextlib

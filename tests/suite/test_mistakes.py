@@ -32,7 +32,7 @@ def key_pair(kind="ed25519"):
 
 
 class Room(Case):
-    """A folder with keys, a list and certificates."""
+    """A folder with keys, a list, a certificate and an empty folder."""
 
     @classmethod
     def setUpClass(cls):
@@ -663,6 +663,7 @@ class OfRandomWords(Room):
         self.write("c.key", self.cert("key", "bob.pub"))
         os.symlink("acl.sexp", self.at("link"))
         self.sources = [octets_in(self.at(name)) for name in ("alice", "alice.pub", "acl.sexp", "to-bob", "keys")]
+        # (a quick run has no library: then the commands that ask it say so)
         if not built.IS_ALONE and os.path.exists(os.environ.get("SPKI_TEST_LIBRARY", built.LIBRARY)):
             self.settings["SPKI_LIBRARY"] = built.shared()
 

@@ -1,6 +1,6 @@
 """What happens where a call of the bindings is used wrongly, by the tables that rows/wrong_uses.py reads. Rows that do
-not compile are compiled together, and the compiler must name a line of each, with the word of its row. All others are
-run. A wrong use that is granted is of a kind that docs/GUIDE.md names."""
+not compile are compiled together, in Rust each alone, and the compiler must name a line of each, with the word of its
+row. All others are run. A wrong use that is granted is of a kind that docs/GUIDE.md names."""
 import os
 import subprocess
 import sys

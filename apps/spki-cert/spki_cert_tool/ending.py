@@ -97,7 +97,8 @@ def lines_by_hand(path: str) -> tuple[list[bytes], bool]:
 
 def read_ended(path: str) -> bytes:
     """The octets of the file. Only an ordinary file is opened: opening a FIFO or a device may wait, or do something. The file is replaced as a
-    whole, so one state of it is read. Raises Refused for another or a longer file, and OSError if there is none."""
+    whole, so one state of it is read. Raises OSError if there is none, or what is there cannot be looked at, and Refused for another or a longer
+    file, and for one that cannot be read."""
     if not stat.S_ISREG(os.stat(path).st_mode):
         raise Refused(f"{path}: it is no ordinary file")
     octets = octets_of(path, MOST_ENDED + 1)

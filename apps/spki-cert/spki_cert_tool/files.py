@@ -227,12 +227,13 @@ def octets_of_key(path: str) -> Iterator[bytes]:
 
 
 def remark_on_mode(path: str) -> Iterator[str]:
-    """Yields a remark if a file has a private key and others have some access to it, else nothing. Standard input, `-`, has no mode."""
+    """Yields a remark if a file has a private key and others have some access to it, else nothing. Standard input, `-`, has no mode. Raises Refused
+    if the file is there and cannot be read."""
     with contextlib.suppress(OSError):
         state = os.stat(path)
         mode = stat.S_IMODE(state.st_mode)
         if path != "-" and stat.S_ISREG(state.st_mode) and mode & 0o077 and is_private(octets_of(path)):
-            yield f"{path} is a private key that others may read: its mode is {mode:o}; chmod 600 {path}"
+            yield f"{path} is a private key that others have access to: its mode is {mode:o}; chmod 600 {path}"
 
 
 def now(days: int = 0) -> bytes:

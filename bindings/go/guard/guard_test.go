@@ -623,7 +623,7 @@ func TestVerifierThatFails(t *testing.T) {
 		"no":                   {context.Background(), func(context.Context, guard.Signature) (bool, error) { return false, nil }, false, nil},
 		"an error":             {context.Background(), func(context.Context, guard.Signature) (bool, error) { return false, away }, false, away},
 		"yes with an error":    {context.Background(), func(context.Context, guard.Signature) (bool, error) { return true, away }, false, away},
-		"a context that ended": {stopped, func(context.Context, guard.Signature) (bool, error) { return true, nil }, false, context.Canceled},
+		"a context that ended": {stopped, func(context.Context, guard.Signature) (bool, error) { panic("a call") }, false, context.Canceled},
 	} {
 		decision, err := opened.DecideContext(row.ctx, questionWith(1), row.verify)
 		if decision.Granted() != row.granted || !errors.Is(err, row.wanted) {

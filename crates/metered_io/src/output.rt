@@ -6,8 +6,8 @@ use crate::meters::{Metered, is_interrupted};
 use std::io::Write;
 use thiserror::Error;
 
-/// How many calls of a writer `write_whole` allows, in addition to one for each octet. Without a bound, a writer that is
-/// always interrupted would be called forever.
+/// How many calls of a writer `write_whole` allows, in addition to one for each octet. Those that its meter counted before are among them.
+/// Without a bound, a writer that is always interrupted would be called forever.
 const WRITER_ASKS: u64 = 2_097_152;
 
 /// The writer failed with an error other than `Interrupted`, wrote 0 octets of a buffer that is not empty, or reached the

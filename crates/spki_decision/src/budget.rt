@@ -14,7 +14,7 @@ use spki_reduce::{Step, Work};
 pub struct Budget {
     /// The work that the entries still to be joined may take together.
     pub(crate) work: Work,
-    /// The numbers of nodes of the certificates' tags. They stay the same for all entries.
+    /// What is kept of the numbers of nodes of the certificates' tags. It stays the same for all entries.
     pub(crate) sizes: Sizes,
 }
 

@@ -31,7 +31,7 @@ pub struct ShownCert<'s, 'a> {
 }
 
 impl<'s, 'a> Certificate<'s, 'a> {
-    /// The principal that issued the certificate.
+    /// The principal that the certificate names as its issuer: a key, or a hash of one.
     pub fn issuer(&self) -> Principal<'a>
         ensures { result ≡ issuer_of (certificate_of self.now) }
     {

@@ -288,7 +288,7 @@ fn print_question_fault<S: Sink>(fault: AskFault, sink: &mut S)
     }
 }
 
-/// The word for a fault of a tag or a request in a line: the name of its variant.
+/// The word for a fault of a tag or a request in a line: the name of its variant. No line has `Memory` here: `refused Memory` has no part.
 fn tag_kind(fault: TagFault) -> &'static str
     ensures { result.now ≡ tag_kind fault }
 {

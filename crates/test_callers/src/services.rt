@@ -15,10 +15,10 @@ use thiserror::Error;
 /// Why a service does not answer.
 #[derive(Clone, Copy, Debug, PartialEq, Eq, Error)]
 pub enum ServiceFault {
-    /// Its list is no access list.
+    /// Its list is no access list, or memory ran out while it was read.
     #[error("{0}")]
     List(AclFault),
-    /// The question is refused.
+    /// The question is refused, or memory ran out while it was read.
     #[error("{0}")]
     Question(AskFault),
     /// Memory ran out while the question was decided.
@@ -27,7 +27,7 @@ pub enum ServiceFault {
 }
 
 /// The decision of a guard on one question, for `answer_both`. A signature of a revoked key is not accepted. Err is `Question` if the
-/// question is refused, or `Memory` if memory ran out while it was decided.
+/// question is refused or memory ran out while it was read, and `Memory` if memory ran out while it was decided.
 fn answer<V: Verifier>(
     alloc: Global,
     guard: &Guard,
