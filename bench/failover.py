@@ -5,8 +5,8 @@ A primary has two replicas, and a change is on two servers before it is acknowle
 client asks for three people again and again. An entry is removed, and the primary and all its processes are killed by SIGKILL. With --cut it runs on,
 and its network is cut: what is sent to it is lost, as if its machine had no power. After some seconds the replica that received most is promoted by
 `pg_ctl promote`, and the other one is told to follow it. Each line has `stale_seconds`; the seconds since the failure at which the promotion began
-and ended, and of each daemon, that of the promoted replica first, the first 503, the first answer after the last one, how long that took, and how long
-it was after the promotion; the last grant by the removed entry; and how many answers there were, how many wrong, and how many broken promises.
+and ended, and of each daemon, that of the promoted replica first, the first 503, the first answer after the last one, how long that took, and how
+long it was after the promotion; the last grant by the removed entry; and how many answers there were, how many wrong, and how many broken promises.
 
 An answer is wrong if the removed entry grants in a request that began over `stale_seconds` after the removal, if the entry that stays does not grant,
 or if somebody without an entry is granted something. A promise is broken if there is a 503 though the promotion ended `stale_seconds` - 2 after the
