@@ -48,7 +48,7 @@ ROUNDS, CALLS = 40, 50
 TURNS, MOST_TURNS, PAUSE = 3, 20, 10
 # The limits of a guard for strangers' questions: octets, and the members of two sets or lists whose product of nodes is 10,000.
 QUESTION_OCTETS, QUESTION_MEMBERS = 65_536, 99
-# The certificates that a guard without limits takes.
+# The certificates that a guard takes whose caller sets no limits.
 USUAL_CERTIFICATES = 16
 SECONDS = 600
 # The function that digests by SHA-256.
@@ -385,7 +385,8 @@ def wide_shapes():
 
 
 def by_default(driver):
-    """Yields (name of a limit, the most milliseconds) of a decision of a guard without limits, which takes 16 certificates."""
+    """Yields (name of a limit, the most milliseconds) of a decision, for the texts of all shapes with as many certificates as a guard takes whose
+    caller sets no limits. The guard that is measured has these limits of nodes, work and answers, and none of certificates."""
     limit, most = MOST["a decision by default, ms"], 0.0
     for shape, text in (widest_of(shape, USUAL_CERTIFICATES) for shape in wide_shapes()):
         _, milliseconds, *_ = one_answer(driver, "decide", driver.question("usual", text), limit)

@@ -325,7 +325,7 @@ def faults_of(measure: Measure, call: Call, steps: int, seed: int) -> Iterator[s
 
 
 def main() -> None:
-    """Measures all calls that are asked for. Ends with status 1 if a limit is passed, 2 if no call has such a name."""
+    """Measures all calls that are asked for. Ends with status 1 if a limit is exceeded, 2 if a word is the beginning of no call's name."""
     parser = argparse.ArgumentParser(description="Searches for the slowest texts of each call.")
     parser.add_argument("--named", action="store_true", help="measure the named texts alone")
     parser.add_argument("--steps", type=int, default=STEPS, help="of the search for one call")
@@ -335,7 +335,7 @@ def main() -> None:
     parser.add_argument("calls", nargs="*", metavar="CALL", help="how the names of the calls begin that are measured")
     given = parser.parse_args()
     chosen = [call for call in CALLS if call.what.startswith(tuple(given.calls or [""]))]
-    if not chosen:
+    if any(not any(call.what.startswith(word) for call in CALLS) for word in given.calls):
         parser.error(f"no call begins so; they are: {', '.join(call.what for call in CALLS)}")
     resource.setrlimit(resource.RLIMIT_AS, (MOST_MEMORY, MOST_MEMORY))
     with tempfile.TemporaryDirectory() as room:

@@ -124,7 +124,8 @@ def relationship(one: object, how: str, other: object) -> Row:
 
 
 def linked_into(contents_of_files: list[bytes]) -> set[tuple[str, str]]:
-    """The names and versions of what is linked into the programs and libraries of a package."""
+    """The names and versions, by LINKED, of the logic that has proved programs and libraries of a package, and of what is linked into them. All files
+    are searched: only programs and libraries say so."""
     return {(name, version.decode()) for octets in contents_of_files for name, pattern in LINKED.items() for version in pattern.findall(octets)}
 
 

@@ -90,8 +90,9 @@ def reasons_part(story, reasons, line):
 
 
 def add_rights_left(given, story, reasons, reduced):
-    """Adds to `story.rights_left` the rights that remain, from `reduced`, the lines of `reduce` in the order of the entries, and the right before
-    the item that stops the chain of the first reason."""
+    """Adds rights to `story.rights_left`. By an entry's number and None: the right that remains of it, from `reduced`, the lines of `reduce` in the
+    order of the entries, for the entries of the first MOST_LEFT `reasons`, which go furthest. By the number of the first reason's entry and that of
+    the item that stops its chain: the right before that item, which the library is asked for. Raises `Refused`, with those before added."""
     value = given.engine.value
     for reason in reasons[:MOST_LEFT]:
         if reason.entry and "(five" in reduced[reason.entry - 1]:

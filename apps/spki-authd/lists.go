@@ -35,7 +35,8 @@ type list struct {
 
 var errLists = errors.New(`either "list" is the file of the access list, or "lists" has the files of several`)
 
-// checkLists returns an error if there is no access list, or a wrong scope. It sets the prefixes that were left out, and needsHost.
+// checkLists returns an error if there is no access list, or one by `list` and others by `lists`, or a wrong scope. It sets the prefixes that were left
+// out, and needsHost. nameLists is called before it.
 func (c *config) checkLists() error {
 	if (c.List == "") == (len(c.Lists) == 0) {
 		return errLists

@@ -16,8 +16,8 @@ TRIED = Rows("law that was tried", [
 
 
 def check_laws(command: str, text: bytes, answer: Answer, requests: Callable[[tuple[Tag, ...]], Iterable[Value]]) -> None:
-    """Raises ModelDisagrees if an answer of the model breaks a law: what is written is read again, and an intersection has the requests of both tags.
-    Refusals, other commands and long answers are not tried. `requests` gives some requests that are near some tags."""
+    """Raises ModelDisagrees if an answer of the model breaks a law. Refusals and other commands are not tried, nor answers over half the limit of a
+    text: the canonical form of such an intersection may be over the limit. `requests` gives some requests that are near some tags."""
     status, octets = answer
     if status or command not in ("canonical", "advanced", "transport", "intersect") or len(octets) > LONGEST // 2:
         return

@@ -491,7 +491,7 @@ class InRust(Binding):
                          env={**others, "CARGO_TARGET_DIR": room, "CARGO_NET_OFFLINE": "true", **settings})
 
     def test_folders_without_a_library(self):
-        """A folder without a library, and a library that pkg-config does not know, end the build."""
+        """Folders without the library that is asked for, and answers of pkg-config, end the build. A folder that has it is taken afterwards."""
         with tempfile.TemporaryDirectory() as room, tempfile.TemporaryDirectory() as empty:
             for settings, words in (({"SPKI_LIB_DIR": empty}, f"there is no libspki_c.a or libspki_c.so in {empty}"),
                                     ({"SPKI_LIB_DIR": empty, "SPKI_SHARED": "1"}, f"there is no libspki_c.so in {empty}"),
