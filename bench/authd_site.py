@@ -204,7 +204,7 @@ class Site:
         return daemon
 
     def end(self):
-        """Ends the programs that were started."""
+        """Ends the programs that were started. Raises TimeoutExpired if one of them goes on for 30 s."""
         for process in self.running:
             process.terminate()
             process.wait(30)

@@ -10,7 +10,8 @@ type exposition struct {
 	strings.Builder
 }
 
-// family writes the two lines that precede the values of one metric. `name` lacks `spki_authd_`, here and below. `kind` is counter, gauge or histogram.
+// family writes the two lines that precede the values of one metric. `name` lacks `spki_authd_`, here and below. `kind` is counter, gauge or histogram,
+// and `help` is on one line, without a backslash.
 func (e *exposition) family(name, kind, help string) {
 	fmt.Fprintf(e, "# HELP spki_authd_%s %s\n# TYPE spki_authd_%s %s\n", name, help, name, kind)
 }

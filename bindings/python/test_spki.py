@@ -282,7 +282,7 @@ class Opened(unittest.TestCase):
         endless = self.guard.decide(asked(), right)
         self.assertEqual((endless.until, endless.holds_at(last + second), endless.holds_at(BEFORE)), (None, True, False))
 
-    # The library is replaced by calls that return an end beyond the years of `datetime`.
+    # The library is replaced by calls that return ends at the limits of `datetime`, beyond them, which become its first or last moment, and no end.
     def test_ends_that_python_does_not_have(self):
         opened, most = self.guard.ask(asked()), datetime.max.replace(microsecond=0, tzinfo=timezone.utc)
         last, first = (limit.replace(tzinfo=timezone.utc) for limit in (datetime.max, datetime.min))

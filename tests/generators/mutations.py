@@ -242,7 +242,7 @@ def continued(text: bytes, rng: random.Random) -> bytes:
 
 
 def with_snippet(text: bytes, rng: random.Random) -> bytes:
-    """A text with something that is nearly a string put in, mostly where a member may stand."""
+    """A text with one of SNIPPETS put in, behind a parenthesis or a space, or behind the first octet if it has neither."""
     where = [at for at in range(len(text)) if text[at:at + 1] in (b"(", b")", b" ")] or [0]
     at = rng.choice(where) + 1
     return text[:at] + rng.choice(SNIPPETS) + rng.choice((b" ", b"")) + text[at:]

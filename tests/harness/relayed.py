@@ -79,7 +79,7 @@ class Request:
         return block
 
     def text(self, block: int, place: int, text: Text) -> None:
-        """Adds a block with the octets of a text, and a link to it from the place of the text in another block. A null pointer stays one."""
+        """Adds a block with the octets of a text, or one for more than MOST_OCTETS, and a link to it at its pointer in a block. Null stays null."""
         at = c_void_p.from_address(addressof(text)).value
         if at:
             self.links.append((block, place, self.block(string_at(at, text.length if text.length <= MOST_OCTETS else 1))))

@@ -200,7 +200,7 @@ class Caddy(Table):
         self.assertEqual(self.site.status(None, "GET", "/web/index.html"), 401)
 
     def test_who_only_writes(self) -> None:
-        """PUT and DELETE get 403, also where the daemon grants them, as to the robot that may only write. Caddy would answer them as GET."""
+        """PUT and DELETE get 403 where the daemon grants them, as to the robot that may only write. Caddy 2.6.2 would answer them as GET."""
         self.site.restart_with([])
         for method in ("PUT", "DELETE"):
             self.assertEqual(attackers.faults_of(self.site, ("robot", method, "/web/out/main.js"), {403}), [])

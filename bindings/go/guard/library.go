@@ -140,7 +140,7 @@ func argumentsOf(question *Question) arguments {
 	return given
 }
 
-// ask opens a question, and counts its signatures. The caller closes it.
+// ask opens a question, and counts its signatures. The caller closes it. The error is that of errorOf: a refusal, ErrMisused, or want of memory.
 func ask(guard guardHandle, question *Question) (asked askedHandle, count int, err error) {
 	given := argumentsOf(question)
 	result := C.library_ask(guard, given.parts, given.sequence, given.joined, given.lengths)
