@@ -27,7 +27,7 @@ A refused text's answer is the fault and its message.
 import os
 import re
 import subprocess
-from collections.abc import Collection, Iterator
+from collections.abc import Iterable, Iterator
 from typing import NamedTuple
 
 from harness.support import EXAMPLES, SECONDS, TESTS
@@ -68,12 +68,11 @@ def tables() -> dict[str, list[CallRow]]:
     return {name: list(rows_of(name)) for name in sorted(os.listdir(CALLS))}
 
 
-def answers(program: str, rows: Collection[CallRow]) -> list[bytes]:
-    """What the program answers to rows, in order. If its status is not 0, the answer to the last row, or to the one at which it ends, says so."""
+def answers(program: str, rows: Iterable[CallRow]) -> list[bytes]:
+    """What the program answers to rows, in order. Behind them is its status if that is not 0, as where memory ran out for a row or it ended early."""
     given = b"".join(row.line() for row in rows)
     done = subprocess.run([program], input=given, stdout=subprocess.PIPE, stderr=subprocess.STDOUT, timeout=SECONDS)
-    lines = [answer_of(line) for line in done.stdout.split(b"\n")[:-1]]
-    return [*lines[:len(rows) - 1], b"ended with %d" % done.returncode] if done.returncode else lines
+    return [answer_of(line) for line in done.stdout.split(b"\n")[:-1]] + ([b"ended with %d" % done.returncode] if done.returncode else [])
 
 
 def answer_of(line: bytes) -> bytes:
