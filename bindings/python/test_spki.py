@@ -172,6 +172,13 @@ class Opened(unittest.TestCase):
                 with self.assertRaises(TypeError):
                     ask([True])
 
+    def test_mark_below_zero(self):
+        """A place below 0, which `Asked.mark` refuses, is refused by the call below it too, and not counted from an end."""
+        with spki.Guard(LIST, limits=HIGHEST).ask(asked(b"(sequence " + PAIR * 64 + b")")) as opened:
+            self.assertEqual(len(opened), 64)
+            with self.assertRaises(RuntimeError):
+                spki._mark(opened._open_handle(), -1)
+
     def test_marks_are_of_one_question(self):
         """Two clients at once: what is marked for b grants nothing to c."""
         good, bad = self.guard.ask(asked()), self.guard.ask(asked(FORGED, b"(public-key (test c))"))
