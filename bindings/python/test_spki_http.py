@@ -199,6 +199,19 @@ class Requests(unittest.TestCase):
             nameless = dataclasses.replace(message, authority=authority)  # type: ignore[arg-type]
             self.assertEqual(answer(verifier_at([now]), nameless), "other-authority")
 
+    def test_taken_late(self) -> None:
+        """A nonce that is taken after the end of its signature may have been used before, and be forgotten."""
+        message, now = self.valid_message()
+        clock = [now]
+        verifier = verifier_at(clock)
+        self.assertEqual(answer(verifier, message), "valid")
+        proof = verifier.check(message)
+        for late, wanted in ((100, "nonce-seen"), (900, "expired")):
+            clock[0] = now + late
+            with self.assertRaises(spki_http.Refused) as refused:
+                verifier.take(proof)
+            self.assertEqual(refused.exception.name, wanted)
+
     # Each nonce is kept for 360 s at least, in two sets of at most 2 nonces. `now` is in seconds.
     def test_nonces(self) -> None:
         store = spki_http.Memory(2)

@@ -1,6 +1,7 @@
 package httpsig
 
 import (
+	"bufio"
 	"bytes"
 	"crypto"
 	"crypto/ecdsa"
@@ -308,7 +309,51 @@ func TestMethodsAreTokens(t *testing.T) {
 	}
 }
 
-// TestOtherNamesLearnNothing sends a request to a server that is not among the names of the Transport. It gets no signature and no certificates.
+// TestTakenLate takes a nonce after the end of its signature: it may have been used before, and be forgotten.
+func TestTakenLate(t *testing.T) {
+	now := time.Now().Unix()
+	verifier, message := NewVerifier("example.com"), Message{Method: "GET", Authority: "example.com", Target: "/", Header: http.Header{}}
+	verifier.Now = func() time.Time { return time.Unix(now, 0) }
+	if err := signers(t)[Ed25519].Sign("https", message); err != nil {
+		t.Fatal(err)
+	}
+	if _, err := verifier.Message(message); err != nil {
+		t.Fatal(err)
+	}
+	proof, err := verifier.Check(message)
+	for _, late := range []struct {
+		seconds int64
+		want    error
+	}{{100, NonceSeen}, {800, Expired}} {
+		now += late.seconds
+		if taken := verifier.Take(proof); err != nil || taken != late.want {
+			t.Error(late.seconds, err, taken)
+		}
+	}
+}
+
+// TestServerHasWhatWasSent covers the field Host, which net/http takes out of the header, and a field of certificates without octets, which is not the
+// same as none.
+func TestServerHasWhatWasSent(t *testing.T) {
+	header := http.Header{"Host": {"example.com"}, "X-Spki-Sequence": {""}}
+	if err := signers(t)[Ed25519].Sign("https", Message{Method: "GET", Authority: "example.com", Target: "/", Header: header}, "host"); err != nil {
+		t.Fatal(err)
+	}
+	var sent bytes.Buffer
+	sent.WriteString("GET / HTTP/1.1\r\n")
+	header.Write(&sent)
+	sent.WriteString("\r\n")
+	request, err := http.ReadRequest(bufio.NewReader(&sent))
+	if err != nil {
+		t.Fatal(err)
+	}
+	if proof, err := NewVerifier("example.com").Request(request); err != nil || len(proof.Sequence) != 0 {
+		t.Error(proof, err)
+	}
+}
+
+// TestOtherNamesLearnNothing sends a request to a server that is not among the names of the Transport, and one to a server that is, with a Host that
+// is another service's. They get no signature and no certificates.
 func TestOtherNamesLearnNothing(t *testing.T) {
 	server := httptest.NewServer(http.HandlerFunc(func(answer http.ResponseWriter, request *http.Request) {
 		fmt.Fprint(answer, len(request.Header["Signature"])+len(request.Header["X-Spki-Sequence"]))
@@ -316,14 +361,22 @@ func TestOtherNamesLearnNothing(t *testing.T) {
 	defer server.Close()
 	signer := signers(t)[Ed25519]
 	signer.Sequence = "{KDg6c2VxdWVuY2Up}"
-	response, err := (&http.Client{Transport: &Transport{Signer: signer, Names: []string{"example.com"}}}).Get(server.URL)
-	if err != nil {
-		t.Fatal(err)
-	}
-	fields, _ := io.ReadAll(response.Body)
-	response.Body.Close()
-	if string(fields) != "0" {
-		t.Errorf("%s", fields)
+	for _, host := range []string{"", "example.com"} {
+		names := []string{"example.com"}
+		request, _ := http.NewRequest(http.MethodGet, server.URL, nil)
+		if host != "" {
+			names = append(names, request.Host)
+			request.Host = host
+		}
+		response, err := (&http.Client{Transport: &Transport{Signer: signer, Names: names}}).Do(request)
+		if err != nil {
+			t.Fatal(err)
+		}
+		fields, _ := io.ReadAll(response.Body)
+		response.Body.Close()
+		if string(fields) != "0" {
+			t.Errorf("%q: %s", host, fields)
+		}
 	}
 }
 

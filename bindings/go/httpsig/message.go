@@ -25,10 +25,16 @@ type Message struct {
 	Body []byte
 }
 
-// MessageOf returns the message of a request to a server of net/http, whose body stays unread.
+// MessageOf returns the message of a request to a server of net/http, whose body stays unread. Its header is a copy, with the field Host, which
+// net/http takes out.
 func MessageOf(request *http.Request) Message {
+	header := http.Header{}
+	if request.Header != nil {
+		header = request.Header.Clone()
+	}
+	header.Set("Host", request.Host)
 	return Message{
-		Method: request.Method, Authority: request.Host, Target: request.RequestURI, Header: request.Header, HasBody: request.ContentLength != 0,
+		Method: request.Method, Authority: request.Host, Target: request.RequestURI, Header: header, HasBody: request.ContentLength != 0,
 	}
 }
 

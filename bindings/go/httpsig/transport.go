@@ -7,7 +7,8 @@ import (
 )
 
 // A Transport signs each request of an http.Client to one of some names. A request to any other, as one that a redirection leads to, goes out as
-// it is: its server learns no key and no certificates.
+// it is: its server learns no key and no certificates. So does a request whose Host is another name than that of its URL: the server that gets it
+// could use the signature at the other one.
 //
 //	client := http.Client{Transport: &httpsig.Transport{Signer: signer, Names: []string{"files.example.org"}}}
 type Transport struct {
@@ -34,10 +35,15 @@ func (t *Transport) RoundTrip(request *http.Request) (*http.Response, error) {
 	return sender.RoundTrip(signed)
 }
 
-// isToOneOf says whether the URL of a client's request has one of some names as its host and port.
+// isToOneOf says whether the URL of a client's request has one of some names as its host and port, and no other is asked there.
 func isToOneOf(names []string, request *http.Request) bool {
+	scheme := request.URL.Scheme
+	asked := AuthorityOf(scheme, request.URL.Host)
+	if request.Host != "" && AuthorityOf(scheme, request.Host) != asked {
+		return false
+	}
 	for _, name := range names {
-		if AuthorityOf(request.URL.Scheme, name) == AuthorityOf(request.URL.Scheme, request.URL.Host) {
+		if AuthorityOf(scheme, name) == asked {
 			return true
 		}
 	}

@@ -57,8 +57,10 @@ type Proof struct {
 	Key      spki.ProvenKey
 	Sequence []byte
 	// What Take uses up, and what Body compares a body with.
-	nonce  string
-	digest digest
+	nonce string
+	// The second since 1970 from which the signature is not accepted.
+	expires int64
+	digest  digest
 }
 
 // Hash returns the SHA-256 digest of the key, in hexadecimal digits: the `keyid` of the request.
@@ -107,10 +109,16 @@ func (v *Verifier) Message(message Message) (*Proof, error) {
 	return proof, nil
 }
 
-// Take uses up the nonce of a proof that Check has returned. The error is that of Nonces, such as NonceSeen or StoreFull. NO PROOF COUNTS WITHOUT IT:
-// a caller of Check takes the nonce before it acts. It may decide before that, so that strangers do not fill the store.
+// Take uses up the nonce of a proof that Check has returned. The error is that of Nonces, such as NonceSeen or StoreFull, or Expired if the signature
+// has expired since. NO PROOF COUNTS WITHOUT IT: a caller of Check takes the nonce before it acts. It may decide before that, so that strangers do not
+// fill the store.
 func (v *Verifier) Take(proof *Proof) error {
-	return v.Nonces.Take([]byte(proof.Key.Text()), proof.nonce, v.Now().Unix(), mostWindow+mostAhead)
+	now := v.Now().Unix()
+	if proof.expires <= now {
+		// (the nonce may have been used, and be forgotten)
+		return Expired
+	}
+	return v.Nonces.Take([]byte(proof.Key.Text()), proof.nonce, now, mostWindow+mostAhead)
 }
 
 // Check returns the proof of a message, or a Refusal. It does not use up the nonce: Take must follow.
@@ -140,7 +148,7 @@ func (v *Verifier) Check(message Message) (*Proof, error) {
 	if digest.octets != nil && message.Body != nil && !digest.matches(message.Body) {
 		return nil, OtherDigest
 	}
-	return &Proof{proven, v.sequenceOf(message.Header), input.nonce, digest}, nil
+	return &Proof{proven, v.sequenceOf(message.Header), input.nonce, input.expires, digest}, nil
 }
 
 // signerOf returns the key of a request in canonical form, and how many octets a signature by it has. The error is a Refusal, also if `keyid` or
@@ -165,8 +173,8 @@ func signerOf(header http.Header, input *input) (key []byte, octets int, err err
 // sequenceOf returns the certificates that a request shows, or a sequence of none. It is called after checkMessage, which refuses a request whose
 // field of certificates is not covered or has two lines.
 func (v *Verifier) sequenceOf(header http.Header) []byte {
-	if sequence := header.Get(v.Sequence); sequence != "" {
-		return []byte(sequence)
+	if sequences := header.Values(v.Sequence); len(sequences) > 0 {
+		return []byte(sequences[0])
 	}
 	return []byte("(sequence)")
 }

@@ -97,8 +97,9 @@ class Auth(_ToNames):
     auth=Auth(signer, "files.example.org"))`.
 
     A request to any other name gets no signature and no certificates. But `requests` follows a redirection with the
-    fields of the first request, which prove nothing there: `allow_redirects=False` keeps the key and the certificates
-    from other names. The body must be octets or a string, and not a stream.
+    fields of the first request, and so does `httpx` with `follow_redirects=True`. They prove nothing there:
+    `allow_redirects=False` or `follow_redirects=False` keeps the key and the certificates from other names. The body
+    must be octets or a string, and not a stream.
     """
 
     def __call__(self, request: Any) -> Any:

@@ -72,12 +72,13 @@ class Memory:
 
 @dataclass(frozen=True)
 class Proof:
-    """The key that has signed a request, in canonical form, and the certificates that the request shows, as a question takes them. `digest` is the
-    algorithm and the octets of its body's digest, or None if none is covered."""
+    """The key that has signed a request, in canonical form, and the certificates that the request shows, as a question takes them. `expires` is
+    when its signature ends, in seconds since 1970. `digest` is the algorithm and the octets of its body's digest, or None if none is covered."""
 
     key: bytes
     sequence: bytes
     nonce: str
+    expires: int
     digest: tuple[str, bytes] | None
 
     def covers(self, body: bytes) -> bool:
@@ -113,8 +114,12 @@ class Verifier:
 
     def take(self, proof: Proof) -> None:
         """Uses up the nonce of a proof from `check`. NO PROOF COUNTS WITHOUT IT, but the caller may decide before that,
-        so that strangers do not fill the store. Raises `Refused`."""
-        self.nonces.take(proof.key, proof.nonce, int(self.now()), MOST_WINDOW + MOST_AHEAD)
+        so that strangers do not fill the store. Raises `Refused`, also if the signature has expired since."""
+        now = int(self.now())
+        if proof.expires <= now:
+            # (the nonce may have been used, and be forgotten)
+            raise Refused("expired")
+        self.nonces.take(proof.key, proof.nonce, now, MOST_WINDOW + MOST_AHEAD)
 
     def check(self, message: Message) -> Proof:
         """The proof of a request, whose nonce is not used up: `take` must follow. Raises `Refused`, and `TypeError` if
@@ -140,7 +145,7 @@ class Verifier:
             raise Refused("invalid-signature")
         # (the field is covered if it is there, and so it has one line)
         sequences = message.values(self.sequence)
-        proof = Proof(key, sequences[0].encode() if sequences else NOTHING_SHOWN, signature_input.nonce, digest)
+        proof = Proof(key, sequences[0].encode() if sequences else NOTHING_SHOWN, signature_input.nonce, signature_input.expires, digest)
         if message.body is not None and not proof.covers(message.body):
             raise Refused("other-digest")
         return proof

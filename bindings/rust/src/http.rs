@@ -60,6 +60,8 @@ pub struct Proof {
     /// The digest of the body, if one is covered: whoever reads the body compares it. With `None` the request must have no body.
     pub digest: Option<ContentDigest>,
     nonce: String,
+    /// The second since 1970 from which the signature is not accepted.
+    expires: u64,
 }
 
 impl<N: TakeNonce> Requests<N> {
@@ -102,8 +104,12 @@ impl<N: TakeNonce> Requests<N> {
     /// first. The nonce is kept for as long as its signature may be accepted.
     ///
     /// # Errors
-    /// If the nonce was used before, or there is no room for it.
+    /// If the nonce was used before, there is no room for it, or the signature has expired since.
     pub fn take(&self, proof: &Proof, now: u64) -> Result<(), Unproved> {
+        if proof.expires <= now {
+            // (the nonce may have been used, and be forgotten)
+            return Err(Unproved::Expired);
+        }
         let seconds = MOST_WINDOW + MOST_AHEAD;
         self.nonces
             .take(proof.key.text(), &proof.nonce, now, seconds)
@@ -137,6 +143,7 @@ impl<N: TakeNonce> Requests<N> {
                 sequence: Self::sequence_of(message),
                 digest,
                 nonce: input.nonce.to_string(),
+                expires: input.expires,
             }),
             Err(NotProved::No) => Err(Unproved::InvalidSignature),
             Err(NotProved::Verifier(_)) => Err(Unproved::VerifierFailed),

@@ -91,21 +91,25 @@ pub fn transport(text: &[u8]) -> Result<Vec<u8>, Refusal> {
 /// A text in another form: `command` is `sys::CANONICAL`, `sys::ADVANCED` or `sys::TRANSPORT`.
 fn convert(command: c_int, text: &[u8]) -> Result<Vec<u8>, Refusal> {
     library::check();
-    // (an octet that is printed in base64 takes 7 for the 3 of its canonical text; `a(b)`, again and again, takes 8 for 3 in transport form)
-    let (status, answer) = with_answer(3 * text.len() + 64, |buffer, room, needed| {
-        // SAFETY: each pointer is to as many octets as its length says, or to one value of its type, and they do not overlap.
-        unsafe {
-            sys::spki_answer(
-                command,
-                text.as_ptr().cast(),
-                text.len(),
-                buffer,
-                room,
-                needed,
-            )
-            .status
-        }
-    });
+    // (an octet that is printed in base64 takes 7 for the 3 of its canonical text; `a(b)`, again and again, takes 8 for 3 in transport form. A longer
+    // text is refused)
+    let (status, answer) = with_answer(
+        3 * text.len().min(sys::MOST_OCTETS) + 64,
+        |buffer, room, needed| {
+            // SAFETY: each pointer is to as many octets as its length says, or to one value of its type, and they do not overlap.
+            unsafe {
+                sys::spki_answer(
+                    command,
+                    text.as_ptr().cast(),
+                    text.len(),
+                    buffer,
+                    room,
+                    needed,
+                )
+                .status
+            }
+        },
+    );
     if status == sys::DONE {
         return Ok(answer);
     }

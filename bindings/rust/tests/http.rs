@@ -285,6 +285,25 @@ fn nonces_are_kept_in_two_sets() {
     assert!(store.take(b"another key", "a", 3360, 360).is_ok());
 }
 
+/// After the end of its signature a nonce may have been used before, and be forgotten.
+#[test]
+fn a_nonce_is_not_taken_late() {
+    let rows = rows();
+    let row = rows.iter().find(|row| row.gives == "valid").expect("one");
+    let now: u64 = row.on[3].parse().expect("a time");
+    let requests = Requests::new(&["example.com"], Nonces::new(10), START, sha256);
+    assert_eq!(answer(&requests, row, now), "valid");
+    let fields = row.fields();
+    let proof = requests
+        .check(&row.message(&fields), now, |signed: Signature| {
+            Openssl.verify(signed)
+        })
+        .expect("it is valid");
+    for (late, wanted) in [(100, Unproved::NonceSeen), (900, Unproved::Expired)] {
+        assert_eq!(requests.take(&proof, now + late).err(), Some(wanted));
+    }
+}
+
 #[test]
 fn a_verifier_that_fails_proves_nothing() {
     let row = &rows()[0];
