@@ -19,8 +19,7 @@ STOPPED = "stopped, "
 
 
 def is_chosen(row: str, share: int = 10) -> bool:
-    """Whether the row with this name is run: in the long tests each is, in the gate about one in `share`, chosen by the
-    digest of the name."""
+    """Whether the row with this name is run: in the long tests each is, in the gate about one in `share`, chosen by the digest of the name."""
     return built.IS_LONG or hashlib.sha256(row.encode()).digest()[0] % share == 0
 
 
@@ -205,6 +204,13 @@ class Caddy(Table):
         for method in ("PUT", "DELETE"):
             self.assertEqual(attackers.faults_of(self.site, ("robot", method, "/web/out/main.js"), {403}), [])
 
+    def test_index_of_a_folder(self) -> None:
+        """A folder is not found by its name alone: its index file has another path, which nobody has decided."""
+        self.site.restart_with([])
+        self.site.write("files/web/out/index.html", "an index")
+        self.addCleanup(os.remove, self.site.at("files/web/out/index.html"))
+        self.assertEqual(attackers.faults_of(self.site, ("ann", "GET", "/web/out"), {404}), [])
+
 
 @table_of(web_servers.HAProxy)
 class HAProxy(Table):
@@ -214,3 +220,8 @@ class HAProxy(Table):
 @table_of(web_servers.Apache)
 class Apache(Table):
     """Apache reads and writes files."""
+
+    def test_delete_of_a_folder(self) -> None:
+        """A folder is not deleted by its name without a last `/`, nor for a client that Debian's settings except from such redirections."""
+        self.site.restart_with([("main.conf", "# more\n", "BrowserMatch ^ redirect-carefully\n")])
+        self.assertEqual(attackers.faults_of(self.site, ("ann", "DELETE", "/web/out"), {301}), [])
