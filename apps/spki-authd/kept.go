@@ -51,8 +51,12 @@ type chainKeeper interface {
 type folderChains struct {
 	// The configuration, with the folder and the limits.
 	chains
+	// Held while a file is written, so that one is at a time. `of` waits for no disk.
+	writing sync.Mutex
 	// Guards what follows.
 	mutex sync.Mutex
+	// The key into whose folder a file is being written, so that the folder stays, or an empty text.
+	written string
 	// The sequences by the digest of their key, in the order of their ends, and how many octets all of them have.
 	byKey  map[string][]keptChain
 	octets int
@@ -183,10 +187,13 @@ func (f *folderChains) put(key string, chain keptChain) {
 	f.octets += len(chain.text)
 }
 
-// remove removes the file of a sequence, and the folder of its key if that is empty then. Errors do not matter: the next start removes what has ended.
+// remove removes the file of a sequence, and the folder of its key if that is empty then and no file is being written into it. Errors do not matter: the
+// next start removes what has ended. The mutex is held, or no other goroutine has `f` yet.
 func (f *folderChains) remove(key, name string) {
 	os.Remove(filepath.Join(f.Folder, key, name))
-	os.Remove(filepath.Join(f.Folder, key))
+	if key != f.written {
+		os.Remove(filepath.Join(f.Folder, key))
+	}
 }
 
 // hasRoom says whether the limits let a key have one more sequence, of so many octets. The mutex is held, or no other goroutine has `f` yet.
@@ -289,17 +296,32 @@ func (f *folderChains) whyNotAddedLocked(key string, chain keptChain, now time.T
 // add keeps a sequence for a key in a file and in memory, if there is room, and returns the answer to the client: `failed` with an error, if the file
 // cannot be written.
 func (f *folderChains) add(key string, chain keptChain, now time.Time) (answer, error) {
-	f.mutex.Lock()
-	defer f.mutex.Unlock()
-	if refusal := f.whyNotAddedLocked(key, chain, now); refusal != "" {
+	f.writing.Lock()
+	defer f.writing.Unlock()
+	if refusal := f.begin(key, chain, now); refusal != "" {
 		return refusal, nil
 	}
-	if err := f.write(key, chain); err != nil {
+	err := f.write(key, chain)
+	f.mutex.Lock()
+	defer f.mutex.Unlock()
+	f.written = ""
+	if err != nil {
 		f.remove(key, chain.name+partSuffix)
 		return answerFailed, err
 	}
 	f.put(key, chain)
 	return answerKept, nil
+}
+
+// begin returns the answer to a sequence that add does not keep. If it is empty, the folder of the key stays until `written` is set anew.
+func (f *folderChains) begin(key string, chain keptChain, now time.Time) answer {
+	f.mutex.Lock()
+	defer f.mutex.Unlock()
+	refusal := f.whyNotAddedLocked(key, chain, now)
+	if refusal == "" {
+		f.written = key
+	}
+	return refusal
 }
 
 // write writes the file of a sequence, whole or not at all: under a name with partSuffix at its end, from which it is renamed. It calls fsync, so that what

@@ -9,6 +9,7 @@ import (
 	"os"
 	"path/filepath"
 	"strings"
+	"syscall"
 	"testing"
 	"time"
 
@@ -478,5 +479,48 @@ func TestKeptFiles(t *testing.T) {
 	}
 	if _, err := openFolderChains(s.config.Chains, s.now(), false); err == nil {
 		t.Error("others may write the folder")
+	}
+}
+
+// TestDiskThatHangs leaves a sequence where the disk does not answer, as a FIFO that nobody reads. Meanwhile what is kept for other keys is found.
+func TestDiskThatHangs(t *testing.T) {
+	kept, err := openFolderChains(&chains{Folder: t.TempDir(), Days: 1, Each: 1, Keys: 9}, time.Now(), true)
+	if err != nil {
+		t.Fatal(err)
+	}
+	chain := kept.chainOf("{KDg6c2VxdWVuY2Up}", time.Now())
+	path := filepath.Join(kept.Folder, "a", chain.name+partSuffix)
+	if err := os.Mkdir(filepath.Dir(path), 0o700); err != nil {
+		t.Fatal(err)
+	}
+	if err := syscall.Mkfifo(path, 0o600); err != nil {
+		t.Fatal(err)
+	}
+	added, found := make(chan answer), make(chan bool)
+	go func() {
+		answer, _ := kept.add("a", chain, time.Now())
+		added <- answer
+	}()
+	for kept.writing.TryLock() {
+		kept.writing.Unlock()
+		time.Sleep(time.Millisecond)
+	}
+	go func() {
+		kept.of("b", time.Now())
+		close(found)
+	}()
+	select {
+	case <-found:
+	case <-time.After(time.Second):
+		t.Error("it waits for the disk")
+	}
+	reader, err := os.OpenFile(path, os.O_RDONLY|syscall.O_NONBLOCK, 0)
+	if err != nil {
+		t.Fatal(err)
+	}
+	defer reader.Close()
+	// (a FIFO takes no fsync)
+	if answer := <-added; answer != answerFailed {
+		t.Error(answer)
 	}
 }

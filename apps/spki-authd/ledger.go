@@ -151,8 +151,8 @@ func (l *ledger) write(lines []byte) error {
 	return nil
 }
 
-// prepare is called before lines are written. It notes the file's size, and makes the file again if it was removed. It fails if the last `beat` has failed
-// and one more fails too: then earlier lines may not be on the disk.
+// prepare is called before lines are written. It notes the file's size, and makes the file again if it was removed. It fails if the last `beat` has failed,
+// also if one more does not: a system may report only once that lines are lost.
 func (l *ledger) prepare() error {
 	about, err := l.file.Stat()
 	if err != nil {
@@ -162,10 +162,11 @@ func (l *ledger) prepare() error {
 	if system, isKnown := about.Sys().(*syscall.Stat_t); isKnown && system.Nlink == 0 {
 		return l.replace()
 	}
-	if l.fault != nil {
+	fault := l.fault
+	if fault != nil {
 		l.beat()
 	}
-	return l.fault
+	return fault
 }
 
 // beat calls fsync if the ledger has syncSeconds and lines were written since the last time. The writer calls it each second. prepare reports its error.

@@ -163,7 +163,9 @@ func TestCutLedger(t *testing.T) {
 // TestSyncs writes where the disk takes nothing. With syncEach that is no line; with syncSeconds no further one, until the disk takes them. A row
 // says whether the first and the second write succeed.
 func TestSyncs(t *testing.T) {
-	for syncs, row := range map[string]struct{ first, second bool }{syncNever: {true, true}, syncSeconds: {true, false}, syncEach: {false, false}} {
+	for syncs, row := range map[string]struct{ first, second, third bool }{
+		syncNever: {true, true, true}, syncSeconds: {true, false, false}, syncEach: {false, false, true},
+	} {
 		ledger, disk := openFailing(t, syncs, "")
 		disk.isNotWritten = true
 		if err := ledger.write([]byte("one\n")); (err == nil) != row.first {
@@ -174,10 +176,14 @@ func TestSyncs(t *testing.T) {
 			t.Errorf("%s: %v", syncs, err)
 		}
 		disk.isNotWritten = false
-		if err := ledger.write([]byte("three\n")); err != nil {
+		// (the system has said once that lines are lost: that must be reported)
+		if err := ledger.write([]byte("three\n")); (err == nil) != row.third {
 			t.Errorf("%s: %v", syncs, err)
 		}
-		wanted := map[string]string{syncNever: "one\ntwo\nthree\n", syncSeconds: "one\nthree\n", syncEach: "three\n"}[syncs]
+		if err := ledger.write([]byte("four\n")); err != nil {
+			t.Errorf("%s: %v", syncs, err)
+		}
+		wanted := map[string]string{syncNever: "one\ntwo\nthree\nfour\n", syncSeconds: "one\nfour\n", syncEach: "three\nfour\n"}[syncs]
 		ledger.mustHave(t, wanted)
 	}
 }

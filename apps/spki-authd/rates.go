@@ -43,10 +43,14 @@ func (r *rateLimiter) allows(caller string, now time.Time) bool {
 		allowance = &bucket{left: savedSeconds * r.perSecond, at: now}
 		r.buckets.add(caller, allowance)
 	}
-	if pause := now.Sub(allowance.at).Seconds(); pause > 0 {
+	pause := now.Sub(allowance.at).Seconds()
+	if pause > 0 {
 		allowance.left += pause * r.perSecond
 	}
-	allowance.at = now
+	// (a request that began before the last one may come after it; by more than a second the clock was put back)
+	if pause > 0 || pause < -1 {
+		allowance.at = now
+	}
 	if allowance.left > savedSeconds*r.perSecond {
 		allowance.left = savedSeconds * r.perSecond
 	}

@@ -14,7 +14,11 @@ import (
 )
 
 // Go's collector runs when the heap has grown by so many percent, to five times what is in use. Little is in use, so this saves time and costs a few MiB.
-const gcPercent = 400
+// With many nonces and kept certificates more is in use: it runs more often from so many octets on, since the unit of systemd allows 512 MiB in all.
+const (
+	gcPercent = 400
+	gcOctets  = 384 << 20
+)
 
 // signals has the channels by which the daemon gets its signals. Each kind has one of its own, so that none is lost while another one waits.
 type signals struct {
@@ -37,6 +41,7 @@ func listenToSignals() signals {
 func start(words words, out, messages io.Writer) error {
 	signals := listenToSignals()
 	debug.SetGCPercent(gcPercent)
+	debug.SetMemoryLimit(gcOctets)
 	// (the main loop, which reads all lists, stays in this thread: malloc has a heap for each thread, so the memory of an old list is used again)
 	runtime.LockOSThread()
 	defer runtime.UnlockOSThread()
@@ -46,6 +51,10 @@ func start(words words, out, messages io.Writer) error {
 	}
 	if words.noCache {
 		*config.Cache = 0
+	}
+	if config.Signatures != nil && !words.isTest {
+		// (`created` has whole seconds: the daemon before this one may have granted a request of this second)
+		time.Sleep(time.Until(time.Now().Truncate(time.Second).Add(time.Second)))
 	}
 	decider := newDecider(config)
 	if decider.chains, err = openChains(config, decider.now(), !words.isTest); err != nil {
