@@ -74,6 +74,8 @@ put() {
     echo "installed $prefix/$3"
 }
 
+mkdir -p "$prefix" 2> /dev/null && [[ -w $prefix ]] ||
+    { echo "install.sh: $prefix cannot be written: name another PREFIX, or run it as root" >&2; exit 1; }
 if [[ -z $program ]]; then
     command -v rt > /dev/null || { echo "rt is not in the path: it builds the program" >&2; exit 1; }
     (cd crates/spki && rt run -- check < ../../examples/delegation.sexp)
@@ -83,6 +85,10 @@ if [[ -z $library ]]; then
     crates/spki_c/archive.py
     library=crates/spki_c/out/libspki_c.a
 fi
+# (before the first file is installed, so that no new one is beside an old one)
+for file in "$program" "$library" "${library%.a}.so"; do
+    [[ -f $file ]] || { echo "install.sh: there is no $file" >&2; exit 1; }
+done
 put 755 "$program" bin/spki
 put 644 "$library" "$libraries/libspki_c.a"
 put 644 "${library%.a}.so" "$libraries/$soname"

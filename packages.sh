@@ -1,5 +1,5 @@
 #!/usr/bin/env bash
-# Makes Debian packages, for machines without the toolchain: `spki`, the program; `libspki-c0.1`, the shared library, named after its soname;
+# Makes Debian packages, for machines without the toolchain: `spki`, the program; `libspki-c0.2`, the shared library, named after its soname;
 # `libspki-dev`, what C programs are compiled with; `spki-cert`, the command for those who hold keys; `spki-authd`, the daemon that decides for a
 # web server. `apt-get install ./spki_*.deb` installs one. Beside them are SHA256SUMS and the list of all files inside, in SPDX 2.3.
 # Equal sources, programs and libraries give equal octets. All times are that of the last commit, or SOURCE_DATE_EPOCH, in seconds since 1970.
@@ -21,6 +21,9 @@ while [[ ${1:-} == --* ]]; do
         *) echo "packages.sh: $1 is no option" >&2; exit 2 ;;
     esac
     shift
+done
+for tool in dpkg-deb go readelf; do
+    command -v $tool > /dev/null || { echo "packages.sh: there is no $tool" >&2; exit 1; }
 done
 if [[ ! $maintainer =~ ^[^\<\>[:cntrl:]]+' <'[^\<\>@[:space:]]+@[^\<\>@[:space:]]+'>'$ ]]; then
     echo "packages.sh: who answers for the packages? Give --maintainer 'NAME <ADDRESS>', or set DEBFULLNAME and DEBEMAIL" >&2

@@ -27,7 +27,7 @@ import spki  # noqa: E402
 import spki_http  # noqa: E402
 from run import Pair, asked_by, signed  # noqa: E402
 from spki_cert_tool.keys import ED25519, RSA  # noqa: E402
-from spki_store_tool.tables import Store  # noqa: E402
+from spki_store_tool.tables import ROLES, Store  # noqa: E402
 from spki_verify import verify  # noqa: E402
 
 NAME, SCHEMA = "packages.example", "spki_story"
@@ -79,7 +79,7 @@ def main():
         results = list(answers(store))
     finally:
         store.connection.execute(f"DROP SCHEMA {SCHEMA} CASCADE")
-        store.connection.execute(f"DROP ROLE {SCHEMA}_reader, {SCHEMA}_writer")
+        store.connection.execute("DROP ROLE " + ", ".join(f"{SCHEMA}_{role}" for role in ROLES))
         store.close()
     print(f"{sum(results)} passed, {len(results) - sum(results)} failed")
     return 0 if all(results) else 1

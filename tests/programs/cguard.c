@@ -11,8 +11,8 @@
 /* The octets of a thread's stack, the most threads, and how often each asks. */
 enum { STACK = 256 * 1024, MOST_THREADS = 64, TURNS = 50 };
 
-/* The question must list one signature: that of key a in `examples/delegation.sexp`. */
-static void expect_signature(const spki_asked *asked)
+/* The question must list one signature: that of key a in `examples/delegation.sexp`. Returns where its texts are. */
+static struct spki_signed expect_signature(const spki_asked *asked)
 {
     struct spki_signed signature, again, none = {0};
     expect(spki_asked_count(asked) == 1, "another number of signatures");
@@ -24,6 +24,7 @@ static void expect_signature(const spki_asked *asked)
     expect(spki_asked_signature(asked, 0, &again) == SPKI_DONE && !memcmp(&again, &signature, sizeof again), "other addresses");
     expect(spki_asked_signature(asked, 1, &again) == SPKI_NONE && !memcmp(&again, &none, sizeof none), "a signature too many");
     expect(spki_asked_signature(asked, (size_t)-1, &again) == SPKI_NONE, "a signature far behind");
+    return signature;
 }
 
 /* The question of `examples/delegation.sexp`: key b shows what key a has signed, and asks for `(ftp)`. */
@@ -164,7 +165,7 @@ static void one_question(const char *list, const char *sequence, const char *key
     memset(rooms, 'x', sizeof rooms);
     spki_guard_close(guard);
     spki_guard_close(other);
-    expect_signature(asked);
+    const struct spki_signed first = expect_signature(asked);
     for (int turn = 0; turn < 3; turn++) {
         expect(!turn || spki_asked_mark(asked, 0) == SPKI_DONE, "no mark");
         expect(decide(asked, line, sizeof line, &needed) == (turn ? SPKI_YES : SPKI_NO), "another decision");
@@ -172,6 +173,7 @@ static void one_question(const char *list, const char *sequence, const char *key
                && is_text(line, needed, turn ? "entry 1 grants\n" : "item 1 NotAccepted\n"), "another explanation");
         expect(spki_asked_reduce(asked, line, sizeof line, &needed).status == SPKI_DONE && needed > 5, "another reduction");
     }
+    expect(!memcmp((struct spki_signed[]){expect_signature(asked)}, &first, sizeof first), "texts that a mark has moved");
     expect(!spki_asked_count(none) && spki_asked_mark(none, 0) == SPKI_MISUSED, "a mark of no signature");
     expect(spki_asked_mark(elsewhere, 0) == SPKI_DONE && decide(elsewhere, line, sizeof line, &needed) == SPKI_NO
            && !spki_asked_possible(elsewhere), "marks of another guard");

@@ -154,9 +154,8 @@ class Log(OfDaemon):
             self.assertEqual(self.ask_often(daemon.socket, 1, self.headers()), [200])
 
     def test_reader_that_hangs(self) -> None:
-        """Nobody reads the pipe to which the daemon writes its denials; later the pipe has no reader. 3,000 denials of
-        over 500 octets fill it. Each request is answered, each grant has its line in the log of grants, and the lines
-        that are lost are counted."""
+        """Nobody reads the pipe to which the daemon writes its denials; later the pipe has no reader. 3,000 denials of over 500 octets fill it. Each
+        request is answered, each grant has its line in the log of grants, and the lines that are lost are counted."""
         with self.daemon() as daemon:
             daemon.process.terminate()
             daemon.process.wait()
@@ -199,8 +198,7 @@ class Log(OfDaemon):
             self.assertEqual((status, "another daemon writes this log" in output), (1, True), output)
 
     def test_fifo(self) -> None:
-        """A FIFO in the place of the file of ended certificates is refused at a reload and by `-test`, and hangs
-        nothing."""
+        """A FIFO in the place of the file of ended certificates is refused at a reload and by `-test`, and hangs nothing."""
         with self.daemon() as daemon:
             fifo = os.path.join(os.path.dirname(daemon.config), "fifo")
             os.mkfifo(fifo)
@@ -219,8 +217,7 @@ class Log(OfDaemon):
 
 
 class Manager:
-    """What a service manager does for a daemon: it opens the socket, hands it over, and receives messages of what the
-    daemon does."""
+    """What a service manager does for a daemon: it opens the socket, hands it over, and receives messages of what the daemon does."""
 
     def __init__(self, daemon: Daemon) -> None:
         self.daemon = daemon

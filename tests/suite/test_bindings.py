@@ -191,8 +191,7 @@ def strings_in(octets):
 
 
 def cargo(folder, words, octets=None):
-    """Runs cargo in the crate, offline, with the libraries of a folder and these octets as its input. Returns the
-    `CompletedProcess`."""
+    """Runs cargo in the crate, offline, with the libraries of a folder and these octets as its input. Returns the `CompletedProcess`."""
     settings = {**os.environ, "SPKI_LIB_DIR": folder, "RUSTDOCFLAGS": "-D warnings", "CARGO_NET_OFFLINE": "true"}
     return subprocess.run(["cargo", *words], cwd=RUST, input=octets, capture_output=True, env=settings, timeout=SECONDS)
 
@@ -518,9 +517,8 @@ class InRust(Binding):
 
     @needs.needs("pkg-config")
     def test_another_target(self):
-        """For another target, as here ARM, a library of its system is linked. Variables of pkg-config name it, with or
-        without the target at the ends of their names. Without these the build fails, and does not take the host's
-        library. Here the build script of cargo is run by itself."""
+        """For another target, as here ARM, a library of its system is linked. Variables of pkg-config name it, with or without the target at the ends
+        of their names. Without these the build fails, and does not take the host's library. Here the build script of cargo is run by itself."""
         with tempfile.TemporaryDirectory() as room:
             self.assertEqual(self.build_sys(room, SPKI_LIB_DIR=self.folder), (0, ""))
             script, = glob.glob(os.path.join(room, "debug", "build", "spki-sys-*", "build-script-build"))

@@ -57,8 +57,7 @@ def quiet(*words, **settings):
 
 
 def status_of(main):
-    """The exit status of a program by its function `main`: what it returns, or by which it ends the program, which is
-    caught here."""
+    """The exit status of a program by its function `main`: what it returns, or by which it ends the program, which is caught here."""
     try:
         return main()
     except SystemExit as end:
@@ -555,9 +554,8 @@ class OfWords(Case):
         self.assertLessEqual({"grants", "TagLacks", "NotTheKey", "NotIssuer", "NotAccepted"}, chosen)
 
     def word_of(self, text, case):
-        """A list with the word of the one reason of a case that `ask` explains. It is empty if the model's lines of
-        `explain` are no reasons but a refusal. The explanation must have two lines or more. `case` is the value of the
-        text."""
+        """A list with the word of the one reason of a case that `ask` explains. It is empty if the model's lines of `explain` are no reasons but a
+        refusal. The explanation must have two lines or more. `case` is the value of the text."""
         lines = answers.answer("explain", text)[1].decode().splitlines()
         parts = [re.fullmatch(r"(?:entry (\d+) )?(?:item (\d+) )?(\w+)", line) for line in lines]
         if None in parts:
@@ -577,9 +575,8 @@ class OfWords(Case):
             self.assertTrue(all(words in line for words, line in zip(wanted, lines, strict=True)), lines)
 
     def test_a_name_at_the_end(self):
-        """What `ask` says where the right ends at the name `builders of alice`. `defined` are the certificates at hand:
-        for each its issuer, the name that it defines, and the subject. One of the issuers is the hash of Alice's
-        key."""
+        """What `ask` says where the right ends at the name `builders of alice`. `defined` are the certificates at hand: for each its issuer, the name
+        that it defines, and the subject. One of the issuers is the hash of Alice's key."""
         alice, bob, carol = ([b"public-key", [b"test", name]] for name in (b"alice", b"bob", b"carol"))
         for_bob = "and that is a name, which a certificate at hand defines for bob (NotTheKey)"
         none, another = "and that is a name, and no certificate says who it is", "which is another name (NotTheKey)"
@@ -609,8 +606,7 @@ class OfAnswers(Case):
         self.settings["SPKI_LIBRARY"] = built.shared()
 
     def settings_with_command(self):
-        """Makes `spki-cert` a program in a new folder. Returns settings of the environment whose PATH has this
-        folder."""
+        """Makes `spki-cert` a program in a new folder. Returns settings of the environment whose PATH has this folder."""
         os.mkdir(self.at("bin"))
         self.write("bin/spki-cert", f"#!/bin/sh\nexec '{sys.executable}' '{COMMAND}' \"$@\"\n")
         os.chmod(self.at("bin/spki-cert"), 0o755)
@@ -811,8 +807,7 @@ int main(int count, char **words)
 
     @needs.needs("import pip", "import setuptools", "import wheel")
     def test_pip_installs_it_offline(self):
-        """pip installs it with the package of bindings/python, which it needs. By SPKI_LIBRARY=none this package has no
-        library inside."""
+        """pip installs it with the package of bindings/python, which it needs. By SPKI_LIBRARY=none this package has no library inside."""
         for folder in ("apps/spki-cert", "bindings/python"):
             shutil.copytree(os.path.join(TOP, folder), self.at(folder), ignore=shutil.ignore_patterns("build", "*.egg-info"))
         words = ("-m", "pip", "install", "-q", "--no-build-isolation", "--no-deps", "--no-index", "--target", self.at("target"))

@@ -25,8 +25,7 @@ SEEN: list[int] = [0]
 
 
 class Text(bytes):
-    """A text that adds to SEEN how many of its octets are looked through: by searches, up to what is found, and in
-    parts that are copied."""
+    """A text that adds to SEEN how many of its octets are looked through: by searches, up to what is found, and in parts that are copied."""
 
     def rfind(self, part: bytes, begin: int = 0, end: int | None = None) -> int:  # type: ignore[override]
         place = super().rfind(part, begin, end)
@@ -216,9 +215,8 @@ class OfAsk(unittest.TestCase):
     """The search of `spki-cert ask` for chains of certificates, which counts its steps itself."""
 
     def search(self, pairs, entries, holder, most=20_000):
-        """The chains that are found from entries to the key `holder`, and the object that counts steps. `pairs` are
-        the issuers and subjects of the certificates, `entries` the subjects of the entries, and `most` is the bound of
-        steps."""
+        """The chains that are found from entries to the key `holder`, and the object that counts steps. `pairs` are the issuers and subjects of the
+        certificates, `entries` the subjects of the entries, and `most` is the bound of steps."""
         from spki_cert_tool import certificates
         signed = [certificates.Signed(certificates.terms_of(certificate(*pair)), b"", 1) for pair in pairs]
         steps = certificates.Steps(most)

@@ -496,9 +496,8 @@ class Fuzzed(OfC):
     """`fuzz/calls.c`: the answers to fuzzed parts, through an spki.c that is checked as well."""
 
     def check_fuzzing(self, *flags):
-        """Fuzzing by libFuzzer, with the options `flags`, must find no fault. A text that leads to one is written to
-        tests/out/. spki.c is compiled here under AddressSanitizer too, and linked with the archive of the proved code
-        alone."""
+        """Fuzzing by libFuzzer, with the options `flags`, must find no fault. A text that leads to one is written to tests/out/. spki.c is compiled
+        here under AddressSanitizer too, and linked with the archive of the proved code alone."""
         program, folder, to = (os.path.join(*words) for words in ((self.room, "fuzz"), (TESTS, "fuzz"), (TESTS, "out")))
         sources = [os.path.join(folder, "calls.c"), *(os.path.join(CRATE, name) for name in ("spki.c", "heap.c"))]
         proved = os.path.join(os.path.dirname(built.library()), "proved", "libspki_c.a")

@@ -39,3 +39,4 @@ class OfDatabase(Example):
     def test_story(self) -> None:
         with databases.Server() as server:
             self.check_example("database/story.py", server.address, SPKI_LIBRARY=built.shared())
+            self.assertEqual(server.run("psql", server.address, "-Atc", "SELECT rolname FROM pg_roles WHERE rolname LIKE 'spki%'"), "")
