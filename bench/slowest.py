@@ -1,5 +1,5 @@
 #!/usr/bin/env python3
-"""Searches for the slowest texts of each call, and fails if one takes more than docs/PERFORMANCE.md says: the table "The most that a call takes".
+"""Searches for the slowest texts of each call, and fails if one takes more than docs/PERFORMANCE.md says: the table "The texts that take longest".
 
 The first texts of each call are named: they were slow once. A search then changes their numbers by chance, one part at a time, with a fixed seed
 and for a fixed number of steps. It goes on from the text that takes the most time for its octets. The slowest ones are then made as large as the
