@@ -58,6 +58,23 @@ static bool begin_answer(void **buffer, size_t length, size_t **needed, size_t *
 /* The handle of a guard or a question, for a call that only borrows it. */
 #define LENT(value) (&(struct handle){(void *)(value)})
 
+/* Ends the process if a call has given a value back that is not where it was: the caller goes on with its pointer. No call does that. But no clause
+ * says so, since the contracts of boxes have no addresses. */
+static void must_be_at(const void *value, struct handle back)
+{
+    if (back.at != value)
+        __builtin_trap();
+}
+
+/* Frees a guard or a question. One of the other kind is given back. */
+static void close_handle(bool is_question, void *value)
+{
+    struct handle back = {0};
+    spki_c_close(is_question, (struct handle){value}, &back);
+    if (back.at)
+        must_be_at(value, back);
+}
+
 size_t spki_guard_entries(const spki_guard *guard) { return guard ? spki_c_guard_entries(LENT(guard)) : 0; }
 size_t spki_asked_count(const spki_asked *asked) { return asked ? spki_c_asked_count(LENT(asked)) : 0; }
 bool spki_asked_possible(const spki_asked *asked) { return asked && spki_c_asked_possible(LENT(asked)); }
@@ -90,7 +107,7 @@ enum spki_status spki_guard_open(const void *list, size_t list_length, enum spki
 void spki_guard_close(spki_guard *guard)
 {
     if (guard)
-        spki_c_close(false, (struct handle){guard}, &(struct handle){0});
+        close_handle(false, guard);
 }
 
 enum spki_status spki_guard_ask(const spki_guard *guard, const struct spki_question *question, spki_asked **asked, ANSWER)
@@ -111,7 +128,7 @@ enum spki_status spki_guard_ask(const spki_guard *guard, const struct spki_quest
 void spki_asked_close(spki_asked *asked)
 {
     if (asked)
-        spki_c_close(true, (struct handle){asked}, &(struct handle){0});
+        close_handle(true, asked);
 }
 
 enum spki_status spki_asked_signature(const spki_asked *asked, size_t place, struct spki_signed *signature)
@@ -129,8 +146,12 @@ enum spki_status spki_asked_signature(const spki_asked *asked, size_t place, str
 
 enum spki_status spki_asked_mark(spki_asked *asked, size_t place)
 {
-    /* (the call takes the question over and gives it back at the same address, so the handle that comes back is not looked at) */
-    return asked ? spki_c_asked_mark((struct handle){asked}, place, &(struct handle){0}) : SPKI_MISUSED;
+    struct handle back = {0};
+    if (!asked)
+        return SPKI_MISUSED;
+    enum spki_status status = spki_c_asked_mark((struct handle){asked}, place, &back);
+    must_be_at(asked, back);
+    return status;
 }
 
 bool spki_asked_granted(const spki_asked *asked)

@@ -45,7 +45,7 @@
  * - Write the access list, the rows and the moment itself, and end the case with `(policy strict)` unless hashes by SHA-1 must name
  *   keys.
  * - Bound the length of what strangers send, for example to 65,536 octets, and the number of their certificates, for example to 16.
- *   On some texts with more a decision takes minutes, and a call cannot be ended.
+ *   On some texts with more a decision takes seconds, and a call cannot be ended.
  *
  * What else the caller must ensure. No proof covers these points:
  *

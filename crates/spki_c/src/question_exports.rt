@@ -1,5 +1,5 @@
 //! The exported functions for opened questions that a caller holds. `spki.c` calls them. In each, `lent` is the handle of a guard
-//! or a question that the call borrows. `asked` owns one before the call, and `handle` and `back` own one after it. `alloc` and
+//! or a question that the call borrows. `asked` owns one before the call, and `back` after it; `handle` owns one after `DONE`. `alloc` and
 //! `readable` have no octets, so C passes nothing for them. For a slice C passes a pointer and the number of values.
 ghost use Rattle.std.specs.Prelude.{◌≡◌, ◌≢◌, ◌⊎◌, negsuc, None, Some, IsSome, false, length, slice_get};
 ghost use Rattle.spki_decision.specs.CertificateTests.{Signed};

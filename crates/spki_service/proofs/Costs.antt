@@ -1,5 +1,5 @@
 -- The octets of entries that are found, by their numbers and by the test, and the weights of what is read from them; the ticks of all entries.
-use Rattle.std.proofs.Common.{◌≡◌, ℕ, zero, suc, ◌+◌, ◌*◌, ◌-◌, ◌<◌, ◌≤◌, Bool, true, false, cond, List, [], ◌∷◌, Option, Some, map, length, take, drop, get_or, add-one, refl, ap, subst, take_all, arith}
+use Rattle.std.proofs.Common.{◌≡◌, ℕ, zero, suc, ◌+◌, ◌*◌, ◌-◌, ◌<◌, ◌≤◌, Bool, true, false, cond, List, [], ◌∷◌, Option, Some, None, map, length, take, drop, get_or, add-one, refl, ap, subst, take_all, arith}
 use Rattle.std.proofs.lemmas.List.Sums.{sum_by_more, sum_by_more_le, sum_by-take-le}
 use Rattle.spki_cert.{specs.{declared.{entry.Entry.{Entry}, principal.Policy.{Policy}}, Cost.{entry_weight}}, proofs.Costs.{entry_ge, sequence_ge}}
 use Rattle.spki_service.specs.AccessLists.{IsEntryText, AreEntries, AreNumbers, kept_from, first, numbers_from}
@@ -8,6 +8,7 @@ use Rattle.spki_service.proofs.SelectedEntries.{entry_there, number_at, as_many}
 use Rattle.spki_reduce.{specs.{Reduction.{Tuple}, Chain.{Takes}}, proofs.Working.{none_taken, taken}}
 use Rattle.spki_decision.specs.Cost.{tuples_weight, AreTicksOfEntry, CountsSteps}
 use Rattle.spki_decision.specs.{declared.reduction.EntryFold.{EntryFold, TheVariants.{Done, Stopped}}, CertificateTests.{AreShown, asked, every}}
+use Rattle.spki_decision.specs.{declared.{grant.Grant.{Grant}, decision.Decision.TheVariants.{No}}, Until.{decision_of}}
 use Rattle.spki_decision.proofs.{Charges.{within_limit}, Costs.{asked_ge, shown_and_asked_ge, ticks_taken}}
 
 -- ---- by their numbers
@@ -88,6 +89,11 @@ module _ (a : PreparedModel) (shown found : ℕ) (has : HasOctets a shown found)
       → tuples_weight tuples + length (asked a.case) + 2 * found_octets a.case tuples a.texts es ≤ 4 * shown + 2 * found
   found_cost tuples es shows are =
       omega (arith, shown_and_asked_ge a.case every tuples shows, sequence_ge has.value a.case.items has.sequence, has.long, has.entries tuples es shows are)
+
+-- a no grants nothing
+pub no_grant : (grant : Option Grant) → decision_of grant ≡ No → grant ≡ None
+no_grant None same = refl
+no_grant (Some grant) same = absurd cc
 
 -- ---- all entries, one after another
 

@@ -1,10 +1,10 @@
 //! Decisions whose work is counted, in contracts only: see `spki_tag::Ticks`. Nothing is counted when the program runs.
 
-ghost use Rattle.std.specs.Prelude.{◌≡◌, ◌≤◌, ◌<◌, ◌+◌, ◌*◌, ℕ, List, length, IfOk, MatchOption};
+ghost use Rattle.std.specs.Prelude.{◌≡◌, ◌≤◌, ◌<◌, ◌+◌, ◌*◌, ℕ, List, None, length, IfOk, IfNone, MatchOption};
 ghost use Rattle.spki_cert.specs.declared.entry.Entry.{Entry};
-ghost use Rattle.spki_reduce.specs.Chain.{tuples_of, all_windows};
+ghost use Rattle.spki_reduce.specs.{Chain.{tuples_of, all_windows}, Reduction.{Tuple}};
 ghost use Rattle.spki_decision.specs.{CertificateTests.{AreShown, asked, every, signed_of, with_entries}, Until.{decision_of, EndsWith}};
-ghost use Rattle.spki_service.specs.{AccessLists.{AreEntries, DecidesPartly}, Cost.{HasOctets}};
+ghost use Rattle.spki_service.specs.{AccessLists.{AreEntries, DecidesPartly}, Cost.{HasOctets, found_octets}};
 ghost use Rattle.spki_service.specs.GuardQuestions.{Grants, DecidesMarked, GrantsMarked, AllMarked, IsUnmarked};
 
 use crate::answers::first_key;
@@ -22,11 +22,13 @@ impl<'a> PreparedQuestion<'a> {
     /// Decides the question by the marks, as `decide_by`, for a caller whose contract bounds the ticks, which exist only in contracts. A tick
     /// is a signature, a certificate, an entry, a tag or a name that is looked at, or an octet that is read or compared. There are at most
     /// four for each octet of the sequence's canonical text (`shown`), and two for each octet of the entries that the index finds (`found`).
+    /// If no certificate fails and no entry grants, there is at least one for each listed signature and each octet of these entries.
     /// `docs/PERFORMANCE.md` says what is not counted.
     ///
     /// # Errors
     ///
     /// `AllocError` if memory ran out.
+    #[tactic(auto, using(crate::proofs::Costs::no_grant))]
     pub fn decide_by_counted<L: Ledger>(
         &self,
         alloc: Global,
@@ -34,6 +36,9 @@ impl<'a> PreparedQuestion<'a> {
     ) -> Result<Decision, AllocError>
         ensures answer { IfOk result (DecidesMarked self.now) }
         ensures cost { (shown found : ℕ) → HasOctets self.now shown found → ticks.new ≤ ticks.old + 4 * shown + 2 * found }
+        ensures each { (tuples : List Tuple) (es : List Entry) → AreShown self.now.case.policy every self.now.case.items tuples
+            → AreEntries self.now.texts es → AllMarked (asked self.now.case) self.now.marks → IfOk result (λ d. d ≡ Decision.No
+            → ticks.old + length (asked self.now.case) + found_octets self.now.case tuples self.now.texts es ≤ ticks.new) }
     {
         Ok(Grant::decision(self.grant_by_counted(alloc, ticks)?))
     }
@@ -47,6 +52,9 @@ impl<'a> PreparedQuestion<'a> {
     ) -> Result<Option<Grant>, AllocError>
         ensures answer { IfOk result (GrantsMarked self.now) }
         ensures cost { (shown found : ℕ) → HasOctets self.now shown found → ticks.new ≤ ticks.old + 4 * shown + 2 * found }
+        ensures each { (tuples : List Tuple) (es : List Entry) → AreShown self.now.case.policy every self.now.case.items tuples
+            → AreEntries self.now.texts es → AllMarked (asked self.now.case) self.now.marks → IfOk result (λ grant. grant ≡ None
+            → ticks.old + length (asked self.now.case) + found_octets self.now.case tuples self.now.texts es ≤ ticks.new) }
     {
         match self.unmarked_counted(ticks) {
             None => self.granted_counted(alloc, ticks),
@@ -81,6 +89,9 @@ impl<'a> PreparedQuestion<'a> {
         ensures answer { IfOk result (Grants every self.now) }
         ensures cost { (shown found : ℕ) → HasOctets self.now shown found
             → ticks.new + length (asked self.now.case) ≤ ticks.old + 4 * shown + 2 * found }
+        ensures each { (tuples : List Tuple) (es : List Entry) → AreShown self.now.case.policy every self.now.case.items tuples
+            → AreEntries self.now.texts es
+            → IfOk result (λ grant. grant ≡ None → ticks.old + found_octets self.now.case tuples self.now.texts es ≤ ticks.new) }
     {
         match &self.examined.unverified {
             Unverified::Fails { .. } => Ok(None),
@@ -119,6 +130,8 @@ impl<'a> PreparedQuestion<'a> {
         ensures cost { (shown found : ℕ) → HasOctets self.now shown found
             → AreShown self.now.case.policy every self.now.case.items (tuples_of steps.now)
             → ticks.new + length (asked self.now.case) ≤ ticks.old + 4 * shown + 2 * found }
+        ensures each { (es : List Entry) → AreEntries self.now.texts es → IfOk result (λ grant. grant ≡ None
+            → ticks.old + found_octets self.now.case (tuples_of steps.now) self.now.texts es ≤ ticks.new) }
     {
         let guard = self.guard;
         let numbers = guard.numbers_of(alloc, first_key(&self.case.key, steps))?;
@@ -131,6 +144,7 @@ impl<'a> PreparedQuestion<'a> {
         ensures answer { MatchOption result (AllMarked (asked self.now.case) self.now.marks)
             (λ one. IsUnmarked (asked self.now.case) self.now.marks (signed_of one.now)) }
         ensures cost { ticks.new ≤ ticks.old + length (asked self.now.case) }
+        ensures each { IfNone result (ticks.old + length (asked self.now.case) ≤ ticks.new) }
     {
         let signed: &Vec<Signed<'a>> = &self.examined.signed;
         let place = first_unmarked_counted(signed.len(), &self.marks, ticks)?;

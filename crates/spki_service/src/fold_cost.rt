@@ -3,11 +3,11 @@
 
 ghost use Rattle.std.specs.Prelude.{◌≡◌, ◌≤◌, ◌<◌, ◌⊎◌, ◌+◌, ◌*◌, List, length, IfOk, OnOk, IsErrOf};
 ghost use Rattle.spki_cert.specs.declared.entry.Entry.{Entry};
-ghost use Rattle.spki_reduce.specs.Chain.{tuples_of};
+ghost use Rattle.spki_reduce.specs.{Chain.{tuples_of}, Reduction.{Tuple}};
 ghost use Rattle.spki_case.specs.{Case.{certificates}, View.{model}};
-ghost use Rattle.spki_decision.specs.{CertificateTests.{asked, every, with_entries}, Answered.{IsExplained, IsReduced}};
+ghost use Rattle.spki_decision.specs.{CertificateTests.{AreShown, asked, every, with_entries}, Answered.{IsExplained, IsReduced}};
 ghost use Rattle.spki_decision.specs.{declared.reduction.EntryFold.{EntryFold}, Granted.{EndAtDates, SomeTooLarge, HasLargeTags, HasMuchWork}};
-ghost use Rattle.spki_service.specs.GuardQuestions.{Answers, OfCase, AreReduced, ByMarks, ExplainsMarked, ReducesMarked, AreReducedMarked, AreTextFolds};
+ghost use Rattle.spki_service.specs.GuardQuestions.{AllMarked, Answers, OfCase, AreReduced, ByMarks, ExplainsMarked, ReducesMarked, AreReducedMarked, AreTextFolds};
 ghost use Rattle.spki_service.specs.{AccessLists.{AreEntries}, Cost.{all_octets, fold_ticks}};
 
 use crate::entry_texts::entry_counted;
@@ -28,8 +28,9 @@ impl<'a> PreparedQuestion<'a> {
     /// Explains the question by the marks, as `explain_by`. A tick is a signature, an entry or a step of a chain that is looked at, an
     /// octet of an entry that is read, or what an intersection compares or copies. There are at most four for each unit of the guard's
     /// limit of work, one for each octet of the access list's entries, two for each entry, and one for each listed signature, also if the
-    /// answer is an error. This requires that the case's `uncounted`, the size up to which a chain takes no work, is 0, as it is in each
-    /// question that a guard has read. `docs/PERFORMANCE.md` says what is not counted.
+    /// answer is an error. This bound requires that the case's `uncounted`, the size up to which a chain takes no work, is 0, as it is in
+    /// each question that a guard has read. If no certificate fails and memory does not run out, there is at least one for each of these
+    /// octets, entries and signatures. `docs/PERFORMANCE.md` says what is not counted.
     ///
     /// # Errors
     ///
@@ -42,6 +43,9 @@ impl<'a> PreparedQuestion<'a> {
     ) -> Result<Explanation, GuardFault>
         ensures answer { ExplainsMarked self.now result }
         ensures cost { self.now.case.uncounted ≡ 0 → ticks.new ≤ ticks.old + length (asked self.now.case) + fold_ticks self.now }
+        ensures each { (tuples : List Tuple) → AreShown self.now.case.policy every self.now.case.items tuples
+            → AllMarked (asked self.now.case) self.now.marks
+            → IfOk result (λ _. ticks.old + length (asked self.now.case) + all_octets self.now.texts + length self.now.texts ≤ ticks.new) }
     {
         match self.unmarked_counted(ticks) {
             None => self.explained_counted(alloc, ticks),
@@ -82,6 +86,9 @@ impl<'a> PreparedQuestion<'a> {
         ensures reduced { ReducesMarked self.now result }
         ensures end { IfOk result EndAtDates }
         ensures cost { self.now.case.uncounted ≡ 0 → ticks.new ≤ ticks.old + length (asked self.now.case) + fold_ticks self.now }
+        ensures each { (tuples : List Tuple) → AreShown self.now.case.policy every self.now.case.items tuples
+            → AllMarked (asked self.now.case) self.now.marks
+            → IfOk result (λ _. ticks.old + length (asked self.now.case) + all_octets self.now.texts + length self.now.texts ≤ ticks.new) }
     {
         match self.unmarked_counted(ticks) {
             None => self.reduced_counted(alloc, ticks),
@@ -129,6 +136,9 @@ impl<'a> PreparedQuestion<'a> {
         ensures too_large { IsErrOf result GuardFault.TooLarge →
             ByMarks self.now (OfCase self.now (λ c. SomeTooLarge c every)) (λ one. ⊥) }
         ensures cost { self.now.case.uncounted ≡ 0 → ticks.new ≤ ticks.old + length (asked self.now.case) + fold_ticks self.now }
+        ensures each { (tuples : List Tuple) → AreShown self.now.case.policy every self.now.case.items tuples
+            → AllMarked (asked self.now.case) self.now.marks
+            → IfOk result (λ _. ticks.old + length (asked self.now.case) + all_octets self.now.texts + length self.now.texts ≤ ticks.new) }
     {
         match self.unmarked_counted(ticks) {
             None => self.put_folds_counted(alloc, sink, ticks),
@@ -148,6 +158,8 @@ impl<'a> PreparedQuestion<'a> {
     ) -> Result<Explanation, GuardFault>
         ensures answer { Answers (λ c answer. IsExplained c every answer) self.now result }
         ensures cost { self.now.case.uncounted ≡ 0 → ticks.new ≤ ticks.old + fold_ticks self.now }
+        ensures each { (tuples : List Tuple) → AreShown self.now.case.policy every self.now.case.items tuples
+            → IfOk result (λ _. ticks.old + all_octets self.now.texts + length self.now.texts ≤ ticks.new) }
     {
         self.case.request.prove_well_formed();
         let guard = self.guard;
@@ -187,6 +199,8 @@ impl<'a> PreparedQuestion<'a> {
         ensures reduced { Answers (λ c answer. IsReduced c every answer) self.now result }
         ensures end { IfOk result EndAtDates }
         ensures cost { self.now.case.uncounted ≡ 0 → ticks.new ≤ ticks.old + fold_ticks self.now }
+        ensures each { (tuples : List Tuple) → AreShown self.now.case.policy every self.now.case.items tuples
+            → IfOk result (λ _. ticks.old + all_octets self.now.texts + length self.now.texts ≤ ticks.new) }
     {
         let guard = self.guard;
         let mut folds = Vec::with_capacity(alloc, guard.texts.len())?;
@@ -226,6 +240,8 @@ impl<'a> PreparedQuestion<'a> {
             × AreReduced self.now every failure folds) }
         ensures too_large { IsErrOf result GuardFault.TooLarge → OfCase self.now (λ c. SomeTooLarge c every) }
         ensures cost { self.now.case.uncounted ≡ 0 → ticks.new ≤ ticks.old + fold_ticks self.now }
+        ensures each { (tuples : List Tuple) → AreShown self.now.case.policy every self.now.case.items tuples
+            → IfOk result (λ _. ticks.old + all_octets self.now.texts + length self.now.texts ≤ ticks.new) }
     {
         match &self.examined.unverified {
             Unverified::Fails { item, stop } => Ok(Some(Failure {

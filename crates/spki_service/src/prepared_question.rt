@@ -11,8 +11,8 @@ use spki_decision::{ExaminedSequence, Signed};
 use std::marker::Model;
 
 /// A question that was read for a guard: its parts, what a verifier is asked, and marks that say which of the listed signatures are
-/// valid. It has no mark at first. In a contract it is the guard's entries, the case of the parts, the guard's limit of the octets of an
-/// answer, and the marks.
+/// valid. `Guard::ask` returns it without a mark. In a contract it is the guard's entries, the case of the parts, the guard's limit of the
+/// octets of an answer, and the marks.
 #[derive(Drop)]
 pub struct PreparedQuestion<'a> {
     /// The guard that has read the question.

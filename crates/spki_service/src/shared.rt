@@ -43,7 +43,7 @@ impl SharedGuard {
     ///
     /// # Errors
     ///
-    /// `AllocError` if there are 2^63 owners, the most that are counted. Memory does not run out here: nothing is allocated.
+    /// `AllocError` if there are 2^63 - 1 owners, the most that are counted. Memory does not run out here: nothing is allocated.
     pub fn share(&self) -> Result<SharedGuard, AllocError>
         ensures { IfOk result (λ shared. shared ≡ self.now) }
     {

@@ -1,4 +1,4 @@
-use Rattle.std.proofs.Common.{inr, refl, arith}
+use Rattle.std.proofs.{Common.{inr, refl, arith}, lemmas.Result.{IfOk-weaker}}
 use Rattle.spki_decision.specs.{CertificateTests.{signed_of}, Answered.{IsExplained}}
 use Rattle.spki_service.proofs.AnswerLaws.{marked_whole}
 use Rattle.spki_service.proofs.prepared_question.PreparedQuestion.explain_by_counted.Goals as goal
@@ -13,3 +13,13 @@ returns-in-None-clause-cost g c counted = omega (arith, c.unmarked_counted.ensur
 
 pub returns-in-Some-clause-answer : goal.returns-in-Some-clause-answer
 returns-in-Some-clause-answer g c = inr (signed_of c.in-Some.one.now, rw c.in-Some.is at c.unmarked_counted.ensures.answer, refl)
+
+pub returns-in-None-clause-each : goal.returns-in-None-clause-each
+returns-in-None-clause-each g c tuples shows all =
+    let looked = rw c.in-None.is at c.unmarked_counted.ensures.each in
+    IfOk-weaker c.explained_counted.result _ _ (λ _ reads. omega (arith, looked, reads)) (c.explained_counted.ensures.each tuples shows)
+
+pub returns-in-Some-clause-each : goal.returns-in-Some-clause-each
+returns-in-Some-clause-each g c tuples shows all =
+    let unmarked = rw c.in-Some.is at c.unmarked_counted.ensures.answer in
+    absurd (unmarked.not_marked (all unmarked.place _ unmarked.stands))

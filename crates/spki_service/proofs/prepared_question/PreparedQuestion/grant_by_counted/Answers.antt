@@ -18,3 +18,14 @@ returns-in-Some-clause-answer g c =
 
 pub returns-in-Some-clause-cost : goal.returns-in-Some-clause-cost
 returns-in-Some-clause-cost g c shown found has = omega (arith, c.unmarked_counted.ensures.cost, asked_octets c.args.self.now shown found has)
+
+pub returns-in-None-clause-each : goal.returns-in-None-clause-each
+returns-in-None-clause-each g c tuples es shows are all =
+    let looked = rw c.in-None.is at c.unmarked_counted.ensures.each in
+    IfOk-weaker c.granted_counted.result _ _ (λ grant reads none. omega (arith, looked, reads none))
+    (c.granted_counted.ensures.each tuples es shows are)
+
+pub returns-in-Some-clause-each : goal.returns-in-Some-clause-each
+returns-in-Some-clause-each g c tuples es shows are all none =
+    let unmarked = rw c.in-Some.is at c.unmarked_counted.ensures.answer in
+    absurd (unmarked.not_marked (all unmarked.place _ unmarked.stands))

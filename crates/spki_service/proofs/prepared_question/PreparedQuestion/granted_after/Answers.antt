@@ -1,4 +1,4 @@
-use Rattle.std.proofs.Common.{ℕ, refl, sym, ◌≡◌, ◌∙◌, ap, subst, arith, List, length, IfOk, option_copied}
+use Rattle.std.proofs.{Common.{ℕ, refl, sym, ◌≡◌, ◌∙◌, ap, subst, arith, List, length, IfOk, option_copied}, lemmas.Result.{IfOk-weaker}}
 use Rattle.spki_cert.specs.declared.entry.Entry.{Entry}
 use Rattle.spki_reduce.specs.Chain.{tuples_of}
 use Rattle.spki_case.specs.{View.{model}, Case.{Case}}
@@ -68,3 +68,21 @@ returns-clause-cost g c shown found has shows =
 
 pub returns-in_err-numbers-clause-cost : goal.returns-in_err-numbers-clause-cost
 returns-in_err-numbers-clause-cost g c shown found has shows = omega (arith, asked_octets c.args.self.now shown found has)
+
+pub returns-clause-each : goal.returns-clause-each
+returns-clause-each g c es are =
+    let a = c.args.self.now in
+    let m = model c.self.inside.case in
+    let tuples = tuples_of c.args.steps.now in
+    let case_is : m ≡ a.case = ap (λ (x : PreparedModel). x.case) c.self.view_is in
+    let texts_are : c.guard.inside.texts ≡ a.texts = ap (λ h. h.texts) c.guard.view_is ∙ ap (λ (x : PreparedModel). x.texts) c.self.view_is in
+    let held : AreEntries c.guard.inside.texts es = subst (λ (ts : List (List ℕ)). AreEntries ts es) (sym texts_are) are in
+    let inside : AreEntries c.self.inside.guard.now.texts es =
+    subst (λ (ts : List (List ℕ)). AreEntries ts es) (ap (λ h. h.texts) c.guard.view_is) held in
+    let numbers = numbers_found m es tuples c.self.inside.guard.now.policy (option_copied c.first_key.result) c.in_ok-numbers.numbers.items c.self.invariant.2
+    c.first_key.ensures (c.in_ok-numbers.ensures es inside) in
+    let many = ap (octets_at c.guard.inside.texts) (c.deref.ensures.value ∙ numbers)
+    ∙ octets_found (is_of m.policy (first_key m.key tuples)) c.guard.inside.texts es held
+    ∙ ap (λ (x : Case). found_octets x tuples c.guard.inside.texts es) case_is
+    ∙ ap (λ (ts : List (List ℕ)). found_octets a.case tuples ts es) texts_are in
+    IfOk-weaker c.first_granted.result _ _ (λ grant reads none. omega (arith, reads none, many)) c.first_granted.ensures.each

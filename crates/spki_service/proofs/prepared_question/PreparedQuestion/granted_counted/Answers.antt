@@ -1,7 +1,10 @@
-use Rattle.std.proofs.Common.{List, subst, sym, arith}
-use Rattle.spki_reduce.specs.{Chain.{tuples_of}, declared.tuple.Step.{Step}}
+use Rattle.std.proofs.{Common.{List, ap, subst, sym, arith}, lemmas.Result.{IfOk-weaker}}
+use Rattle.spki_case.specs.Case.{keys_of, certificates}
+use Rattle.spki_reduce.specs.{Chain.{tuples_of}, Reduction.{Tuple}, declared.tuple.Step.{Step}}
 use Rattle.spki_decision.specs.{Judged.{IsUnverified}, CertificateTests.{AreShown, every}}
 use Rattle.spki_service.{specs.GuardQuestions.{PreparedModel}, proofs.{AnswerLaws.{decided_failed, granted_partly}, Costs.{asked_octets}}}
+use Rattle.spki_service.specs.Cost.{found_octets}
+use Rattle.spki_decision.proofs.CertificateTests.{none_shown, one_list}
 use Rattle.spki_service.proofs.prepared_question.PreparedQuestion.granted_counted.Goals as goal
 
 pub returns-in-Fails-clause-answer : goal.returns-in-Fails-clause-answer
@@ -28,3 +31,20 @@ returns-in-Passes-clause-cost g c shown found has =
     let shows = rw c.in-Passes.is at evident in
     let here = subst (λ (ss : List Step). AreShown a.case.policy every a.case.items (tuples_of ss)) (sym c.deref.ensures.value) shows in
     c.granted_after.ensures.cost shown found has here
+
+pub returns-in-Fails-clause-each : goal.returns-in-Fails-clause-each
+returns-in-Fails-clause-each g c tuples es shows are none =
+    let a = c.args.self.now in
+    let evident = subst (λ (x : PreparedModel). IsUnverified x.case.policy x.case.items c.self.inside.examined.unverified) c.self.view_is c.self.invariant.1 in
+    let fails = rw c.in-Fails.is at evident in
+    absurd (none_shown a.case.policy every a.case.items _ _ tuples fails shows)
+
+pub returns-in-Passes-clause-each : goal.returns-in-Passes-clause-each
+returns-in-Passes-clause-each g c tuples es shows are =
+    let a = c.args.self.now in
+    let evident = subst (λ (x : PreparedModel). IsUnverified x.case.policy x.case.items c.self.inside.examined.unverified) c.self.view_is c.self.invariant.1 in
+    let stands = rw c.in-Passes.is at evident in
+    let here = subst (λ (ss : List Step). AreShown a.case.policy every a.case.items (tuples_of ss)) (sym c.deref.ensures.value) stands in
+    let same = one_list a.case.policy (keys_of a.case.items) every (certificates a.case.items) _ tuples here shows in
+    let octets = ap (λ (ts : List Tuple). found_octets a.case ts a.texts es) same in
+    IfOk-weaker c.granted_after.result _ _ (λ grant reads none. omega (arith, reads none, octets)) (c.granted_after.ensures.each es are)

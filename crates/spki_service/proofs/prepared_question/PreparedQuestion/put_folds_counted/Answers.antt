@@ -3,7 +3,7 @@ use Rattle.spki_cert.specs.declared.entry.Entry.{Entry}
 use Rattle.spki_reduce.specs.Chain.{tuples_of}
 use Rattle.spki_case.specs.{View.{model}, Case.{Case}}
 use Rattle.spki_decision.specs.{CertificateTests.{every, with_entries}, Judged.{IsUnverified}, Granted.{AreFolds}}
-use Rattle.spki_decision.proofs.EntryChains.{as_many, are_folds}
+use Rattle.spki_decision.proofs.{CertificateTests.{none_shown}, EntryChains.{as_many, are_folds}}
 use Rattle.spki_service.{specs.{GuardQuestions.{PreparedModel}, AccessLists.{AreEntries}, Cost.{all_octets}}, proofs.AnswerLaws.{folds_failed}}
 use Rattle.spki_service.proofs.prepared_question.PreparedQuestion.put_folds_counted.Goals as goal
 
@@ -52,3 +52,16 @@ returns-in_err-fold_texts_counted-in-Passes-clause-cost g c counted =
       ap all_octets texts_are,
       ap length texts_are,
     )
+
+pub returns-in_ok-fold_texts_counted-in-Passes-clause-each : goal.returns-in_ok-fold_texts_counted-in-Passes-clause-each
+returns-in_ok-fold_texts_counted-in-Passes-clause-each g c tuples shows =
+    let texts_are : c.guard.inside.texts ≡ c.args.self.now.texts =
+    ap (λ h. h.texts) c.guard.view_is ∙ ap (λ (x : PreparedModel). x.texts) c.self.view_is in
+    omega (arith, c.in_ok-fold_texts_counted-in-Passes.ensures.each, ap all_octets texts_are, ap length texts_are)
+
+pub returns-in-Fails-clause-each : goal.returns-in-Fails-clause-each
+returns-in-Fails-clause-each g c tuples shows =
+    let a = c.args.self.now in
+    let evident = subst (λ (x : PreparedModel). IsUnverified x.case.policy x.case.items c.self.inside.examined.unverified) c.self.view_is c.self.invariant.1 in
+    let fails = rw c.in-Fails.is at evident in
+    absurd (none_shown a.case.policy every a.case.items _ _ tuples fails shows)

@@ -1,4 +1,4 @@
-use Rattle.std.proofs.Common.{[], inl, inr, refl, rules, arith}
+use Rattle.std.proofs.{Common.{[], inl, inr, refl, rules, arith}, lemmas.Result.{IfOk-weaker}}
 use Rattle.spki_decision.specs.CertificateTests.{signed_of}
 use Rattle.spki_service.proofs.AnswerLaws.{folded_marked}
 use Rattle.spki_service.proofs.prepared_question.PreparedQuestion.reduce_into_counted.Goals as goal
@@ -17,3 +17,13 @@ returns-in-None-clause-cost g c counted = omega (arith, c.unmarked_counted.ensur
 pub returns-in-Some-clause-folds : goal.returns-in-Some-clause-folds
 returns-in-Some-clause-folds g c =
     ([], search rules, inr (signed_of c.in-Some.one.now, rw c.in-Some.is at c.unmarked_counted.ensures.answer, (refl, refl)))
+
+pub returns-in-None-clause-each : goal.returns-in-None-clause-each
+returns-in-None-clause-each g c tuples shows all =
+    let looked = rw c.in-None.is at c.unmarked_counted.ensures.each in
+    IfOk-weaker c.put_folds_counted.result _ _ (λ _ reads. omega (arith, looked, reads)) (c.put_folds_counted.ensures.each tuples shows)
+
+pub returns-in-Some-clause-each : goal.returns-in-Some-clause-each
+returns-in-Some-clause-each g c tuples shows all =
+    let unmarked = rw c.in-Some.is at c.unmarked_counted.ensures.answer in
+    absurd (unmarked.not_marked (all unmarked.place _ unmarked.stands))
