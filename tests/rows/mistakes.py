@@ -141,6 +141,7 @@ READS = (*SIGNS, "bob.pub", "--days", "1", "--tag")
 OF_WORDS = [OfWords(*row) for row in [
     ("the name of another command", (*BOB, "--days", "1", "--name", "x"), 2,
      "of sign, but of name; to define a name: `spki-cert name`; a note: `--comment`; is `--named` meant?"),
+    ("a case and another moment", ("ask", "--case", "acl.sexp", "--at", "2099-01-01"), 2, "--case is a whole question"),
     ("a misspelt command", ("sing",), 2, "sing: no such command; is `sign` meant?"),
     ("a misspelt option", (*BOB, "--dys", "1"), 2, "--dys: no such option; is `--days` meant?"),
     ("an option of another command", (*BOB, "--acl", "acl.sexp"), 2,

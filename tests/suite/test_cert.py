@@ -25,7 +25,7 @@ from generators.questions import question
 from harness import built, needs
 from harness.support import TESTS, TOP, output_of, room_for, text_of
 from model import answers, guard, tags as model_tags, values as model_values
-from rows.mistakes import MISTAKES, certificate
+from rows.mistakes import MISTAKES, PEM, certificate
 from suite import test_go, test_guide
 from spki_cert_tool import arguments, asking, commands, keys, sexp, tag_words
 from spki_cert_tool.certificates import Keys, certificates_in, fault_of_signature, keys_in
@@ -139,6 +139,21 @@ class OfKeys(Case):
             self.assertEqual(public, self.cert("key", "key.sexp"))
             self.write("back.pub", keys.openssh_line(keys.public_of(value_in(public.encode()).value)))
             self.assertEqual(*(quiet("ssh-keygen", "-l", "-f", self.at(name)).split()[:2] for name in (f"{kind}.pub", "back.pub")))
+
+    @needs_ssh
+    def test_the_key_that_ssh_keygen_shows(self):
+        """A line has one key. Another one in its comment or in its options is none. A line and a PEM block are two."""
+        self.ssh_key("bob")
+        self.ssh_key("mallory")
+        bob, mallory = (b" ".join(octets_in(self.at(f"{name}.pub")).split()[:2]) for name in ("bob", "mallory"))
+        shown = quiet("ssh-keygen", "-l", "-f", self.at("bob.pub")).split()[1]
+        for line in (b"%b bob, was %b" % (bob, mallory), b'command="x %b y" %b bob' % (mallory, bob), b"cert-authority,no-pty %b" % bob,
+                     b'command="a\\" %b x" %b bob' % (mallory, bob)):
+            self.write("line.pub", line + b"\n")
+            self.assertEqual(quiet("ssh-keygen", "-l", "-f", self.at("line.pub")).split()[1], shown)
+            self.assertEqual(self.cert("key", "--hash", "line.pub"), self.cert("key", "--hash", "bob.pub"), line)
+        self.write("two.pub", mallory + b"\n" + PEM.encode())
+        self.assertIn("2 keys are in this file", self.cert("key", "two.pub", wanted=2))
 
     @needs.needs("openssl")
     def test_keys_of_pem_are_read_and_written(self):

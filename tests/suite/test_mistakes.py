@@ -73,6 +73,7 @@ class OfWriting(Room):
         os.link(self.at("acl.sexp"), self.at("hard"))
         os.symlink("acl.sexp", self.at("soft"))
         os.symlink("alice", self.at("to-key"))
+        self.write("dan.key", "(public-key (test dan))")
         for words, message in [
                 ((*signs, "-o", "alice"), "is not written over"), ((*signs, "--force", "-o", "alice"), "is not written over"),
                 ((*signs, "--force", "-o", "to-key"), "is not written over"), ((*signs, "--force", "-o", "carol"), "is not written over"),
@@ -80,6 +81,7 @@ class OfWriting(Room):
                 ((*signs, "-o", "acl.sexp"), "adds an entry to this list"), (("key", "alice", "-o", "alice"), "not written over"),
                 (("key", "alice", "--force", "-o", "alice"), "not written over"), (("key", "new", "--no-passphrase", "alice"), "is there already"),
                 (("key", "new", "--no-passphrase", "to-key"), "is there already"),
+                ((*signs, "--force", "-o", "dan.key"), "is not written over"),
                 (("show", "--svg", "to-bob", "--force", "to-bob"), "reads this file"),
                 (("show", "--svg", "alice.pub", "--force", "--labels", ".", "to-bob"), "reads this file")]:
             self.changes_nothing(*words, message=message)
@@ -396,8 +398,7 @@ class OfTheRightOfAChain(OfChains):
         return self.sign("--chain", chain, "--force", "-o", "c.sexp", *words, by=by, to=to, tag=tag, wanted=wanted, days=("--days", "5"))
 
     def test_what_the_issuer_has_is_signed(self):
-        """Bob delegates a tag that his chain gives him, or a part of it, also where Alice gave it to a name that is
-        his."""
+        """Bob delegates a tag that his chain gives him, or a part of it, also where Alice gave it to a name that is his."""
         for tag in ("(packages read)", "(packages read (* set b a))", "(packages read (* prefix /web/))"):
             self.sign_behind(tag=tag)
             self.assertEqual(len(self.verify("c.sexp")), 2)
@@ -408,8 +409,7 @@ class OfTheRightOfAChain(OfChains):
         self.sign_behind(chain="both", tag="(packages (* set read write))")
 
     def test_what_the_issuer_cannot_give_is_not_signed(self):
-        """A right that the chain does not give to the issuer is signed only with `--anyway`, not with `--yes`. The
-        message comes in each case."""
+        """A right that the chain does not give to the issuer is signed only with `--anyway`, not with `--yes`. The message comes in each case."""
         text = octets_in(self.at("to-bob"))
         self.write("changed", text.replace(b"(packages read)", b"(packages)"))
         self.write("tampered", re.sub(rb"\(s\s+#..", lambda it: it[0][:-2] + b"%02x" % (int(it[0][-2:], 16) ^ 1), text))
@@ -453,8 +453,7 @@ class OfTheRightOfAChain(OfChains):
                 self.assertEqual("item 1 of the chain ends earlier" in output, warns, output)
 
     def test_certificates_of_a_key_for_itself_are_no_burden(self):
-        """Many such certificates do not keep the search from the right chain. Where it stops at a bound of steps or
-        chains, a line says so."""
+        """Many such certificates do not keep the search from the right chain. Where it stops at a bound of steps or chains, a line says so."""
         os.mkdir(self.at("many"))
         for number, one in enumerate(self.sequences(12)):
             self.write(f"many/{number}", sexp.laid_out(one))
@@ -476,9 +475,8 @@ class OfTheRightOfAChain(OfChains):
 
 
 class Child:
-    """`spki-cert` with these words, in a forked child of this process. `stdin` is a path, and `stdout` a function that
-    opens a file: None is a stream that is closed. `before` is called in the child before the command. If the command
-    itself ends by an exception, the status is 99."""
+    """`spki-cert` with these words, in a forked child of this process. `stdin` is a path, and `stdout` a function that opens a file: None is a stream
+    that is closed. `before` is called in the child before the command. If the command itself ends by an exception, the status is 99."""
 
     def __init__(self, room, words, settings, stdin="/dev/null", stdout=None, before=lambda: None):
         self.errors = tempfile.TemporaryFile()
@@ -541,10 +539,9 @@ class OfStreams(Room):
             self.assertEqual((done.returncode, what in done.stderr, "Traceback" in done.stderr), (3, True, False), done.stderr)
 
     def test_what_a_stream_does_not_take_is_escaped(self):
-        """What the encoding of standard output lacks is escaped: here ü, where it is ASCII. A control character of a
-        label is escaped in any encoding, and ä is not where the encoding has it. An octet of the command line that is
-        no UTF-8 is shown as U+FFFD, which is escaped too. (A key has the first label that is found, so carol.pub is
-        removed: x.pub has the same key.)"""
+        """What the encoding of standard output lacks is escaped: here ü, where it is ASCII. A control character of a label is escaped in any
+        encoding, and ä is not where the encoding has it. An octet of the command line that is no UTF-8 is shown as U+FFFD, which is escaped too. (A
+        key has the first label that is found, so carol.pub is removed: x.pub has the same key.)"""
         self.cert("sign", "--by", "alice", "--to", "bob.pub", "--tag", TAG, "--days", "1", "--comment", "für Bob\udcff", "-o", "c.sexp")
         self.write("x.pub", self.pairs["carol"][1] + " \x1b[2Jcarol ä".encode())
         status, errors = Child(self.room, ("show", "--labels", ".", "c.sexp"), self.settings, stdout=writing_to("out", "ascii")).wait()

@@ -118,14 +118,18 @@ def answer_of(guard: Guard, asked: Asked, sequence: Value) -> Answer:
     """The decision about a sequence, as a service would decide. Raises Refused."""
     import spki
     key = spki.ProvenKey.assume(canonical(asked.key))
+    decided = ""
     question: Question = spki.Question(canonical(sequence), key, text=canonical(asked.request), moment=canonical(asked.moment))
     try:
         with guard.ask(question) as opened:
             opened.verify(lambda it: asked.verify(it.key, it.message, it.value))
-            explanation: Explanation = opened.explain()
             grant = opened.decide()
+            decided = f"entry {grant.entry} grants it" if grant else "no entry grants it"
+            explanation: Explanation = opened.explain()
             return Answer(sequence, grant.entry if grant else None, list(explanation.reasons()), opened.reduce().text.splitlines())
     except spki.Refused as why:
+        if decided:
+            raise Refused(f"a service decides that {decided}, but cannot say why: {why.line}") from None
         raise Refused(f"a service would refuse the question: {why.line}") from None
 
 

@@ -183,7 +183,8 @@ class Keys:
         match principal:
             case [b"hash", bytes() as algorithm, bytes() as digest, *_] if (algorithm, digest) in self.texts:
                 return self.texts[algorithm, digest]
-        octets = canonical(principal)
+        # (a hash may have `(uri ..)` behind its digest)
+        octets = canonical(principal[:3] if headed(principal, b"hash") and isinstance(principal, list) else principal)
         return octets, hashlib.sha256(octets).digest()
 
     def are_one(self, one: Value | None, other: Value | None) -> bool:

@@ -49,7 +49,7 @@ def files_below(paths: list[str]) -> Iterator[tuple[str, bool]]:
         for folder, folders, names in os.walk(path, onerror=refuse_folder):
             folders[:] = sorted(name for name in folders if not name.startswith("."))
             files = (os.path.join(folder, name) for name in sorted(names) if not name.startswith("."))
-            yield from ((file, False) for file in files if os.path.isfile(file) or os.path.islink(file))
+            yield from ((file, False) for file in files if os.path.isfile(file) or not os.path.exists(file))
 
 
 def refuse_folder(why: OSError) -> None:

@@ -17,7 +17,7 @@ from .arguments import NEW_KEY, completion, parser_of_commands
 from .certificates import headed, members, terms_of
 from .ending import end
 from .files import (DONE, FAILED, NO, READ, REFUSED, TERMINAL, UNCONFIRMED, Refused, key_at, locked, node_of, now, octets_of, passphrase_for, put,
-                    remark_on_mode, say, signer_at, tell, text_at, value_headed, value_of, write)
+                    remark_on_mode, say, signer_at, target_of, tell, text_at, value_headed, value_of, write)
 from .forms import Wrong
 from .keys import BadKey, file_of, hash_of, kind_of, new_private, openssh_line, principal_of
 from .making import (certificate_of, fields_of, list_with, list_without, signed_sequence, text_of, warnings_of, warnings_of_certificate,
@@ -57,6 +57,8 @@ def new_key(given: argparse.Namespace) -> int:
     passphrase = b"" if given.no_passphrase else passphrase_for(f"the new {path} (empty: none)")
     if passphrase and passphrase_for(f"the new {path} again") != passphrase:
         raise Refused("the passphrases differ; nothing was written")
+    # (what cannot be written is refused before the private key is)
+    target_of(f"{path}.pub", b"", False, False)
     private = new_private(given.type)
     comment = os.fsencode(given.comment or os.path.basename(path))
     write((path, file_of(private, passphrase, given.pem)), mode=0o600)
@@ -227,6 +229,8 @@ def show(given: argparse.Namespace) -> int:
 def ask(given: argparse.Namespace) -> int:
     """Decides a request, or that of --case, says why, and writes the files that are wanted of the decision. Returns NO if it is not granted."""
     from .asking import Asked, Words, asked_of_case, best_answer, case_of
+    if given.case and (given.acl or given.key or given.cert or given.words or given.at or given.open):
+        raise Refused("--case is a whole question: it goes with no --acl, --key, --cert, --at, --open and no request")
     if given.case:
         asked = asked_of_case(value_of(given.case, "case"), labels_of(given))
     elif not (given.acl and given.key and given.words):
@@ -234,7 +238,7 @@ def ask(given: argparse.Namespace) -> int:
     else:
         key = key_at(given.key)
         # (a folder of --cert may have public keys too, which give labels; a file of --cert is a sequence, and labels no key)
-        labels = labels_of(given, *(path for path in [given.key, *filter(os.path.isdir, given.cert)] if path != "-"))
+        labels = labels_of(given, *filter(os.path.isfile, [given.key]), *filter(os.path.isdir, given.cert))
         # (the last argument is `is_strict`: --open asks for the open policy, under which hashes by SHA-1 name keys)
         asked = Asked(value_of(given.acl, "acl"), key, request_of(given.words), given.at or now(), labels,
                       [value_of(path, "sequence") for path in sequences_below(given.cert)], not given.open)

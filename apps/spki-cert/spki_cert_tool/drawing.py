@@ -5,6 +5,7 @@ what right is left at its end. Other entries are left out. Long texts are broken
 """
 from __future__ import annotations
 
+import re
 import textwrap
 from collections.abc import Callable, Iterable, Iterator
 from html import escape
@@ -154,6 +155,8 @@ STYLE = f"""
 """
 
 
+# What XML does not have: a label may have it.
+NO_XML = re.compile("[^\t\n -\ud7ff\ue000-\ufffd\U00010000-\U0010ffff]")
 # The height of a line of text in a box, and what a box has above and below its lines, in pixels.
 LINE, MARGINS = 18, 22
 
@@ -165,12 +168,12 @@ def box(x: float, y: float, width: float, height: float, lines: list[str], kind:
     top = y + height / 2 - LINE * (len(lines) - 1) / 2 + 5
     for place, line in enumerate(lines):
         of_class = ' class="title"' if place == 0 else ' class="small"'
-        yield f'<text{of_class} x="{x + width / 2:g}" y="{top + LINE * place:g}">{escape(line)}</text>'
+        yield f'<text{of_class} x="{x + width / 2:g}" y="{top + LINE * place:g}">{escape(NO_XML.sub("?", line))}</text>'
 
 
 def text(x: float | str, y: float, line: str, of_class: str = "small left") -> Iterator[str]:
     """A line of text as SVG, in a class of STYLE. It begins at `x`, and its letters stand on `y`."""
-    yield f'<text class="{of_class}" x="{x}" y="{y}">{escape(line)}</text>'
+    yield f'<text class="{of_class}" x="{x}" y="{y}">{escape(NO_XML.sub("?", line))}</text>'
 
 
 def page(width: float, height: float, title: str, *parts: Iterable[str]) -> Iterator[str]:

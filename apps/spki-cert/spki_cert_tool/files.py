@@ -153,7 +153,11 @@ def text_at(path: str, read_as: str = "") -> tuple[bytes, Node]:
 
 def value_of(path: str, kind: str) -> Value:
     """The value of a file, which must be of a kind: acl, sequence, case."""
-    return text_at(path, f"refused {kind}")[1].value
+    _, node = text_at(path, f"refused {kind}")
+    # (a case is read as one, since a refusal of it may name this part)
+    if node.head != kind.encode():
+        raise Refused(f"{path}: this is a whole case, and `({kind} ..)` is wanted")
+    return node.value
 
 
 def value_headed(path: str, heads: tuple[bytes, ...], wanted: str) -> Value:
@@ -283,7 +287,8 @@ def target_of(path: str, new: bytes, force: bool, edits: bool) -> tuple[str, os.
             raise Refused(f"{path}: it has {before.st_nlink} names, of which only one would be changed; nothing was written")
         with open(place, "rb") as file:
             old = file.read(MOST_OCTETS)
-        is_key = is_key_file(old) or may_be_secret(old)
+        head = HEAD.match(read_text(old)[0][1])
+        is_key = is_key_file(old) or may_be_secret(old) or head is not None and head[1] == b"public-key"
         if not is_read and (is_key or ENDED.match(old)):
             what = "a key, or what may be one," if is_key else "the file of ended certificates"
             raise Refused(f"{path}: {what} is there already, and is not written over; nothing was written")

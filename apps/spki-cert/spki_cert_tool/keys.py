@@ -34,7 +34,8 @@ MOST_OCTETS = 4098
 PRIVATE = (b"(private-key", b"(11:private-key")
 PEM = re.compile(rb"-----BEGIN ([A-Z0-9 ]+)-----")
 # A line of a public key of OpenSSH, also behind the options of authorized_keys: the key, and its comment.
-OPENSSH = re.compile(rb"^(?![ \t]*#)(?:.*?[ \t])?((?:ssh-|ecdsa-|sk-)[\w@.-]{1,64}[ \t]{1,64}AAAA[A-Za-z0-9+/=]+)[ \t]*([^\r\n]*)", re.MULTILINE)
+FIELD = rb'(?!ssh-|ecdsa-|sk-)(?:\\"|\\(?!")|[^ \t\r\n"\\]|"(?:\\"|\\(?!")|[^"\r\n\\])*")+[ \t]+'
+OPENSSH = re.compile(rb"^(?![ \t]*#)[ \t]*(?:%b){0,2}((?:ssh-|ecdsa-|sk-)[\w@.-]+[ \t]+AAAA[A-Za-z0-9+/=]+)[ \t]*([^\r\n]*)" % FIELD, re.MULTILINE)
 NEEDS_BCRYPT = "encrypted OpenSSH keys need python3-bcrypt (pip: bcrypt); or let ssh-agent sign by it"
 ENCRYPTED = "this is an encrypted private key"
 # A function that asks for the passphrase of a file.
@@ -186,7 +187,8 @@ def pieces_of(octets: bytes) -> list[bytes]:
     if is_text(octets):
         return [octets]
     begin = b"-----BEGIN "
-    return [line for line, _ in OPENSSH.findall(octets)] or [begin + block for block in octets.split(begin)[1:]] or [octets]
+    lines, blocks = [line for line, _ in OPENSSH.findall(octets)], [begin + block for block in octets.split(begin)[1:]]
+    return [*lines, *blocks] or [octets]
 
 
 def no_passphrase() -> bytes:
@@ -302,7 +304,7 @@ def new_private(kind: str) -> Private:
 
 def file_of(private: Private, passphrase: bytes, is_pem: bool = False) -> bytes:
     """The octets of the file of a private key, as OpenSSH has it or in PEM (PKCS#8). It is encrypted unless the passphrase is empty. Raises BadKey
-    where OpenSSH's form cannot be encrypted here."""
+    where OpenSSH's form cannot be encrypted here, or if the passphrase is too long."""
     from cryptography.exceptions import UnsupportedAlgorithm
     from cryptography.hazmat.primitives.serialization import BestAvailableEncryption, Encoding, NoEncryption, PrivateFormat
     encryption = BestAvailableEncryption(passphrase) if passphrase else NoEncryption()
@@ -311,6 +313,9 @@ def file_of(private: Private, passphrase: bytes, is_pem: bool = False) -> bytes:
         return cast(bytes, cast(Any, private).private_bytes(Encoding.PEM, form, encryption))
     except UnsupportedAlgorithm:
         raise BadKey(f"{NEEDS_BCRYPT}; with --pem the new key is encrypted without it") from None
+    except ValueError as why:
+        # (a passphrase of over 1,023 octets)
+        raise BadKey(f"the key is not encrypted: {why}") from None
 
 
 def openssh_line(public: Public) -> bytes:

@@ -72,7 +72,7 @@ def row_of_terms(kind: str, number: int | None, terms: Terms, moment: bytes, lab
     """What an entry or a certificate says, as a row. `kind` is `entry` or `certificate`, and `number` is that of the entry or item, or None for a
     certificate that is alone. `moment` is that for which the row says whether it is valid."""
     return {"kind": kind, "number": number, "issuer": labels.of(terms.issuer),
-            "name": terms.name.decode(errors="replace") if terms.name is not None else None,
+            "name": terms.name.decode(errors="surrogateescape") if terms.name is not None else None,
             "subject": labels.of_subject(terms.subject), "tag": on_one_line(terms.tag) if terms.tag is not None else None,
             "from": terms.begins.decode() if terms.begins else None, "until": terms.ends.decode() if terms.ends else None,
             "window": terms.window, "delegates": terms.delegates, "comment": terms.comment or None, "state": terms.state(moment)}
@@ -111,7 +111,7 @@ def lines_of(row: Row) -> Iterator[str]:
     else:
         window = f"{row['window']}: {row['state']}"
         if row["name"] is not None:
-            yield f"{front}  {row['issuer']} calls {row['subject']} {on_one_line(str(row['name']).encode())}, {window}"
+            yield f"{front}  {row['issuer']} calls {row['subject']} {on_one_line(str(row['name']).encode(errors='surrogateescape'))}, {window}"
         else:
             yield f"{front}  {row['issuer']} -> {row['subject']}, {'may' if row['delegates'] else 'may not'} delegate, {window}"
             yield f"    may {row['tag']}"
