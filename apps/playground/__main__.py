@@ -10,6 +10,7 @@ import json
 import os
 import signal
 import sys
+import threading
 import webbrowser
 
 from asking import JOBS
@@ -56,7 +57,8 @@ def main():
         try:
             print(f"{server.address}\n{engine.name} decides; ctrl-c ends the page", flush=True)
             if not given.no_browser:
-                webbrowser.open(server.address)
+                # (a browser in the terminal ends only when its user leaves it, and must be answered before)
+                threading.Thread(target=webbrowser.open, args=(server.address,), daemon=True).start()
             server.serve_forever()
         except KeyboardInterrupt:
             print()

@@ -167,7 +167,9 @@ class Server(http.server.ThreadingHTTPServer):
         self.token, self.workers, self.jobs = secrets.token_urlsafe(24), workers, jobs
         self.files = {**files(), "start.json": (KINDS[".json"], start)}
         self.room = threading.BoundedSemaphore(MOST_CONNECTIONS)
-        self.origins = [f"http://{name}:{self.server_port}" for name in ("127.0.0.1", "localhost")]
+        # (browsers leave out the port of http)
+        port = "" if self.server_port == 80 else f":{self.server_port}"
+        self.origins = [f"http://{name}{port}" for name in ("127.0.0.1", "localhost")]
         # (as `get_all` returns the headers Host: there must be exactly one)
         self.hosts = [[origin.removeprefix("http://")] for origin in self.origins]
 

@@ -62,9 +62,8 @@ def script_of(lines: Iterable[str]) -> str:
 
 
 def faults_in(lines: list[str], output: str) -> list[str]:
-    """A text for each command whose status is not that of STATUSES, by default 0, or that wrote something else than the
-    remark at its end. `lines` are the commands, and `output` is what `script_of(lines)` wrote. A command that was not
-    reached has the status -1."""
+    """A text for each command whose status is not that of STATUSES, by default 0, or that wrote something else than the remark at its end. `lines`
+    are the commands, and `output` is what `script_of(lines)` wrote. A command that was not reached has the status -1."""
     parts = STATUS.split(output)
     answers = list(zip(parts[::2], map(int, parts[1::2])))
     faults = []

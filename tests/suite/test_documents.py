@@ -130,8 +130,7 @@ class Documents(unittest.TestCase):
         self.assertEqual({path for path in named if "/out/" not in path and not glob.glob(os.path.join(TOP, path))}, set())
 
     def test_lengths(self) -> None:
-        """README.md, and the pages of docs/ together with the pages CALLING.md, are no longer than meant. Nobody reads
-        long pages."""
+        """README.md, and the pages of docs/ together with the pages CALLING.md, are no longer than meant. Nobody reads long pages."""
         lengths = {path: os.path.getsize(path) for pattern in PAGES for path in glob.glob(os.path.join(TOP, pattern), recursive=True)}
         self.assertLessEqual(lengths[os.path.join(TOP, "README.md")], MOST_OF_README)
         self.assertLess(sum(size for path, size in lengths.items() if "/docs/" in path or path.endswith("CALLING.md")), MOST_OF_PAGES)

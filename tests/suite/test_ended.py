@@ -136,8 +136,7 @@ class Case(unittest.TestCase):
         return [line[:64] for line in lines if re.match("[0-9a-f]{64}", line)]
 
     def check_unchanged(self, before: bytes, output: str) -> None:
-        """The file of ended certificates must be as before, and no temporary file may be left. `output`, which a
-        command wrote, is shown if not."""
+        """The file of ended certificates must be as before, and no temporary file may be left. `output`, which a command wrote, is shown if not."""
         self.assertEqual(self.octets(ENDED), before, output)
         self.assertEqual([name for name in os.listdir(self.room) if name.startswith(".")], [], output)
 
@@ -205,8 +204,7 @@ class Ends(Case):
         self.assertEqual(self.octets(ENDED), sealed(*others))
 
     def test_list(self) -> None:
-        """`--list` writes each digest with its date and reason, and the last line as the file has it, and no control
-        characters."""
+        """`--list` writes each digest with its date and reason, and the last line as the file has it, and no control characters."""
         text = sealed("# a comment", "", f"{A} # 2026-01-02 stolen", f"{B} # 2026-01-03", f"{C} # M\xfcller \x1b[2J 2026-01-04", "d" * 64)
         self.write(ENDED, text)
         self.assertEqual(self.end("--list"), f"{A} 2026-01-02 stolen\n{B} 2026-01-03\n{C} - M\\xfcller [2J 2026-01-04\n{'d' * 64} -\n"
@@ -265,8 +263,7 @@ class Ends(Case):
         self.assertEqual(self.rows(), [A, self.digests[0]])
 
     def test_locked(self) -> None:
-        """A writer that keeps the file locked ends the next one with a fault after SECONDS_TO_LOCK, here none, and does
-        not hang it."""
+        """A writer that keeps the file locked ends the next one with a fault after SECONDS_TO_LOCK, here none, and does not hang it."""
         with files.locked(self.at(ENDED)), mock.patch.object(files, "SECONDS_TO_LOCK", 0):
             output = self.end("first", wanted=2)
         self.assertIn("another program has locked it", output)
@@ -374,9 +371,8 @@ class Adopts(Case):
     """How a file that people have written or changed becomes whole."""
 
     def test_accepted(self) -> None:
-        """`--adopt` accepts digests in capitals or with spaces around them, other ends of lines, and a last line that
-        is wrong or missing. It writes the file as the command itself does. `lines` are those before the new last
-        line."""
+        """`--adopt` accepts digests in capitals or with spaces around them, other ends of lines, and a last line that is wrong or missing. It writes
+        the file as the command itself does. `lines` are those before the new last line."""
         for name, octets, lines in (
                 ("old", f"#old\n\n{A.upper()}\n {B} #  x\n{C}#\xfc\n".encode(), ["#old", "", A, f"{B} # x", f"{C} # \xfc"]),
                 ("nothing in a comment", f"{A} #\n#\n{B}\t# \n".encode(), [A, "#", B]), ("no end of line", A.encode(), [A]),

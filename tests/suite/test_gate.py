@@ -93,8 +93,7 @@ class Verdicts(unittest.TestCase):
     """Which output of a check refuses a wrong body."""
 
     def is_refused(self, *lines: str) -> bool:
-        """Whether a check that writes these lines refuses a wrong body of the function names::tried in the crate
-        `low`."""
+        """Whether a check that writes these lines refuses a wrong body of the function names::tried in the crate `low`."""
         return bodies.refuses("low", "names::tried", "\n".join(lines))
 
     def test_refused(self) -> None:

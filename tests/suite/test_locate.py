@@ -125,8 +125,7 @@ LOCATE = loaded(PATH)
 
 
 def locate(text, refusal):
-    """The exit status of `locate` on a text, and what it prints. `refusal` has the words behind `refused` that it is
-    given, or is empty."""
+    """The exit status of `locate` on a text, and what it prints. `refusal` has the words behind `refused` that it is given, or is empty."""
     with tempfile.NamedTemporaryFile() as file, contextlib.redirect_stdout(io.StringIO()) as out:
         file.write(text.encode())
         file.flush()
@@ -140,9 +139,8 @@ def has_no_place(answer):
 
 
 def show_places(wrong, inner, places):
-    """Has `locate` show each place of the fault `wrong`, unless it is None. It must not raise. `inner` is the text in
-    which the places are. Of a text in braces this is the text inside, and `places` are the offsets of its octets in the
-    file. For any other text `places` is None."""
+    """Has `locate` show each place of the fault `wrong`, unless it is None. It must not raise. `inner` is the text in which the places are. Of a text
+    in braces this is the text inside, and `places` are the offsets of its octets in the file. For any other text `places` is None."""
     for at, _ in [(wrong.at, wrong.why), *wrong.others] if wrong else []:
         LOCATE.place_shown(inner, places, at)
 

@@ -152,8 +152,7 @@ class Sites(OfSite):
         self.assertTrue(answer.endswith(page.encode()), answer)
 
     def test_one_lock(self) -> None:
-        """Where the first lock is broken, the second one denies: an answer of 200 that is not the daemon's leads to no
-        file."""
+        """Where the first lock is broken, the second one denies: an answer of 200 that is not the daemon's leads to no file."""
         for name, of_all, line in LOCKS:
             self.restart_nginx(of_all, "", without=line)
             with self.subTest(name):

@@ -207,8 +207,7 @@ class Packages(built.OfLibrary):
                     self.assertTrue(one.read() == other.read(), f"{file} has other octets")
 
     def check_lintian(self, *names: str) -> None:
-        """The only error or warning of lintian about packages, for each of them, must be that the license is missing
-        (TAGS_OF_LINTIAN)."""
+        """The only error or warning of lintian about packages, for each of them, must be that the license is missing (TAGS_OF_LINTIAN)."""
         status, output = output_of("lintian", "--allow-root", "--tag-display-limit", "0", *map(self.packages.__getitem__, names), seconds=600)
         tags = [line for line in output.splitlines() if re.match("[EW]: ", line)]
         self.assertEqual([line for line in tags if line.split()[2] not in TAGS_OF_LINTIAN], [], output)

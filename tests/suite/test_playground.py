@@ -169,8 +169,7 @@ class Answers(OfPage):
             self.assertEqual([line_of_reason(reason) for reason in answer["reasons"]], lines_of("explain", text))
 
     def test_a_mistake_is_found_at_its_place(self) -> None:
-        """Each row has a box, what is replaced in its text and by what, the text that is marked then, and words of the
-        remark."""
+        """Each row has a box, what is replaced in its text and by what, the text that is marked then, and words of the remark."""
         mistakes = [
             ("acl", "(tag (packages", "(tagg (packages", "(tagg", "is `tag` meant?"),
             ("acl", "(* set read", "(* sett read", "sett", "is `set` meant?"),
@@ -290,8 +289,7 @@ class Answers(OfPage):
                          [run(built.program(), name, text.encode())[1].decode().rstrip("\n") for name in ("canonical", "advanced", "transport")])
 
     def test_labels_and_comments(self) -> None:
-        """The text of a reason has the label of a key and the comment of an entry. A line of the labels that is none is
-        named by its number."""
+        """The text of a reason has the label of a key and the comment of an entry. A line of the labels that is none is named by its number."""
         text = STORY["acl"].replace("(entry (public-key (test bob))", '(entry (public-key (test bob)) (comment "The cook")')
         answer = self.page.ask("question", **{**STORY, "acl": text, "labels": "Carol of Web (public-key (test carol))\nnobody"})
         text = " ".join(reason["says"] for reason in answer["reasons"])

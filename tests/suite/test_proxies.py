@@ -121,9 +121,8 @@ class Proxies(unittest.TestCase):
 
     @needs.needs("nginx")
     def test_nginx_before_two_services(self) -> None:
-        """Where nginx chooses between services by the nonce, a request that is sent again comes to the service that has
-        seen its nonce, also with tabs around the field, which nginx takes for a part of it. Until both services have
-        got a request, but at least 20 times."""
+        """Where nginx chooses between services by the nonce, a request that is sent again comes to the service that has seen its nonce, also with
+        tabs around the field, which nginx takes for a part of it. Until both services have got a request, but at least 20 times."""
         servers = " ".join(f"server {service.name};" for service in self.services)
         self.start_nginx(OWN_HOST, "both", f"{BY_NONCE} upstream both {{ hash $spki_nonce consistent; {servers} }}")
         for turn in range(1000):

@@ -107,8 +107,7 @@ def proofs(story: LastingStory) -> Iterator[tuple[str, Sent, bool]]:
 
 
 def first_line_for(port: int, octets: bytes) -> bytes:
-    """The first line of what the service at a port answers to these octets. It is empty if the service answers nothing
-    or breaks the connection."""
+    """The first line of what the service at a port answers to these octets. It is empty if the service answers nothing or breaks the connection."""
     with socket.create_connection(("127.0.0.1", port), timeout=SECONDS) as client, contextlib.suppress(OSError):
         client.sendall(octets)
         client.shutdown(socket.SHUT_WR)

@@ -1,6 +1,7 @@
 """Tests `spki-store` and `spki-authd` with a list in PostgreSQL, on a server in a temporary folder.
 
 Among the long tests 20,000 questions are asked while another client changes the store, and the primary, a replica and the network are cut."""
+import argparse
 import contextlib
 import hashlib
 import http.client
@@ -134,6 +135,8 @@ class Command(OfStore):
         self.assertEqual(commands.main(["--database", self.server.address, "--schema", 'a"; DROP TABLE x', "log"]), 2)
         self.assertEqual(commands.main(["--database", self.server.address, "--schema", "none", "log"]), 2)
         self.assertEqual(commands.main(["--database", "host=/none", "log"]), 3)
+        with mock.patch.dict(os.environ, PGHOST=self.server.folder):
+            self.assertEqual(commands.main(["--database", "user=postgres dbname=postgres", "--schema", self.schema, "log"]), 0)
         self.assertEqual(self.spki_store(0, "log"), "")
 
     @needs.needs("openssl", "import cryptography")
@@ -301,10 +304,12 @@ class Schema(OfStore):
         return store
 
     def test_rows_of_others(self) -> None:
-        """An `adder` can remove only what the same account has added, and a `writer` any entry. The log has the
-        accounts."""
+        """An `adder` can remove only what the same account has added, and a `writer` any entry. The log has the accounts."""
         ann, ben, carl = (self.account(*words) for words in (("ann", "adder"), ("ben", "adder"), ("carl", "writer")))
         first, second = ann.add(A), ben.add(ZEROS)
+        with contextlib.redirect_stdout(io.StringIO()), contextlib.redirect_stderr(io.StringIO()) as said:
+            self.assertEqual(commands.remove(ann, argparse.Namespace(numbers=[second])), 1)
+        self.assertIn(f"entry {second} still counts", said.getvalue())
         self.assertEqual([ann.remove(second), ben.remove(first), ben.remove(second), carl.remove(first)], [False, False, True, True])
         for text in ("INSERT INTO {ended} (certificate) VALUES (sha256(''))", "INSERT INTO {entries} (text, who) VALUES ('', '')",
                      "UPDATE {entries} SET who = ''", "SELECT * FROM {imports}", "SELECT text FROM {changes}"):
@@ -321,8 +326,7 @@ class Schema(OfStore):
         keep = f"SELECT {self.schema}.keep(%s, %s, now() + '1 h', 2, 2)"
 
         def keep_text(key: int, text: bytes) -> str:
-            """What the function answers to a text of a client with a key, 32 octets `key`: `kept`, `known` or
-            `full`."""
+            """What the function answers to a text of a client with a key, 32 octets `key`: `kept`, `known` or `full`."""
             (word,), = kim.rows(keep, bytes([key]) * 32, text)
             return str(word)
         self.assertEqual([keep_text(1, b"a"), keep_text(1, b"a"), keep_text(1, b"b"), keep_text(1, b"c"), keep_text(2, b"a"), keep_text(3, b"a")],

@@ -92,9 +92,10 @@ export class Times {
       return "";
     }
     if (!granted.length) {
-      return "The answer is no at every moment.";
+      return "The answer is no at each moment that is shown.";
     }
-    return `The answer is yes ${granted.slice(0, 5).map(spanInWords).join(", and ")}.`;
+    const later = granted.length > 5 ? ", and in later spans" : "";
+    return `The answer is yes ${granted.slice(0, 5).map(spanInWords).join(", and ")}${later}.`;
   }
 }
 

@@ -68,12 +68,13 @@ def add(store: Store, given: argparse.Namespace) -> int:
 
 
 def remove(store: Store, given: argparse.Namespace) -> int:
-    """Removes entries by their numbers. The status is FOUND if one is not there."""
+    """Removes entries by their numbers. The status is FOUND if one is not there, or if this account may not remove it."""
     numbers = list(dict.fromkeys(given.numbers))
     removed = [number for number in numbers if store.remove(number)]
     put(f"entries removed: {len(removed)}")
     for number in sorted(set(numbers) - set(removed)):
-        tell(f"entry {number} is not there")
+        is_there = store.rows("SELECT 1 FROM {entries} WHERE number = %s", number)
+        tell(f"entry {number} {'still counts: this account may not remove it' if is_there else 'is not there'}")
     return DONE if removed == numbers else FOUND
 
 

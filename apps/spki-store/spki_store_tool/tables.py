@@ -86,7 +86,9 @@ class Store:
         settings = {**PATIENCE, **conninfo_to_dict(self.settings)}
         # (one port is for all hosts, otherwise each has its own)
         hosts, ports = (str(settings.get(name, "")).split(",") for name in ("host", "port"))
-        return [make_conninfo(**{**settings, "host": host, "port": ports[place % len(ports)]}) for place, host in enumerate(hosts)]
+        places = [{"host": host, "port": ports[place % len(ports)]} for place, host in enumerate(hosts)]
+        # (what is not given is left to libpq, which looks for a service and in the environment)
+        return [make_conninfo(**{**settings, **{name: at[name] for name in at if name in settings}}) for at in places]
 
     def connect(self) -> None:
         """Connects to the first of the hosts that takes it, whose settings are then in `at`. A host that is cut off is given up after seconds, by

@@ -75,7 +75,7 @@ def open_list(path: str) -> Iterator[mmap.mmap | bytes]:
             # (a stream has no size)
             if len(text) > MOST:
                 raise Wrong(f"{path}: a list of over 1 MiB must be in a file, and this is a stream")
-            yield text if text.startswith(BEGIN) else canonical(text)
+            yield canonical(text)
             return
         with mmap.mmap(file.fileno(), 0, access=mmap.ACCESS_READ) as mapped:
             yield mapped
