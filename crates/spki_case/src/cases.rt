@@ -75,7 +75,7 @@ pub struct Case<'a> {
     pub most_work: usize,
     /// A chain, an entry with all certificates, does not count as work if it is small by this limit. It is small if the product of the
     /// numbers of nodes of its tags is at most this. If no tag has a set, it is also small if the number of nodes of all its tags together,
-    /// times that of the largest tag of a certificate, is at most this.
+    /// times that of the largest tag of a certificate, is at most this. A definition of a name counts as one node there.
     pub uncounted: usize,
     /// Each certificate is followed by its signature.
     ghost signed: { AreSigned sequence.items },

@@ -111,7 +111,7 @@ pub fn refused_sequence()
 {}
 
 /// The weight of an entry bounds how much is read to test it: it counts one for the entry, the names and octets of its subject, and the
-/// nodes and octets of its tag. This weight is below the number of octets of the entry's canonical text. The weight of a sequence bounds
+/// octets of its tag and the tags in it. This weight is below the number of octets of the entry's canonical text. The weight of a sequence bounds
 /// the same for its certificates. It is at most four times the number of octets of the sequence's canonical text. It may be more than this
 /// number itself, because a relative name counts its issuer's principal again.
 pub fn weights()

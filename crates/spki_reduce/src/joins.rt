@@ -325,7 +325,7 @@ impl<'a> Four<'a> {
     ///
     /// # Errors
     ///
-    /// Only `Memory`, if memory ran out.
+    /// Only `Memory`, if memory ran out or names have too many copies to count.
     #[tactic(auto, using(crate::proofs::ReducedForms::links))]
     pub fn then(
         &self,

@@ -1,7 +1,7 @@
 //! The intersection of tags (RFC 2693, section 6.3.1). `ticks` counts the work, and exists only in contracts. A tick is a pair of tags that
-//! is looked at, a member that is copied, or an octet of the head of a list of the second tag; an octet of its other strings is three, since it is
-//! compared up to three times. Making and searching an index is not counted. `meet_cost` is the nodes of the first
-//! tag times the `Tag::node_cost` of the second. An intersection takes at most three times that many ticks.
+//! is looked at, a member that is copied, or an octet of the head of a list of the second tag. An octet of its other strings is three ticks,
+//! since it is compared up to three times. Making and searching an index is not counted. `meet_cost` is the nodes of the first tag times the
+//! `Tag::node_cost` of the second. An intersection takes at most three times that many ticks.
 
 ghost use Rattle.std.specs.Prelude.{◌≡◌, ◌+◌, ◌*◌, ◌<◌, ◌≤◌, ◌↔◌, ◌++◌, ◌&&◌, [], max, true, false, IfOk, OnOk, IsErrOf, MatchOption, All, length};
 ghost use Rattle.std.specs.Arc.{arc_slice_items};
