@@ -123,7 +123,7 @@ def times(engine, sent):
 
 def tags(engine, sent):
     """Yields which of the two tags that the page sent contains the request that it sent. Then a hint, if the request was probably to be more than
-    one string, and the intersection of the tags, if both can be read. If the request cannot be read, yields why, for each tag, and no more."""
+    one string, and the intersection of the tags, if a guard takes both. If the request cannot be read, yields why, for each tag, and no more."""
     try:
         words = words_of(sent)
     except Refused as why:

@@ -41,6 +41,7 @@ func serveHere(t *testing.T, fields string) *servedSite {
 	if err := here.daemon.open(io.Discard, messages.writer()); err != nil {
 		t.Fatal(err)
 	}
+	// (open has set the daemon's own logs: the lines go to the site's again, which tests read)
 	here.logGrant, here.logOther = here.log.grant, here.log.other
 	ended := make(chan error, 1)
 	go func() { ended <- here.daemon.listenAndServe() }()

@@ -98,7 +98,7 @@ func TestTLS(t *testing.T) {
 	}
 }
 
-// TestCertificatesAreReadAgain replaces the certificate of a daemon. What is refused changes nothing.
+// TestCertificatesAreReadAgain reloads a configuration with another certificate. What is refused changes nothing.
 func TestCertificatesAreReadAgain(t *testing.T) {
 	alice, mallory := newPerson(t), newPerson(t)
 	config, err := parseConfig([]byte(tlsConfig(t, alice)))

@@ -150,7 +150,8 @@ static struct spki_text lent(const struct text *text)
     return (struct spki_text){text->octets, text->length};
 }
 
-/* Writes a text in one of the three forms, where it is one value. Its canonical form must stay the same. Otherwise the text stays. */
+/* Replaces a text by one of its three forms, which the commands 0 to 2 write. A text that is not one value, or whose new form has no room, stays as
+ * it is. The new form must have the canonical form of the text. */
 static void convert(struct input *in, struct text *text)
 {
     struct of_text with = {SPKI_CANONICAL, lent(text), {0}}, again = with;

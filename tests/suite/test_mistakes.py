@@ -427,8 +427,8 @@ class OfTheRightOfAChain(OfChains):
                 self.assertIn(message, self.sign_behind("--anyway", **words))
                 os.remove(self.at("c.sexp"))
 
-    def test_without_the_library_nothing_is_given(self):
-        self.settings["SPKI_LIBRARY"] = self.at("none")
+    def test_without_the_library_a_chain_gives_nothing(self):
+        """Where it is not known what the chain gives, a certificate is signed only with `--anyway`, not with `--yes`."""
         with mock.patch.dict(sys.modules, {"spki": None}):
             self.assertIn("the library decides, and is not here", self.sign_behind("--yes", wanted=4))
             self.assertFalse(os.path.exists(self.at("c.sexp")))

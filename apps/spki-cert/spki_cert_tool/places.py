@@ -77,8 +77,8 @@ def has_private_key(word: bytes) -> bool:
 
 
 def name_foreign(text: bytes, wrong: Wrong) -> None:
-    """Changes the remark and the place shown of the fault `wrong`, if it lies in something known that is no S-expression: a key in another form, a
-    comment, or words before an S-expression. Otherwise leaves them as they are."""
+    """Changes the remark and the place shown of the fault `wrong`, if it lies in something known that is no S-expression: a text of FOREIGN or
+    PASTED, such as a key in another form, a comment, or words before an S-expression. Otherwise leaves them as they are."""
     for pattern, why in [*FOREIGN, *PASTED]:
         for match in re.finditer(pattern, text, FLAGS):
             if match.start() <= wrong.at <= match.end():
