@@ -196,3 +196,10 @@ module _ (c : Case) (tuples : List Tuple) where
       here_is = h.1.is;
       over = over (Some c.most_work) old before.work h.1.work before.takes h.1.over;
     }
+
+-- ---- what is left, also after an error
+
+pub charge_taken : (before after : Option ℕ) (old new : ℕ) (policy : Policy) (uncounted : ℕ) (tuples : List Tuple) (e : Entry)
+    → AreTicksOfEntry before after old new policy uncounted tuples e → (n : ℕ) × Takes before after n
+charge_taken before after old new policy uncounted tuples e (inl h) = (0, none_taken before after h.1)
+charge_taken before after old new policy uncounted tuples e (inr h) = (h.1.work, h.1.taken)

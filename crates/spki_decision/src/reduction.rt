@@ -120,7 +120,7 @@ pub(crate) fn put_folds<'a, S: FoldSink<'a>>(
 /// # Errors
 ///
 /// `TooLarge` if the product of the nodes of two tags that are to be intersected is over the case's `most_nodes`, or the work is more than
-/// the budget has. `Memory` if memory ran out.
+/// the budget has. `Memory` if memory ran out. What was taken from the budget before an error stays taken.
 pub fn entry_fold<'a>(
     alloc: Global,
     case: &Case<'a>,
@@ -142,6 +142,8 @@ pub fn entry_fold<'a>(
         ⊎ IsOvercharged case.now.policy case.now.uncounted (tuples_of steps.now) entry.now (work_left budget.old) }
     ensures charged { OnOk result ((n : ℕ) × IsCharge case.now.policy case.now.uncounted (tuples_of steps.now) entry.now n
         × Takes (work_left budget.old) (work_left budget.new) n) }
+    // What was taken stays taken, also after an error.
+    ensures left { (n : ℕ) × Takes (work_left budget.old) (work_left budget.new) n }
     ensures same_sizes { IsBudgetFor (tuples_of steps.now) budget.new }
     ensures within_limit { IfOk result (λ fold. ¬ TooLargeAt case.now.most_nodes case.now.policy (five (entry_tuple entry.now)) (tuples_of steps.now)) }
 {
@@ -176,6 +178,7 @@ fn entry_fold_with_new_count<'a, L: Ledger>(
         ⊎ IsOvercharged case.now.policy case.now.uncounted (tuples_of steps.now) entry.now (work_left budget.old) }
     ensures charged { OnOk result ((n : ℕ) × IsCharge case.now.policy case.now.uncounted (tuples_of steps.now) entry.now n
         × Takes (work_left budget.old) (work_left budget.new) n) }
+    ensures left { (n : ℕ) × Takes (work_left budget.old) (work_left budget.new) n }
     ensures same_sizes { IsBudgetFor (tuples_of steps.now) budget.new }
     ensures within_limit { IfOk result (λ fold. ¬ TooLargeAt case.now.most_nodes case.now.policy (five (entry_tuple entry.now)) (tuples_of steps.now)) }
 {

@@ -104,6 +104,8 @@ pub fn fold_owned<'a>(
     ensures within_limit { IfOk result (λ fold. ¬ TooLargeAt most policy (five (five_tuple first.entry)) (tuples_of steps.now)) }
     ensures worked { OnOk result ((n : ℕ) × IsWork policy (five (five_tuple first.entry)) (tuples_of steps.now) n
         × Takes (left_of work.old) (left_of work.new) n) }
+    // What was taken stays taken, also after an error.
+    ensures left { (n : ℕ) × Takes (left_of work.old) (left_of work.new) n }
 {
     // `Brand` and `Blank` are for a count of ticks, which exists only in contracts: see `spki_tag::Ticks`.
     fold_with_new_count::<Brand>(alloc, first, steps, policy, most, work, Blank::new(1))
@@ -147,6 +149,7 @@ fn fold_with_new_count<'a, L: Ledger>(
     ensures within_limit { IfOk result (λ fold. ¬ TooLargeAt most policy (five (five_tuple first.entry)) (tuples_of steps.now)) }
     ensures worked { OnOk result ((n : ℕ) × IsWork policy (five (five_tuple first.entry)) (tuples_of steps.now) n
         × Takes (left_of work.old) (left_of work.new) n) }
+    ensures left { (n : ℕ) × Takes (left_of work.old) (left_of work.new) n }
 {
     fold_owned_counted(
         alloc,
