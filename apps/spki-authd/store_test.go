@@ -235,7 +235,8 @@ func TestStaleStore(t *testing.T) {
 	}
 }
 
-// TestListBesideStaleStore decides by a list in a file. Which certificates have ended is in the store: while it is stale none of them counts.
+// TestListBesideStaleStore decides by a list in a file. Only the store knows which certificates have ended: while it is stale, a request that needs a
+// certificate gets 503, and one that needs none is granted as before.
 func TestListBesideStaleStore(t *testing.T) {
 	s := newStored(t)
 	present := s.keeper.present.Load()

@@ -72,7 +72,7 @@ def lists_in_lists():
 def deep_parts():
     """Yields (name, command, text, answer): requests and tags as deep as may be, and deeper by one list."""
     def nested(depth):
-        """A list of so many lists in one another."""
+        """The text of so many lists, each inside the one before."""
         return "(f " * depth + "f" + ")" * depth
 
     for depth, answer in ((62, YES), (63, refused("form TooDeep"))):

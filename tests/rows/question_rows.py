@@ -46,8 +46,8 @@ def of_refused_parts() -> Iterator[CallRow]:
 
 
 def of_refused_part(place: str, texts: list[bytes], part: str, item: int | None, kind: str) -> Iterator[CallRow]:
-    """The rows in which a guard refuses the texts of a list, sequence, key, request and moment, for the fault of one of them: `part`, as PART
-    names it. `item` and `kind` are the fault, as in REFUSED."""
+    """The rows in which a guard refuses the texts of a list, sequence, key, request and moment, for the fault of one of them: `part`, a key
+    of PART. `item` and `kind` are the fault, as in REFUSED."""
     fault, message = f"CertFault {{ item: {item}, kind: {kind} }}", f"item {item}: {TEXT_OF[kind]}"
     guard, words = (texts[0], b"open", b"", b""), kind.replace("(", " ").replace(")", "")
     if part == "Acl":

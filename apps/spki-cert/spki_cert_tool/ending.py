@@ -131,8 +131,9 @@ def meant_at(path: str, place: int | None) -> tuple[str, str]:
 
 
 def meant_by(given: argparse.Namespace) -> dict[str, str]:
-    """The digests of all certificates that the command line names, in its order, by FILE or by --digest, each with what it is called. Of several
-    names for one certificate it is the first. Raises Refused."""
+    """The digests of all certificates that the command line names, each with what it is called: first those of the FILEs, then those of --digest,
+    each in the order given. A certificate that is named twice keeps the first name. Raises Refused for a --digest that is not 64 hexadecimal digits,
+    and for a FILE as `meant_at` does."""
     for digest in given.digest:
         if not DIGITS.fullmatch(digest):
             raise Refused(f"--digest {digest}: a digest has 64 hexadecimal digits; `spki-cert show FILE` prints that of a certificate")

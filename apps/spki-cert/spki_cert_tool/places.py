@@ -192,7 +192,7 @@ def read_intersect(node: Node) -> None:
 
 
 def read_rows(node: Node) -> None:
-    """Reads the rows `(accepted ..)` as a text of their own. Raises Wrong if they are none."""
+    """Reads `(accepted ROW ..)` as a text of its own; there may be no row. Raises Wrong if the head is another one, or a row is not in its form."""
     read_part("rows", partial(Members, head=b"accepted", what="the text"), node)
     read_numbered("rows", read_row, node.rest)
 

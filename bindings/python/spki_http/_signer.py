@@ -127,7 +127,7 @@ class Handler(_ToNames, urllib.request.BaseHandler):
 
     def https_request(self, request: urllib.request.Request) -> urllib.request.Request:
         """Adds the fields to a request to one of the names, and returns the request. `urllib` calls it for each request. Raises `TypeError` for a
-        body that is a stream. A redirection does not take the fields along."""
+        body that is not `bytes`, such as a stream, and what `Signer.fields` raises. A redirection does not take the fields along."""
         if self._is_to_one(request.full_url):
             body = request.data or b""
             if not isinstance(body, bytes):

@@ -229,7 +229,7 @@ extern "C" {
         buffer_length: usize,
         needed: *mut usize,
     ) -> Answered;
-    /// The answer says which right remains of each entry.
+    /// The answer says what each entry becomes with the certificates, if exactly the marked signatures are valid.
     pub fn spki_asked_reduce(
         asked: *const Asked,
         buffer: *mut c_void,
