@@ -53,13 +53,13 @@ static spki_asked *open_question(const spki_guard *guard, const struct spki_ques
     return asked;
 }
 
-/* Decides an opened question, and returns the status. The calls that return a truth value must say the same. */
+/* Decides an opened question, and returns the status. spki_asked_granted must say the same, and with a yes spki_asked_possible must be true. */
 static enum spki_status decide(const spki_asked *asked, unsigned char *buffer, size_t length, size_t *needed)
 {
     const struct spki_decision decision = spki_asked_decide(asked, buffer, length, needed);
     const bool is_yes = decision.status == SPKI_YES;
-    expect(is_yes == (decision.until != INT64_MIN), "a yes without an end, or the end of none");
-    expect(spki_asked_granted(asked) == is_yes, "a yes that is none, or none that is one");
+    expect(is_yes == (decision.until != INT64_MIN), "an end is set for another status than yes, or missing");
+    expect(spki_asked_granted(asked) == is_yes, "spki_asked_granted differs");
     expect(spki_asked_possible(asked) || !is_yes, "a yes that is not possible");
     return decision.status;
 }

@@ -150,11 +150,11 @@ def of_counts() -> Iterator[CallRow]:
     listed, item = f"(acl (entry {KA} (propagate) (tag (*))))".encode(), signed(cert(KA, KB, "(tag (*))"), KA)
     for count, strings, refusal in ((16, 64, None), (17, 64, "Certificates"), (17, 65, "Certificates"), (16, 65, "Words")):
         asked_for = (f"(sequence {item * count})".encode(), KB.encode(), f"({'a ' * (strings - 2)}(a b))".encode(), NOW)
-        # (a second certificate of A is not one of B)
+        # (no: behind the first certificate the chain needs one of B, and all are issued by A)
         by_default = b"Refused refused question TooMany%s\n" % refusal.encode() if refusal else b"No no\n"
-        for octets, answer in ((b"usual", by_default), (b"", b"No no\n")):
-            given = (listed, b"strict", octets, b"", b"decide", *asked_for, b"1" * count)
-            yield CallRow(f"calls/limits:{count} certificates, {strings} strings, {octets.decode()}", "answer_opened", given, answer)
+        for limits, answer in ((b"usual", by_default), (b"", b"No no\n")):
+            given = (listed, b"strict", limits, b"", b"decide", *asked_for, b"1" * count)
+            yield CallRow(f"calls/limits:{count} certificates, {strings} strings, {limits.decode()}", "answer_opened", given, answer)
 
 
 def sets_case() -> bytes:

@@ -304,19 +304,20 @@ def string_at(text: bytes, *path: int) -> bytes | None:
 
 
 def canonical(text: bytes) -> bytes:
-    """The canonical form of the one value that a text is, in any of the three forms. Raises `Refused` if it is not one value."""
+    """The canonical form of the one value that a text is, in any of the three forms. Raises `Refused` if it is not one value
+    within the limits, or if an allocation failed, and `TypeError` if it is not bytes."""
     return _convert(_library.CANONICAL, octets_of(text))
 
 
 def advanced(text: bytes) -> bytes:
     """The advanced form of a text, which `canonical` would accept, on one line, with a line feed at its end. Raises
-    `Refused`."""
+    what `canonical` raises."""
     return _convert(_library.ADVANCED, octets_of(text))
 
 
 def transport(text: bytes) -> bytes:
     """The transport form of a text, which `canonical` would accept, on one line, with a line feed at its end. Raises
-    `Refused`."""
+    what `canonical` raises."""
     return _convert(_library.TRANSPORT, octets_of(text))
 
 

@@ -49,14 +49,14 @@ def authority_of(scheme: str, authority: str) -> str:
 
 def base_of(message: Message, scheme: str, components: list[str], parameters: str) -> bytes:
     """The signature base: the text that is signed. `components` are names, and `parameters` is the rest of `Signature-Input` after `spki=`. Raises
-    `Refused` if a component is a field that is absent, repeated or not printable ASCII."""
+    `Refused` if a component is a field that is absent, repeated, or neither printable ASCII nor tabs."""
     lines = [f'"{name}": {value_of(message, scheme, name)}' for name in components]
     return "\n".join([*lines, f'"@signature-params": {parameters}']).encode("ascii")
 
 
 def value_of(message: Message, scheme: str, name: str) -> str:
     """The value of a component by its name, such as `@path` or the name of a field. That of `@query` begins with `?`, also without a query.
-    Raises `Refused` if the component is a field that is absent, repeated or not printable ASCII."""
+    Raises `Refused` if the component is a field that is absent, repeated, or neither printable ASCII nor tabs."""
     path, mark, query = message.target.partition("?")
     authority = authority_of(scheme, message.authority)
     match name:
