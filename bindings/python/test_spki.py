@@ -343,6 +343,7 @@ class Copies(unittest.TestCase):
             for place, call in enumerate(calls):
                 with self.subTest(f"{type(it).__name__}, call {place}"), self.assertRaisesRegex(TypeError, "read the list and ask again"):
                     call(it)
+        # (no copy has freed the guard, whose place in memory a new one could then take)
         other = spki.Guard(b"(acl)")
         self.assertEqual((self.guard.decide(asked(), right), other.decide(asked(), right)), (spki.Grant(1), None))
 

@@ -328,7 +328,8 @@ def subject_of(principal: Value, names: list[Value]) -> Value:
 
 
 def asked_of_case(case: Value, labels: Labels) -> Asked:
-    """The question of a case. Its rows say which signatures are valid."""
+    """The question of a case that was read as one. Its rows say which signatures are valid."""
+    # (a case may end with `(policy strict)`, and with no other policy)
     access_list, accepted, sequence, key, request, moment, *policy = members(case)
     date = members(moment)[0]
     assert isinstance(date, bytes)
