@@ -24,7 +24,7 @@ type ledger struct {
 	// The octets of the file before the lines that are written now, and whether the file ends with a part of a line that could not be removed.
 	whole int64
 	isCut bool
-	// Whether lines are written since the last fsync by `beat`, and the error of that, or nil.
+	// Whether lines are written since the last fsync by `beat` that did not fail, and the last error of one that no write has reported yet, or nil.
 	isDirty bool
 	fault   error
 }
@@ -163,6 +163,7 @@ func (l *ledger) prepare() error {
 		return l.replace()
 	}
 	fault := l.fault
+	l.fault = nil
 	if fault != nil {
 		l.beat()
 	}
@@ -171,9 +172,12 @@ func (l *ledger) prepare() error {
 
 // beat calls fsync if the ledger has syncSeconds and lines were written since the last time. The writer calls it each second. prepare reports its error.
 func (l *ledger) beat() {
-	if l.syncs == syncSeconds && (l.isDirty || l.fault != nil) {
-		l.fault = l.file.Sync()
-		l.isDirty = l.fault != nil
+	if l.syncs == syncSeconds && l.isDirty {
+		err := l.file.Sync()
+		l.isDirty = err != nil
+		if err != nil {
+			l.fault = err
+		}
 	}
 }
 

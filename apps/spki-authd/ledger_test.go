@@ -188,6 +188,24 @@ func TestSyncs(t *testing.T) {
 	}
 }
 
+// TestLostLinesAreReported has one sync fail, and the next one succeed before anything is written: the next write must fail, and the one after it not.
+func TestLostLinesAreReported(t *testing.T) {
+	ledger, disk := openFailing(t, syncSeconds, "")
+	if err := ledger.write([]byte("one\n")); err != nil {
+		t.Fatal(err)
+	}
+	disk.isNotWritten = true
+	ledger.beat()
+	disk.isNotWritten = false
+	ledger.beat()
+	if ledger.write([]byte("two\n")) == nil {
+		t.Error("nobody is told that lines may be lost")
+	}
+	if err := ledger.write([]byte("three\n")); err != nil {
+		t.Error(err)
+	}
+}
+
 // TestReopened renames, removes and empties a file that is written.
 func TestReopened(t *testing.T) {
 	ledger, _ := openFailing(t, syncSeconds, "")
