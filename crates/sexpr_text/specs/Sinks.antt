@@ -19,9 +19,10 @@ text_of s = s.octets.now.items
 abbrev pub has_failed : VectorSink → Bool
 has_failed s = s.failed
 
--- the vector is the same one, and unless memory ran out these octets are behind what it had
+-- the vector is the same one and keeps what it had, and unless memory ran out these octets are behind it
 pub record VectorTakes (old : VectorSink) (octets : List ℕ) (new : VectorSink) : Type 0 where
   pub same_lender : lender_of new ≡ lender_of old
+  pub kept : (added : List ℕ) × (text_of new ≡ text_of old ++ added)
   pub appended : has_failed new ≡ false → (has_failed old ≡ false) × (text_of new ≡ text_of old ++ octets)
 
 -- ---- counts
@@ -44,12 +45,14 @@ pub record IsCounted (old : Counter) (octets : List ℕ) (new : Counter) : Type 
 pub vector_takes_nothing : (s : VectorSink) → VectorTakes s [] s
 vector_takes_nothing s = record {
   same_lender = refl;
+  kept = ([], sym (append-nil (text_of s)));
   appended = λ ok. (ok, sym (append-nil (text_of s)));
 }
 
 pub vector_takes_both : (a b c : VectorSink) (x y : List ℕ) → VectorTakes a x b → VectorTakes b y c → VectorTakes a (x ++ y) c
 vector_takes_both a b c x y f g = record {
   same_lender = g.same_lender ∙ f.same_lender;
+  kept = (f.kept.0 ++ g.kept.0, g.kept.1 ∙ ap (λ s. s ++ g.kept.0) f.kept.1 ∙ append_assoc (text_of a) f.kept.0 g.kept.0);
   appended = λ ok.
       let second = g.appended ok in
       let first = f.appended second.0 in
@@ -59,6 +62,7 @@ vector_takes_both a b c x y f g = record {
 pub vector_stays : (s : VectorSink) → has_failed s ≡ true → (octets : List ℕ) → VectorTakes s octets s
 vector_stays s full octets = record {
   same_lender = refl;
+  kept = ([], sym (append-nil (text_of s)));
   appended = λ well. absurd (true≢false (sym full ∙ well));
 }
 

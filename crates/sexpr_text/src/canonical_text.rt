@@ -1,6 +1,6 @@
 //! Texts in canonical form, which are read from texts in any form.
 
-ghost use Rattle.std.specs.Prelude.{◌≡◌, ◌≢◌, ◌<◌, ◌≤◌, length, IfOk, IfErr, IsErrOf, IsOkAnd};
+ghost use Rattle.std.specs.Prelude.{◌≡◌, ◌≢◌, ◌<◌, ◌≤◌, length, Err, IfOk, IfErr, IsErrOf, IsOk, IsOkAnd};
 ghost use Rattle.sexpr_core.specs.{declared.fault.FormFault.{FormFault}, Value.{Value, canon, IsShallow}};
 ghost use Rattle.sexpr_text.specs.{AdvancedForm.{IsTextWithin}, CanonicalTexts.{IsReadAs, RefusesForm, opened_value}};
 
@@ -134,9 +134,10 @@ impl<'t> CanonicalText<'t> {
     ///
     /// # Errors
     ///
-    /// `AllocError` if memory ran out.
+    /// `AllocError` if memory ran out. Not for a fault, which takes no memory.
     pub fn into_owned(self, alloc: Global) -> Result<CanonicalText<'static>, AllocError>
-        ensures { IfOk result (λ owned. owned ≡ self.entry) }
+        ensures same { IfOk result (λ owned. owned ≡ self.entry) }
+        ensures malformed { (fault : FormFault) → self.entry ≡ Err fault → IsOk result }
     {
         let CanonicalText { held } = self;
         let held = match held {

@@ -1,6 +1,6 @@
 //! Where printed octets go: a vector, a count, or what a crate above writes to.
 
-ghost use Rattle.std.specs.Prelude.{◌≡◌, ℕ, List, [], ◌∷◌, ◌++◌, Bool, true, false, OnOk};
+ghost use Rattle.std.specs.Prelude.{◌≡◌, ℕ, List, [], ◌∷◌, ◌++◌, Bool, true, false, OnOk, OnErr};
 ghost use Rattle.sexpr_text.specs.Sinks.{VectorTakes, IsCounted, lender_of, text_of, has_failed, count_of, is_at_end, vector_takes_nothing, vector_takes_both, vector_stays, nothing_counted, both_counted, counter_stays};
 
 use std::alloc::AllocError;
@@ -36,7 +36,7 @@ pub trait Sink {
     ghost stays: { (s : Self) → full s ≡ true → (octets : List ℕ) → takes s octets s };
 }
 
-/// Appends octets to a vector. If no allocation failed, exactly what was put is behind the octets that the vector had.
+/// Appends octets to a vector, and keeps those that it had. If no allocation failed, exactly what was put is behind them.
 pub struct VectorSink<'v> {
     /// The vector to which octets are appended.
     octets: &'v mut Vec<u8>,
@@ -65,6 +65,7 @@ impl<'v> VectorSink<'v> {
     pub fn end(self) -> Result<(), AllocError>
         ensures text { self.exit.0.now.items ≡ text_of self.entry }
         ensures ok { OnOk result (has_failed self.entry ≡ false) }
+        ensures err { OnErr result (has_failed self.entry ≡ true) }
     {
         let VectorSink { octets: _, failed } = self;
         if failed {
