@@ -249,8 +249,7 @@ def failing_in_turn(program, example, call, error, wanted):
     return number, refusals, faults
 
 
-# `wanted` of failing_in_turn: how a run of an example must end whose call of this number fails with an error, or
-# returns 0.
+# `wanted` of failing_in_turn: how a run of an example must end whose call of this number fails with an error, or returns 0.
 
 def read_fault(example, number):
     """How a run must end whose read of this number fails."""

@@ -66,9 +66,8 @@ class Model(unittest.TestCase):
 class Generated(built.OfProgram):
     """The library on each case and the program on some; or the program alone on each text."""
 
-    # `differ` and `ended` are the numbers of the cases that differ, and of those that ended their process. `rows`
-    # counts how often each row of the model came. `described` has what is printed of some of these cases, by their
-    # numbers. `by_program` is how many cases the program answered.
+    # `differ` and `ended` are the numbers of the cases that differ, and of those that ended their process. `rows` counts how often each row of
+    # the model came. `described` has what is printed of some of these cases, by their numbers. `by_program` is how many cases the program answered.
     seed: str
     differ: list[int]
     ended: list[int]

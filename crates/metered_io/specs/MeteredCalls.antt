@@ -25,6 +25,14 @@ ended_of m = m.ended
 abbrev pub flushed_of : {T : Type 0} → Metered T → Bool
 flushed_of m = m.flushed
 
+-- the calls that it counted before its counts were last reset
+abbrev pub earlier_of : {T : Type 0} → Metered T → ℕ
+earlier_of m = m.earlier
+
+-- its counts were reset once, before it passed a call on: so what it counts now are all calls since
+abbrev pub IsReset : {T : Type 0} → Metered T → Metered T → Type 0
+IsReset old new = earlier_of new ≡ min (earlier_of old + asks_of old) (2 ^ 64 - 1)
+
 -- the reader inside returned these octets, if it exposes them
 abbrev pub Gives : {R : Type 0} → (R → Option (List ℕ)) → Metered R → Metered R → List ℕ → Type 0
 Gives remaining old new octets = Consumes (remaining (inner_of old)) (remaining (inner_of new)) octets

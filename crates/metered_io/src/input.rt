@@ -1,6 +1,6 @@
 //! Reads the whole text of a reader, within a limit.
-ghost use Rattle.std.specs.Prelude.{◌≡◌, ℕ, ◌+◌, ◌<◌, ◌≤◌, ◌⊎◌, ◌++◌, List, length, take, max, vec_len, IsTrue, IfOk, OnOk, OnErr, IfSome, IfNone, IsErrOf};
-ghost use Rattle.metered_io.specs.MeteredCalls.{counted, asks_of, faults_of, ended_of, Gives, GivesNone, HasGivenAll};
+ghost use Rattle.std.specs.Prelude.{◌≡◌, ℕ, ◌+◌, ◌<◌, ◌≤◌, ◌⊎◌, ◌↔◌, ◌++◌, Ok, Some, true, false, List, length, take, max, vec_len, IsTrue, IfOk, OnOk, OnErr, IfSome, IfNone, IsErrOf};
+ghost use Rattle.metered_io.specs.MeteredCalls.{counted, asks_of, faults_of, ended_of, earlier_of, Gives, GivesNone, HasGivenAll};
 
 use crate::meters::{Metered, is_interrupted};
 use std::alloc::Global;
@@ -33,14 +33,15 @@ pub enum ReadFault {
 /// repeated. 0 octets mean that the reader has ended, unless the buffer is empty. Err is `Failed` at any other error.
 fn ask<R: Read>(reader: &mut Metered<R>, buffer: &mut [u8]) -> Result<Option<usize>, ReadFault>
     ensures asks { asks_of reader.new ≡ counted (asks_of reader.old) }
+    ensures earlier { earlier_of reader.new ≡ earlier_of reader.old }
     ensures fault { IsErrOf result ReadFault.Failed → faults_of reader.new ≡ counted (faults_of reader.old) }
     ensures only_failed { OnErr result (IsErrOf result ReadFault.Failed) }
     ensures no_fault { OnOk result (faults_of reader.new ≡ faults_of reader.old) }
     ensures bound { IfOk result (λ o. IfSome o (λ n. n ≤ length buffer.new)) }
     ensures octets { IfOk result (λ o. IfSome o (λ n.
         Gives R.remaining reader.old reader.new (take n buffer.new))) }
-    ensures end { IfOk result (λ o. IfSome o (λ n. n ≡ 0 → 0 < length buffer.old
-        → HasGivenAll R.remaining reader.new × IsTrue (ended_of reader.new))) }
+    ensures end { IfOk result (λ o. IfSome o (λ n. n ≡ 0 → 0 < length buffer.old → HasGivenAll R.remaining reader.new)) }
+    ensures ended { 0 < length buffer.old → (IsTrue (ended_of reader.new) ↔ (result ≡ Ok (Some 0))) }
     ensures again { IfOk result (λ o. IfNone o (GivesNone R.remaining reader.old reader.new)) }
     ensures err { OnErr result (GivesNone R.remaining reader.old reader.new) }
 {
@@ -70,13 +71,14 @@ fn read_piece<R: Read>(
     requires room { 0 < length buffer.old }
     requires short { vec_len text.old ≤ most }
     ensures asks { asks_of reader.new ≡ counted (asks_of reader.old) }
+    ensures earlier { earlier_of reader.new ≡ earlier_of reader.old }
     ensures fault { IsErrOf result ReadFault.Failed → faults_of reader.new ≡ counted (faults_of reader.old) }
     ensures no_fault { IsErrOf result ReadFault.Failed ⊎ (faults_of reader.new ≡ faults_of reader.old) }
     ensures short { OnOk result (vec_len text.new ≤ most) }
     ensures octets { OnOk result ((octets : List ℕ) × (text.new.items ≡ text.old.items ++ octets)
         × Gives R.remaining reader.old reader.new octets) }
-    ensures end { IfOk result (λ ended. IsTrue ended
-        → HasGivenAll R.remaining reader.new × IsTrue (ended_of reader.new)) }
+    ensures end { IfOk result (λ ended. IsTrue ended → HasGivenAll R.remaining reader.new) }
+    ensures ended { IsTrue (ended_of reader.new) ↔ (result ≡ Ok true) }
     ensures too_long { IsErrOf result ReadFault.TooLong → ((octets : List ℕ)
         × (length (text.old.items ++ octets) ≡ most + 1)
         × Gives R.remaining reader.old reader.new octets) }
@@ -134,8 +136,10 @@ pub fn read_whole<R: Read>(
     ensures no_more { OnErr result ((octets : List ℕ) × (length octets ≤ most + 1)
         × Gives R.remaining reader.old reader.new octets) }
     ensures asks { asks_of reader.new ≤ max (asks_of reader.old) 2097152 }
+    ensures earlier { earlier_of reader.new ≡ earlier_of reader.old }
     ensures fault { IsErrOf result ReadFault.Failed
         → (faults_of reader.new ≡ counted (faults_of reader.old)) ⊎ (2097152 ≤ asks_of reader.new) }
+    ensures unended { IsErrOf result ReadFault.Failed → asks_of reader.old < 2097152 → ended_of reader.new ≡ false }
     ensures no_fault { IsErrOf result ReadFault.Failed ⊎ (faults_of reader.new ≡ faults_of reader.old) }
 {
     let mut text = Vec::new(alloc);

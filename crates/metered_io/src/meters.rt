@@ -1,7 +1,7 @@
 //! Counts the calls of a reader or a writer.
 ghost use Rattle.std.specs.{Prelude.{◌≡◌, ◌↔◌, ◌<◌, length, IsTrue, IsOk, false}, IoError.{error_kind}};
 ghost use Rattle.std.specs.Io.{ReadsAtMost, WritesAtMost, KnownBytes.{Keeps, ReadConsumes, WriteAppends}};
-ghost use Rattle.metered_io.specs.MeteredCalls.{counted, inner_of, asks_of, faults_of, ended_of, flushed_of, CountsIf, IsFault, CountsErrors, CountsWrite};
+ghost use Rattle.metered_io.specs.MeteredCalls.{counted, inner_of, asks_of, faults_of, ended_of, flushed_of, earlier_of, IsReset, CountsIf, IsFault, CountsErrors, CountsWrite};
 
 use std::io;
 use std::io::{Error, ErrorKind, Read, Write};
@@ -20,6 +20,8 @@ pub struct Metered<T> {
     ended: bool,
     /// Whether the last write or flush was a flush that succeeded.
     flushed: bool,
+    /// How many calls were counted before the last `restart`.
+    earlier: u64,
     /// The reader or the writer.
     inner: T,
 }
@@ -31,6 +33,7 @@ impl<T> Metered<T> {
         ensures faults { faults_of result ≡ 0 }
         ensures ended { ended_of result ≡ false }
         ensures flushed { flushed_of result ≡ false }
+        ensures earlier { earlier_of result ≡ 0 }
         ensures inner { inner_of result ≡ inner }
     {
         Metered {
@@ -38,19 +41,22 @@ impl<T> Metered<T> {
             faults: 0,
             ended: false,
             flushed: false,
+            earlier: 0,
             inner,
         }
     }
 
-    /// Resets the counts to 0, and `ended` and `flushed` to false. The reader or writer inside does not change. A
-    /// caller does this before each run, so that counts and limits are those of the run.
+    /// Resets the counts to 0, and `ended` and `flushed` to false. `earlier` grows by `asks`. The reader or writer inside does not
+    /// change. A caller does this before each run, so that counts and limits are those of the run.
     pub fn restart(&mut self)
         ensures asks { asks_of self.new ≡ 0 }
         ensures faults { faults_of self.new ≡ 0 }
         ensures ended { ended_of self.new ≡ false }
         ensures flushed { flushed_of self.new ≡ false }
+        ensures earlier { IsReset self.old self.new }
         ensures inner { inner_of self.new ≡ inner_of self.old }
     {
+        self.earlier = self.earlier.saturating_add(self.asks);
         self.asks = 0;
         self.faults = 0;
         self.ended = false;
@@ -86,6 +92,14 @@ impl<T> Metered<T> {
         ensures { result ≡ flushed_of self.now }
     {
         self.flushed
+    }
+
+    /// The number of calls that were counted before the last `restart`: with `asks` they are all calls since `new`. The count stops at the
+    /// greatest `u64`.
+    pub fn earlier(&self) -> u64
+        ensures { result ≡ earlier_of self.now }
+    {
+        self.earlier
     }
 
     /// Returns the reader or the writer inside. The counts are dropped.
@@ -129,6 +143,7 @@ impl<R: Read> Read for Metered<R> {
         ensures ended { 0 < length buf.old → (IsTrue (ended_of self.new) ↔ (result ≡ Ok 0)) }
         ensures no_room { length buf.old ≡ 0 → ended_of self.new ≡ ended_of self.old }
         ensures flushed { flushed_of self.new ≡ flushed_of self.old }
+        ensures earlier { earlier_of self.new ≡ earlier_of self.old }
     {
         self.asks = self.asks.saturating_add(1);
         let has_room = !buf.is_empty();
@@ -162,6 +177,7 @@ impl<W: Write> Write for Metered<W> {
         ensures faults { CountsWrite buf.now (faults_of self.old) (faults_of self.new) result }
         ensures ended { ended_of self.new ≡ ended_of self.old }
         ensures flushed { flushed_of self.new ≡ false }
+        ensures earlier { earlier_of self.new ≡ earlier_of self.old }
     {
         self.asks = self.asks.saturating_add(1);
         self.flushed = false;
@@ -185,6 +201,7 @@ impl<W: Write> Write for Metered<W> {
         ensures faults { CountsErrors (faults_of self.old) (faults_of self.new) result }
         ensures ended { ended_of self.new ≡ ended_of self.old }
         ensures flushed { IsTrue (flushed_of self.new) ↔ IsOk result }
+        ensures earlier { earlier_of self.new ≡ earlier_of self.old }
     {
         self.asks = self.asks.saturating_add(1);
         let answer = self.inner.flush();

@@ -1,6 +1,6 @@
 //! Writes a whole output to a writer.
-ghost use Rattle.std.specs.Prelude.{◌≡◌, ℕ, ◌+◌, ◌<◌, ◌≤◌, ◌⊎◌, ◌++◌, List, length, take, max, IsTrue, IfOk, OnOk, OnErr};
-ghost use Rattle.metered_io.specs.MeteredCalls.{counted, asks_of, faults_of, flushed_of, Takes, TakesNone, SendsFront};
+ghost use Rattle.std.specs.Prelude.{◌≡◌, ℕ, ◌+◌, ◌<◌, ◌≤◌, ◌⊎◌, ◌↔◌, ◌++◌, Ok, true, false, List, length, take, max, IsTrue, IfOk, OnOk, OnErr};
+ghost use Rattle.metered_io.specs.MeteredCalls.{counted, asks_of, faults_of, flushed_of, earlier_of, Takes, TakesNone, SendsFront};
 
 use crate::meters::{Metered, is_interrupted};
 use std::io::Write;
@@ -21,11 +21,13 @@ pub struct WriteFault;
 fn write_piece<W: Write>(writer: &mut Metered<W>, octets: &[u8]) -> Result<usize, WriteFault>
     requires some { 0 < length octets.now }
     ensures asks { asks_of writer.new ≡ counted (asks_of writer.old) }
+    ensures earlier { earlier_of writer.new ≡ earlier_of writer.old }
     ensures fault { OnErr result (faults_of writer.new ≡ counted (faults_of writer.old)) }
     ensures no_fault { OnOk result (faults_of writer.new ≡ faults_of writer.old) }
     ensures bound { IfOk result (λ n. n ≤ length octets.now) }
     ensures octets { IfOk result (λ n. Takes W.contents writer.old writer.new (take n octets.now)) }
     ensures err { OnErr result (TakesNone W.contents writer.old writer.new) }
+    ensures unflushed { flushed_of writer.new ≡ false }
 {
     match writer.write(octets) {
         Ok(0) => Err(WriteFault),
@@ -44,9 +46,10 @@ fn write_piece<W: Write>(writer: &mut Metered<W>, octets: &[u8]) -> Result<usize
 /// other error.
 fn flush_once<W: Write>(writer: &mut Metered<W>) -> Result<bool, WriteFault>
     ensures asks { asks_of writer.new ≡ counted (asks_of writer.old) }
+    ensures earlier { earlier_of writer.new ≡ earlier_of writer.old }
     ensures fault { OnErr result (faults_of writer.new ≡ counted (faults_of writer.old)) }
     ensures no_fault { OnOk result (faults_of writer.new ≡ faults_of writer.old) }
-    ensures flushed { IfOk result (λ done. IsTrue done → IsTrue (flushed_of writer.new)) }
+    ensures flushed { IsTrue (flushed_of writer.new) ↔ (result ≡ Ok true) }
     ensures octets { TakesNone W.contents writer.old writer.new }
 {
     match writer.flush() {
@@ -69,16 +72,18 @@ fn flush_once<W: Write>(writer: &mut Metered<W>) -> Result<bool, WriteFault>
 /// # Errors
 ///
 /// `WriteFault` at another error of the writer, if it writes 0 octets of a buffer that is not empty, and if octets are
-/// left when the count is `most` or more. A beginning of the octets has been written then, which may be empty.
+/// left when the count is `most` or more. A beginning of the octets has been written then, which may be empty, but not all of them.
 pub fn write_octets<W: Write>(
     writer: &mut Metered<W>,
     octets: &[u8],
     most: u64,
 ) -> Result<(), WriteFault>
     ensures octets { OnOk result (Takes W.contents writer.old writer.new octets.now) }
-    ensures front { OnErr result ((rest : List ℕ)
+    ensures front { OnErr result ((rest : List ℕ) × (0 < length rest)
         × SendsFront W.contents writer.old writer.new octets.now rest) }
+    ensures unflushed { flushed_of writer.old ≡ false → flushed_of writer.new ≡ false }
     ensures asks { asks_of writer.new ≤ max (asks_of writer.old) most }
+    ensures earlier { earlier_of writer.new ≡ earlier_of writer.old }
     ensures fault { OnErr result ((faults_of writer.new ≡ counted (faults_of writer.old)) ⊎ (most ≤ asks_of writer.new)) }
     ensures no_fault { OnOk result (faults_of writer.new ≡ faults_of writer.old) }
 {
@@ -102,7 +107,10 @@ pub fn write_octets<W: Write>(
 pub fn flush_writer<W: Write>(writer: &mut Metered<W>, most: u64) -> Result<(), WriteFault>
     ensures octets { TakesNone W.contents writer.old writer.new }
     ensures flushed { OnOk result (IsTrue (flushed_of writer.new)) }
+    // It is an error only if no flush succeeded.
+    ensures unflushed { OnErr result (flushed_of writer.old ≡ false → flushed_of writer.new ≡ false) }
     ensures asks { asks_of writer.new ≤ max (asks_of writer.old) most }
+    ensures earlier { earlier_of writer.new ≡ earlier_of writer.old }
     ensures fault { OnErr result ((faults_of writer.new ≡ counted (faults_of writer.old)) ⊎ (most ≤ asks_of writer.new)) }
     ensures no_fault { OnOk result (faults_of writer.new ≡ faults_of writer.old) }
 {
@@ -125,9 +133,11 @@ pub fn flush_writer<W: Write>(writer: &mut Metered<W>, most: u64) -> Result<(), 
 pub fn write_whole<W: Write>(writer: &mut Metered<W>, octets: &[u8]) -> Result<(), WriteFault>
     ensures octets { OnOk result (Takes W.contents writer.old writer.new octets.now) }
     ensures flushed { OnOk result (IsTrue (flushed_of writer.new)) }
+    ensures unflushed { OnErr result (flushed_of writer.old ≡ false → flushed_of writer.new ≡ false) }
     ensures front { OnErr result ((rest : List ℕ)
         × SendsFront W.contents writer.old writer.new octets.now rest) }
     ensures asks { asks_of writer.new ≤ max (asks_of writer.old) (length octets.now + 2097152) }
+    ensures earlier { earlier_of writer.new ≡ earlier_of writer.old }
     ensures fault { OnErr result ((faults_of writer.new ≡ counted (faults_of writer.old))
         ⊎ (length octets.now + 2097152 ≤ asks_of writer.new)) }
     ensures no_fault { OnOk result (faults_of writer.new ≡ faults_of writer.old) }

@@ -83,7 +83,14 @@ module _ {W : Type 0} (contents : W → Option (List ℕ)) where
   -- what is said of what is sent may be weaker
   pub sends_also : (P Q : Verdict → List ℕ → Type 0) (old new : Metered W) (status : Status) → ((v : Verdict) (o : List ℕ) → P v o → Q v o)
       → Sends contents P old new status → Sends contents Q old new status
-  sends_also P Q old new status f h = record { verdict = h.verdict; output = h.output; is = f h.verdict h.output h.is; end = h.end }
+  sends_also P Q old new status f h = record {
+    verdict = h.verdict;
+    output = h.output;
+    is = f h.verdict h.output h.is;
+    earlier = h.earlier;
+    unflushed = h.unflushed;
+    end = h.end;
+  }
 
   written_from : (old mid new : Metered W) (output : List ℕ) → inner_of mid ≡ inner_of old → IsWritten contents mid new output
       → IsWritten contents old new output

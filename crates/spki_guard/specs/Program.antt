@@ -1,9 +1,9 @@
 -- The program: the exit statuses, and the result for a command line, for what is read and for what is written.
-use Rattle.std.specs.Prelude.{ℕ, ◌≡◌, ◌≢◌, ◌⊎◌, ◌≤◌, List, [], ◌∷◌, ◌++◌, length, codes, string_bytes, Option, Some, Result, Ok, Err, IfOk, MatchResult, IsTrue}
+use Rattle.std.specs.Prelude.{ℕ, ◌≡◌, ◌≢◌, ◌⊎◌, ◌≤◌, List, [], ◌∷◌, ◌++◌, length, codes, string_bytes, Option, Some, Result, Ok, Err, IfOk, MatchResult, IsTrue, false}
 use Rattle.std.specs.declared.io.ErrorKind.{ErrorKind, TheVariants.{InvalidData}}
 use Rattle.spki_guard.specs.declared.{answers.Verdict.{Verdict}, statuses.Status.{Status, TheVariants.{Answered, ReadFault, WriteFault}}}
 use Rattle.spki_guard.specs.{Lines.{refused_memory}, TextAnswers.{IsReply, IsFaulty, IsWritten, IsCutOff}}
-use Rattle.metered_io.specs.{declared.meters.Metered.{Metered}, MeteredCalls.{inner_of, asks_of, faults_of, ended_of, Gives, GivesNone, TakesNone}}
+use Rattle.metered_io.specs.{declared.meters.Metered.{Metered}, MeteredCalls.{inner_of, asks_of, faults_of, ended_of, flushed_of, IsReset, Gives, GivesNone, TakesNone}}
 use Rattle.spki_words.specs.{declared.{commands.Command.{Command}, words.WordsFault.{WordsFault}}, Words.{word_of, subcommand_in, IsFaultOf}}
 use Rattle.spki_guard.specs.declared.answers.Verdict.TheVariants as verdict
 use Rattle.spki_words.specs.declared.words.WordsFault.TheVariants as words
@@ -47,17 +47,21 @@ IsUnasked kind asked = MatchResult asked (λ _. ⊥) (AreUnreadWords kind)
 
 -- ---- messages
 
--- the writer accepted all the octets, or failed after a beginning of them
+-- The writer accepted all the octets and a flush, or failed after a beginning of them and no flush succeeded. Its counts were reset before the
+-- first call.
 abbrev pub IsSaid : {W : Type 0} → (W → Option (List ℕ)) → Metered W → Metered W → List ℕ → Type 0
-IsSaid contents old new octets = IsWritten contents old new octets ⊎ IsCutOff contents old new octets
+IsSaid contents old new octets =
+    IsReset old new × (IsWritten contents old new octets ⊎ (IsCutOff contents old new octets × (flushed_of new ≡ false)))
 
--- the writer was not called, and accepted nothing
+-- the counts of the writer were reset, it was not called, and accepted nothing
 pub record IsSilent {W : Type 0} (contents : W → Option (List ℕ)) (old new : Metered W) : Type 0 where
+  pub reset : IsReset old new
   pub unasked : asks_of new ≡ 0
   pub nothing : TakesNone contents old new
 
--- the reader was not called, and returned nothing
+-- the counts of the reader were reset, it was not called, and returned nothing
 pub record IsUntouched {R : Type 0} (remaining : R → Option (List ℕ)) (old new : Metered R) : Type 0 where
+  pub reset : IsReset old new
   pub unasked : asks_of new ≡ 0
   pub nothing : GivesNone remaining old new
 
@@ -80,13 +84,15 @@ IsRefused contents lines old new before after words.Memory = IsSaid contents old
 -- A command was run, from what was read to what was written, with this status. These are the promises of `run`.
 pub record IsCommandRun {R W : Type 0} (remaining : R → Option (List ℕ)) (contents : W → Option (List ℕ)) (command : Command)
     (reader read : Metered R) (writer written_to : Metered W) (status : Status) : Type 0 where
+  pub reset : IsReset reader read × IsReset writer written_to
   pub reader_asks : asks_of read ≤ 2097152
   pub no_more : (octets : List ℕ) × (length octets ≤ 1048577) × Gives remaining reader read octets
   pub ended_at_done : status ≡ Answered verdict.Done → IsTrue (ended_of read)
   pub ended_at_no : status ≡ Answered verdict.No → IsTrue (ended_of read)
-  pub read_fault : status ≡ ReadFault → IsFaulty read 2097152
+  pub read_fault : status ≡ ReadFault → IsFaulty read 2097152 × (ended_of read ≡ false)
   pub no_read_fault : (status ≡ ReadFault) ⊎ (faults_of read ≡ 0)
   pub no_write_fault : (status ≡ WriteFault) ⊎ (faults_of written_to ≡ 0)
+  pub unflushed : status ≡ WriteFault → flushed_of written_to ≡ false
   pub unwritten : status ≡ ReadFault → (asks_of written_to ≡ 0) × TakesNone contents writer written_to
   pub written : (verdict : Verdict) → status ≡ Answered verdict → (output : List ℕ)
       × IsReply command (remaining (inner_of reader)) (remaining (inner_of read)) (ended_of read) verdict output

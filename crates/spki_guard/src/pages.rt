@@ -1,6 +1,6 @@
 //! Writes octets to a writer, a page at a time.
 ghost use Rattle.std.specs.Prelude.{◌≡◌, ℕ, ◌≤◌, ◌⊎◌, List, [], ◌∷◌, ◌++◌, false, IsTrue, max, OnOk, OnErr};
-ghost use Rattle.metered_io.specs.MeteredCalls.{asks_of, faults_of, flushed_of, Takes};
+ghost use Rattle.metered_io.specs.MeteredCalls.{asks_of, faults_of, flushed_of, earlier_of, Takes};
 ghost use Rattle.spki_guard.specs.Inner.Pages.{lender_of, writer_of, page_of, most_of, has_failed, IsPassedOn, IsCutAfter, PageTakes, page_takes_nothing, page_takes_both, page_stays};
 
 use arrayvec::ArrayVec;
@@ -104,6 +104,8 @@ impl<'w, W: Write> PageSink<'w, W> {
     /// `WriteFault` if this or an earlier write failed, or the flush.
     pub(crate) fn end(self) -> Result<(), WriteFault>
         ensures asks { asks_of self.exit.0.now ≤ max (asks_of (writer_of self.entry)) (most_of self.entry) }
+        ensures earlier { earlier_of self.exit.0.now ≡ earlier_of (writer_of self.entry) }
+        ensures unflushed { OnErr result (flushed_of (writer_of self.entry) ≡ false → flushed_of self.exit.0.now ≡ false) }
         ensures ok { OnOk result ((has_failed self.entry ≡ false)
             × Takes W.contents (writer_of self.entry) self.exit.0.now (page_of self.entry)
             × (faults_of self.exit.0.now ≡ faults_of (writer_of self.entry)) × IsTrue (flushed_of self.exit.0.now)) }

@@ -1,7 +1,7 @@
 //! Runs a command, from the octets that are read to those that are written.
 //! A value with many parts is freed by a call of `drop`, so that the proof does not go through its parts at each exit.
-ghost use Rattle.std.specs.Prelude.{◌≡◌, ℕ, ◌+◌, ◌<◌, ◌≤◌, ◌⊎◌, List, length, max, Option, Bool, IsTrue, IfNone, IfSome, OnSome};
-ghost use Rattle.metered_io.specs.MeteredCalls.{inner_of, asks_of, faults_of, ended_of, Gives, TakesNone};
+ghost use Rattle.std.specs.Prelude.{◌≡◌, ℕ, ◌+◌, ◌<◌, ◌≤◌, ◌⊎◌, List, length, max, Option, Bool, IsTrue, false, IfNone, IfSome, OnSome};
+ghost use Rattle.metered_io.specs.MeteredCalls.{inner_of, asks_of, faults_of, ended_of, flushed_of, earlier_of, IsReset, Gives, TakesNone};
 ghost use Rattle.spki_guard.specs.TextAnswers.{IsAnswer, IsReply, IsFaulty, IsWritten, IsCutOff, RefusesForMemory};
 ghost use Rattle.spki_guard.specs.{declared.answers.Verdict.{Verdict}, Inner.Prints.{answer_verdict, Prints, IsTextRead, Sends}};
 
@@ -24,7 +24,7 @@ const WRITER_ASKS: u64 = 2_097_152;
 
 /// Reads a text, in any of the three forms, does the command with it, and writes the answer. The status says what the
 /// answer is, or that the reader or the writer failed. All that the answer is printed from is made before its first
-/// octet is written, and nothing is allocated after it. The call resets both meters first.
+/// octet is written, and nothing is allocated after it. The call resets both meters first, and not again.
 ///
 /// At most 1,048,577 octets are taken from the reader. If it has as many, the answer is `refused form TooLong`. If
 /// memory ran out, it is `refused Memory`. The status is `ReadFault` if the reader failed, or had not ended after
@@ -37,13 +37,16 @@ pub fn run<R: Read, W: Write>(
     reader: &mut Metered<R>,
     writer: &mut Metered<W>,
 ) -> Status
+    // So no call is missing in the counts, and no fault.
+    ensures reset { IsReset reader.old reader.new × IsReset writer.old writer.new }
     ensures reader_asks { asks_of reader.new ≤ 2097152 }
     ensures no_more { (octets : List ℕ) × (length octets ≤ 1048577) × Gives R.remaining reader.old reader.new octets }
     ensures ended_at_done { result ≡ Status.Answered Verdict.Done → IsTrue (ended_of reader.new) }
     ensures ended_at_no { result ≡ Status.Answered Verdict.No → IsTrue (ended_of reader.new) }
-    ensures read_fault { result ≡ Status.ReadFault → IsFaulty reader.new 2097152 }
+    ensures read_fault { result ≡ Status.ReadFault → IsFaulty reader.new 2097152 × (ended_of reader.new ≡ false) }
     ensures no_read_fault { (result ≡ Status.ReadFault) ⊎ (faults_of reader.new ≡ 0) }
     ensures no_write_fault { (result ≡ Status.WriteFault) ⊎ (faults_of writer.new ≡ 0) }
+    ensures unflushed { result ≡ Status.WriteFault → flushed_of writer.new ≡ false }
     ensures unwritten { result ≡ Status.ReadFault → (asks_of writer.new ≡ 0)
         × TakesNone W.contents writer.old writer.new }
 
@@ -67,8 +70,10 @@ pub fn run<R: Read, W: Write>(
 /// is a refusal to answer with: of a text of more than 1,048,576 octets, or `Memory` if memory ran out.
 fn read_text<R: Read>(alloc: Global, reader: &mut Metered<R>) -> Option<Result<Vec<u8>, Refusal>>
     ensures asks { asks_of reader.new ≤ max (asks_of reader.old) 2097152 }
+    ensures earlier { earlier_of reader.new ≡ earlier_of reader.old }
     ensures no_more { (octets : List ℕ) × (length octets ≤ 1048577) × Gives R.remaining reader.old reader.new octets }
     ensures fault { IfNone result ((0 < faults_of reader.new) ⊎ (2097152 ≤ asks_of reader.new)) }
+    ensures unended { IfNone result (asks_of reader.old < 2097152 → ended_of reader.new ≡ false) }
     ensures no_fault { OnSome result (faults_of reader.new ≡ faults_of reader.old) }
     ensures read { IfSome result (IsTextRead (R.remaining (inner_of reader.old)) (R.remaining (inner_of reader.new)) (ended_of reader.new)) }
 {

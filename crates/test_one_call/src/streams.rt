@@ -20,8 +20,8 @@ use test_calls::texts::{at, behind, number, word_of};
 pub(crate) fn call(alloc: Global, name: &str, texts: &[Vec<u8>]) -> Option<Reply> {
     match name {
         "run" => Some(run(alloc, texts)),
-        "Metered::read" => Some(read_once(alloc, at(texts, 0))),
-        "Metered::write" => Some(write_once(alloc, at(texts, 0))),
+        "Metered::read" => Some(read_once(alloc, texts)),
+        "Metered::write" => Some(write_once(alloc, texts)),
         "fault_texts" => Some(fault_texts(alloc)),
         _ => callers::call(alloc, name, texts),
     }
@@ -188,23 +188,36 @@ fn written(alloc: Global, counts: &[u8], taken: &[u8]) -> Reply {
     joined(alloc, &[counts, taken])
 }
 
-/// Reads a text once through a meter, into a buffer of three octets. The answer is that of `passed_on`.
-fn read_once(alloc: Global, text: &[u8]) -> Reply {
-    let mut meter = Metered::new(TestStream::new(alloc, text, &[]));
+/// Reads once through a meter, into a buffer of three octets. The first text is what the stream gives; the others are for `TestStream::new`. The
+/// answer is that of `passed_on`.
+fn read_once(alloc: Global, texts: &[Vec<u8>]) -> Reply {
+    let mut meter = Metered::new(TestStream::new(alloc, at(texts, 0), behind(texts, 1)));
     let mut buffer = [0; 3];
-    let count = meter.read(&mut buffer)?;
+    let count = count_of(meter.read(&mut buffer))?;
     let (asks, faults) = (meter.asks(), meter.faults());
     passed_on(alloc, count, &buffer, asks, faults, &meter.into_inner())
 }
 
-/// Writes octets once through a meter, and flushes. The answer is that of `passed_on`, for the octets that were written.
-fn write_once(alloc: Global, octets: &[u8]) -> Reply {
-    let mut meter = Metered::new(TestStream::new(alloc, b"", &[]));
-    let count = meter.write(octets)?;
-    meter.flush()?;
+/// Writes octets, the first text, once through a meter, and flushes. The other texts are for `TestStream::new`. The answer is that of `passed_on`,
+/// for the octets that were written.
+fn write_once(alloc: Global, texts: &[Vec<u8>]) -> Reply {
+    let mut meter = Metered::new(TestStream::new(alloc, b"", behind(texts, 1)));
+    let count = count_of(meter.write(at(texts, 0)))?;
+    drop(meter.flush());
     let (asks, faults) = (meter.asks(), meter.faults());
     let end = meter.into_inner();
     passed_on(alloc, count, &end.taken, asks, faults, &end)
+}
+
+/// How many octets a call passed on: 0 if it failed as a `TestStream` fails. Err at any other error, such as no memory.
+fn count_of(answer: io::Result<usize>) -> Result<usize, Failure> {
+    match answer {
+        Ok(count) => Ok(count),
+        Err(error) => match error.kind() {
+            ErrorKind::Other | ErrorKind::Interrupted => Ok(0),
+            _ => Err(Failure::from(error)),
+        },
+    }
 }
 
 /// The answer, which shows that a meter passes each call on once, with the same buffer. It is how many octets were passed on, and which;

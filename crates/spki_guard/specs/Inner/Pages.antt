@@ -2,7 +2,7 @@
 use Rattle.std.proofs.Common.{◌≡◌, ℕ, List, [], ◌++◌, Option, None, Some, Bool, true, true≢false, inl, inr, refl, sym, ap, ◌∙◌, append_assoc, append-nil, arith}
 use Rattle.std.proofs.KnownBytes.{Appends-trans}
 use Rattle.std.specs.{Prelude.{◌⊎◌, ◌<◌, ◌≤◌, max, false}, Borrow.{GName}, Io.KnownBytes.{Appends}}
-use Rattle.metered_io.specs.{declared.meters.Metered.{Metered}, MeteredCalls.{asks_of, faults_of, Takes, SendsFront, inner_of}}
+use Rattle.metered_io.specs.{declared.meters.Metered.{Metered}, MeteredCalls.{asks_of, faults_of, flushed_of, earlier_of, Takes, SendsFront, inner_of}}
 use Rattle.spki_guard.specs.declared.pages.PageSink.{PageSink}
 
 -- ---- what is written page by page
@@ -39,6 +39,8 @@ IsCutAfter contents failed old new octets most =
 -- octets are passed to a writer, unless a write failed before
 pub record IsPassedOn {W : Type 0} (contents : W → Option (List ℕ)) (old new : Metered W) (octets : List ℕ) (most : ℕ) (before after : Bool) : Type 0 where
   pub asks : asks_of new ≤ max (asks_of old) most
+  pub earlier : earlier_of new ≡ earlier_of old
+  pub unflushed : flushed_of old ≡ false → flushed_of new ≡ false
   pub whole : after ≡ false → (before ≡ false) × (faults_of new ≡ faults_of old) × Takes contents old new octets
   pub cut : after ≡ true → IsCutAfter contents before old new octets most
 
@@ -47,6 +49,8 @@ pub record PageTakes {W : Type 0} (contents : W → Option (List ℕ)) (old : Pa
   pub same_lender : lender_of new ≡ lender_of old
   pub same_most : most_of new ≡ most_of old
   pub asks : asks_of (writer_of new) ≤ max (asks_of (writer_of old)) (most_of old)
+  pub earlier : earlier_of (writer_of new) ≡ earlier_of (writer_of old)
+  pub unflushed : flushed_of (writer_of old) ≡ false → flushed_of (writer_of new) ≡ false
   pub whole : has_failed new ≡ false → (has_failed old ≡ false) × (faults_of (writer_of new) ≡ faults_of (writer_of old))
       × (sent : List ℕ) × Takes contents (writer_of old) (writer_of new) sent × (sent ++ page_of new ≡ page_of old ++ octets)
   pub cut : has_failed new ≡ true
@@ -64,6 +68,8 @@ module _ {W : Type 0} (contents : W → Option (List ℕ)) where
     same_lender = refl;
     same_most = refl;
     asks = omega arith;
+    earlier = refl;
+    unflushed = λ e. e;
     whole = λ ok. (ok, refl, [], none_appended (contents (inner_of (writer_of s))), sym (append-nil (page_of s)));
     cut = λ failed. inl (failed, refl);
   }
@@ -73,6 +79,8 @@ module _ {W : Type 0} (contents : W → Option (List ℕ)) where
     same_lender = refl;
     same_most = refl;
     asks = omega arith;
+    earlier = refl;
+    unflushed = λ e. e;
     whole = λ ok. absurd (true≢false (sym failed ∙ ok));
     cut = λ _. inl (failed, refl);
   }
@@ -117,6 +125,8 @@ module _ {W : Type 0} (contents : W → Option (List ℕ)) where
     same_lender = g.same_lender ∙ f.same_lender;
     same_most = g.same_most ∙ f.same_most;
     asks = omega (arith, f.asks, g.asks, f.same_most);
+    earlier = g.earlier ∙ f.earlier;
+    unflushed = λ e. g.unflushed (f.unflushed e);
     whole = λ ok.
         let (was, faults, sent, taken, e) = g.whole ok in
         let (first, faults_first, sent_first, taken_first, e_first) = f.whole was in (

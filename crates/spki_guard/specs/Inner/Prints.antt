@@ -8,7 +8,7 @@ use Rattle.spki_guard.specs.declared.{fold_printer.FoldPrinter.{FoldPrinter}, qu
 use Rattle.spki_guard.specs.declared.{sources.Source.{Source}, statuses.Status.{Status, TheVariants.{Answered, WriteFault}}}
 use Rattle.spki_guard.specs.Lines.{yes_entry, no_line, refused_line, AreFoldLines, some_done, item_line, no_entries, verdict_of, ReportsFolds, some_grant, reason_lines}
 use Rattle.spki_guard.specs.TextAnswers.{form_of, IsOnCase, RefusesAnswer, RefusesApart, RefusesLong, IsWritten, IsCutOff}
-use Rattle.metered_io.specs.{declared.meters.Metered.{Metered}, MeteredCalls.{faults_of}}
+use Rattle.metered_io.specs.{declared.meters.Metered.{Metered}, MeteredCalls.{faults_of, flushed_of, earlier_of}}
 use Rattle.sexpr_core.specs.{declared.fault.FormFault.{FormFault}, Value.{Value}}
 use Rattle.sexpr_text.specs.{AdvancedForm.{adv, IsTextWithin, written}, CanonicalTexts.{IsReadAs, RefusesForm}}
 use Rattle.spki_tag.specs.Tag.{tag_value}
@@ -131,10 +131,12 @@ IsTextRead known left ended (Err refusal) =
 
 -- ---- sending
 
--- Some octets with a verdict, of which this is said, were written, or a beginning of them.
+-- Some octets with a verdict, of which this is said, were written, or a beginning of them. The writer's counts were not reset.
 pub record Sends {W : Type 0} (contents : W → Option (List ℕ)) (IsOne : Verdict → List ℕ → Type 0) (old new : Metered W) (status : Status) : Type 0 where
   pub verdict : Verdict
   pub output : List ℕ
   pub is : IsOne verdict output
+  pub earlier : earlier_of new ≡ earlier_of old
+  pub unflushed : status ≡ WriteFault → flushed_of old ≡ false → flushed_of new ≡ false
   pub end : ((status ≡ Answered verdict) × IsWritten contents old new output × (faults_of new ≡ faults_of old))
       ⊎ ((status ≡ WriteFault) × IsCutOff contents old new output)

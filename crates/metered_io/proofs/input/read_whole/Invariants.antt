@@ -1,4 +1,4 @@
-use Rattle.std.proofs.Common.{◌-◌, ◌≡◌, ◌≤◌, max, vec_len}
+use Rattle.std.proofs.Common.{◌-◌, ◌≡◌, ◌≤◌, ◌⊎◌, false, max, vec_len}
 use Rattle.metered_io.specs.MeteredCalls.{Gives}
 use Rattle.metered_io.proofs.input.read_whole.Given as goal
 
@@ -8,6 +8,8 @@ invariant-loop-buffer g l = record {
   short : vec_len l.text ≤ l.most;
   asked : l.reader.asks ≤ max l.initial.reader.asks 2097152;
   faultless : l.reader.faults ≡ l.initial.reader.faults;
+  earlier : l.reader.earlier ≡ l.initial.reader.earlier;
+  unended : (l.reader.asks ≡ l.initial.reader.asks) ⊎ (l.reader.ended ≡ false);
 }
 
 abbrev pub decreases-loop-buffer : goal.decreases-loop-buffer

@@ -7,4 +7,6 @@ loop-rest-preserved g c = record {
   sent = SendsFront-more c.in_ok-count.count c.loop-rest.invariant.sent c.in_ok-count.ensures.octets c.split_at.ensures.back;
   asked = search rules;
   faultless = search rules;
+  earlier = search rules;
+  unflushed = λ e. search rules;
 }

@@ -1,3 +1,4 @@
+use Rattle.std.proofs.Common.{◌∙◌}
 use Rattle.metered_io.specs.MeteredCalls.{inner_of, ended_of}
 use Rattle.spki_guard.specs.{declared.answers.Verdict.TheVariants.{Done, No}, TextAnswers.{IsReply}}
 use Rattle.spki_guard.proofs.Sending.{sends_written, sends_cut, sends_faultless, sends_no_read_fault, sends_ended}
@@ -50,3 +51,13 @@ returns-in-Some-clause-write_fault g c e =
     let sent = c.send_read.ensures _ _ _ (rw c.restart.ensures.inner at c.in-Some.ensures.read) in
     sends_cut g.W.Write.contents reply c.args.writer.now c.restart-2.new.self c.send_read.new.writer c.send_read.result
     c.restart-2.ensures.inner sent e
+
+pub returns-in-Some-clause-reset : goal.returns-in-Some-clause-reset
+returns-in-Some-clause-reset g c =
+    let sent = c.send_read.ensures _ _ _ c.in-Some.ensures.read in
+    (c.read_text.ensures.earlier ∙ c.restart.ensures.earlier, sent.earlier ∙ c.restart-2.ensures.earlier)
+
+pub returns-in-Some-clause-unflushed : goal.returns-in-Some-clause-unflushed
+returns-in-Some-clause-unflushed g c e =
+    let sent = c.send_read.ensures _ _ _ c.in-Some.ensures.read in
+    sent.unflushed e c.restart-2.ensures.flushed

@@ -10,5 +10,7 @@ returns-in-Err g c =
       verdict = answer_verdict c.args.answer.now;
       output = octets;
       is = (refl, printed);
+      earlier = search rules;
+      unflushed = λ status old. search rules;
       end = inr (refl, search (rules, cut_pages g.W.Write.contents c.new-sink.result c.print_answer.new.sink, taken, limit));
     }
