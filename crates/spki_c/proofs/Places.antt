@@ -4,7 +4,7 @@ use Rattle.std.proofs.{lemmas.List.{length-append}, Math.Seq.{take-length, drop-
 use Rattle.sexpr_core.specs.Characters.{char}
 use Rattle.sexpr_core.specs.Value.{Value, Values, string, list, none, more, canon, canons, members, values, group, decimal, verbatim}
 use Rattle.sexpr_core.specs.Nodes.{LiesAt}
-use Rattle.spki_c.specs.Strings.{parts, IsMember, octets_at, if_there, StandsIn, octets_of}
+use Rattle.spki_c.specs.Strings.{parts, IsMember, octets_at, if_there, StandsIn, BeginsAt, octets_of}
 
 -- ---- the members of a list stand in its canonical text, one behind another
 
@@ -66,8 +66,11 @@ member_there v begins number m rest l =
     let all : List Value = l.before ++ m ∷ rest in
     let here : length l.before ≡ number = let c = l.counted in omega (arith, c) in
     let got : slice_get (parts (group all)) (length l.before) ≡ Some m = ap (λ vs. slice_get vs (length l.before)) (members-values all) ∙ get-behind l.before rest m in
+    let front : take number (parts v) ≡ l.before =
+    ap (λ w. take number (parts w)) l.is ∙ ap (take number) (members-values all) ∙ ap (λ n. take n all) (sym here) ∙ take-append_seam l.before (m ∷ rest) in
     record {
       is = ap (λ w. slice_get (parts w) number) l.is ∙ ap (λ n. slice_get (parts (group all)) n) (sym here) ∙ got;
+      begins = l.long ∙ ap (λ vs. 1 + length (canons (values vs))) (sym front);
       place = subst (λ (w : Value). LiesAt (canon w) (canon m) begins) (sym l.is) (subst (λ (n : ℕ). LiesAt (canon (group all)) (canon m) n) (sym l.long) (lies l.before rest m));
     }
 
@@ -102,6 +105,9 @@ lies_within text w os at inner outer l = record {
       ∙ sym (append_assoc outer.before l.before (os ++ (l.behind ++ outer.behind)));
   begins = let n = length-append outer.before l.before in let a = outer.begins in let b = l.begins in omega (arith, n, a, b);
 }
+
+pub path_begins : (v m : Value) (n at inner : ℕ) (path : List ℕ) → IsMember v n m at → BeginsAt m path inner → BeginsAt v (n ∷ path) (at + inner)
+path_begins v m n at inner path is begins = (m, inner, is.is, begins, ap (λ k. k + inner) is.begins)
 
 pub path_there : (v m : Value) (n at inner count : ℕ) (path : List ℕ) → IsMember v n m at → StandsIn (canon m) (octets_at m path) inner count
     → StandsIn (canon v) (octets_at v (n ∷ path)) (at + inner) count
@@ -143,9 +149,11 @@ module _ (v : Value) (begins left number : ℕ) (all : List Value) (l : Left v b
   none_there is = no_member v begins left number (subst (λ (ms : List Value). Left v begins left number ms) is l)
 
 pub path_found : (v m : Value) (n at inner count : ℕ) (path rest : List ℕ) → path ≡ n ∷ rest → IsMember v n m at
-    → StandsIn (canon m) (octets_at m rest) inner count → StandsIn (canon v) (octets_at v path) (at + inner) count
-path_found v m n at inner count path rest is there stands =
-    subst (λ (p : List ℕ). StandsIn (canon v) (octets_at v p) (at + inner) count) (sym is) (path_there v m n at inner count rest there stands)
+    → StandsIn (canon m) (octets_at m rest) inner count × BeginsAt m rest inner
+    → StandsIn (canon v) (octets_at v path) (at + inner) count × BeginsAt v path (at + inner)
+path_found v m n at inner count path rest is there (stands, begins) =
+    subst (λ (p : List ℕ). StandsIn (canon v) (octets_at v p) (at + inner) count × BeginsAt v p (at + inner)) (sym is)
+    (path_there v m n at inner count rest there stands, path_begins v m n at inner rest there begins)
 
 pub path_head : (path : List ℕ) → 1 ≤ length path → path ≡ get_or path 0 0 ∷ take (length path - 1) (drop 1 path)
 path_head [] some = absurd (omega (arith, some))
@@ -181,6 +189,13 @@ string_stands v hint octets whole is all = search (rules, octets_of, canon, leng
 pub string_short : (v : Value) (hint : Option (List ℕ)) (octets whole : List ℕ) → string hint octets ≡ v → whole ≡ canon v
     → length octets ≤ length whole
 string_short v hint octets whole is all = search (rules, length, canon, with_front, length-append, front_of)
+
+pub string_begins : (v : Value) (hint : Option (List ℕ)) (octets whole : List ℕ) → string hint octets ≡ v → whole ≡ canon v
+    → BeginsAt v [] (length whole - length octets)
+string_begins v hint octets whole is all =
+    let short = string_short v hint octets whole is all in
+    let long : length whole ≡ length (canon v) = ap length all in
+    (octets, sym (ap octets_of is), omega (arith, short, long))
 
 -- the octets that lie at a place of a text are the part of the text there
 pub part_at : (text octets : List ℕ) (at count : ℕ) → LiesAt text octets at → count ≡ length octets

@@ -1,7 +1,7 @@
 //! Finds strings inside values.
-ghost use Rattle.std.specs.Prelude.{◌≡◌, ◌≤◌, None, Some, length, slice_get, MatchOption};
+ghost use Rattle.std.specs.Prelude.{◌≡◌, ◌≤◌, [], None, Some, length, slice_get, MatchOption};
 ghost use Rattle.sexpr_core.specs.{Value.{canon}, Nodes.{LiesAt}};
-ghost use Rattle.spki_c.specs.Strings.{parts, octets_of, octets_at, StandsIn, IsMember};
+ghost use Rattle.spki_c.specs.Strings.{parts, octets_of, octets_at, StandsIn, BeginsAt, IsMember};
 
 use sexpr_core::syntax::{Node, NodeKind};
 
@@ -20,7 +20,7 @@ pub(crate) struct Place {
 pub(crate) fn place_in(node: &Node, path: &[usize]) -> Option<Place>
     requires { length (canon node.now) ≤ 1048576 }
     ensures { MatchOption result (octets_at node.now path.now ≡ None)
-        (λ p. StandsIn (canon node.now) (octets_at node.now path.now) p.at p.length) }
+        (λ p. StandsIn (canon node.now) (octets_at node.now path.now) p.at p.length × BeginsAt node.now path.now p.at) }
 {
     match path {
         [] => place_of_octets(node),
@@ -38,7 +38,7 @@ pub(crate) fn place_in(node: &Node, path: &[usize]) -> Option<Place>
 /// The place of a string's octets in the string's own canonical text, which ends with them: in `3:abc` they are 3 octets at 2. None for a list.
 fn place_of_octets(node: &Node) -> Option<Place>
     ensures { MatchOption result (octets_of node.now ≡ None)
-        (λ p. StandsIn (canon node.now) (octets_of node.now) p.at p.length) }
+        (λ p. StandsIn (canon node.now) (octets_of node.now) p.at p.length × BeginsAt node.now [] p.at) }
 {
     match node.kind() {
         NodeKind::String { body, .. } => {

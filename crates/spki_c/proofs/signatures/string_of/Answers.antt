@@ -10,7 +10,7 @@ pub returns-in-Some : goal.returns-in-Some
 returns-in-Some c v within is =
     let top = c.top.ensures in
     let place = c.in-Some.place in
-    let stands : StandsIn (canon c.top.result) (octets_of c.top.result) place.at place.length = c.in-Some.ensures in
+    let stands : StandsIn (canon c.top.result) (octets_of c.top.result) place.at place.length = c.in-Some.ensures.0 in
     let text : c.args.value.now ≡ canon c.top.result = c.in-Ok.ensures.read.0 ∙ ap canon (sym top) in
     let here : StandsIn c.args.value.now (octets_of c.top.result) place.at place.length =
     subst (λ (t : List ℕ). StandsIn t (octets_of c.top.result) place.at place.length) (sym text) stands in

@@ -1,5 +1,5 @@
 use Rattle.std.specs.Option.{option_copied}
-use Rattle.spki_c.proofs.Places.{string_stands, string_short}
+use Rattle.spki_c.proofs.Places.{string_stands, string_begins, string_short}
 use Rattle.spki_c.proofs.strings.place_of_octets.Goals as goal
 
 pub overflow_sub-result : goal.overflow_sub-result
@@ -8,4 +8,6 @@ overflow_sub-result c =
 
 pub returns-in-String : goal.returns-in-String
 returns-in-String c =
-    string_stands c.args.node.now (option_copied c.in-String.hint) c.in-String.body.now c.slice-whole.result.now c.in-String.ensures c.slice-whole.ensures
+    let stands = string_stands c.args.node.now (option_copied c.in-String.hint) c.in-String.body.now c.slice-whole.result.now c.in-String.ensures in
+    let begins = string_begins c.args.node.now (option_copied c.in-String.hint) c.in-String.body.now c.slice-whole.result.now c.in-String.ensures in
+    (stands c.slice-whole.ensures, begins c.slice-whole.ensures)
