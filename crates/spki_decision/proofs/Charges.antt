@@ -8,7 +8,7 @@ use Rattle.spki_reduce.specs.Chain.{IsWorkOf, ReachedAt, Takes, AreTicksOfSteps}
 use Rattle.spki_reduce.proofs.Working.{one_work, grows, over, none_taken, taken}
 use Rattle.spki_case.specs.Case.{Case}
 use Rattle.spki_decision.specs.{Spared.{is_spared}, Granted.{IsCharge, IsOvercharged, IsSumOf, IsEntryWork, IsWithinWork, IsOverspent}}
-use Rattle.spki_decision.specs.{Requirements.{AreKept, second}, Cost.{AreTicksOfEntry}}
+use Rattle.spki_decision.specs.{Requirements.{AreKept, second}, Cost.{AreTicksOfEntry, TakesOfEntry}}
 
 -- ---- sums
 
@@ -200,6 +200,7 @@ module _ (c : Case) (tuples : List Tuple) where
 -- ---- what is left, also after an error
 
 pub charge_taken : (before after : Option ℕ) (old new : ℕ) (policy : Policy) (uncounted : ℕ) (tuples : List Tuple) (e : Entry)
-    → AreTicksOfEntry before after old new policy uncounted tuples e → (n : ℕ) × Takes before after n
-charge_taken before after old new policy uncounted tuples e (inl h) = (0, none_taken before after h.1)
-charge_taken before after old new policy uncounted tuples e (inr h) = (h.1.work, h.1.taken)
+    → AreTicksOfEntry before after old new policy uncounted tuples e → TakesOfEntry before after policy uncounted tuples e
+charge_taken before after old new policy uncounted tuples e (inl h) = inl (h.0, h.1)
+charge_taken before after old new policy uncounted tuples e (inr h) =
+    inr (h.0, record { steps = h.1.steps; within = h.1.within; work = h.1.work; is = h.1.is; taken = h.1.taken })

@@ -2,7 +2,7 @@
 use Rattle.std.specs.Prelude.{◌≡◌, ℕ, ◌+◌, ◌<◌, ◌≤◌, ◌⊎◌, List, [], ◌∷◌, Option, None, true, false}
 use Rattle.spki_cert.specs.{declared.{entry.Entry.{Entry}, principal.Policy.{Policy}}, Cost.{names_weight, principal_weight}}
 use Rattle.spki_tag.specs.{Tag.{tags}, Cost.{weight_all}}
-use Rattle.spki_reduce.specs.{Reduction.{Tuple, five, four, tags_of, entry_tuple}, Chain.{AreTicksOfSteps}}
+use Rattle.spki_reduce.specs.{Reduction.{Tuple, five, four, tags_of, entry_tuple}, Chain.{AreTicksOfSteps, TakesFirstSteps}}
 use Rattle.spki_decision.specs.{Spared.{is_spared}, declared.reduction.EntryFold.{EntryFold, TheVariants.{Done, Stopped}}}
 
 -- one for the tuple, and its tags
@@ -34,6 +34,13 @@ abbrev pub AreTicksOfEntry : Option ℕ → Option ℕ → ℕ → ℕ → Polic
 AreTicksOfEntry before after old new policy uncounted tuples e =
     ((is_spared uncounted tuples e.tag ≡ true) × (after ≡ before) × AreTicksOfSteps None None old new policy (five (entry_tuple e)) tuples)
     ⊎ ((is_spared uncounted tuples e.tag ≡ false) × AreTicksOfSteps before after old new policy (five (entry_tuple e)) tuples)
+
+-- What the chain of an entry takes from the work that may be done, also after an error: that of its first steps, or nothing if the entry is
+-- spared.
+abbrev pub TakesOfEntry : Option ℕ → Option ℕ → Policy → ℕ → List Tuple → Entry → Type 0
+TakesOfEntry before after policy uncounted tuples e =
+    ((is_spared uncounted tuples e.tag ≡ true) × (after ≡ before))
+    ⊎ ((is_spared uncounted tuples e.tag ≡ false) × TakesFirstSteps before after policy (five (entry_tuple e)) tuples)
 
 -- at least one for each step of a chain that goes through, and one for a chain that stops
 abbrev pub CountsSteps : ℕ → ℕ → ℕ → EntryFold → Type 0

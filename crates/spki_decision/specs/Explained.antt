@@ -95,10 +95,11 @@ abbrev pub IsReasonFor : Case → EntryFold → Reason → Type 0
 IsReasonFor c fold reason =
     (es : List Entry) (tuples : List Tuple) (e : Entry) → IsEntryFold (with_entries c es) tuples e fold → IsReason (with_entries c es) tuples e reason
 
--- If there were no reasons yet, there is now one for each of these, in order.
+-- Behind the reasons that there were is now one for each of these, in order.
 abbrev pub TakesReasons : ReasonSink → List EntryFold → ReasonSink → Type 0
-TakesReasons start folds sink = start.reasons.items ≡ []
-    → (sink.case ≡ start.case) × AllZip (IsReasonFor (model start.case.now)) folds sink.reasons.items
+TakesReasons start folds sink =
+    (sink.case ≡ start.case) × (added : List Reason) × (sink.reasons.items ≡ start.reasons.items ++ added)
+    × AllZip (IsReasonFor (model start.case.now)) folds added
 
 pub no_reasons : (sink : ReasonSink) → TakesReasons sink [] sink
-no_reasons sink empty = (refl, rw empty tt)
+no_reasons sink = (refl, [], sym (append-nil sink.reasons.items), tt)

@@ -4,7 +4,7 @@ ghost use Rattle.std.specs.{Prelude.{◌≡◌, ◌<◌, List, map, length, IfOk
 ghost use Rattle.spki_case.specs.{View.{model}, Case.{certificates}};
 ghost use Rattle.spki_decision.specs.Granted.{IsEntryFold, IsOwn, IsReduction, IsDated, EndsAtDate, AreDated, EndAtDates, AreFoldsOf, HasLargeTags, HasMuchWork, SomeTooLarge, IsCharge, IsOvercharged};
 ghost use Rattle.spki_decision.specs.{CertificateTests.{shown_of, with_entries}, declared.reduction.EntryFold.{EntryFold}};
-ghost use Rattle.spki_decision.specs.{Requirements.{work_left, IsBudgetFor}, Cost.{AreTicksOfEntry, CountsSteps}};
+ghost use Rattle.spki_decision.specs.{Requirements.{work_left, IsBudgetFor}, Cost.{AreTicksOfEntry, TakesOfEntry, CountsSteps}};
 ghost use Rattle.spki_cert.specs.declared.entry.Entry.{Entry};
 ghost use Rattle.spki_reduce.specs.{Reduction.{five, entry_tuple}, Chain.{tuples_of, TooLargeAt, Takes}};
 
@@ -87,7 +87,7 @@ pub fn reduce_case<'a, V: Verifier>(
 /// # Errors
 ///
 /// `TooLarge` at the first entry for which two tags that are to be intersected, or the work of the entries up to it, are over the limits of
-/// the case. `Memory` if memory ran out, here or in the sink. After an error, `sink` may have taken what some of the entries become.
+/// the case. `Memory` if memory ran out, here or in the sink. After an error, drop what `sink` has taken.
 pub(crate) fn put_folds<'a, S: FoldSink<'a>>(
     alloc: Global,
     acl: &[Entry<'a>],
@@ -142,8 +142,8 @@ pub fn entry_fold<'a>(
         ⊎ IsOvercharged case.now.policy case.now.uncounted (tuples_of steps.now) entry.now (work_left budget.old) }
     ensures charged { OnOk result ((n : ℕ) × IsCharge case.now.policy case.now.uncounted (tuples_of steps.now) entry.now n
         × Takes (work_left budget.old) (work_left budget.new) n) }
-    // What was taken stays taken, also after an error.
-    ensures left { (n : ℕ) × Takes (work_left budget.old) (work_left budget.new) n }
+    // What was taken stays taken, also after an error: the work of some first steps.
+    ensures left { TakesOfEntry (work_left budget.old) (work_left budget.new) case.now.policy case.now.uncounted (tuples_of steps.now) entry.now }
     ensures same_sizes { IsBudgetFor (tuples_of steps.now) budget.new }
     ensures within_limit { IfOk result (λ fold. ¬ TooLargeAt case.now.most_nodes case.now.policy (five (entry_tuple entry.now)) (tuples_of steps.now)) }
 {
@@ -178,7 +178,7 @@ fn entry_fold_with_new_count<'a, L: Ledger>(
         ⊎ IsOvercharged case.now.policy case.now.uncounted (tuples_of steps.now) entry.now (work_left budget.old) }
     ensures charged { OnOk result ((n : ℕ) × IsCharge case.now.policy case.now.uncounted (tuples_of steps.now) entry.now n
         × Takes (work_left budget.old) (work_left budget.new) n) }
-    ensures left { (n : ℕ) × Takes (work_left budget.old) (work_left budget.new) n }
+    ensures left { TakesOfEntry (work_left budget.old) (work_left budget.new) case.now.policy case.now.uncounted (tuples_of steps.now) entry.now }
     ensures same_sizes { IsBudgetFor (tuples_of steps.now) budget.new }
     ensures within_limit { IfOk result (λ fold. ¬ TooLargeAt case.now.most_nodes case.now.policy (five (entry_tuple entry.now)) (tuples_of steps.now)) }
 {
@@ -194,8 +194,9 @@ fn entry_fold_with_new_count<'a, L: Ledger>(
 }
 
 /// Folds an entry as `entry_fold` does, and adds its work to `ticks`, a count that exists only in contracts: at most four ticks for each unit
-/// that the steps cost (`spki_reduce::Work`), and one more for a step at which the chain ends early. This holds also of an entry whose work
-/// is not taken from `budget`. The call of `prove_limits` does nothing: it tells the prover that the limits of the window are dates.
+/// that the steps cost (`spki_reduce::Work`), and one more for a step at which the chain ends early; at least one for each step, or one if
+/// the chain ends early. This holds also of an entry that is spared, whose work is not taken from `budget`. The call of `prove_limits` does
+/// nothing: it tells the prover that the limits of the window are dates.
 ///
 /// # Errors
 ///

@@ -177,6 +177,14 @@ pub record IsOverworked (left : Option ℕ) (policy : Policy) (first : Tuple) (o
   pub is : IsWorkOf policy first others steps work
   pub over : IsOver left work
 
+-- the work of the first steps of a chain, however many, is taken from what may still be done
+pub record TakesFirstSteps (before after : Option ℕ) (policy : Policy) (first : Tuple) (others : List Tuple) : Type 0 where
+  pub steps : ℕ
+  pub within : steps ≤ length others
+  pub work : ℕ
+  pub is : IsWorkOf policy first others steps work
+  pub taken : Takes before after work
+
 -- ---- one step
 
 -- the cost of joining an authorization that has this tag with a tuple; 0 if they do not join

@@ -1,10 +1,10 @@
 //! Joins chains of tuples from the left (RFC 2693, section 6.3).
 //! A value with many parts is freed by a call of `drop`, so that the proof does not go through its parts at each exit.
 
-ghost use Rattle.std.specs.Prelude.{◌≡◌, ◌∷◌, [], ◌+◌, ◌*◌, ◌<◌, ◌≤◌, ◌⊎◌, ℕ, length, IfOk, OnOk, IsErrOf};
+ghost use Rattle.std.specs.Prelude.{◌≡◌, ◌∷◌, [], ◌+◌, ◌*◌, ◌<◌, ◌≤◌, ◌⊎◌, ℕ, length, IfOk, IsOkAnd, OnOk, IsErrOf};
 ghost use Rattle.spki_tag.specs.Tag.{set, none};
 ghost use Rattle.spki_reduce.specs.{declared.fold.Cause.{Cause}, Reduction.{five, tags_of, issuer_of, five_tuple, step_tuple, nodes_product, met}};
-ghost use Rattle.spki_reduce.specs.Chain.{tuples_of, all_tags, FoldsTo, StopsAt, HasMet, TooLargeAt, Excludes, SupportsNothing, MatchFold, left_of, Takes, IsWork, IsOverworked, IsCostOf, IsNumber, AreTicksOfSteps};
+ghost use Rattle.spki_reduce.specs.Chain.{tuples_of, all_tags, FoldsTo, StopsAt, HasMet, TooLargeAt, Excludes, SupportsNothing, MatchFold, left_of, Takes, TakesFirstSteps, IsWork, IsOverworked, IsCostOf, IsNumber, AreTicksOfSteps};
 ghost use Rattle.spki_reduce.specs.Joining.{Stops, TooLargeFor, BecomesFive, MatchJoined};
 
 use crate::fault::ReduceFault;
@@ -85,7 +85,7 @@ pub fn fold_owned<'a>(
     ensures fold { IfOk result (λ fold. MatchFold fold
         (FoldsTo policy (five (five_tuple first.entry)) (tuples_of steps.now))
         (StopsAt policy (five (five_tuple first.entry)) (tuples_of steps.now))) }
-    ensures alone { steps.now ≡ [] → IfOk result (λ fold. MatchFold fold
+    ensures alone { steps.now ≡ [] → IsOkAnd result (λ fold. MatchFold fold
         (λ f. five_tuple f ≡ five_tuple first.entry) (λ step cause. ⊥)) }
     ensures issuer { IfOk result (λ fold. MatchFold fold
         (λ f. issuer_of f.issuer ≡ issuer_of first.entry.issuer) (λ step cause. Unit {0})) }
@@ -104,8 +104,8 @@ pub fn fold_owned<'a>(
     ensures within_limit { IfOk result (λ fold. ¬ TooLargeAt most policy (five (five_tuple first.entry)) (tuples_of steps.now)) }
     ensures worked { OnOk result ((n : ℕ) × IsWork policy (five (five_tuple first.entry)) (tuples_of steps.now) n
         × Takes (left_of work.old) (left_of work.new) n) }
-    // What was taken stays taken, also after an error.
-    ensures left { (n : ℕ) × Takes (left_of work.old) (left_of work.new) n }
+    // What was taken stays taken, also after an error: the work of some first steps.
+    ensures left { TakesFirstSteps (left_of work.old) (left_of work.new) policy (five (five_tuple first.entry)) (tuples_of steps.now) }
 {
     // `Brand` and `Blank` are for a count of ticks, which exists only in contracts: see `spki_tag::Ticks`.
     fold_with_new_count::<Brand>(alloc, first, steps, policy, most, work, Blank::new(1))
@@ -130,7 +130,7 @@ fn fold_with_new_count<'a, L: Ledger>(
     ensures fold { IfOk result (λ fold. MatchFold fold
         (FoldsTo policy (five (five_tuple first.entry)) (tuples_of steps.now))
         (StopsAt policy (five (five_tuple first.entry)) (tuples_of steps.now))) }
-    ensures alone { steps.now ≡ [] → IfOk result (λ fold. MatchFold fold
+    ensures alone { steps.now ≡ [] → IsOkAnd result (λ fold. MatchFold fold
         (λ f. five_tuple f ≡ five_tuple first.entry) (λ step cause. ⊥)) }
     ensures issuer { IfOk result (λ fold. MatchFold fold
         (λ f. issuer_of f.issuer ≡ issuer_of first.entry.issuer) (λ step cause. Unit {0})) }
@@ -149,7 +149,7 @@ fn fold_with_new_count<'a, L: Ledger>(
     ensures within_limit { IfOk result (λ fold. ¬ TooLargeAt most policy (five (five_tuple first.entry)) (tuples_of steps.now)) }
     ensures worked { OnOk result ((n : ℕ) × IsWork policy (five (five_tuple first.entry)) (tuples_of steps.now) n
         × Takes (left_of work.old) (left_of work.new) n) }
-    ensures left { (n : ℕ) × Takes (left_of work.old) (left_of work.new) n }
+    ensures left { TakesFirstSteps (left_of work.old) (left_of work.new) policy (five (five_tuple first.entry)) (tuples_of steps.now) }
 {
     fold_owned_counted(
         alloc,
@@ -183,7 +183,7 @@ pub fn fold_owned_counted<'a, L: Ledger>(
     ensures fold { IfOk result (λ fold. MatchFold fold
         (FoldsTo policy (five (five_tuple first.entry)) (tuples_of steps.now))
         (StopsAt policy (five (five_tuple first.entry)) (tuples_of steps.now))) }
-    ensures alone { steps.now ≡ [] → IfOk result (λ fold. MatchFold fold
+    ensures alone { steps.now ≡ [] → IsOkAnd result (λ fold. MatchFold fold
         (λ f. five_tuple f ≡ five_tuple first.entry) (λ step cause. ⊥)) }
     ensures issuer { IfOk result (λ fold. MatchFold fold
         (λ f. issuer_of f.issuer ≡ issuer_of first.entry.issuer) (λ step cause. Unit {0})) }
@@ -247,7 +247,7 @@ impl<'a> Five<'a> {
     {
         match step {
             Step::Auth(next) => {
-                if self.window_with(next, policy).is_ok() {
+                if self.joined_window(next, policy).is_ok() {
                     intersection_cost(&self.tag, next)
                 } else {
                     Some(0)

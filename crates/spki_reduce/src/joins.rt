@@ -51,7 +51,7 @@ impl<'a> Five<'a> {
             (JoinButForTags policy (five_tuple self.now) (five_tuple next.now)
             × (1000000 < nodes self.now.tag * nodes next.now.tag)) }
     {
-        match self.window_with(next, policy) {
+        match self.joined_window(next, policy) {
             Err(cause) => Ok(Joined::Stopped(cause)),
             Ok(window) => {
                 let tag = self.tag.meet_within(alloc, &next.tag, MOST_NODES)?;
@@ -93,7 +93,7 @@ impl<'a> Five<'a> {
         ensures each { IfOk result (λ joined. MatchJoined joined
             (λ f. ticks.old + length next.now.subject.names < ticks.new) (λ cause. Unit {0})) }
     {
-        let window = match self.window_with(next, policy) {
+        let window = match self.joined_window(next, policy) {
             Ok(window) => window,
             Err(cause) => {
                 drop(self);
@@ -237,7 +237,7 @@ impl<'a> Five<'a> {
     /// The intersection of the windows of this authorization and the next, if they join, their tags left out of account: the issuer and
     /// the delegation are tested too. `policy` says by which hashes a principal may name a key. Err is the first cause why they do not:
     /// `NotIssuer`, `NoDelegation` or `NoValidity`.
-    pub(crate) fn window_with(&self, next: &Five, policy: Policy) -> Result<Window, Cause>
+    pub(crate) fn joined_window(&self, next: &Five, policy: Policy) -> Result<Window, Cause>
         ensures joins { IfOk result (λ window. Issues policy (five_tuple self.now) (five_tuple next.now)
             × (self.now.propagate ≡ true) × IsMeet self.now.window next.now.window window
             × Overlap self.now.window next.now.window) }

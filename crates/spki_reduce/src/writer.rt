@@ -84,8 +84,8 @@ fn push_headed(
     Ok(())
 }
 
-/// Returns a key as a value, from its canonical form. Err if memory ran out. Only the readers make keys, so a key is a canonical form within
-/// the limits. So memory is the only fault of `decode` here, and `map_err` drops no other.
+/// Returns a key as a value, from its canonical form. Err if memory ran out. Readers make keys, and others are copies of these, so a key is a
+/// canonical form within the limits. So memory is the only fault of `decode` here, and `map_err` drops no other.
 fn write_key(alloc: Global, key: &Key) -> Result<Sexp, AllocError>
     ensures { IfOk result (λ s. key.now ≡ canon (sexp_value s)) }
 {

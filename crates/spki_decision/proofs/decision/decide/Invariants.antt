@@ -1,4 +1,4 @@
 use Rattle.spki_decision.proofs.decision.decide.Given as goal
 
-abbrev pub ghosts-first_within_limit : goal.ghosts-first_within_limit
-ghosts-first_within_limit g a = record { name = a.blank.name; parts = a.blank.parts }
+abbrev pub ghosts-first_granting : goal.ghosts-first_granting
+ghosts-first_granting g a = record { name = a.blank.name; parts = a.blank.parts }

@@ -1,4 +1,4 @@
-use Rattle.std.proofs.Common.{◌∙◌, ap, length, refl}
+use Rattle.std.proofs.Common.{◌++◌, ◌∙◌, ap, length, refl, sym}
 use Rattle.spki_reduce.specs.Chain.{tuples_of}
 use Rattle.spki_case.specs.View.{model}
 use Rattle.spki_decision.proofs.{Explanations.{reasons_for}, EntryChains.{as_many, all_stand, one_fails, failure, are_folds}}
@@ -25,4 +25,5 @@ returns-in_ok-put_folds-in-Verified-clause-exact g c =
     let (folds, taken, of, dated, end) = c.in_ok-put_folds-in-Verified.ensures.folds in
     let are = are_folds m verified (tuples_of c.in-Verified.steps.items) folds shown
     (rw (c.deref-in-Verified-2.ensures.value, c.deref-in-Verified.ensures.value) at of) in
-    reasons_for m m.entries verified folds c.put_folds.new.sink.reasons.items c.prove_well_formed.ensures are (taken c.new-reasons.ensures.items).1
+    let reasons = taken.2 ∙ ap (λ before. before ++ taken.1) c.new-reasons.ensures.items in
+    reasons_for m m.entries verified folds c.put_folds.new.sink.reasons.items c.prove_well_formed.ensures are (rw (sym reasons) at taken.3)

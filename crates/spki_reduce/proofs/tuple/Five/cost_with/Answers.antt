@@ -15,7 +15,7 @@ returns-else-is_ok c = (
   0,
   refl,
   costs_nothing c.args.policy c.args.self.now c.args.step.now (Auth c.in-Auth.next) c.in-Auth.is
-      (unjoined c.window_with.result _ _ _ (sym c.is_ok.ensures.value ∙ c.if-is_ok.false) c.window_with.ensures.stops),
+      (unjoined c.joined_window.result _ _ _ (sym c.is_ok.ensures.value ∙ c.if-is_ok.false) c.joined_window.ensures.stops),
 )
 
 pub returns-then-is_resolved_by : goal.returns-then-is_resolved_by

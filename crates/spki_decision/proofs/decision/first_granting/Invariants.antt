@@ -1,7 +1,7 @@
 use Rattle.spki_case.specs.View.{model}
 use Rattle.spki_reduce.specs.Chain.{tuples_of}
 use Rattle.spki_decision.{specs.{Granted.{NoneBefore, SmallBefore}, Requirements.{work_left, IsBudgetFor}}, proofs.Charges.{Spent}}
-use Rattle.spki_decision.proofs.decision.first_within_limit.Given as goal
+use Rattle.spki_decision.proofs.decision.first_granting.Given as goal
 
 -- no entry so far supports what is asked, and no step is too large for one
 abbrev pub invariant-loop-index : goal.invariant-loop-index

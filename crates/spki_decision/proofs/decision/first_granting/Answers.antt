@@ -4,7 +4,7 @@ use Rattle.spki_reduce.specs.Chain.{tuples_of}
 use Rattle.spki_decision.proofs.{CertificateTests.{not_yet, small_yet, found}, Charges.{none_spent, one_spent, all_spent}}
 use Rattle.spki_decision.proofs.EntryChains.{stands, refused_here}
 use Rattle.spki_decision.specs.{Granted.{IsWithinWork}, Requirements.{work_left}}
-use Rattle.spki_decision.proofs.decision.first_within_limit.Goals as goal
+use Rattle.spki_decision.proofs.decision.first_granting.Goals as goal
 
 pub returns-then-grants-clause-named : goal.returns-then-grants-clause-named
 returns-then-grants-clause-named g c =
