@@ -11,7 +11,7 @@ use crate::parser::{MOST_LISTS, MOST_OCTETS, read_string};
 use crate::spaces::octet_at;
 
 /// Checks the value at the offset `at`, which may be the end of the text, and returns the offset after the value. Unlike
-/// `read_value` of the parser, it makes no records. The text has at most `MOST_OCTETS` octets. At most `room` lists may
+/// `read_value` of the parser, it keeps no record of a node. The text has at most `MOST_OCTETS` octets. At most `room` lists may
 /// be open at once in the value. Err is the first fault from the left: `TooDeep`, `Short` or `Bad`.
 #[cycle(passing)]
 fn pass_value(text: &[u8], at: usize, room: usize) -> Result<usize, FormFault>

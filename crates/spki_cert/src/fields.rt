@@ -290,7 +290,7 @@ fn is_word_among(words: &[Octets], word: &[u8]) -> bool
 
 /// The field as a list with its head, if no field before it has this head. None, which the caller refuses, if it is no list that begins with a
 /// string without a display hint, or if its head is one of `heads`, those of the fields before it.
-fn new_field<'d, 'a>(field: &Node<'d, 'a>, heads: &[Octets]) -> Option<HeadedList<'d, 'a>>
+fn unrepeated_field<'d, 'a>(field: &Node<'d, 'a>, heads: &[Octets]) -> Option<HeadedList<'d, 'a>>
     ensures { MatchOption result ((head : List ℕ) → IsNew field.now heads.now head → ⊥)
         (λ list. (list ≡ field.now) × ((head : List ℕ) × IsNew field.now heads.now head)) }
 {
@@ -320,7 +320,7 @@ fn read_fields<'a>(
     let mut rest = members;
     let mut heads = Vec::new(alloc);
     while let Some((field, others)) = rest.split_first() {
-        let Some(list) = new_field(&field, &heads) else {
+        let Some(list) = unrepeated_field(&field, &heads) else {
             return Err(CertFaultKind::Shape);
         };
         let said = field_value(alloc, place, &list)?;

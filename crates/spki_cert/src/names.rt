@@ -1,6 +1,6 @@
 //! The names after a principal.
 
-ghost use Rattle.std.specs.Prelude.{◌≡◌, ◌↔◌, ◌++◌, ◌∷◌, ◌<◌, ℕ, List, [], length, drop, slice_get, Some, unwrap_or, option_map, IsTrue, IfOk, MatchOption};
+ghost use Rattle.std.specs.Prelude.{◌≡◌, ◌↔◌, ◌++◌, ◌∷◌, ◌<◌, ℕ, List, [], length, drop, slice_get, Some, unwrap_or, option_map, IsTrue, IsOk, IfOk, MatchOption};
 ghost use Rattle.std.specs.Arc.{arc_slice_items};
 
 use crate::octets::Octets;
@@ -46,7 +46,8 @@ impl<'a> Names<'a> {
     ///
     /// `AllocError` if memory ran out.
     pub fn of(names: Vec<Octets<'a>>) -> Result<Names<'a>, AllocError>
-        ensures { IfOk result (λ n. n ≡ names.entry.items) }
+        ensures names { IfOk result (λ n. n ≡ names.entry.items) }
+        ensures none { names.entry.items ≡ [] → IsOk result }
     {
         let front = Vec::new(*names.allocator());
         let read = if names.is_empty() {

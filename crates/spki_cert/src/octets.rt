@@ -54,6 +54,8 @@ impl<'a> Octets<'a> {
 impl<'a> Clone for Octets<'a> {
     ghost is_clone = { λ octets copy. copy ≡ octets };
 
+    ghost is_infallible = { λ octets. Unit {0} };
+
     /// Returns the same octets again. Never fails. `Vec::clone` needs this for a vector of octets, as in `Names`.
     fn clone(&self) -> Result<Octets<'a>, AllocError> {
         Ok(self.share())

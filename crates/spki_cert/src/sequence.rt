@@ -47,8 +47,8 @@ fn item_of<'a>(alloc: Global, node: &Node<'_, 'a>) -> Result<SeqItem<'a>, CertFa
 }
 
 /// Checks that the item with this number, from 1, may come here. `waits` is the number of the certificate before it that is still without
-/// its signature, or None if there is no such certificate. Err is `StraySignature`, with the number of the item, for a signature if `waits`
-/// is None. It is `UnsignedCert`, with the number of the certificate, if the item is neither a signature nor an operation and `waits` is
+/// its signature, or None if there is no such certificate. Err is `StraySignature`, with the number of this item, if it is a signature and
+/// `waits` is None. It is `UnsignedCert`, with the number of the certificate, if the item is neither a signature nor an operation and `waits` is
 /// Some.
 fn check_place(node: &Node, waits: Option<usize>, number: usize) -> Result<(), CertFault>
     ensures faultless { IfOk result (λ _. place_fault waits number node.now ≡ None) }

@@ -13,7 +13,7 @@ use crate::window::Window;
 use sexpr_core::syntax::{Members, Node};
 
 /// Reads the date from the members of `(not-before DATE)` or `(not-after DATE)` after the head. Err is `BadDate` if the first member is no
-/// date. Otherwise it is `Shape`: there is no member, or others follow the date.
+/// date, and `Shape` if there is no member, or if others follow the date.
 pub(crate) fn date_in(members: Members) -> Result<Date, CertFaultKind>
     ensures found { IfOk result (λ date. Sole DateOf members.entry date) }
     ensures faultless { IfOk result (λ _. sole_fault CertFaultKind.Shape date_fault members.entry ≡ None) }

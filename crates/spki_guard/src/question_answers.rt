@@ -22,7 +22,7 @@ pub fn refused_list(alloc: Global, fault: AclFault) -> Printed
 }
 
 /// The answer to a question whose parts were read, if exactly the signatures that it has marked are valid: the lines of `query`, `refused
-/// TooLarge` or `refused Memory`. It answers each query, but `answer_opened` calls it for explanations and reductions alone: a decision
+/// TooLarge` or `refused Memory`. It answers each query, but `answer_again` calls it for explanations and reductions alone: a decision
 /// of an opened question reads no part again.
 pub(crate) fn answer_asked(alloc: Global, query: Query, read: &PreparedQuestion) -> Printed
     ensures { AnswersAsked query read.now result.verdict (written_by result) ⊎ RefusesForMemory result.verdict (written_by result) }

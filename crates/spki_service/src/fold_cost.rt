@@ -123,8 +123,8 @@ impl<'a> PreparedQuestion<'a> {
     /// # Errors
     ///
     /// `TooLarge` if the product of the nodes of two tags to be intersected is over the guard's limit `nodes`, or the work of all
-    /// entries together over its limit `work`. `Memory` if memory ran out, here or in the sink. After an error, `sink` may have taken what
-    /// some of the entries become.
+    /// entries together over its limit `work`. `Memory` if memory ran out, here or in the sink. After an error, drop what `sink` has
+    /// taken: nothing is promised of it.
     pub fn reduce_into_counted<L: Ledger, S: FoldSink<'a>>(
         &self,
         alloc: Global,

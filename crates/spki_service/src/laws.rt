@@ -78,7 +78,7 @@ pub fn marked_as_verified<V: Verifier>()
 {}
 
 /// A yes by marks means that each listed signature has a mark at its place. So if one of them has no mark, the answer is no.
-pub fn own_marks()
+pub fn all_marked()
     ensures yes { (a : PreparedModel) (n : ℕ) → DecidesMarked a (Yes n) → AllMarked (asked a.case) a.marks }
     ensures no { (a : PreparedModel) (d : Decision) (one : Signed) → IsUnmarked (asked a.case) a.marks one → DecidesMarked a d → d ≡ No }
 {}

@@ -118,7 +118,7 @@ fn date_in(alloc: Global, text: &CanonicalText) -> Result<Date, AskFault>
     ensures refused { IfErr result (λ fault. fault ≢ AskFault.Memory → NamesPart Part.Moment NamesMoment text.now fault) }
 {
     let text = opened(alloc, Part::Moment, text)?;
-    date_of_node(&text.top())
+    moment_date(&text.top())
 }
 
 /// The date of a moment that was given as a text or as seconds. For a text, Err is that of `date_in`: `Form`, `Moment` or `Memory`.
@@ -200,7 +200,7 @@ fn fault_of_request(fault: TagFault) -> AskFault
 }
 
 /// Reads the date of a moment from its node. Err is always `Moment(BadDate)`.
-fn date_of_node(node: &Node) -> Result<Date, AskFault>
+fn moment_date(node: &Node) -> Result<Date, AskFault>
     ensures read { IfOk result (λ date. DateOf node.now date) }
     ensures refused { IfErr result (λ fault. fault ≢ AskFault.Memory → NamesMoment fault node.now) }
 {

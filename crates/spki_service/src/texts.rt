@@ -57,7 +57,7 @@ pub(crate) fn texts_of<'q>(
     Ok(Texts {
         sequence: CanonicalText::read(alloc, question.sequence)?,
         key: CanonicalText::read(alloc, question.key)?,
-        request: wanted_text(alloc, &question.request)?,
+        request: request_text(alloc, &question.request)?,
         moment: moment_text(alloc, &question.moment)?,
         octets,
     })
@@ -66,7 +66,7 @@ pub(crate) fn texts_of<'q>(
 /// Returns the canonical text of a request, which is made here if the request was given as strings. A text without a value within the limits of
 /// its form, or strings whose canonical text has more than 1,048,576 octets, are Ok too: the `CanonicalText` then has the fault. Err only if
 /// memory ran out.
-fn wanted_text<'q>(
+fn request_text<'q>(
     alloc: Global,
     wanted: &RequestInput<'q>,
 ) -> Result<CanonicalText<'q>, AllocError>

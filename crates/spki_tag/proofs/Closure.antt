@@ -3,7 +3,7 @@ use Rattle.std.proofs.Common.{ℕ, Bool, true, false, List, [], ◌∷◌, rules
 use Rattle.std.proofs.lemmas.Bool.{or_from, both_ways, cond_both}
 use Rattle.std.specs.{Prelude.{◌||◌}, List.{AllByRecursion}, Str.{bytes_eq}}
 use Rattle.spki_tag.specs.Tag.{Tag, Tags, tags, star, string, prefix, range, list, set, none, more, is_nothing, nodes, nodes_all, nests_set, some_nests_set}
-use Rattle.spki_tag.specs.Meet.{nothing, items, list_meet, across, meet, each_meet, has_nothing, listed}
+use Rattle.spki_tag.specs.Meet.{nothing, items, list_meet, across, meet, each_meet, any_is_nothing, listed}
 use Rattle.spki_tag.proofs.{MeetSizes.{nodes-some}, Exact.{IsBare, string-bare, range-bare, prefix-bare, tags-items}}
 
 -- ---- two tags without sets leave a tag without sets, or nothing, and it has no more nodes than both together
@@ -38,10 +38,10 @@ no_set : (t : Tag) → IsPlain t → is_nothing t ≡ false → nests_set t ≡ 
 no_set t (inl h) some = h
 no_set t (inr e) some = absurd (both_ways (is_nothing t) some (ap is_nothing e))
 
-no_sets : (ts : List Tag) → AllByRecursion IsPlain ts → has_nothing ts ≡ false → some_nests_set (tags ts) ≡ false
+no_sets : (ts : List Tag) → AllByRecursion IsPlain ts → any_is_nothing ts ≡ false → some_nests_set (tags ts) ≡ false
 no_sets [] h some = refl
 no_sets (t ∷ ts) h some =
-    let parts = neither (is_nothing t) (has_nothing ts) some in search (rules, or_from, no_set, no_sets ts h.1 parts.1)
+    let parts = neither (is_nothing t) (any_is_nothing ts) some in search (rules, or_from, no_set, no_sets ts h.1 parts.1)
 
 items_plain : (ts : Tags) → some_nests_set ts ≡ false → AllByRecursion IsPlain (items ts)
 items_plain none h = tt
@@ -49,7 +49,7 @@ items_plain (more t ts) h = let parts = neither (nests_set t) (some_nests_set ts
 
 listed_plain : (head : List ℕ) (ts : List Tag) (n : ℕ) → ArePlainWithin n ts → IsPlainWithin (4 + n) (listed head ts)
 listed_plain head ts n h =
-    cond_both (has_nothing ts) nothing (list head (tags ts)) (IsPlainWithin (4 + n))
+    cond_both (any_is_nothing ts) nothing (list head (tags ts)) (IsPlainWithin (4 + n))
     (λ _. record { plain = inr refl; few = omega arith }) (λ e. record { plain = inl (no_sets ts h.plain e); few = omega (arith, h.few) })
 
 list_plain : (head : List ℕ) (m : ℕ) (f : Tags → List Tag) (b : Tag)

@@ -4,7 +4,7 @@ use Rattle.std.proofs.Math.Bool.{and_self, and-true, and-false, and_comm, or-fal
 use Rattle.std.proofs.lemmas.Bool.{and_parts, not-true, or_cases, cond_both}
 use Rattle.std.specs.{Prelude.{if◌then◌else◌, nat_eq}, List.{starts_with}, Str.{bytes_eq}, Cmp.Lexicographic.{same_text, bytes_decides}}
 use Rattle.spki_tag.specs.Tag.{is_time, is_date, Tag, Tags, tags, Limit, Ordering, alpha, time, date, star, string, prefix, range, list, set, none, more, contains, contain_each, some_contains, is_above, is_below, is_ordered, is_nothing, is_normal, each_normal, is_set_or_star}
-use Rattle.spki_tag.specs.Meet.{greater_low, lesser_up, exclude, ordering_meet, nothing, ranged, string_meet, range_meet, prefix_meet, items, kept, row, gather, has_nothing, listed, list_meet, across, set_across, meet, each_meet, pairs}
+use Rattle.spki_tag.specs.Meet.{greater_low, lesser_up, exclude, ordering_meet, nothing, ranged, string_meet, range_meet, prefix_meet, items, kept, row, gather, any_is_nothing, listed, list_meet, across, set_across, meet, each_meet, pairs}
 use Rattle.spki_tag.specs.Request.{Request, Requests, IsRequest, AreRequests}
 use Rattle.spki_tag.proofs.Limits.{and_left, and_never, greater_low-exact, lesser_up-exact, exclude-none, least_above_exact, prefixes-exact}
 use Rattle.spki_tag.specs.Request as request
@@ -198,21 +198,21 @@ nothing-none : (t : Tag) (g : Request) → is_nothing t ≡ true → contains t 
 nothing-none (set none) g h = refl
 nothing-none t g h = absurd (true≢false (sym h))
 
-pub has_nothing-none : (ts : List Tag) (gs : Requests) → has_nothing ts ≡ true → contain_each (tags ts) gs ≡ false
-has_nothing-none [] gs h = absurd (true≢false (sym h))
-has_nothing-none (t ∷ ts) request.none h = refl
-has_nothing-none (t ∷ ts) (request.more g gs) h = elim (or_cases (is_nothing t) (has_nothing ts) h) [
+pub any_is_nothing-none : (ts : List Tag) (gs : Requests) → any_is_nothing ts ≡ true → contain_each (tags ts) gs ≡ false
+any_is_nothing-none [] gs h = absurd (true≢false (sym h))
+any_is_nothing-none (t ∷ ts) request.none h = refl
+any_is_nothing-none (t ∷ ts) (request.more g gs) h = elim (or_cases (is_nothing t) (any_is_nothing ts) h) [
   | inl e ↦ ap (λ c. c && contain_each (tags ts) gs) (nothing-none t g e)
-  | inr e ↦ ap (λ c. contains t g && c) (has_nothing-none ts gs e) ∙ and-false _
+  | inr e ↦ ap (λ c. contains t g && c) (any_is_nothing-none ts gs e) ∙ and-false _
 ]
 
 pub listed-exact : (head : List ℕ) (ts : List Tag) (g : Request) → contains (listed head ts) g ≡ contains (list head (tags ts)) g
 listed-exact head ts (request.string x) =
-    cond_both (has_nothing ts) nothing (list head (tags ts)) (λ t. contains t (request.string x) ≡ false) (λ _. refl) (λ _. refl)
+    cond_both (any_is_nothing ts) nothing (list head (tags ts)) (λ t. contains t (request.string x) ≡ false) (λ _. refl) (λ _. refl)
 listed-exact head ts (request.list requested gs) =
-    cond_both (has_nothing ts) nothing (list head (tags ts))
+    cond_both (any_is_nothing ts) nothing (list head (tags ts))
     (λ t. contains t (request.list requested gs) ≡ contains (list head (tags ts)) (request.list requested gs))
-    (λ e. sym (ap (λ c. bytes_eq head requested && c) (has_nothing-none ts gs e) ∙ and-false _)) (λ _. refl)
+    (λ e. sym (ap (λ c. bytes_eq head requested && c) (any_is_nothing-none ts gs e) ∙ and-false _)) (λ _. refl)
 
 list-exact : (head : List ℕ) (ts : Tags) (f : Tags → List Tag) (b : Tag) (g : Request) → IsRequest g
     → is_set_or_star b ≡ false → is_normal b ≡ true

@@ -2,7 +2,7 @@
 use Rattle.std.proofs.{Common.{◌≡◌, ℕ, ◌+◌, ◌*◌, ◌≤◌, List, [], ◌∷◌, ◌++◌, refl, ap, arith, rules}, Math.Nat.{mul-add, one-mul}}
 use Rattle.std.proofs.lemmas.Bool.{cond_both}
 use Rattle.std.specs.Str.{bytes_eq}
-use Rattle.spki_tag.specs.Meet.{nothing, string_meet, range_meet, prefix_meet, kept, row, gather, has_nothing, listed, list_meet, across, set_across, meet, each_meet, pairs}
+use Rattle.spki_tag.specs.Meet.{nothing, string_meet, range_meet, prefix_meet, kept, row, gather, any_is_nothing, listed, list_meet, across, set_across, meet, each_meet, pairs}
 use Rattle.spki_tag.specs.Tag.{Tag, Tags, tags, star, string, prefix, range, list, set, none, more, nodes, nodes_all, is_nothing}
 use Rattle.spki_tag.proofs.Exact.{IsBare, string-bare, range-bare, prefix-bare, tags-items}
 
@@ -58,7 +58,7 @@ list-le : (head : List ℕ) (m : ℕ) (f : Tags → List Tag) (b : Tag)
     → nodes (list_meet head f b) ≤ (2 + m) * nodes b
 list-le head m f (list other us) h =
     cond_both (bytes_eq head other) (listed head (f us)) nothing (λ t. nodes t ≤ (2 + m) * (2 + nodes_all us))
-    (λ _. cond_both (has_nothing (f us)) nothing (list head (tags (f us))) (λ t. nodes t ≤ (2 + m) * (2 + nodes_all us))
+    (λ _. cond_both (any_is_nothing (f us)) nothing (list head (tags (f us))) (λ t. nodes t ≤ (2 + m) * (2 + nodes_all us))
     (λ _. omega arith) (λ _. omega (arith, h us))) (λ _. omega arith)
 list-le head m f b h = omega arith
 

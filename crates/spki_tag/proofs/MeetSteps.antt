@@ -5,7 +5,7 @@ use Rattle.std.proofs.lemmas.Bool.{and_parts, or_parts, or_from, or_right, cond_
 use Rattle.std.specs.{Prelude.{if◌then◌else◌}, List.{filter, flat_map, starts_with}, Str.{bytes_eq}}
 use Rattle.std.specs.Cmp.Lexicographic.{bytes_decides, nat_list_eq_equiv}
 use Rattle.spki_tag.specs.Tag.{Tag, Tags, tags, star, string, prefix, range, list, set, none, more, IsNormalTag, is_star, is_set, is_nothing, is_set_or_star, is_normal, each_normal, is_none_or_many, nodes, nodes_all, most_nodes, alpha, time, date}
-use Rattle.spki_tag.specs.Meet.{nothing, row, gather, has_nothing, across, meet, each_meet, pairs, members, kept, listed, SetRule, StringRule, PrefixRule, RangeRule, OrderingRule, side_by_side, ListRule, ListsAndStrings}
+use Rattle.spki_tag.specs.Meet.{nothing, row, gather, any_is_nothing, across, meet, each_meet, pairs, members, kept, listed, SetRule, StringRule, PrefixRule, RangeRule, OrderingRule, side_by_side, ListRule, ListsAndStrings}
 use Rattle.spki_tag.proofs.{Exact.{three_parts, tags-items, items_tags}, NormalForms.{meet-normal_tag}, Members.{nodes_le-of_read}}
 
 -- ---- the steps of the intersection: what they need and what they find
@@ -107,19 +107,19 @@ pub each_meet-rest : (ts us : List Tag) (i : ℕ) (t u : Tag) → i < length ts 
     ≡ meet t u ∷ each_meet (tags (drop (i + 1) ts)) (tags (drop (i + 1) us))
 each_meet-rest ts us i t u h k e f = λ x. each_meet (tags (cut ts i t h e x)) (tags (cut us i u k f x))
 
-pub has_nothing-found : (met ts : List Tag) (t : Tag) → is_nothing t ≡ true → has_nothing (met ++ t ∷ ts) ≡ true
-has_nothing-found [] ts t h = ap (λ b. b || has_nothing ts) h
-has_nothing-found (m ∷ met) ts t h = or_right (is_nothing m) (has_nothing (met ++ t ∷ ts)) (has_nothing-found met ts t h)
+pub any_is_nothing-found : (met ts : List Tag) (t : Tag) → is_nothing t ≡ true → any_is_nothing (met ++ t ∷ ts) ≡ true
+any_is_nothing-found [] ts t h = ap (λ b. b || any_is_nothing ts) h
+any_is_nothing-found (m ∷ met) ts t h = or_right (is_nothing m) (any_is_nothing (met ++ t ∷ ts)) (any_is_nothing-found met ts t h)
 
-has_nothing-append : (ts us : List Tag) → has_nothing ts ≡ false → has_nothing us ≡ false → has_nothing (ts ++ us) ≡ false
-has_nothing-append [] us h k = k
-has_nothing-append (t ∷ ts) us h k =
-    let p = or_parts (is_nothing t) (has_nothing ts) h in
-    or_from (is_nothing t) (has_nothing (ts ++ us)) p.0 (has_nothing-append ts us p.1 k)
+any_is_nothing-append : (ts us : List Tag) → any_is_nothing ts ≡ false → any_is_nothing us ≡ false → any_is_nothing (ts ++ us) ≡ false
+any_is_nothing-append [] us h k = k
+any_is_nothing-append (t ∷ ts) us h k =
+    let p = or_parts (is_nothing t) (any_is_nothing ts) h in
+    or_from (is_nothing t) (any_is_nothing (ts ++ us)) p.0 (any_is_nothing-append ts us p.1 k)
 
-pub has_nothing-push : (ts : List Tag) (t : Tag) → has_nothing ts ≡ false → is_nothing t ≡ false
-    → has_nothing (ts ++ t ∷ []) ≡ false
-has_nothing-push ts t h k = has_nothing-append ts (t ∷ []) h (or_from (is_nothing t) false k refl)
+pub any_is_nothing-push : (ts : List Tag) (t : Tag) → any_is_nothing ts ≡ false → is_nothing t ≡ false
+    → any_is_nothing (ts ++ t ∷ []) ≡ false
+any_is_nothing-push ts t h k = any_is_nothing-append ts (t ∷ []) h (or_from (is_nothing t) false k refl)
 
 -- (* set) is told by its equation
 pub nothing-is : (t : Tag) → t ≡ nothing → is_nothing t ≡ true
@@ -135,10 +135,10 @@ each_meet-end [] us h = items_tags us
 each_meet-end (t ∷ ts) [] h = ap (λ (us : List Tag). t ∷ us) (items_tags ts) ∙ sym (append-nil (t ∷ ts))
 each_meet-end (t ∷ ts) (u ∷ us) h = absurd (omega (arith, h))
 
-pub normal-none : (ts : List Tag) → each_normal is_nothing (tags ts) ≡ true → has_nothing ts ≡ false
+pub normal-none : (ts : List Tag) → each_normal is_nothing (tags ts) ≡ true → any_is_nothing ts ≡ false
 normal-none [] h = refl
 normal-none (t ∷ ts) h =
-    let p = three_parts is_nothing t (tags ts) h in or_from (is_nothing t) (has_nothing ts) p.0 (normal-none ts p.2)
+    let p = three_parts is_nothing t (tags ts) h in or_from (is_nothing t) (any_is_nothing ts) p.0 (normal-none ts p.2)
 
 normal-drop : (ts : List Tag) (i : ℕ) → each_normal is_nothing (tags ts) ≡ true → each_normal is_nothing (tags (drop i ts)) ≡ true
 normal-drop ts zero h = h
@@ -148,9 +148,9 @@ normal-drop (t ∷ ts) (suc i) h = normal-drop ts i (three_parts is_nothing t (t
 -- The end of the loop over the places of two lists.
 pub each_meet-last : (ts us met out all : List Tag) (i : ℕ) → min (length (drop i ts)) (length (drop i us)) ≡ 0
     → each_normal is_nothing (tags ts) ≡ true → each_normal is_nothing (tags us) ≡ true
-    → met ++ each_meet (tags (drop i ts)) (tags (drop i us)) ≡ all → has_nothing met ≡ false
-    → out ≡ met ++ drop i ts ++ drop i us → (out ≡ all) × (has_nothing all ≡ false)
-each_meet-last ts us met out all i h n m e k o = search (rules, append_assoc, each_meet-end, has_nothing-append, normal-none, normal-drop)
+    → met ++ each_meet (tags (drop i ts)) (tags (drop i us)) ≡ all → any_is_nothing met ≡ false
+    → out ≡ met ++ drop i ts ++ drop i us → (out ≡ all) × (any_is_nothing all ≡ false)
+each_meet-last ts us met out all i h n m e k o = search (rules, append_assoc, each_meet-end, any_is_nothing-append, normal-none, normal-drop)
 
 -- ---- the rules of the intersection
 
@@ -255,6 +255,6 @@ lists_and_strings head ts z h = absurd h
 
 -- ---- what the proofs of the steps use
 
-pub ruleset lists_met = (nothing-is, nothing-is_not, each_meet-rest, has_nothing-found, has_nothing-push, true≢false, append_assoc)
+pub ruleset lists_met = (nothing-is, nothing-is_not, each_meet-rest, any_is_nothing-found, any_is_nothing-push, true≢false, append_assoc)
 
 pub ruleset meet_steps = (lists_met, nodes_le-of_read, le_trans, mul-le, lists_meet, tags-members, meet-by_members)

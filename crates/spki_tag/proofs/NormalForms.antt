@@ -4,7 +4,7 @@ use Rattle.std.proofs.Common.{◌≡◌, ℕ, zero, suc, max, ◌≤◌, Bool, t
 use Rattle.std.proofs.{Math.Bool.{or-false, or-true}, lemmas.Bool.{and_parts, or_parts, or_from, cond_both}}
 use Rattle.std.specs.{List.{list_any, AllByRecursion}, Str.{bytes_eq}}
 use Rattle.spki_tag.specs.Tag.{Tag, Tags, tags, star, list, set, none, more, IsTag, AreTags, contains, some_contains, nodes, nodes_all, ldepth, ldepth_most, is_star, is_set, is_nothing, is_set_or_star, is_normal, each_normal, most_nodes, IsNormalTag, string, prefix, range}
-use Rattle.spki_tag.specs.Meet.{items, gather, nothing, has_nothing, listed, members as in_place, string_meet, range_meet, prefix_meet, kept, row, list_meet, across, set_across, meet, each_meet, pairs}
+use Rattle.spki_tag.specs.Meet.{items, gather, nothing, any_is_nothing, listed, members as in_place, string_meet, range_meet, prefix_meet, kept, row, list_meet, across, set_across, meet, each_meet, pairs}
 use Rattle.spki_tag.specs.{Request.{Request, IsHead}, Reading.{IsNormalOf, AreNormal, spread, set_of}}
 use Rattle.spki_tag.proofs.Exact.{IsBare, string-bare, range-bare, prefix-bare, three_parts, all_three, append-exact, gather-exact, tags-items, items_tags, listed-exact}
 use Rattle.spki_tag.proofs.{FaultWalk.{both}, MeetSizes.{append-nodes, gather-le, meet_le}}
@@ -105,7 +105,7 @@ IsNormalTag-of w t h k = record { written = h.written; normal = h.normal; few = 
 
 -- ---- lists
 
-pub any_nothing : (ts : List Tag) → has_nothing ts ≡ list_any is_nothing ts
+pub any_nothing : (ts : List Tag) → any_is_nothing ts ≡ list_any is_nothing ts
 any_nothing [] = refl
 any_nothing (t ∷ ts) = ap (λ b. is_nothing t || b) (any_nothing ts)
 
@@ -124,7 +124,7 @@ list_is_normal head ts h k e few = search (rules, list-members)
 pub listed-normal : (head : List ℕ) (ts : List Tag) → IsHead head → AreNormal ts
     → IsNormalOf (list head (tags ts)) (listed head ts)
 listed-normal head ts h k =
-    cond_both (has_nothing ts) nothing (list head (tags ts))
+    cond_both (any_is_nothing ts) nothing (list head (tags ts))
     (λ t. ((g : Request) → contains t g ≡ contains (list head (tags ts)) g) → IsNormalOf (list head (tags ts)) t)
     (λ e same. record { written = tt; normal = refl; same = same; no_more = omega arith })
     (λ e same. let n = list-members ts k (sym (any_nothing ts) ∙ e) in
@@ -202,17 +202,17 @@ module _ (n : ℕ) where
   items_flat none h = tt
   items_flat (more t ts) h = let p = first_flat is_nothing n t ts h in (p.1, items_flat ts p.2)
 
-  tags_flat : (ts : List Tag) → AllByRecursion (IsFlat n) ts → has_nothing ts ≡ false → AreFlat is_nothing n (tags ts)
+  tags_flat : (ts : List Tag) → AllByRecursion (IsFlat n) ts → any_is_nothing ts ≡ false → AreFlat is_nothing n (tags ts)
   tags_flat [] h e = none_flat is_nothing
   tags_flat (t ∷ ts) h e =
-      let q = or_parts (is_nothing t) (has_nothing ts) e in more_flat is_nothing n t (tags ts) q.0 h.0 (tags_flat ts h.1 q.1)
+      let q = or_parts (is_nothing t) (any_is_nothing ts) e in more_flat is_nothing n t (tags ts) q.0 h.0 (tags_flat ts h.1 q.1)
 
 list_met : (n : ℕ) (head : List ℕ) (f : Tags → List Tag) (b : Tag) → IsHead head → IsFlat (suc n) b
     → ((us : Tags) → AreFlat is_nothing n us → AllByRecursion (IsFlat n) (f us)) → IsMet (suc n) (list_meet head f b)
 list_met n head f (list other us) h k e =
     let all = e us (record { written = k.written.1; normal = k.normal; flat = omega (arith, k.flat) }) in
     cond_both (bytes_eq head other) (listed head (f us)) nothing (IsMet (suc n))
-    (λ _. cond_both (has_nothing (f us)) nothing (list head (tags (f us))) (IsMet (suc n)) (λ _. bare_met (suc n) nothing tt)
+    (λ _. cond_both (any_is_nothing (f us)) nothing (list head (tags (f us))) (IsMet (suc n)) (λ _. bare_met (suc n) nothing tt)
     (λ some. let ts = tags_flat n (f us) all some in
     (record { written = (h, ts.written); normal = ts.normal; flat = omega (arith, ts.flat) }, refl)))
     (λ _. bare_met (suc n) nothing tt)

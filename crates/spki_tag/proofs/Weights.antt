@@ -4,7 +4,7 @@ use Rattle.std.proofs.lemmas.Bool.{cond_both}
 use Rattle.std.specs.{Prelude.{if◌then◌else◌}, List.{list_any}}
 use Rattle.sexpr_core.{specs.Value.{Value, Values, plain, canon, canons, values, verbatim, decimal}, proofs.Texts.{verbatim_is}}
 use Rattle.spki_tag.specs.Tag.{Tag, Tags, tags, Limit, is_star, star, string, prefix, range, list, set, none, more, tag_value, tag_values, starred, limit_values, low_values, up_values, ordering_name}
-use Rattle.spki_tag.specs.{Cost.{weight, weight_all, limit_octets}, Meet.{gather, nothing, has_nothing, members as in_place}}
+use Rattle.spki_tag.specs.{Cost.{weight, weight_all, limit_octets}, Meet.{gather, nothing, any_is_nothing, members as in_place}}
 use Rattle.spki_tag.specs.Reading.{spread, normal, normals}
 use Rattle.spki_tag.proofs.Exact.{tags-items}
 use Rattle.sexpr_core.specs.Value as value
@@ -100,7 +100,7 @@ mutual
   normal_weight (list head further) =
       let ts = normals further in
       let fewer = normals_weight further in
-      cond_both (has_nothing ts) nothing (list head (tags ts)) (λ u. weight u ≤ 1 + length head + weight_all further)
+      cond_both (any_is_nothing ts) nothing (list head (tags ts)) (λ u. weight u ≤ 1 + length head + weight_all further)
       (λ _. omega arith) (λ _. omega (arith, fewer))
   normal_weight (set members) =
       let ts = normals members in

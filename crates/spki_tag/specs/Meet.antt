@@ -128,13 +128,13 @@ gather [] = nothing
 gather (t ∷ []) = t
 gather (t ∷ u ∷ us) = set (more t (more u (tags us)))
 
-abbrev pub has_nothing : List Tag → Bool
-has_nothing [] = false
-has_nothing (t ∷ ts) = is_nothing t || has_nothing ts
+abbrev pub any_is_nothing : List Tag → Bool
+any_is_nothing [] = false
+any_is_nothing (t ∷ ts) = is_nothing t || any_is_nothing ts
 
 -- a list, unless a member is (* set)
 abbrev pub listed : List ℕ → List Tag → Tag
-listed head ts = if has_nothing ts then nothing else list head (tags ts)
+listed head ts = if any_is_nothing ts then nothing else list head (tags ts)
 
 abbrev pub list_meet : List ℕ → (Tags → List Tag) → Tag → Tag
 list_meet head f (list other us) = if bytes_eq head other then listed head (f us) else nothing

@@ -142,14 +142,14 @@ pub(crate) fn has_set(one: &Tag, other: &Tag) -> bool
 }
 
 /// Whether one of these tags is `(*)`, so that the set of them is `(*)`. Members of these tags are not looked at.
-pub(crate) fn has_everything(members: &[Tag]) -> bool
+pub(crate) fn any_is_everything(members: &[Tag]) -> bool
     ensures { result ≡ list_any spec.is_star members.now }
 {
     members.iter().any(|member| member.is_everything())
 }
 
 /// Whether one of these tags is `(* set)`, so that a list of them contains no request. Members of these tags are not looked at.
-pub(crate) fn has_nothing(members: &[Tag]) -> bool
+pub(crate) fn any_is_nothing(members: &[Tag]) -> bool
     ensures { result ≡ list_any spec.is_nothing members.now }
 {
     members.iter().any(|member| member.is_nothing())

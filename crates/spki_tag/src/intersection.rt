@@ -6,7 +6,7 @@
 ghost use Rattle.std.specs.Prelude.{◌≡◌, ◌+◌, ◌*◌, ◌<◌, ◌≤◌, ◌↔◌, ◌++◌, ◌&&◌, [], max, true, false, IfOk, OnOk, IsErrOf, MatchOption, All, length};
 ghost use Rattle.std.specs.Arc.{arc_slice_items};
 ghost use Rattle.spki_tag.specs.Tag.{IsNormalTag, contains, each_normal, is_nothing, is_set_or_star, most_nodes, nodes, nodes_all, ldepth, list, tags};
-ghost use Rattle.spki_tag.specs.{Request.{Request, IsRequest}, Meet.{meet, each_meet, pairs, row, gather, has_nothing, tags_at}};
+ghost use Rattle.spki_tag.specs.{Request.{Request, IsRequest}, Meet.{meet, each_meet, pairs, row, gather, any_is_nothing, tags_at}};
 ghost use Rattle.spki_tag.specs.Cost.{meet_cost, node_costs};
 
 use crate::fault::MeetFault;
@@ -134,7 +134,7 @@ fn meet_each<L: Ledger>(
     requires one { each_normal is_nothing (tags ones.now) ≡ true }
     requires other { each_normal is_nothing (tags others.now) ≡ true }
     ensures value { IfOk result (λ r. let met = each_meet (tags ones.now) (tags others.now) in
-        MatchOption r (has_nothing met ≡ true) (λ v. (v.items ≡ met) × (has_nothing met ≡ false))) }
+        MatchOption r (any_is_nothing met ≡ true) (λ v. (v.items ≡ met) × (any_is_nothing met ≡ false))) }
     ensures cost { ticks.new ≤ ticks.old + nodes_all (tags ones.now) + nodes_all (tags others.now)
         + 3 * (nodes_all (tags ones.now) * node_costs (tags others.now)) }
     ensures grows { ticks.old ≤ ticks.new }
@@ -215,7 +215,8 @@ impl Tag {
     ///
     /// # Errors
     ///
-    /// `TooLarge` if the product of the numbers of nodes of both tags is over 1,000,000, and `Memory` if memory ran out.
+    /// `TooLarge` if the product of the numbers of nodes of both tags is over 1,000,000. `Memory` if memory ran out, or if there are too many
+    /// copies to count.
     pub fn meet(&self, alloc: Global, other: &Tag) -> Result<Tag, MeetFault>
         ensures value { IfOk result (λ c. c ≡ meet self.now other.now) }
         ensures exact { IfOk result (λ c. (g : Request) → IsRequest g
@@ -231,7 +232,8 @@ impl Tag {
     ///
     /// # Errors
     ///
-    /// `TooLarge` if the product of the numbers of nodes of both tags is over `most`, and `Memory` if memory ran out.
+    /// `TooLarge` if the product of the numbers of nodes of both tags is over `most`. `Memory` if memory ran out, or if there are too many
+    /// copies to count.
     pub fn meet_within(&self, alloc: Global, other: &Tag, most: usize) -> Result<Tag, MeetFault>
         requires { most ≤ 1000000 }
         ensures value { IfOk result (λ c. c ≡ meet self.now other.now) }
@@ -294,6 +296,7 @@ impl Tag {
         ensures too_large { IsErrOf result MeetFault.TooLarge ↔ (most < nodes self.now * nodes other.now) }
         ensures cost { ticks.new ≤ ticks.old + 3 * meet_cost self.now other.now }
         ensures grows { IfOk result (λ c. ticks.old < ticks.new) }
+        ensures refused { IsErrOf result MeetFault.TooLarge → ticks.new ≡ ticks.old }
     {
         if self.nodes() * other.nodes() > most {
             return Err(MeetFault::TooLarge);

@@ -5,7 +5,7 @@ ghost use Rattle.std.specs.{Prelude.{◌≡◌, ◌≤◌, ◌++◌, IfOk, OnOk}
 ghost use Rattle.spki_tag.specs.{Request.{IsHead}, Tag.{IsNormalTag, tags, list, nodes, most_nodes}, Reading.{AreNormal, set_of}};
 ghost use Rattle.spki_tag.specs.Meet.{listed, members as in_place};
 
-use crate::form::{has_everything, has_nothing};
+use crate::form::{any_is_everything, any_is_nothing};
 use crate::leaf::SharedOctets;
 use crate::parts::push_shared;
 use crate::shared_tags::tags_in;
@@ -35,7 +35,7 @@ impl Tag {
         requires { IsNormalTag (set_of members.items) }
         ensures { IfOk result (λ t. t ≡ set_of members.items) }
     {
-        if has_everything(&members) {
+        if any_is_everything(&members) {
             return Ok(Tag::everything());
         }
         Tag::gathered(members)
@@ -50,7 +50,7 @@ impl Tag {
         requires normal { AreNormal further.items }
         ensures { IfOk result (λ t. t ≡ listed (arc_slice_items head) further.items) }
     {
-        if has_nothing(&further) {
+        if any_is_nothing(&further) {
             Ok(Tag::nothing())
         } else {
             Tag::list(head, further)

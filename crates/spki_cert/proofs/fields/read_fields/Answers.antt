@@ -11,10 +11,10 @@ loop-field-preserved c =
     let i = c.loop-field.invariant in
     let e : c.args.members ≡ i.0 ++ c.in-Some.field ∷ c.in-Some.others = split c.args.members i.0 c.loop-field.rest c.in-Some.others c.in-Some.field i.1 c.in-Some.ensures in
     let field = c.in-Some.field in
-    let (is, some) = c.in-Some-new_field.ensures in
+    let (is, some) = c.in-Some-unrepeated_field.ensures in
     let new : IsNew field c.loop-field.heads.items c.head.result.now =
     subst (λ (hs : List (List ℕ)). IsNew field hs c.head.result.now) c.deref.ensures.value
-    (new-of field c.in-Some-new_field.list _ c.head.result.now is c.head.ensures some) in
+    (new-of field c.in-Some-unrepeated_field.list _ c.head.result.now is c.head.ensures some) in
     let says : FieldValueOf field c.in_ok-said.said = subst (λ (v : Value). FieldValueOf v c.in_ok-said.said) is c.in_ok-said.ensures.says in
     let more = read-more i.0 c.loop-field.heads.items c.loop-field.known field c.head.result.now c.in_ok-said.said i.2 new says in (
       i.0 ++ c.in-Some.field ∷ [],
@@ -31,11 +31,11 @@ loop-field-preserved c =
 pub loop-field-init : goal.loop-field-init
 loop-field-init c = search (rules, read-none, left-all)
 
-pub returns-in_default-new_field-clause-named : goal.returns-in_default-new_field-clause-named
-returns-in_default-new_field-clause-named c =
+pub returns-in_default-unrepeated_field-clause-named : goal.returns-in_default-unrepeated_field-clause-named
+returns-in_default-unrepeated_field-clause-named c =
     let i = c.loop-field.invariant in
     let none : (head : List ℕ) → IsNew c.in-Some.field c.loop-field.heads.items head → ⊥ =
-    subst (λ (hs : List (List ℕ)). (head : List ℕ) → IsNew c.in-Some.field hs head → ⊥) c.deref.ensures.value c.in_default-new_field.ensures in
+    subst (λ (hs : List (List ℕ)). (head : List ℕ) → IsNew c.in-Some.field hs head → ⊥) c.deref.ensures.value c.in_default-unrepeated_field.ensures in
     λ _.
     left-fault (fault_in c.args.place) c.args.members i.0 c.loop-field.rest c.in-Some.others c.in-Some.field Shape i.3 c.in-Some.ensures
     (field-not_new c.args.place i.0 c.loop-field.heads.items c.loop-field.known c.in-Some.field i.2 none)

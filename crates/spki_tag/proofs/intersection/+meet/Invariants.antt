@@ -1,5 +1,5 @@
 use Rattle.std.proofs.Common.{◌≡◌, ◌+◌, ◌*◌, ◌≤◌, ◌++◌, false, drop}
-use Rattle.spki_tag.specs.{Cost.{node_costs}, Tag.{tags, nodes, nodes_all}, Meet.{meet, each_meet, pairs, row, has_nothing, tags_at}}
+use Rattle.spki_tag.specs.{Cost.{node_costs}, Tag.{tags, nodes, nodes_all}, Meet.{meet, each_meet, pairs, row, any_is_nothing, tags_at}}
 use Rattle.spki_tag.proofs.intersection.+meet.Given as goal
 
 abbrev pub decreases-meet_tags : goal.decreases-meet_tags
@@ -23,7 +23,7 @@ decreases-push_row g l = 4 * (nodes l.one.now + nodes_all (tags l.others.now)) +
 abbrev pub invariant-meet_each-loop-i : goal.invariant-meet_each-loop-i
 invariant-meet_each-loop-i g l =
     (l.met.items ++ each_meet (tags (drop l.i l.ones)) (tags (drop l.i l.others)) ≡ each_meet (tags l.ones) (tags l.others))
-    × (has_nothing l.met.items ≡ false)
+    × (any_is_nothing l.met.items ≡ false)
     × (l.ticks + 3 * (nodes_all (tags (drop l.i l.ones)) * node_costs (tags (drop l.i l.others)))
     ≤ l.fn.ticks + 3 * (nodes_all (tags l.ones) * node_costs (tags l.others)))
     × (l.fn.ticks + l.i ≤ l.ticks)

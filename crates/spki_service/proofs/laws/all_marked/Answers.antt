@@ -1,5 +1,5 @@
 use Rattle.std.proofs.Common.{inl, inr}
-use Rattle.spki_service.proofs.laws.own_marks.Goals as goal
+use Rattle.spki_service.proofs.laws.all_marked.Goals as goal
 
 pub returns-clause-yes : goal.returns-clause-yes
 returns-clause-yes c a n (inl (all, h)) = all

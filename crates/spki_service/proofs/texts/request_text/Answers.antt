@@ -1,5 +1,5 @@
 use Rattle.spki_service.{specs.Questions.{words_value}, proofs.PartTexts.{words_now, words_shallow, made_read}}
-use Rattle.spki_service.proofs.texts.wanted_text.Goals as goal
+use Rattle.spki_service.proofs.texts.request_text.Goals as goal
 
 pub returns-in-Text : goal.returns-in-Text
 returns-in-Text c = rw c.in-Text.is c.read.ensures.read
