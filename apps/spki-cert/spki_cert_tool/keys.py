@@ -35,7 +35,9 @@ PRIVATE = (b"(private-key", b"(11:private-key")
 PEM = re.compile(rb"-----BEGIN ([A-Z0-9 ]+)-----")
 # A line of a public key of OpenSSH, also behind the options of authorized_keys: the key, and its comment.
 FIELD = rb'(?!ssh-|ecdsa-|sk-)(?:\\"|\\(?!")|[^ \t\r\n"\\]|"(?:\\"|\\(?!")|[^"\r\n\\])*")+[ \t]+'
-OPENSSH = re.compile(rb"^(?![ \t]*#)[ \t]*(?:%b){0,2}((?:ssh-|ecdsa-|sk-)[\w@.-]+[ \t]+AAAA[A-Za-z0-9+/=]+)[ \t]*([^\r\n]*)" % FIELD, re.MULTILINE)
+# (no more blanks than `foreign` takes, which refuses certificates and FIDO keys)
+KEY = rb"(?:ssh-|ecdsa-|sk-)[\w@.-]+[ \t]{1,64}AAAA[A-Za-z0-9+/=]+"
+OPENSSH = re.compile(rb"^(?![ \t]*#)[ \t]*(?:%b){0,2}(%b)[ \t]*([^\r\n]*)" % (FIELD, KEY), re.MULTILINE)
 NEEDS_BCRYPT = "encrypted OpenSSH keys need python3-bcrypt (pip: bcrypt); or let ssh-agent sign by it"
 ENCRYPTED = "this is an encrypted private key"
 # A function that asks for the passphrase of a file.
