@@ -65,24 +65,30 @@ def principal_of(key: Value) -> Value:
 
 
 def key_of(public: object) -> Value:
-    """The SPKI key of a public key of `cryptography`. Raises BadKey for a kind or a length that is not used."""
+    """The SPKI key of a public key of `cryptography`. Raises BadKey for a kind or a length that is not used, and for a key by which
+    services verify no signature."""
     from cryptography.hazmat.primitives.asymmetric import ec, ed25519, rsa
     from cryptography.hazmat.primitives.serialization import Encoding, PublicFormat
     from spki_verify import LEAST_BITS, MOST_BITS, MOST_EXPONENT_BITS, number
+    key: Value
     if isinstance(public, ed25519.Ed25519PublicKey):
         octets = public.public_bytes(Encoding.Raw, PublicFormat.Raw)
-        return [b"public-key", [b"ecc", [b"curve", b"Ed25519"], [b"flags", b"eddsa"], [b"q", octets]]]
-    if isinstance(public, rsa.RSAPublicKey):
+        key = [b"public-key", [b"ecc", [b"curve", b"Ed25519"], [b"flags", b"eddsa"], [b"q", octets]]]
+    elif isinstance(public, rsa.RSAPublicKey):
         numbers = public.public_numbers()
         if not LEAST_BITS <= numbers.n.bit_length() <= MOST_BITS or numbers.e.bit_length() > MOST_EXPONENT_BITS:
             raise BadKey(f"a key of RSA with {numbers.n.bit_length()} bits; it must have {LEAST_BITS} to {MOST_BITS}, "
                          f"and an exponent of at most {MOST_EXPONENT_BITS}")
-        return [b"public-key", [b"rsa", [b"n", number(numbers.n)], [b"e", number(numbers.e)]]]
-    if isinstance(public, ec.EllipticCurvePublicKey) and isinstance(public.curve, (ec.SECP256R1, ec.SECP384R1)):
+        key = [b"public-key", [b"rsa", [b"n", number(numbers.n)], [b"e", number(numbers.e)]]]
+    elif isinstance(public, ec.EllipticCurvePublicKey) and isinstance(public.curve, (ec.SECP256R1, ec.SECP384R1)):
         octets = public.public_bytes(Encoding.X962, PublicFormat.UncompressedPoint)
-        return [b"public-key", [b"ecc", [b"curve", b"NIST P-%d" % public.key_size], [b"q", octets]]]
-    kind = type(public).__name__.strip("_").removesuffix("PublicKey")
-    raise BadKey(f"a key of the kind {kind}, and {USED}")
+        key = [b"public-key", [b"ecc", [b"curve", b"NIST P-%d" % public.key_size], [b"q", octets]]]
+    else:
+        kind = type(public).__name__.strip("_").removesuffix("PublicKey")
+        raise BadKey(f"a key of the kind {kind}, and {USED}")
+    if public_of(key) is None:
+        raise BadKey("services verify no signature by this key, since a number or a point in it is weak")
+    return key
 
 
 def public_of(key: Value) -> Public | None:
