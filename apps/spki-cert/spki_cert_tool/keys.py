@@ -179,7 +179,7 @@ def read_public(octets: bytes, asking: Asking, number: int | None = None) -> Val
         octets = public_part(octets) or openssh_line(read_private(octets, asking).public_key())
     pieces = pieces_of(octets)
     if number is None and len(pieces) > 1:
-        raise BadKey(f"{len(pieces)} keys are in this file; --key N takes the one with this number, and `spki-cert key --key N` writes it")
+        raise BadKey(f"{len(pieces)} keys are in this file; --key N takes the one with this number for --to, and `spki-cert key --key N` writes it")
     if number is not None and not 1 <= number <= len(pieces):
         raise BadKey(f"there is no key {number} in this file; it has {len(pieces)}")
     piece = pieces[(number or 1) - 1]
@@ -218,7 +218,11 @@ def public_in(octets: bytes) -> object:
 
 
 def public_part(octets: bytes) -> bytes | None:
-    """The line of the public key that the file of a private key of OpenSSH has in clear. None if it is another file. Raises BadKey if it is cut."""
+    """The line of the public key that the file of a private key of OpenSSH has in clear. None if it is another file. Raises BadKey if it is cut, and
+    for any file with several private keys."""
+    count = sum(kind.endswith(b"PRIVATE KEY") for kind in PEM.findall(octets))
+    if count > 1:
+        raise BadKey(f"{count} private keys are in this file, and which of them is meant is not clear: write the one into a file of its own")
     if b"BEGIN OPENSSH" not in octets:
         return None
     try:
