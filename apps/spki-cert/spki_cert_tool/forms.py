@@ -153,7 +153,7 @@ class Parser:
     def whole(self) -> Node:
         """The value of the text, which has nothing but whitespace around it."""
         if len(self.text) > MOST_OCTETS:
-            raise Wrong("TooLong", MOST_OCTETS, f"the text has {len(self.text):,} octets, and may have {MOST_OCTETS:,}")
+            raise Wrong("TooLong", MOST_OCTETS, f"the text has more than {MOST_OCTETS:,} octets")
         node = self.value(self.skip(0), "a value")
         behind = self.skip(node.end)
         if behind < len(self.text):
@@ -346,7 +346,7 @@ def without_braces(text: bytes) -> tuple[bytes, list[int] | None, int]:
     if text[begin:begin + 1] != b"{":
         return text, None, len(text)
     if len(text) > MOST_OCTETS:
-        raise Wrong("TooLong", MOST_OCTETS, f"the text has {len(text):,} octets, and may have {MOST_OCTETS:,}")
+        raise Wrong("TooLong", MOST_OCTETS, f"the text has more than {MOST_OCTETS:,} octets")
     body = match_at(BODIES[b"|"], text, begin + 1)
     if body.end() == len(text):
         raise Wrong("Short", body.end(), "the text ends before `}`", [(begin, "the braces begin here")])
