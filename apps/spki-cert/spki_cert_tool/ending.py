@@ -222,6 +222,7 @@ def end(given: argparse.Namespace) -> int:
     file that cannot be read or written."""
     names_some = bool(given.files or given.digest)
     for is_fault, text in (
+            (given.ended == "-", "--ended is a file that is replaced, and no stream"),
             (given.place is not None and len(given.files) != 1, "--place goes with one FILE"),
             (given.undo and not names_some, "--undo needs a FILE or --digest"),
             ((given.list or given.adopt) and names_some, "--list and --adopt are about all digests: they go with no FILE and no --digest"),
