@@ -2,12 +2,14 @@
 from __future__ import annotations
 
 import argparse
+import contextlib
 import errno
 import os
 import re
 import sys
 import time
 from collections.abc import Callable, Sequence
+from typing import NoReturn
 
 import psycopg
 
@@ -31,9 +33,10 @@ def put(line: str) -> None:
 
 
 def tell(line: str) -> None:
-    """Writes a line to standard error. If that is closed, `print` would take standard output instead."""
-    if sys.stderr is not None:
-        print(f"spki-store: {line}", file=sys.stderr)
+    """Writes a line to standard error, if that is possible. If that is closed, `print` would take standard output instead."""
+    with contextlib.suppress(OSError):
+        if sys.stderr is not None:
+            print(f"spki-store: {line}", file=sys.stderr)
 
 
 # ---- commands (each is for the command of its name)
@@ -193,9 +196,9 @@ def first_line(why: BaseException) -> str:
 
 def main(words: Sequence[str] | None = None) -> int:
     """Runs the command of these words, or of the command line, and returns the exit status. What fails is told on standard error. Words that are no
-    command, and --help, end the program."""
-    given = parser_of_commands().parse_args(words)
+    command, and --help, raise SystemExit."""
     try:
+        given = parser_of_commands().parse_args(words)
         store = Store(given.database, given.schema)
         try:
             if given.action is not init:
@@ -215,13 +218,18 @@ def main(words: Sequence[str] | None = None) -> int:
         return FAILED
 
 
-def run() -> None:
-    """The program: runs `main`, and exits with its status."""
-    status = main()
+def run() -> NoReturn:
+    """The program: runs `main`, and exits with its status, or with FAILED if standard output does not take all. `os._exit` does it: the usual end of
+    Python would write once more what a stream does not take, and exit with a status of its own."""
+    try:
+        status = main()
+    except SystemExit as end:
+        status = end.code if isinstance(end.code, int) else DONE
     try:
         if sys.stdout is not None:
             sys.stdout.flush()
-    except OSError:
-        # (`main` has told it. At its end Python would write what is left once more, and exit with a status of its own)
-        os.dup2(os.open(os.devnull, os.O_WRONLY), sys.stdout.fileno())
-    sys.exit(status)
+    except OSError as why:
+        if status != FAILED:
+            tell(first_line(why))
+        status = FAILED
+    os._exit(status)
