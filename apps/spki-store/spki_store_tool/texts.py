@@ -61,7 +61,8 @@ def entries_in(text: mmap.mmap | bytes, begin: int = 0) -> Iterator[tuple[bytes,
         end = end_of(text, at)
         yield text[at:end], end
         at = end
-    if text[at:] != END:
+    # (not the whole rest of a long list, which would be copied)
+    if text[at:at + len(END) + 1] != END:
         raise Wrong(f"octet {at}: neither an entry nor the end of the list")
 
 
