@@ -19,6 +19,16 @@ from examples import EXAMPLES, OTHERS
 from server import MOST_BODY, Server
 from workers import SECONDS, Workers
 
+# The most seconds of a question.
+MOST_SECONDS = 3600
+
+
+def seconds_of(text):
+    """The seconds of a word of the command line. Raises ArgumentTypeError if they are no number from 1 to MOST_SECONDS."""
+    if not (text.isascii() and text.isdigit() and len(text) < 5 and 1 <= int(text) <= MOST_SECONDS):
+        raise argparse.ArgumentTypeError(f"{text} is no number from 1 to {MOST_SECONDS}")
+    return int(text)
+
 
 def options():
     """The options of the command line, as argparse has them: `port`, `no_browser`, `engine` and `seconds`."""
@@ -26,7 +36,7 @@ def options():
     parser.add_argument("--port", type=int, default=0, help="the port; the default is one that is free")
     parser.add_argument("--no-browser", action="store_true", help="print the address only")
     parser.add_argument("--engine", choices=("library", "program"), help="who decides; the default is the library where it is built")
-    parser.add_argument("--seconds", type=int, default=SECONDS, help=f"how long a question may take; the default is {SECONDS}")
+    parser.add_argument("--seconds", type=seconds_of, default=SECONDS, help=f"how long a question may take; the default is {SECONDS}")
     return parser.parse_args()
 
 
@@ -35,6 +45,17 @@ def start_file(name):
     with open(os.path.join(TOP, "examples", "guide", "granted.sexp"), encoding="utf-8") as file:
         others = {**OTHERS, "case": file.read()}
     return json.dumps({"engine": name, "examples": EXAMPLES, "others": others, "mostOctets": MOST_BODY}).encode()
+
+
+def print_or_say_why(text):
+    """Prints a text. Returns whether standard output takes it. Otherwise says why not, and what Python would write again at its end is dropped."""
+    try:
+        print(text, flush=True)
+    except OSError as why:
+        print(f"standard output: {why.strerror}", file=sys.stderr)
+        os.dup2(os.open(os.devnull, os.O_WRONLY), sys.stdout.fileno())
+        return False
+    return True
 
 
 def main():
@@ -55,13 +76,14 @@ def main():
     with server:
         signal.signal(signal.SIGTERM, lambda *_: sys.exit(0))
         try:
-            print(f"{server.address}\n{engine.name} decides; ctrl-c ends the page", flush=True)
+            if not print_or_say_why(f"{server.address}\n{engine.name} decides; ctrl-c ends the page"):
+                return 2
             if not given.no_browser:
                 # (a browser in the terminal ends only when its user leaves it, and must be answered before)
                 threading.Thread(target=webbrowser.open, args=(server.address,), daemon=True).start()
             server.serve_forever()
         except KeyboardInterrupt:
-            print()
+            print_or_say_why("")
         finally:
             workers.end()
     return 0
