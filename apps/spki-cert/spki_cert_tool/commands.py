@@ -138,7 +138,8 @@ def add_to_store(text: bytes, settings: str) -> int:
 def remove(given: argparse.Namespace) -> int:
     """Removes the entries for the subject of --to from an access list. Returns NO if there are none. The list of a stream is written in any case,
     since its reader waits for it, and that of a file only if it changes."""
-    text, removed = list_without(subject_of(given), list_at(given.acl))
+    # (the key itself: a hash by one algorithm would not find entries by another)
+    text, removed = list_without(subject_of(given, lambda key: key), list_at(given.acl))
     if removed or given.acl == "-":
         write((given.acl, text), edits=True)
     advice = f"; {given.to} has none; `spki-cert show {given.acl}` lists them" if not removed else ""
@@ -171,16 +172,16 @@ def fields_given(given: argparse.Namespace) -> list[Value]:
     return fields_of(tag, given.begins, now(given.days) if given.days is not None else given.until, given.propagate, given.comment or "")
 
 
-def subject_of(given: argparse.Namespace) -> Value:
+def subject_of(given: argparse.Namespace, naming: Callable[[Value], Value] = principal_of) -> Value:
     """The subject that --to and --named say: a key, a hash, or a name. Without --to it is a name of the issuer, which only a certificate has: for an
-    entry the caller has tested that --to is given. Raises Refused."""
+    entry the caller has tested that --to is given. `naming` returns the principal for the key of a file. Raises Refused."""
     if given.to is None:
         if not given.named:
             raise Refused("a certificate needs --to, or --named for a name of the issuer")
         return [b"name", *map(os.fsencode, given.named)]
     # (--to is an S-expression itself, or the name of a file with a key)
     is_itself = given.to.lstrip().startswith(("(", "{"))
-    to = node_of(os.fsencode(given.to), "--to", read_subject).value if is_itself else principal_of(key_at(given.to, given.number))
+    to = node_of(os.fsencode(given.to), "--to", read_subject).value if is_itself else naming(key_at(given.to, given.number))
     if headed(to, b"name") and given.named:
         raise Refused("--to is a name already, so --named is one too many")
     subject: Value = [b"name", to, *map(os.fsencode, given.named)] if given.named else to
