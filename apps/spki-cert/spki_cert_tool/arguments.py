@@ -67,7 +67,7 @@ class CommandParser(argparse.ArgumentParser):
         if left_over:
             # (a dash that a word processor made longer, or one of two that is missing)
             word, bare = left_over[0], left_over[0].lstrip("-\N{EN DASH}\N{EM DASH}")
-            near = f"; is `--{bare}` meant?" if bare in options else ""
+            near = "; give all options before the words" if word == "--" else f"; is `--{bare}` meant?" if bare in options else ""
             self.error(f"{word}: " + ("one word too many; put quotes around what has spaces or parentheses" if bare == word
                                       else f"no such option{near}"))
         return values, left_over
