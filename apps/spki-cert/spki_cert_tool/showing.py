@@ -3,6 +3,7 @@ labels from files of keys, else by the beginning of their hashes."""
 import contextlib
 import glob
 import os
+from collections import Counter
 from collections.abc import Iterator
 
 from .certificates import Keys, Terms, certificates_in, entries_of, fault_of_signature, headed, keys_in, members, string_of, terms_of
@@ -28,12 +29,15 @@ class Labels:
     def __init__(self) -> None:
         self.keys = Keys()
         self.labels: dict[bytes, str] = {}
+        # How many keys have each label.
+        self.counts = Counter[str]()
 
     def add(self, key: Value, label: str) -> None:
         """Adds a key. It is called by this label, unless it has one or this is empty."""
         self.keys.add(key)
-        if label:
-            self.labels.setdefault(digest_of(key), label)
+        if label and digest_of(key) not in self.labels:
+            self.labels[digest_of(key)] = label
+            self.counts[label] += 1
 
     def add_path(self, path: str) -> None:
         """Takes the public keys of a file, or of the files of a folder that are not hidden: lines of OpenSSH with their comments, as authorized_keys
@@ -47,12 +51,14 @@ class Labels:
                     self.add(read_public(key, no_passphrase), comment.decode(errors="replace").strip() or stem)
 
     def of(self, principal: Value | None) -> str:
-        """What a principal is called: its label, else the text of a short key, or digits of the hash of a long one. None is the issuer of entries."""
+        """What a principal is called: its label, else the text of a short key, or digits of the hash of a long one. None is the issuer of entries. A
+        label that several keys have, such as a comment that anyone may write, is followed by these digits."""
         if principal is None:
             return "the list"
         is_known, digest = self.keys.named(principal) is not None, self.keys.text_of(principal)[1]
         if is_known and digest in self.labels:
-            return self.labels[digest]
+            label = self.labels[digest]
+            return label if self.counts[label] == 1 else f"{label} (key {digest.hex()[:SHORT_DIGITS]})"
         text = on_one_line(principal)
         if headed(principal, b"public-key") and len(text) <= SHORT_KEY:
             return text
