@@ -3,6 +3,7 @@
 A text headed `case`, `intersect`, `accepted`, `acl`, `sequence` or `public-key` is read as that, another value only as an S-expression.
 """
 import bisect
+import functools
 import re
 from functools import partial
 from typing import Optional
@@ -294,10 +295,16 @@ class Lines:
         return line, at - self.begins[line - 1] + 1
 
 
+@functools.lru_cache(1)
+def lines_in(text: bytes) -> Lines:
+    """The lines of a text, which are found once for all places of a fault: there may be a million lines."""
+    return Lines(text)
+
+
 def place_shown(text: bytes, places: list[int] | None, at: int) -> tuple[str, str]:
     """A place in words, as line and column, and the text around it with a mark below. If the text was in braces, `places` has for each of its octets
     the offset in the file."""
-    line, column = Lines(text).line_and_column(at)
+    line, column = lines_in(text).line_and_column(at)
     line_begin, line_end = at - column + 1, text.find(b"\n", at)
     first, last = max(line_begin, at - WIDTH), min(len(text) if line_end < 0 else line_end, at + WIDTH)
     front = "".join(printable(octet) for octet in text[first:at])
@@ -326,8 +333,8 @@ def lines_of_fault(name: str, diagnosis: Diagnosis) -> list[str]:
     wrong, text, places = diagnosis
     if wrong is None:
         return []
-    lines = [f"{name}: {refusal(wrong, places)}"]
+    lines, is_secret = [f"{name}: {refusal(wrong, places)}"], may_be_secret(text)
     for at, why in places_of(wrong):
         where, around = place_shown(text, places, at)
-        lines += [f"{where}: {why}", *([] if may_be_secret(text) else [around])]
+        lines += [f"{where}: {why}", *([] if is_secret else [around])]
     return lines
