@@ -4,8 +4,10 @@ from __future__ import annotations
 import argparse
 import contextlib
 import errno
+import logging
 import os
 import re
+import signal
 import sys
 import time
 from collections.abc import Callable, Sequence
@@ -39,6 +41,13 @@ def tell(line: str) -> None:
             print(f"spki-store: {line}", file=sys.stderr)
 
 
+def end_by_signal(number: int, frame: object) -> NoReturn:
+    """Handles a signal by SystemExit, so that what is open is closed."""
+    # (psycopg would write a line about the transaction that ends so)
+    logging.disable()
+    sys.exit(FAILED)
+
+
 # ---- commands (each is for the command of its name)
 
 
@@ -59,7 +68,10 @@ def import_(store: Store, given: argparse.Namespace) -> int:
 
 
 def export(store: Store, given: argparse.Namespace) -> int:
-    """Writes all entries as a list into a new file."""
+    """Writes all entries as a list into a new file. A signal ends that with the status FAILED, and leaves no part of the file."""
+    for number in (signal.SIGHUP, signal.SIGINT, signal.SIGTERM):
+        if signal.getsignal(number) is not signal.SIG_IGN:
+            signal.signal(number, end_by_signal)
     put(f"entries written: {export_list(store, given.file)}")
     return DONE
 
