@@ -33,11 +33,12 @@ class Labels:
         self.counts = Counter[str]()
 
     def add(self, key: Value, label: str) -> None:
-        """Adds a key. It is called by this label, unless it has one or this is empty."""
+        """Adds a key. It is called by this label, unless it has one or this is empty. What cannot be seen in the label is escaped."""
         self.keys.add(key)
         if label and digest_of(key) not in self.labels:
-            self.labels[digest_of(key)] = label
-            self.counts[label] += 1
+            shown = "".join(letter if letter.isprintable() else ascii(letter)[1:-1] for letter in label)
+            self.labels[digest_of(key)] = shown
+            self.counts[shown] += 1
 
     def add_path(self, path: str) -> None:
         """Takes the public keys of a file, or of the files of a folder that are not hidden: lines of OpenSSH with their comments, as authorized_keys
