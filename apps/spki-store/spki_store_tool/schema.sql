@@ -4,8 +4,9 @@ CREATE SCHEMA @SCHEMA@;
 
 -- What an entry is found by: the digest of its subject's hash, or the SHA-256 digest of its subject's key. The text must be one list in canonical
 -- form that begins with `entry` and a subject, and nothing follows it: another text is an error. `spki-store check` says whether the library reads it
--- as an entry.
-CREATE FUNCTION @SCHEMA@.principal_of(text bytea) RETURNS bytea LANGUAGE plpgsql IMMUTABLE STRICT PARALLEL SAFE AS $$
+-- as an entry. It calls the functions of the system, and none of the same name that an account has made.
+CREATE FUNCTION @SCHEMA@.principal_of(text bytea) RETURNS bytea LANGUAGE plpgsql IMMUTABLE STRICT PARALLEL SAFE
+SET search_path = pg_catalog, pg_temp AS $$
 DECLARE
     most CONSTANT integer := octet_length(text);
     is_name CONSTANT boolean := substring(text FROM 9 FOR 7) = '(4:name';
