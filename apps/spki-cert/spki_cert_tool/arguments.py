@@ -25,8 +25,8 @@ EPILOG = """the first certificate, with a key of OpenSSH:
   spki-cert show to-bob.sexp
 
 exit status: 0 done, yes, or nothing found; 1 no, or something found; 2 a file or a word is refused; 3 reading or
-writing failed, or a signal ended it; 4 a certificate or an entry was not made, because it is probably a mistake: --yes
-makes it, or for --chain --anyway
+writing failed, or a signal ended it; 4 a certificate or an entry was not made, or a file not adopted, because it is
+probably a mistake: --yes does it, or for --chain --anyway
 Files are OpenSSH, PEM or S-expressions, and `-` is a stream. SPKI_LABELS names a file or folder as --labels does."""
 
 
