@@ -271,7 +271,7 @@ class Ends(Case):
 
     def test_full_disk(self) -> None:
         """If the new file cannot be written, the old one stays, and no other file is left."""
-        for name in ("os.fsync", "os.replace", "os.fchown", "shutil.copystat"):
+        for name in ("os.fsync", "os.replace", "os.fchown", "os.listxattr"):
             with self.subTest(name=name), mock.patch(name, side_effect=OSError(28, "No space left on device")):
                 output = self.end("first", wanted=3)
                 self.assertIn("No space left on device; the file is as before", output)

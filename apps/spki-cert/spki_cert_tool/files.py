@@ -334,16 +334,15 @@ def replace(place: str, octets: bytes, mode: int, before: os.stat_result | None)
     """Puts a file in its place, by a temporary one beside it. `before` is the state of the file that is replaced, which keeps its mode, its owner and
     its attributes. For None there is none, and the new file has `mode`. A signal waits until the file is there. Raises OSError if the file is as
     before, and Failed, which says what it is, after it was put in its place or if the temporary one stays."""
-    import shutil
     import tempfile
     signals_before, temporary, state = signal.pthread_sigmask(signal.SIG_BLOCK, signal.valid_signals()), "", "as before"
     try:
         handle, temporary = tempfile.mkstemp(prefix=".spki-cert-", dir=os.path.dirname(place))
         with open(handle, "wb") as file:
-            os.fchmod(handle, mode if before is None else stat.S_IMODE(before.st_mode))
             if before is not None:
                 os.fchown(handle, before.st_uid, before.st_gid)
-                shutil.copystat(place, temporary)
+                copy_attributes(place, before, handle)
+            os.fchmod(handle, mode if before is None else stat.S_IMODE(before.st_mode))
             file.write(octets)
             file.flush()
             os.fsync(handle)
@@ -359,6 +358,33 @@ def replace(place: str, octets: bytes, mode: int, before: os.stat_result | None)
             raise Failed(f"{place}: the file is {state}, and its temporary file {temporary} cannot be deleted: {why.strerror}") from None
         finally:
             signal.pthread_sigmask(signal.SIG_SETMASK, signals_before)
+
+
+def copy_attributes(place: str, before: os.stat_result, handle: int) -> None:
+    """Gives an open file the extended attributes of the one at `place`, such as its access control list, as far as the system permits. `before` is
+    the state of that one. All is done by descriptors: who owns the folder may exchange files there meanwhile, and this may be root. Raises OSError,
+    also if another file is at `place` by now."""
+    source, names = os.open(place, os.O_RDONLY | os.O_NOFOLLOW | os.O_NONBLOCK), list[str]()
+    try:
+        if identity(os.fstat(source)) != identity(before):
+            raise OSError(errno.ESTALE, "another file was put there meanwhile")
+        with as_far_as_permitted():
+            names = os.listxattr(source)
+        for name in names:
+            with as_far_as_permitted():
+                os.setxattr(handle, name, os.getxattr(source, name))
+    finally:
+        os.close(source)
+
+
+@contextlib.contextmanager
+def as_far_as_permitted() -> Iterator[None]:
+    """Passes over an error of the block if it says that the file system or this user cannot keep an attribute."""
+    try:
+        yield
+    except OSError as why:
+        if why.errno not in (errno.EPERM, errno.EACCES, errno.ENOTSUP, errno.ENODATA, errno.EINVAL):
+            raise
 
 
 def put_in_place(temporary: str, place: str, is_new: bool) -> None:
