@@ -70,15 +70,18 @@ function changed() {
 
 // ---- what is chosen
 
+/** A text of an example or of the address: an empty one for a value of another type. (`String` would throw an error for some objects.) */
+const textOf = (value) => (typeof value === "string" ? value : "");
+
 /** Fills the boxes of a question, from an example or from the address, whose types may be wrong. */
 function load(given) {
   for (const name of ["acl", "sequence", "key", "labels"]) {
-    boxes[name].value = String(given[name] ?? "");
+    boxes[name].value = textOf(given[name]);
   }
-  boxes.request.value = (Array.isArray(given.request) ? given.request : []).map(String).join("\n");
-  byId("at").value = String(given.at ?? "").replace("_", "T");
+  boxes.request.value = (Array.isArray(given.request) ? given.request : []).map(textOf).join("\n");
+  byId("at").value = textOf(given.at).replace("_", "T");
   byId("strict").checked = given.strict !== false;
-  answer.refused = (Array.isArray(given.refused) ? given.refused : []).filter(Number.isInteger);
+  answer.refused = (Array.isArray(given.refused) ? given.refused : []).filter(Number.isSafeInteger);
   byId("all").checked = !answer.refused.length;
 }
 
