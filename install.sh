@@ -24,7 +24,7 @@ cd "$(dirname "$0")"
 version=$(< VERSION)
 soname=libspki_c.so.${version%.*}
 # (this folder and the next one are below the prefix)
-libraries=${LIBDIR:-lib}
+libraries=$(realpath -ms --relative-to=/ "/${LIBDIR:-lib}")
 cmake=$libraries/cmake/spki
 # The modules of spki-cert, and those that it shares with services in Python.
 modules=(apps/spki-cert/spki_cert_tool/{*.py,py.typed} bindings/python/spki{,_http,_verify}/{*.py,py.typed})
@@ -95,7 +95,7 @@ put 644 "${library%.a}.so" "$libraries/$soname"
 ln -sfn "$soname" "$prefix/$libraries/libspki_c.so"
 echo "installed $prefix/$libraries/libspki_c.so"
 put 644 <(cat << END
-prefix=$prefix
+prefix=${prefix// /\\ }
 libdir=\${prefix}/$libraries
 includedir=\${prefix}/include
 

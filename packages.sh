@@ -114,7 +114,7 @@ package_library() {
     ln -s "libspki_c.so.${version%.*}" "$room/libspki-dev/$place/libspki_c.so"
     cp -R "$room/all/usr/include" "$room/libspki-dev/usr"
     cp -R "$room/all/usr/$own"/{cmake,pkgconfig} "$room/libspki-dev/$place"
-    sed -i "s|$room/all/usr|/usr|; s|$own|${place#usr/}|g" "$room/libspki-dev/$place"/{cmake/spki,pkgconfig}/*
+    sed -i "s|^prefix=.*|prefix=/usr|; s|$own|${place#usr/}|g" "$room/libspki-dev/$place"/{cmake/spki,pkgconfig}/*
     strip_file "$tools" --strip-unneeded "$room/$shared/$place/libspki_c.so.${version%.*}"
     strip_file "$tools" --strip-debug "$room/libspki-dev/$place/libspki_c.a"
     install -d "$room/$shared/DEBIAN"

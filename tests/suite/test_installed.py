@@ -5,6 +5,7 @@ and `pkg-config` must have the version of the file VERSION. The manual must be s
 in the tables of `tables/` names. After uninstalling, the files that were there before must be left, and no others."""
 import os
 import re
+import shlex
 import subprocess
 import tempfile
 
@@ -30,11 +31,10 @@ def first_group(pattern: str, text: str) -> str:
 def install(program: str, library: str, **settings: str) -> tuple[tempfile.TemporaryDirectory, str]:
     """Installs by install.sh into a new folder that has the files of OTHERS already, which uninstalling must leave. `settings` are more variables of
     the environment of install.sh. Returns the folder, and what install.sh wrote. Raises AssertionError if it fails."""
-    prefix = tempfile.TemporaryDirectory()
+    prefix = tempfile.TemporaryDirectory(suffix=" it")
     for place in OTHERS:
         os.makedirs(os.path.dirname(os.path.join(prefix.name, place)))
-        with open(os.path.join(prefix.name, place), "w", encoding="ascii"):
-            pass
+        open(os.path.join(prefix.name, place), "w", encoding="ascii").close()
     status, output = output_of(os.path.join(TOP, "install.sh"), prefix.name, program, library, env={**os.environ, **settings})
     if status:
         raise AssertionError(f"install.sh ended with status {status}: {output}")
@@ -78,7 +78,7 @@ class Installed(built.OfLibrary):
     @needs.needs("pkg-config")
     def test_pkg_config(self) -> None:
         settings = {**os.environ, "PKG_CONFIG_PATH": os.path.join(self.prefix, "lib", "pkgconfig")}
-        self.check_linking(*output_of("pkg-config", "--cflags", "--libs", "spki", env=settings)[1].split())
+        self.check_linking(*shlex.split(output_of("pkg-config", "--cflags", "--libs", "spki", env=settings)[1]))
 
     @needs.needs("cmake")
     def test_cmake(self) -> None:
@@ -134,8 +134,8 @@ class Uninstalled(built.OfLibrary):
     """What is left when it was installed and uninstalled."""
 
     def test_files_left(self) -> None:
-        for folder in ("lib", "lib/x86_64-linux-gnu"):
+        for folder in ("/lib/", "lib/x86_64-linux-gnu"):
             with self.subTest(folder=folder), install(self.program, self.library, LIBDIR=folder)[0] as prefix:
-                self.assertTrue(os.path.exists(os.path.join(prefix, folder, "libspki_c.so")))
+                self.assertTrue(os.path.exists(f"{prefix}/{folder}/libspki_c.so"))
                 status, output = output_of(os.path.join(TOP, "install.sh"), "--uninstall", prefix, env={**os.environ, "LIBDIR": folder})
                 self.assertEqual((status, files_below(prefix)), (0, set(OTHERS)), output)
