@@ -16,9 +16,9 @@ from merge_gate.run import run
 SEED = re.compile(r"^\d+ cases, seed ([0-9a-f]{8}): ", re.MULTILINE)
 
 
-def try_bodies(names: list[str], counts: Counts) -> None:
-    """Tries wrong bodies of wrong/, over the libraries that `rt ci` has left. A name is CRATE/NAME, or a crate, for all of it. If all of a crate are
-    tried and refused, its record says so."""
+def try_bodies(names: list[str], counts: Counts, sums: dict[str, str]) -> None:
+    """Tries wrong bodies of wrong/, over the libraries that `rt ci` has left. A name is CRATE/NAME, or a crate, for all of it. `sums` has what
+    `records.sum_of` was of crates before `rt ci` proved them: if all of one are refused, this is its record."""
     crates = toolchain.crates(*(name.partition("/")[0] for name in names))
     lacking = {it.name for crate in crates.values() for it in crate.below() if not os.path.isdir(it.rlib)}
     if lacking:
@@ -35,15 +35,19 @@ def try_bodies(names: list[str], counts: Counts) -> None:
         for crate, results in pool.map(verdicts, crates.values()):
             for is_refused, line in results:
                 counts.add(is_refused, line)
-            if crate.name in names and all(is_refused for is_refused, _ in results):
-                records.write(crate)
+            if crate.name in sums and all(is_refused for is_refused, _ in results):
+                records.write(crate, sums[crate.name])
 
 
 def try_all(names: list[str], counts: Counts) -> None:
-    """Tries every wrong body of these crates, or of all. `rt ci` proves the crates first, and tries those in must-fail/."""
+    """Tries every wrong body of these crates, or of all. `rt ci` proves the crates first, and tries those in must-fail/. If it fails, no other is
+    tried: in a crate that is not proved each of them would be refused."""
+    sums = {name: records.sum_of(crate) for name, crate in toolchain.crates(*names).items() if bodies.paths_of(crate)}
     toolchain.remove_kept_libraries()
     counts.add_log(*run(["rt", "ci", *names], plan.DEEP_MINUTES))
-    try_bodies([name for name, crate in toolchain.crates(*names).items() if bodies.paths_of(crate)], counts)
+    if counts.failed:
+        return counts.add(False, "no wrong body of wrong/ was tried, since rt ci failed")
+    try_bodies([*sums], counts, sums)
 
 
 def run_all(counts: Counts) -> None:
@@ -70,12 +74,12 @@ def main(about: str) -> int:
     no names: a run that tries nothing must not pass."""
     parser = argparse.ArgumentParser(description=about)
     parser.add_argument("names", nargs="*", metavar="NAME", help="a crate whose wrong bodies are tried, or with --alone also CRATE/WRONG-BODY")
-    parser.add_argument("--alone", action="store_true", help="do not prove the crates first: take the libraries that `rt ci` left")
+    parser.add_argument("--alone", action="store_true", help="prove nothing first, and write no record: take the libraries that `rt ci` left")
     given, counts = parser.parse_args(), Counts()
     if given.alone and not given.names:
         parser.error("--alone takes names")
     if given.alone:
-        try_bodies(given.names, counts)
+        try_bodies(given.names, counts, {})
     elif given.names:
         try_all(given.names, counts)
     else:

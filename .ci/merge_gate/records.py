@@ -40,10 +40,10 @@ def path_of(crate: Any) -> str:
     return os.path.join(crate.folder, "wrong", "tried")
 
 
-def write(crate: Any) -> None:
-    """Records that all wrong bodies of a crate were tried and refused."""
+def write(crate: Any, of: str) -> None:
+    """Records that all wrong bodies of a crate were tried and refused, against what has the checksum `of`."""
     with open(path_of(crate), "w", encoding="utf-8") as file:
-        file.write(sum_of(crate) + "\n")
+        file.write(of + "\n")
 
 
 def is_right(crate: Any) -> bool:

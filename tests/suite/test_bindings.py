@@ -15,6 +15,7 @@ import glob
 import hashlib
 import importlib
 import os
+import pathlib
 import re
 import shutil
 import subprocess
@@ -292,8 +293,7 @@ class Binding(built.OfLibrary):
         with tempfile.TemporaryDirectory() as room:
             paths = [os.path.join(room, name) for name in ("acl", "sequence", "key")]
             for path, value in zip(paths, parts):
-                with open(path, "wb") as file:
-                    file.write(canonical(value))
+                pathlib.Path(path).write_bytes(canonical(value))
             done = subprocess.run([*words, *paths, "ftp", "host"], capture_output=True, text=True, timeout=SECONDS,
                                   env={**os.environ, "PYTHONPATH": PYTHON})
             self.assertEqual(done.stdout, wanted, f"{on_one_line(parts[2])}: {done.stderr[-500:]}")
@@ -464,8 +464,8 @@ class InRust(Binding):
         """The tests of the crate for serde pass, with the crates that Debian has."""
         with tempfile.TemporaryDirectory() as room:
             crates = shutil.copytree(RUST, os.path.join(room, "rust"), ignore=shutil.ignore_patterns("out", ".cargo"))
-            with open(os.path.join(room, "config.toml"), "w", encoding="ascii") as file:
-                file.write('net.offline = true\n[source]\ncrates-io.replace-with = "debian"\ndebian.directory = "/usr/share/cargo/registry"\n')
+            pathlib.Path(room, "config.toml").write_text(
+                'net.offline = true\n[source]\ncrates-io.replace-with = "debian"\ndebian.directory = "/usr/share/cargo/registry"\n')
             settings = {**os.environ, "CARGO_HOME": room, "CARGO_INCREMENTAL": "0", "CARGO_PROFILE_DEV_DEBUG": "0", "SPKI_LIB_DIR": self.folder}
             status, output = output_of("cargo", "test", "--quiet", cwd=os.path.join(crates, "spki-serde"), env=settings, seconds=SECONDS)
             self.assertEqual(status, 0, output)
@@ -510,8 +510,7 @@ class InRust(Binding):
             for version, is_built in ((text_of("VERSION").strip(), True), ("0.1.0", False), ("0.3.0", False), ("0.0.9", False)):
                 folder = os.path.join(room, version)
                 os.mkdir(folder)
-                with open(os.path.join(folder, "spki.pc"), "w", encoding="ascii") as file:
-                    file.write(f"Name: spki\nDescription: spki\nVersion: {version}\nLibs: -L{self.folder} -lspki_c\n")
+                pathlib.Path(folder, "spki.pc").write_text(f"Name: spki\nDescription: spki\nVersion: {version}\nLibs: -L{self.folder} -lspki_c\n")
                 status, output = self.build_sys(room, PKG_CONFIG_PATH=folder)
                 self.assertEqual(status == 0, is_built, f"{version}: {output}")
 
@@ -526,8 +525,8 @@ class InRust(Binding):
             folder = os.path.join(system, "usr", "lib")
             os.makedirs(folder)
             shutil.copy(self.library, os.path.join(folder, "libspki_c.a"))
-            with open(os.path.join(folder, "spki.pc"), "w", encoding="ascii") as file:
-                file.write(f"Name: spki\nDescription: spki\nVersion: {text_of('VERSION').strip()}\nLibs: -L/usr/lib -lspki_c\n")
+            about = f"Name: spki\nDescription: spki\nVersion: {text_of('VERSION').strip()}\n"
+            pathlib.Path(folder, "spki.pc").write_text(f"{about}Libs: -L/usr/lib -lspki_c\n")
             for end in ("", "_armv7-unknown-linux-gnu", "_armv7_unknown_linux_gnu"):
                 settings = {f"PKG_CONFIG_SYSROOT_DIR{end}": system, f"PKG_CONFIG_LIBDIR{end}": folder}
                 for more, is_linked in ((settings, True), ({}, False)):

@@ -4,6 +4,7 @@ is printed, and that one which takes too long is ended. The texts of the toolcha
 import contextlib
 import io
 import os
+import pathlib
 import subprocess
 import sys
 import tempfile
@@ -66,8 +67,7 @@ class Bodies(unittest.TestCase):
         """Wrong bodies of functions with different names are tried by one check, of the text with all of them."""
         with tempfile.TemporaryDirectory() as folder:
             os.mkdir(os.path.join(folder, "src"))
-            with open(os.path.join(folder, "src/names.rt"), "w", encoding="utf-8") as file:
-                file.write(SOURCE)
+            pathlib.Path(folder, "src/names.rt").write_text(SOURCE, encoding="utf-8")
             pairs = [("n < MOST", "n <= MOST"), ("self.octets.len()", "0"), ("n < MOST", "n == MOST"), ("= 3", "= 4")]
             texts = [{"src/names.rt": SOURCE.replace(old, new)} for old, new in pairs]
             all_bodies = [bodies.Body(str(place), text, bodies.functions_of(folder, text)) for place, text in enumerate(texts)]
@@ -119,10 +119,8 @@ class Script(unittest.TestCase):
         """Bash runs it, and nothing but the gate: in a text in another language it would run what stands in backticks."""
         with tempfile.TemporaryDirectory() as folder:
             for name, line in ("python3", 'echo "$PWD" "$@"'), ("dirname", 'echo "${1%/*}"'):
-                path = os.path.join(folder, name)
-                with open(path, "w", encoding="utf-8") as file:
-                    file.write(f"#!/bin/sh\n{line}\n")
-                os.chmod(path, 0o755)
+                pathlib.Path(folder, name).write_text(f"#!/bin/sh\n{line}\n")
+                os.chmod(os.path.join(folder, name), 0o755)
             done = subprocess.run(["/bin/bash", ".ci/run"], cwd=TOP, env={"PATH": folder}, capture_output=True, text=True)
         self.assertEqual((done.stdout, done.stderr, done.returncode), (f"{TOP}/.ci -m merge_gate.landing\n", "", 0))
 
@@ -135,8 +133,13 @@ class NothingToTry(unittest.TestCase):
             self.assertNotEqual(subprocess.run([os.path.join(TESTS, name), *words, "--cases", "9"], capture_output=True).returncode, 0, words)
 
     def test_wrong_bodies(self) -> None:
+        """None is tried without a name, nor where `rt ci` fails: in a crate that is not proved each would be refused."""
         with contextlib.redirect_stderr(io.StringIO()), mock.patch.object(sys, "argv", ["deep", "--alone"]):
             self.assertRaises(SystemExit, deep.main, "")
+        with contextlib.redirect_stdout(io.StringIO()), mock.patch.object(deep, "run", lambda *_: ("0 passed, 1 failed\n", 1)), \
+                mock.patch.object(deep.toolchain, "remove_kept_libraries"), mock.patch.object(deep, "try_bodies") as tries:
+            deep.try_all(["spki_words"], Counts())
+        self.assertFalse(tries.called)
 
 
 class Logs(unittest.TestCase):

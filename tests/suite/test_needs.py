@@ -1,5 +1,5 @@
 """Compares CONTRIBUTING.md with `needs.py`, the list of what the tests use, and tries how a test is skipped."""
-import os
+import pathlib
 import tempfile
 import unittest
 
@@ -25,8 +25,7 @@ class Needs(unittest.TestCase):
     def test_skipped_module(self) -> None:
         """A module that is skipped as a whole has an outcome under its own name. This one is skipped for what is not on the list."""
         with tempfile.TemporaryDirectory() as folder:
-            with open(os.path.join(folder, "test_gone.py"), "w", encoding="utf-8") as file:
-                file.write("import unittest\nraise unittest.SkipTest('there is no such command')\n")
+            pathlib.Path(folder, "test_gone.py").write_text("import unittest\nraise unittest.SkipTest('there is no such command')\n")
             tests = list(running.flattened(unittest.TestLoader().discover(folder, top_level_dir=folder)))
         outcome, = running.run_all(tests, 1, False, "tests/run")
         self.assertEqual(outcome.name, "test_gone")

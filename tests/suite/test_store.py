@@ -513,9 +513,7 @@ class Served(OfServed):
         one, other = (self.start_daemon(name, self.server, chains={"postgres": store}) for name in ("one", "other"))
         one.wait_for_status(200, alice)
         other.wait_for_status(401, bob)
-        body, target = os.path.join(self.room, "sequence"), "/.well-known/spki-chain"
-        with open(body, "wb") as file:
-            file.write(sequence)
+        body, target = self.file(sequence, "sequence"), "/.well-known/spki-chain"
         fields = test_go.spki_cert("request", "--by", bob.path, "--body", body, f"https://{SITE}{target}").decode().splitlines()
         connection = test_go.OverSocket(one.daemon.socket)
         connection.request("PUT", target, sequence, {"Host": SITE, **dict(field.split(": ", 1) for field in fields)})
