@@ -7,10 +7,12 @@ import re
 from collections.abc import Iterator
 from typing import Any
 
-# A remark or an import, which says nothing of what is promised. The head of a function, up to its body. A public trait.
+# A remark or an import, which says nothing of what is promised, unless two definitions have one name. The head of a function, up to its body. A
+# public trait. A member of an impl, a trait or a struct for contracts alone, such as a view or an invariant: it says what a value is in them.
 REMARK = re.compile(r"^\s*(?:--|//|use |ghost use |pub use ).*\n|^\s*\n", re.MULTILINE)
 HEAD = re.compile(r"^( *)(?:pub(?:\([\w:]+\))? |const |unsafe |extern \"C\" )*fn (?:.|\n)*?(?:\n\1| )\{\}?$", re.MULTILINE)
 TRAIT = re.compile(r"^pub (?:unsafe )?trait (?:.|\n)*?^\}", re.MULTILINE)
+GHOST = re.compile(r"^ *ghost \w+(?: =|:) (?:.|\n)*?\}[;,]$", re.MULTILINE)
 
 
 def read(path: str) -> str:
@@ -21,12 +23,13 @@ def read(path: str) -> str:
 
 def promises(crate: Any) -> Iterator[str]:
     """What the wrong bodies of a crate are tried against, and they themselves: the contracts of its functions, its public traits, and the definitions
-    of its specifications and of those of the crates below. A wrong body is an edit of a function that its contract must refuse."""
+    and the ghost members of this crate and of those below. A wrong body is an edit of a function that its contract must refuse."""
     for path in sorted(glob.glob(f"{crate.folder}/src/**/*.rt", recursive=True)):
         text = read(path)
         yield from (found[0] for pattern in (HEAD, TRAIT) for found in pattern.finditer(text))
     for folder in sorted({crate.folder, *(it.folder for it in crate.below())}):
         yield from map(read, sorted(glob.glob(f"{folder}/specs/**/*.antt", recursive=True)))
+        yield from (ghost for path in sorted(glob.glob(f"{folder}/src/**/*.rt", recursive=True)) for ghost in GHOST.findall(read(path)))
     yield from map(read, sorted(glob.glob(f"{crate.folder}/wrong/*.edit")))
 
 

@@ -17,7 +17,6 @@ from merge_gate.report import Counts
 from merge_gate.run import run
 
 SOURCE = """use std::alloc::Global;
-
 const MOST: usize = 3;
 
 /// Whether it is.
@@ -29,6 +28,7 @@ fn is_it(n: usize) -> bool
 }
 
 impl<'a> Display for Name<'a> {
+    ghost view = { λ n. n.octets };
     /// Its length.
     pub(crate) fn length(&self) -> usize {
         self.octets.len()
@@ -80,11 +80,12 @@ class Records(unittest.TestCase):
     """What the deep run has recorded."""
 
     def test_text(self) -> None:
-        """A record is about contracts of functions and definitions, and neither about bodies nor about remarks."""
+        """A record is about contracts of functions, ghost members and definitions, and neither about bodies nor about remarks."""
         def heads(text: str) -> list[str]:
-            return [found[0] for found in records.HEAD.finditer(records.REMARK.sub("", text))]
+            return [found[0] for pattern in (records.HEAD, records.GHOST) for found in pattern.finditer(records.REMARK.sub("", text))]
 
-        self.assertEqual(heads(SOURCE), ["fn is_it(n: usize) -> bool\n    ensures { result }\n{", "    pub(crate) fn length(&self) -> usize {"])
+        self.assertEqual(heads(SOURCE), ["fn is_it(n: usize) -> bool\n    ensures { result }\n{", "    pub(crate) fn length(&self) -> usize {",
+                                         "    ghost view = { λ n. n.octets };"])
         self.assertEqual(heads(SOURCE.replace("n < MOST", "true").replace("/// Its", "/// The")), heads(SOURCE))
         self.assertNotEqual(heads(SOURCE.replace("{ result }", "{ ⊤ }")), heads(SOURCE))
 
