@@ -15,6 +15,7 @@
 #include <algorithm>
 #include <chrono>
 #include <cstring>
+#include <iterator>
 #include <memory>
 #include <optional>
 #include <stdexcept>
@@ -87,12 +88,17 @@ private:
 };
 
 /* What is asked. The texts are those of spki_question, and must last until `ask` or `decide` returns. `words` has the strings of the
- * request; an array, a vector or another container of std::string_view or std::string will do. */
+ * request; an array, a vector or another container of std::string_view or std::string will do. A view that makes each string while it is
+ * read does not compile. */
 struct question {
     template <typename Words>
     question(std::string_view sequence, proven_key key, const Words &words, std::chrono::system_clock::time_point now)
         : key(std::move(key)), seconds(std::chrono::floor<std::chrono::seconds>(now).time_since_epoch().count())
     {
+        using std::begin;
+        using word_read = decltype(*begin(words));
+        static_assert(std::is_lvalue_reference_v<word_read> || std::is_trivially_destructible_v<word_read>,
+                      "a string that is made while it is read does not last until the question is asked");
         for (std::string_view word : words)
             strings.push_back(text_of(word));
         // (one that does not count, so that the address is not null where there is no string: null would mean that the request is a text)
