@@ -237,8 +237,8 @@ size_t spki_guard_entries(const spki_guard *guard);
 /* ---- questions */
 
 /* One signature that is to be verified: by this key, of this message, with this value. The texts are in canonical form. `octets` are
- * the octets of a value that is one string; of a value that is a list they are null, with the length 0. The texts do not change, and
- * last until the question is closed. */
+ * the octets of a value that is one string, without its display hint if it has one; of a value that is a list they are null, with the
+ * length 0. The texts do not change, and last until the question is closed. */
 struct spki_signed {
     struct spki_text key, message, value, octets;
 };
