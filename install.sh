@@ -60,7 +60,7 @@ if [[ $uninstalls ]]; then
     done
     for place in "${places[@]}"; do
         if [[ -e $prefix/$place || -L $prefix/$place ]]; then
-            rm "$prefix/$place"
+            rm -f "$prefix/$place"
             echo "removed $prefix/$place"
         fi
     done
@@ -74,7 +74,7 @@ put() {
     echo "installed $prefix/$3"
 }
 
-mkdir -p "$prefix" 2> /dev/null && [[ -w $prefix ]] ||
+(umask 022 && mkdir -p "$prefix") 2> /dev/null && [[ -w $prefix ]] ||
     { echo "install.sh: $prefix cannot be written: name another PREFIX, or run it as root" >&2; exit 1; }
 if [[ -z $program ]]; then
     command -v rt > /dev/null || { echo "rt is not in the path: it builds the program" >&2; exit 1; }
