@@ -16,7 +16,7 @@ from collections.abc import Callable, Iterator
 from harness import claims, ways
 from harness.support import TOP, output_of, text_of
 
-PAGES = ["*.md", "docs/*.md", "examples/*.md", "apps/**/*.md", "crates/*/CALLING.md"]
+PAGES = ["*.md", "docs/*.md", "examples/*.md", "apps/**/*.md", "bindings/**/*.md", "crates/*/CALLING.md"]
 # The octets that README.md may have, and all pages of docs/ with the pages CALLING.md.
 MOST_OF_README, MOST_OF_PAGES = 16_384, 245_760
 LINK = re.compile(r"\]\(([^)\s]+)\)")
