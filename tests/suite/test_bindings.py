@@ -303,9 +303,10 @@ class InPython(Binding):
     """The module in Python."""
 
     def test_module(self):
-        """The tests of the module pass."""
+        """The tests of the module pass. There are some, and none is skipped but for what this machine lacks."""
         done = subprocess.run([sys.executable, "-m", "unittest", "--quiet"], cwd=PYTHON, timeout=SECONDS, capture_output=True, text=True)
-        self.assertEqual(done.returncode, 0, done.stderr)
+        skips = "" if needs.has("import cryptography", "import setuptools") else r"(?: \(skipped=\d+\))?"
+        self.assertRegex(done.stderr, rf"\nRan [1-9]\d* tests? in \S+\n\nOK{skips}\n\Z")
 
     @needs.needs("mypy")
     def test_types(self):
