@@ -387,9 +387,9 @@ class WithDriver(OfDaemon):
 
     def test_questions(self) -> None:
         """Generated questions are asked while another client changes the store. Each answer is that of the guard of the whole list."""
-        seed = str(secrets.randbelow(1 << 32))
-        self.go("test", *WITH_DRIVER, "-count=1", "-run", "TestQuestionsToStore|TestTransact", "-v", ".", SPKI_STORE_HOST=self.server.folder,
-                SPKI_STORE_SEED=seed, SPKI_STORE_SCHEMA=self.schema, SPKI_STORE_QUESTIONS=str(QUESTIONS))
+        output = self.go("test", *WITH_DRIVER, "-count=1", "-run", "TestQuestionsToStore|TestTransact", "-v", ".", SPKI_STORE_HOST=self.server.folder,
+                         SPKI_STORE_SEED=str(secrets.randbelow(1 << 32)), SPKI_STORE_SCHEMA=self.schema, SPKI_STORE_QUESTIONS=str(QUESTIONS))
+        self.assertIn("--- PASS: TestQuestionsToStore", output)
 
 
 # `stale_seconds` of the daemons: the state of a store that is older decides nothing.
