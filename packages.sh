@@ -137,7 +137,7 @@ build_daemon() {
     local flags
     flags="-g -O2 -DSPKI_OF_LIBRARY_$(sha256sum < "$1" | cut -c 1-64)"
     (cd "$here/apps/spki-authd" && GOFLAGS=-mod=mod GOPROXY=off GOENV=off GOWORK=off GOTOOLCHAIN=local CGO_ENABLED=1 CGO_CFLAGS=$flags \
-        CGO_LDFLAGS="-L$(dirname "$1")" go build "${driver[@]}" -trimpath -buildvcs=false -buildmode=pie \
+        CGO_LDFLAGS="'-L$(dirname "$1")'" go build "${driver[@]}" -trimpath -buildvcs=false -buildmode=pie \
         -ldflags '-s -w -buildid= -linkmode=external -extldflags "-Wl,-z,relro -Wl,-z,now"' -o "$2" .)
 }
 

@@ -16,8 +16,8 @@ def settings(library: str) -> dict[str, str]:
     with open(library, "rb") as file:
         digest = hashlib.sha256(file.read()).hexdigest()
     return {**os.environ, "GOCACHE": os.path.join(TESTS, "out", "go"), "GOFLAGS": "-mod=mod", "GOPROXY": "off", "GOENV": "off", "GOWORK": "off",
-            "GOTOOLCHAIN": "local", "CGO_ENABLED": "1", "CGO_CFLAGS": f"-g -O2 -I{HEADERS} -DSPKI_OF_LIBRARY_{digest}",
-            "CGO_LDFLAGS": f"-L{os.path.dirname(library)}"}
+            "GOTOOLCHAIN": "local", "CGO_ENABLED": "1", "CGO_CFLAGS": f"-g -O2 '-I{HEADERS}' -DSPKI_OF_LIBRARY_{digest}",
+            "CGO_LDFLAGS": f"'-L{os.path.dirname(library)}'"}
 
 
 def go(folder: str, words: list[str], library: str, given: bytes | None = None, **more: str) -> subprocess.CompletedProcess[bytes]:

@@ -195,7 +195,7 @@ class Packages(built.OfLibrary):
         """The same sources in another place, and for another user, make the same octets. In the long run Go compiles everything once more."""
         epoch = output_of("git", "log", "-1", "--format=%ct", cwd=TOP)[1].strip()
         name, address = MAINTAINER.rstrip(">").split(" <")
-        with tempfile.TemporaryDirectory() as room:
+        with tempfile.TemporaryDirectory(suffix=" it") as room:
             top, folder = copy_sources(room), os.path.join(room, "made")
             settings = {"SOURCE_DATE_EPOCH": epoch, "DEBFULLNAME": name, "DEBEMAIL": address, "TZ": "Asia/Tokyo", "LC_ALL": "C.UTF-8",
                         "HOME": room, "GOCACHE": os.path.join(room, "go") if built.IS_LONG else GO_CACHE}
