@@ -56,7 +56,7 @@ fn variable_for_target(name: &str) -> Option<OsString> {
 /// The lines that tell Cargo to link the library of a folder, without `cargo:` in front. The error says that it has none.
 fn link_lines(folder: &Path) -> Result<Vec<String>, String> {
     let (archive, shared) = (folder.join("libspki_c.a"), folder.join("libspki_c.so"));
-    let wants_shared = variable("SPKI_SHARED").is_some();
+    let wants_shared = variable("SPKI_SHARED").is_some_and(|value| value != "0");
     let (kind, file) = if archive.is_file() && !wants_shared {
         ("static", archive)
     } else {
