@@ -142,16 +142,6 @@ func (d *decider) decideKnown(result *record, question guard.Question, path stri
 	return decision, err
 }
 
-// ask opens a question to the list that is in force for a host and a path, and returns it with the access and the list. The caller closes it.
-func (d *decider) ask(question guard.Question, host, path string) (*access, *list, *guard.Asked, error) {
-	var opened *guard.Asked
-	present, list, err := d.withList(&question, host, path, func(_ *access, list *list) (err error) {
-		opened, err = list.guard.Ask(question)
-		return err
-	})
-	return present, list, opened, err
-}
-
 // withList calls `use` with the access and the list that are in force for a host and a path, and returns both and the error of `use`. Of a list in a store
 // it takes only the entries that the question needs. If the list is closed at that moment, as by a reload, `use` is called again, with the new list. It
 // fails with errNoList if no list is for the host and the path, and if a store cannot be read.
@@ -164,7 +154,7 @@ func (d *decider) withList(question *guard.Question, host, path string, use func
 		if err != nil {
 			return nil, nil, err
 		}
-		err = use(present, list)
+		err = list.useAtGate(present, use)
 		if list.isPassing {
 			list.guard.Close()
 		}
@@ -174,15 +164,33 @@ func (d *decider) withList(question *guard.Question, host, path string, use func
 	}
 }
 
+// useAtGate is a call of `use` for withList, at the gate of the library.
+func (l *list) useAtGate(present *access, use func(present *access, list *list) error) error {
+	if err := library.enter(); err != nil {
+		return err
+	}
+	defer library.leave()
+	return use(present, l)
+}
+
 // decideAnew decides a question by certificates whose signatures are not all known to be valid, and notes it in a record. Where denials are explained, it
-// decides each question. It verifies signatures only if the request would be granted if all of them were valid: so a client that gets no right by them
-// costs no verification. If all of them are valid, the sequence is kept for decideKnown.
-func (d *decider) decideAnew(result *record, question guard.Question, path, sequence string) (guard.Decision, error) {
+// decides each question.
+func (d *decider) decideAnew(result *record, question guard.Question, path, sequence string) (decision guard.Decision, err error) {
 	question.Sequence = noCertificates
 	if sequence != "" {
 		question.Sequence = []byte(sequence)
 	}
-	present, list, opened, err := d.ask(question, result.Host, path)
+	_, _, err = d.withList(&question, result.Host, path, func(present *access, list *list) (err error) {
+		decision, err = d.decideBy(result, present, list, question, sequence)
+		return err
+	})
+	return decision, err
+}
+
+// decideBy is decideAnew by a list. It verifies signatures only if the request would be granted if all of them were valid: so a client that gets no right by
+// them costs no verification. If all of them are valid, the sequence is kept for decideKnown.
+func (d *decider) decideBy(result *record, present *access, list *list, question guard.Question, sequence string) (guard.Decision, error) {
+	opened, err := list.guard.Ask(question)
 	if err != nil {
 		return guard.Decision{}, err
 	}

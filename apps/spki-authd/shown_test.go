@@ -184,7 +184,11 @@ func TestSignaturesThatAreNotRead(t *testing.T) {
 	s := newSite(t, "")
 	bobs, _ := s.sequencesShown()
 	question := guard.Question{Sequence: []byte(bobs), Key: spki.AssumeKey([]byte(s.bob.key)), Words: anyWords, Time: s.now()}
-	_, _, opened, err := s.decider.ask(question, "", "/web/x")
+	_, list, err := s.keeper.listFor("", "/web/x")
+	if err != nil {
+		t.Fatal(err)
+	}
+	opened, err := list.guard.Ask(question)
 	if err != nil {
 		t.Fatal(err)
 	}

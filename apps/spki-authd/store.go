@@ -150,13 +150,8 @@ func (s *store) keyOf(question *guard.Question) ([]byte, error) {
 	text := string(question.Sequence)
 	first, isKnown := s.firsts.get(text)
 	if !isKnown {
-		opened, err := s.empty.Ask(*question)
-		if err != nil {
-			return nil, err
-		}
-		defer opened.Close()
-		err = opened.Each(func(_ int, signature guard.Signature) bool { first = string(signature.Key); return false })
-		if err != nil {
+		var err error
+		if first, err = s.readFirst(question); err != nil {
 			return nil, err
 		}
 		if len(text) <= mostShownOctets {
@@ -167,6 +162,21 @@ func (s *store) keyOf(question *guard.Question) ([]byte, error) {
 		return []byte(question.Key.Text()), nil
 	}
 	return []byte(first), nil
+}
+
+// readFirst returns the key that the first signature of a question is by, or an empty text if none is listed. It fails with the library's refusal.
+func (s *store) readFirst(question *guard.Question) (first string, err error) {
+	if err := library.enter(); err != nil {
+		return "", err
+	}
+	defer library.leave()
+	opened, err := s.empty.Ask(*question)
+	if err != nil {
+		return "", err
+	}
+	defer opened.Close()
+	err = opened.Each(func(_ int, signature guard.Signature) bool { first = string(signature.Key); return false })
+	return first, err
 }
 
 // read reads the entries for a key from the database, and returns the list of them. `keyDigest` is the key's digest. The list is kept if it is not too
@@ -209,6 +219,10 @@ func (s *store) listOf(rows entryRows) (*list, int, error) {
 	for _, text := range rows.texts {
 		joined = append(joined, text...)
 	}
+	if err := library.enter(); err != nil {
+		return nil, 0, err
+	}
+	defer library.leave()
 	opened, err := s.open(joined)
 	if err != nil {
 		return nil, 0, fmt.Errorf("%w: %v", errHostile, err)

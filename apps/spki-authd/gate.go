@@ -1,0 +1,40 @@
+package main
+
+import (
+	"errors"
+	"runtime"
+	"time"
+)
+
+// A gate lets so many goroutines through at once, and has the others wait for a while.
+type gate chan struct{}
+
+// library is the gate before those calls of the library that may take long. Each such call has a thread of the system. While calls last, Go begins one more
+// thread for each further request, and ends the program where it gets none: the unit of systemd lets the daemon have TasksMax. More calls than processors
+// make no answer faster, but a short question must not wait for all long ones. Who has passed must not enter again before leaving.
+var library = make(gate, 2*runtime.GOMAXPROCS(0)+56)
+
+// How long a goroutine waits at a gate. Past that its request is answered by `failed`.
+const timeAtGate = time.Second
+
+var errBusy = errors.New("too many requests are decided at once")
+
+// enter waits until the gate lets one more goroutine through, which calls leave afterwards. If that takes longer than timeAtGate, it fails with errBusy.
+func (g gate) enter() error {
+	select {
+	case g <- struct{}{}:
+		return nil
+	default:
+	}
+	patience := time.NewTimer(timeAtGate)
+	defer patience.Stop()
+	select {
+	case g <- struct{}{}:
+		return nil
+	case <-patience.C:
+		return errBusy
+	}
+}
+
+// leave lets another goroutine through.
+func (g gate) leave() { <-g }

@@ -1,0 +1,64 @@
+package main
+
+import (
+	"sync"
+	"sync/atomic"
+	"testing"
+	"time"
+
+	"conguraki/spki/guard"
+)
+
+// TestGateOfLibrary asks several times at once, by a gate that lets two through. No more are decided at a time. A panic gives its place back. Who waits
+// too long is answered by `failed`.
+func TestGateOfLibrary(t *testing.T) {
+	s := newSite(t, `, "cache": 0`)
+	bobs, _ := s.sequencesShown()
+	usual := library
+	library = make(gate, 2)
+	defer func() { library = usual }()
+	var mutex sync.Mutex
+	var panics atomic.Bool
+	present, most, takes := 0, 0, 10*time.Millisecond
+	s.verify = func(guard.Signature) bool {
+		if panics.Load() {
+			panic("no verifier")
+		}
+		mutex.Lock()
+		present++
+		if present > most {
+			most = present
+		}
+		mutex.Unlock()
+		time.Sleep(takes)
+		mutex.Lock()
+		present--
+		mutex.Unlock()
+		return true
+	}
+	asks := func() map[int]int {
+		statuses, count := make(chan int), map[int]int{}
+		for routine := 0; routine < 4; routine++ {
+			go func() { statuses <- s.by(s.bob, "GET", "/web/docs/b", bobs).StatusCode }()
+		}
+		for routine := 0; routine < 4; routine++ {
+			count[<-statuses]++
+		}
+		return count
+	}
+	if count := asks(); count[200] != 4 {
+		t.Error(count)
+	}
+	panics.Store(true)
+	if count := asks(); count[503] != 4 {
+		t.Error(count)
+	}
+	panics.Store(false)
+	takes = 2 * timeAtGate
+	if count := asks(); count[200] != 2 || count[503] != 2 {
+		t.Error(count)
+	}
+	if most != 2 || len(library) != 0 {
+		t.Errorf("%d at once, %d have not left", most, len(library))
+	}
+}
