@@ -56,7 +56,7 @@ var (
 // time nor a status yet.
 func (d *decider) decide(inquiry *inquiry, now time.Time) record {
 	result := record{Answer: answerNo, ID: inquiry.id, Host: inquiry.host}
-	if !d.byAddress.allows(inquiry.address, now) {
+	if !d.byAddress.allows(networkOf(inquiry.address), now) {
 		result.Address = cut(inquiry.address, mostID)
 		return result.withReason(answerLimited, errOftenAddress)
 	}

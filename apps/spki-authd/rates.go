@@ -1,6 +1,7 @@
 package main
 
 import (
+	"net/netip"
 	"sync"
 	"time"
 )
@@ -24,6 +25,9 @@ const (
 	mostBuckets  = 20_000
 	savedSeconds = 2
 )
+
+// The bits of an IPv6 address that a provider gives to one client, who has all addresses behind them.
+const bitsOfClient = 64
 
 // newRateLimiter returns a limiter to so many requests a second. With 0 it allows each request.
 func newRateLimiter(perSecond int) *rateLimiter {
@@ -59,4 +63,21 @@ func (r *rateLimiter) allows(caller string, now time.Time) bool {
 	}
 	allowance.left--
 	return true
+}
+
+// networkOf returns what address_rate counts a client by: an IPv4 address, or the first bitsOfClient bits of an IPv6 address, so that nobody gets more by
+// asking from many of its own. A text that is no address is returned as it is.
+func networkOf(address string) string {
+	parsed, err := netip.ParseAddr(address)
+	if err != nil {
+		return address
+	}
+	// (an IPv4 address may be written as ::ffff:192.0.2.1)
+	parsed = parsed.Unmap()
+	if parsed.Is4() {
+		return parsed.String()
+	}
+	// (only a wrong number of bits is an error)
+	network, _ := parsed.WithZone("").Prefix(bitsOfClient)
+	return network.String()
 }

@@ -2,6 +2,7 @@ package main
 
 import (
 	"fmt"
+	"net/http"
 	"strings"
 	"testing"
 	"time"
@@ -51,6 +52,41 @@ func TestRatesAreBounded(t *testing.T) {
 	}
 	if count := len(limiter.buckets.old) + len(limiter.buckets.young); count > mostBuckets || allowed != savedSeconds {
 		t.Errorf("%d are known, %d are allowed", count, allowed)
+	}
+}
+
+// TestAddressesOfOneClient asks from many addresses, and counts how many requests are allowed. All IPv6 addresses with the same first 64 bits are one
+// client, and so is an IPv4 address in each form.
+func TestAddressesOfOneClient(t *testing.T) {
+	for name, row := range map[string]struct {
+		addresses []string
+		wanted    int
+	}{
+		"a network of IPv6":  {[]string{"2001:db8::1", "2001:db8::2", "2001:db8:0:0:ffff:ffff:ffff:ffff", "2001:DB8::3", "2001:db8::1%eth0"}, 2},
+		"networks of IPv6":   {[]string{"2001:db8::1", "2001:db8:0:1::1", "2001:db8:0:2::1"}, 3},
+		"IPv4":               {[]string{"192.0.2.1", "::ffff:192.0.2.1", "::ffff:c000:201"}, 2},
+		"addresses of IPv4":  {[]string{"192.0.2.1", "192.0.2.2", "::ffff:192.0.2.3"}, 3},
+		"what is no address": {[]string{"unix:", "unix:", "unix:", "a", "192.0.2.01"}, 4},
+	} {
+		s := newSite(t, `, "limits": {"address_rate": 1}`)
+		fixed, allowed := time.Now(), 0
+		s.now = func() time.Time { return fixed }
+		for _, address := range row.addresses {
+			pairs := []string{"X-Original-Method", "GET", "X-Original-URI", "/web/x", "X-Client-Cert", s.alice.escaped(), "X-Real-IP", address}
+			switch response := s.ask(pairs...); response.StatusCode {
+			case http.StatusOK:
+				allowed++
+			case http.StatusTooManyRequests:
+				if line := s.lastLine(t); line.Address != address {
+					t.Errorf("%s: %+v", name, line)
+				}
+			default:
+				t.Errorf("%s: %s is %d", name, address, response.StatusCode)
+			}
+		}
+		if allowed != row.wanted {
+			t.Errorf("%s: %d are allowed, wanted %d", name, allowed, row.wanted)
+		}
 	}
 }
 
