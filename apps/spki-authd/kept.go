@@ -51,15 +51,20 @@ type chainKeeper interface {
 type folderChains struct {
 	// The configuration, with the folder and the limits.
 	chains
-	// Held while a file is written, so that one is at a time. `of` waits for no disk.
+	// Held while files are written or removed, so that one goroutine at a time does that. `of` waits for no disk.
 	writing sync.Mutex
 	// Guards what follows.
 	mutex sync.Mutex
-	// The key into whose folder a file is being written, so that the folder stays, or an empty text.
-	written string
 	// The sequences by the digest of their key, in the order of their ends, and how many octets all of them have.
 	byKey  map[string][]keptChain
 	octets int
+	// The files of sequences that have ended and are not in byKey any more. The next `add` removes them, or the next start.
+	ended []keptFile
+}
+
+// A keptFile is the file of a sequence: the key whose folder it is in, and its name there.
+type keptFile struct {
+	key, name string
 }
 
 // The most octets of all sequences in a folder.
@@ -146,7 +151,7 @@ func openFolderChains(c *chains, now time.Time, mayRemove bool) (*folderChains, 
 		files, _ := os.ReadDir(filepath.Join(c.Folder, folder.Name()))
 		for _, file := range files {
 			if isOver := opened.read(folder.Name(), file.Name(), now); isOver && mayRemove {
-				opened.remove(folder.Name(), file.Name())
+				opened.remove(keptFile{folder.Name(), file.Name()})
 			}
 		}
 	}
@@ -187,12 +192,12 @@ func (f *folderChains) put(key string, chain keptChain) {
 	f.octets += len(chain.text)
 }
 
-// remove removes the file of a sequence, and the folder of its key if that is empty then and no file is being written into it. Errors do not matter: the
-// next start removes what has ended. The mutex is held, or no other goroutine has `f` yet.
-func (f *folderChains) remove(key, name string) {
-	os.Remove(filepath.Join(f.Folder, key, name))
-	if key != f.written {
-		os.Remove(filepath.Join(f.Folder, key))
+// remove removes files of sequences, and the folders of their keys that are empty then. Errors do not matter: the next start removes what has ended.
+// `writing` is held, or no other goroutine has `f` yet.
+func (f *folderChains) remove(files ...keptFile) {
+	for _, file := range files {
+		os.Remove(filepath.Join(f.Folder, file.key, file.name))
+		os.Remove(filepath.Join(f.Folder, file.key))
 	}
 }
 
@@ -244,7 +249,7 @@ func endOf(text string) (end time.Time, hasEnd bool) {
 	return end, hasEnd
 }
 
-// of returns the sequences of a key that have not ended, and removes the others with their files. It never fails.
+// of returns the sequences of a key that have not ended, and forgets the others. It never fails.
 func (f *folderChains) of(key string, now time.Time) ([]keptChain, error) {
 	f.mutex.Lock()
 	defer f.mutex.Unlock()
@@ -258,7 +263,7 @@ func (f *folderChains) current(key string, now time.Time) []keptChain {
 		if now.Before(each.until) {
 			current = append(current, each)
 		} else {
-			f.remove(key, each.name)
+			f.ended = append(f.ended, keptFile{key, each.name})
 			f.octets -= len(each.text)
 		}
 	}
@@ -298,30 +303,30 @@ func (f *folderChains) whyNotAddedLocked(key string, chain keptChain, now time.T
 func (f *folderChains) add(key string, chain keptChain, now time.Time) (answer, error) {
 	f.writing.Lock()
 	defer f.writing.Unlock()
-	if refusal := f.begin(key, chain, now); refusal != "" {
+	refusal, ended := f.begin(key, chain, now)
+	// (before the file is written: it may have the name of one that has ended)
+	f.remove(ended...)
+	if refusal != "" {
 		return refusal, nil
 	}
-	err := f.write(key, chain)
-	f.mutex.Lock()
-	defer f.mutex.Unlock()
-	f.written = ""
-	if err != nil {
-		f.remove(key, chain.name+partSuffix)
+	if err := f.write(key, chain); err != nil {
+		f.remove(keptFile{key, chain.name + partSuffix})
 		return answerFailed, err
 	}
+	f.mutex.Lock()
+	defer f.mutex.Unlock()
 	f.put(key, chain)
 	return answerKept, nil
 }
 
-// begin returns the answer to a sequence that add does not keep. If it is empty, the folder of the key stays until `written` is set anew.
-func (f *folderChains) begin(key string, chain keptChain, now time.Time) answer {
+// begin returns the answer to a sequence that add does not keep, or an empty one, and the files that add removes.
+func (f *folderChains) begin(key string, chain keptChain, now time.Time) (answer, []keptFile) {
 	f.mutex.Lock()
 	defer f.mutex.Unlock()
 	refusal := f.whyNotAddedLocked(key, chain, now)
-	if refusal == "" {
-		f.written = key
-	}
-	return refusal
+	ended := f.ended
+	f.ended = nil
+	return refusal, ended
 }
 
 // write writes the file of a sequence, whole or not at all: under a name with partSuffix at its end, from which it is renamed. It calls fsync, so that what

@@ -402,11 +402,23 @@ func TestKeptChainsEnd(t *testing.T) {
 	if _, err := openFolderChains(s.config.Chains, begun.AddDate(0, 0, 11), true); err != nil || len(s.filesOfChains()) != 1 {
 		t.Error(err, s.filesOfChains())
 	}
-	if current, _ := s.chains.of(hexDigest([]byte(s.bob.key)), begun.AddDate(1, 0, 0)); current != nil {
-		t.Error(current)
+	// (who asks waits for no disk: the next sequence that is left has the files removed of those that have ended, and may have the name of one)
+	kept, bobs, carols := s.chains.(*folderChains), hexDigest([]byte(s.bob.key)), hexDigest([]byte(s.carol.key))
+	for place, key := range []string{bobs, carols} {
+		now := begun.AddDate(place+1, 0, 0)
+		if current, _ := kept.of(bobs, now); current != nil || len(s.filesOfChains()) != 1 {
+			t.Error(current, s.filesOfChains())
+		}
+		if reply, err := kept.add(key, kept.chainOf(long, now), now); reply != answerKept || err != nil {
+			t.Error(reply, err)
+		}
+		current, _ := kept.of(key, now)
+		if files := s.filesOfChains(); len(current) != 1 || len(files) != 1 || filepath.Base(filepath.Dir(files[0])) != key {
+			t.Error(current, files)
+		}
 	}
-	if files, _ := filepath.Glob(filepath.Join(s.config.Chains.Folder, "*")); files != nil {
-		t.Error(files)
+	if folders, _ := filepath.Glob(filepath.Join(s.config.Chains.Folder, "*")); len(folders) != 1 {
+		t.Error(folders)
 	}
 }
 
