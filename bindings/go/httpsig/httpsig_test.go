@@ -380,6 +380,38 @@ func TestOtherNamesLearnNothing(t *testing.T) {
 	}
 }
 
+// TestRedirectionWithoutTLS is redirected by https to another page by https, which gets a signature, and by https to a page by http, which gets none,
+// also after one more redirection. Where no request was by https, a page by http gets one.
+func TestRedirectionWithoutTLS(t *testing.T) {
+	answers := http.HandlerFunc(func(answer http.ResponseWriter, request *http.Request) {
+		to := request.URL.Query()["to"]
+		if len(to) > 0 {
+			http.Redirect(answer, request, to[0], http.StatusFound)
+			return
+		}
+		fmt.Fprint(answer, len(request.Header["Signature"]))
+	})
+	safe, open := httptest.NewTLSServer(answers), httptest.NewServer(answers)
+	defer safe.Close()
+	defer open.Close()
+	names := []string{strings.TrimPrefix(safe.URL, "https://"), strings.TrimPrefix(open.URL, "http://")}
+	client := http.Client{Transport: &Transport{Signer: signers(t)[Ed25519], Names: names, Base: safe.Client().Transport}}
+	for _, row := range []struct{ path, wanted string }{
+		{safe.URL, "1"}, {safe.URL + "/?to=" + safe.URL, "1"}, {safe.URL + "/?to=" + open.URL, "0"}, {safe.URL + "/?to=" + open.URL + "/?to=" + open.URL, "0"},
+		{open.URL, "1"}, {open.URL + "/?to=" + open.URL, "1"}, {open.URL + "/?to=" + safe.URL, "1"},
+	} {
+		response, err := client.Get(row.path)
+		if err != nil {
+			t.Fatal(err)
+		}
+		fields, _ := io.ReadAll(response.Body)
+		response.Body.Close()
+		if string(fields) != row.wanted {
+			t.Errorf("%s: %s", row.path, fields)
+		}
+	}
+}
+
 // TestBody reads bodies, whose signed one is `abc` if there is a digest. `most` is the limit of octets.
 func TestBody(t *testing.T) {
 	digest, _ := digestOf(ContentDigest([]byte("abc")))

@@ -8,7 +8,8 @@ import (
 
 // A Transport signs each request of an http.Client to one of some names. A request to any other, as one that a redirection leads to, goes out as
 // it is: its server learns no key and no certificates. So does a request whose Host is another name than that of its URL: the server that gets it
-// could use the signature at the other one.
+// could use the signature at the other one. And so does one by http to which a server with https has redirected: no signature has the scheme, so whoever
+// reads the request on its way could send it by https.
 //
 //	client := http.Client{Transport: &httpsig.Transport{Signer: signer, Names: []string{"files.example.org"}}}
 type Transport struct {
@@ -35,15 +36,29 @@ func (t *Transport) RoundTrip(request *http.Request) (*http.Response, error) {
 	return sender.RoundTrip(signed)
 }
 
-// isToOneOf says whether the URL of a client's request has one of some names as its host and port, and no other is asked there.
+// isToOneOf says whether the URL of a client's request has one of some names as its host and port, no other is asked there, and TLS was not lost on the
+// way there.
 func isToOneOf(names []string, request *http.Request) bool {
 	scheme := request.URL.Scheme
 	asked := AuthorityOf(scheme, request.URL.Host)
-	if request.Host != "" && AuthorityOf(scheme, request.Host) != asked {
+	if request.Host != "" && AuthorityOf(scheme, request.Host) != asked || hasLostTLS(request) {
 		return false
 	}
 	for _, name := range names {
 		if AuthorityOf(scheme, name) == asked {
+			return true
+		}
+	}
+	return false
+}
+
+// hasLostTLS says whether a request is not by https, but a redirection that led to it came by https.
+func hasLostTLS(request *http.Request) bool {
+	if request.URL.Scheme == "https" {
+		return false
+	}
+	for redirected := request.Response; redirected != nil && redirected.Request != nil; redirected = redirected.Request.Response {
+		if redirected.Request.URL.Scheme == "https" {
 			return true
 		}
 	}
