@@ -22,6 +22,7 @@ import (
 	"strings"
 	"testing"
 	"time"
+	"unsafe"
 
 	"conguraki/spki/verify"
 
@@ -328,6 +329,42 @@ func TestTakenLate(t *testing.T) {
 		now += late.seconds
 		if taken := verifier.Take(proof); err != nil || taken != late.want {
 			t.Error(late.seconds, err, taken)
+		}
+	}
+}
+
+// putForward returns a moment as a clock has it that was put forward by some seconds since, as by `date -s`: the reading of the monotonic clock stays.
+// (A Time with such a reading has the seconds of the day's time above 30 bits for nanoseconds in its first field.)
+func putForward(moment time.Time, seconds uint64) time.Time {
+	*(*uint64)(unsafe.Pointer(&moment)) += seconds << 30
+	return moment
+}
+
+// TestStartByClockThatWasBehind has a service start while its clock is ten minutes behind. The clock is put right after ten seconds. What was created
+// before the start by the right clock is refused, since a service before this one may have answered it.
+func TestStartByClockThatWasBehind(t *testing.T) {
+	signer, verifier := signers(t)[Ed25519], NewVerifier("example.com")
+	behind := verifier.Start
+	later := putForward(behind.Add(10*time.Second), 600)
+	if later.Sub(behind) != 10*time.Second || later.Unix() != behind.Unix()+610 {
+		t.Fatal("a Time has another form than putForward knows")
+	}
+	for _, row := range []struct {
+		now    time.Time
+		before time.Duration
+		wanted error
+	}{
+		{behind.Add(10 * time.Second), 10 * time.Second, nil}, {behind.Add(10 * time.Second), 11 * time.Second, BeforeStart},
+		{later, 9 * time.Second, nil}, {later, 10 * time.Second, nil}, {later, 11 * time.Second, BeforeStart}, {later, 200 * time.Second, BeforeStart},
+	} {
+		signer.now = func() time.Time { return row.now.Add(-row.before) }
+		verifier.Now = func() time.Time { return row.now }
+		message := Message{Method: "GET", Authority: "example.com", Target: "/foo", Header: http.Header{}}
+		if err := signer.Sign("https", message); err != nil {
+			t.Fatal(err)
+		}
+		if _, err := verifier.Check(message); err != row.wanted {
+			t.Errorf("%+v: %v", row, err)
 		}
 	}
 }

@@ -35,7 +35,7 @@ type Verifier struct {
 	// Keeps the nonces that were used.
 	Nonces Nonces
 	// A request that was created before is refused, since its nonce may be forgotten. It is the time of NewVerifier. Set it to zero if the nonces
-	// outlast the process.
+	// outlast the process. If the clock was behind then and was put forward since, the time counts that this clock would have shown.
 	Start time.Time
 	// The clock of the service.
 	Now func() time.Time
@@ -200,7 +200,8 @@ func signatureOf(header http.Header) (*input, []byte, error) {
 
 // checkParameters returns the refusal of the tag, of the length of the nonce or of the times, or nil.
 func (v *Verifier) checkParameters(input *input) error {
-	now := v.Now().Unix()
+	moment := v.Now()
+	now := moment.Unix()
 	switch {
 	case input.tag != tag:
 		return OtherTag
@@ -212,10 +213,16 @@ func (v *Verifier) checkParameters(input *input) error {
 		return TooEarly
 	case input.expires <= now:
 		return Expired
-	case !v.Start.IsZero() && input.created < v.Start.Unix():
+	case !v.Start.IsZero() && (input.created < v.Start.Unix() || input.created < startBy(moment, v.Start)):
 		return BeforeStart
 	}
 	return nil
+}
+
+// startBy returns the second since 1970 that a clock would have shown at `start` if it had gone as it has since `start`, until it showed `now`: both times
+// have a reading of the monotonic clock, which nobody puts forward. If one has none, that is the second of `start`.
+func startBy(now, start time.Time) int64 {
+	return now.Add(-now.Sub(start)).Unix()
 }
 
 // checkMessage tests the method, the target, the authority, and that all is covered that must be. It returns the signed text and the digest of the
