@@ -28,9 +28,24 @@ func checkRules(rules []rule) error {
 	if len(rules) == 0 {
 		return errors.New(`"requests" is missing: which request a method and a path mean`)
 	}
-	for _, rule := range rules {
-		if err := rule.check(); err != nil {
+	for place, rule := range rules {
+		err := rule.check()
+		if err == nil {
+			err = rule.checkReached(rules[:place])
+		}
+		if err != nil {
 			return fmt.Errorf(`"requests", %q: %w`, rule.Prefix, err)
+		}
+	}
+	return nil
+}
+
+// checkReached returns an error if one of the rules before this one fits all its requests, so that it is never used: a right to what it means would give
+// nothing, and a right to what the other one means would give more than the operator has written.
+func (r rule) checkReached(before []rule) error {
+	for _, other := range before {
+		if (other.Host == "" || other.Host == r.Host) && strings.HasPrefix(r.Prefix, other.Prefix) {
+			return fmt.Errorf("this rule is never used: that for %q is before it", other.Host+other.Prefix)
 		}
 	}
 	return nil

@@ -65,12 +65,20 @@ func TestWrongRules(t *testing.T) {
 		"escaped": {{"", "/%61/", methods, request}}, "unknown place": {{"", "/", methods, []string{"{user}"}}},
 		"part of a string": {{"", "/", methods, []string{"x{path}"}}}, "query": {{"", "/?/", methods, request}}, "a host with a port": {{"a.example:443", "/", methods, request}}, "a large letter": {{"A.example", "/", methods, request}},
 		"a pattern": {{"*.example", "/", methods, request}}, "doubled": {{"", "//", methods, request}},
+		"behind that for all":          {{"", "/", methods, request}, {"", "/a/", methods, request}},
+		"behind that for all hosts":    {{"", "/a/", methods, request}, {"a.example", "/a/b/", methods, request}},
+		"behind that for all its host": {{"a.example", "/", methods, request}, {"a.example", "/a/", methods, request}},
+		"twice":                        {{"", "/a/", methods, request}, {"", "/", methods, request}, {"", "/a/", map[string]string{"PUT": "write"}, request}},
 	} {
 		if checkRules(rules) == nil {
 			t.Errorf("%s: the rules are accepted", name)
 		}
 	}
-	if err := checkRules(rulesOfTests); err != nil {
-		t.Error(err)
+	for _, rules := range [][]rule{rulesOfTests, {
+		{"a.example", "/", methods, request}, {"b.example", "/", methods, request}, {"", "/a/b/", methods, request}, {"", "/a/", methods, request},
+	}} {
+		if err := checkRules(rules); err != nil {
+			t.Error(err)
+		}
 	}
 }
