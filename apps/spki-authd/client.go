@@ -104,11 +104,20 @@ func fromEscapedPEM(text string) ([]byte, error) {
 	return block.Bytes, nil
 }
 
-// fromBase64DER reads DER in base64, as Caddy, HAProxy, Apache and Traefik pass it on. Traefik writes the client's whole chain, with commas between the
-// certificates: the first is the client's own.
-func fromBase64DER(text string) ([]byte, error) {
-	first, _, _ := strings.Cut(text, ",")
-	return base64.StdEncoding.Strict().DecodeString(first)
+// fromBase64DER reads DER in base64, as Caddy, HAProxy, Apache and Traefik pass it on. Traefik writes the client's whole chain, with a comma between the
+// certificates: the first is the client's own. Behind a comma nothing but base64 may be: servers join two headers by a comma and a space, and the first of
+// them could be one that the client has sent.
+func fromBase64DER(text string) (first []byte, err error) {
+	for place, part := range strings.Split(text, ",") {
+		octets, err := base64.StdEncoding.Strict().DecodeString(part)
+		if err != nil {
+			return nil, err
+		}
+		if place == 0 {
+			first = octets
+		}
+	}
+	return first, nil
 }
 
 // fromXFCC reads the field Cert of `X-Forwarded-Client-Cert`, as Envoy writes it: one element, with fields NAME=VALUE between semicolons, and

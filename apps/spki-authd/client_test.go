@@ -40,7 +40,8 @@ func TestWrongForms(t *testing.T) {
 		"no base64": {base64DER, "~"}, "PEM as base64": {base64DER, alice.escaped()}, "no certificate": {base64DER, "AAAA"},
 		"half": {base64DER, encoded[:len(encoded)/8*4]}, "bits behind": {base64DER, base64.StdEncoding.EncodeToString(append(alice.der, 0))},
 		"empty first": {base64DER, "," + encoded}, "spaces": {base64DER, " " + encoded},
-		"no Cert": {xfcc, "Hash=ab"}, "two of them": {xfcc, element + ";" + element}, "two elements": {xfcc, "Hash=a," + element},
+		"two headers in one": {base64DER, encoded + ", " + base64.StdEncoding.EncodeToString(bob.der)},
+		"no Cert":            {xfcc, "Hash=ab"}, "two of them": {xfcc, element + ";" + element}, "two elements": {xfcc, "Hash=a," + element},
 		"two elements, quoted": {xfcc, element + "," + element}, "no end": {xfcc, `Cert="` + alice.escaped()}, "escape at the end": {xfcc, `Cert="\`},
 		"no field": {xfcc, alice.escaped()}, "quote inside": {xfcc, "Cert=a" + quote + alice.escaped()},
 	} {
