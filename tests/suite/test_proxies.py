@@ -123,8 +123,8 @@ class Proxies(unittest.TestCase):
     def test_nginx_before_two_services(self) -> None:
         """Where nginx chooses between services by the nonce, a request that is sent again comes to the service that has seen its nonce, also with
         tabs around the field, which nginx takes for a part of it. Until both services have got a request, but at least 20 times."""
-        servers = " ".join(f"server {service.name};" for service in self.services)
-        self.start_nginx(OWN_HOST, "both", f"{BY_NONCE} upstream both {{ hash $spki_nonce consistent; {servers} }}")
+        servers = " ".join(f"server {service.name} max_fails=0;" for service in self.services)
+        self.start_nginx(f"{OWN_HOST} proxy_next_upstream off;", "both", f"{BY_NONCE} upstream both {{ hash $spki_nonce consistent; {servers} }}")
         for turn in range(1000):
             sent = [f"{name}: {it}" for name, it in self.signer.fields("GET", f"http://{NAME}/a").items()]
             self.assertEqual(self.ask("GET", "/a", lambda _: sent), "valid")
