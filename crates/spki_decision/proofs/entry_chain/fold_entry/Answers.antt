@@ -1,4 +1,4 @@
-use Rattle.std.proofs.Common.{refl, sym, ap, ◌∙◌, inl, inr, Result, Ok, Err, OnOk}
+use Rattle.std.proofs.Common.{refl, sym, ap, ◌∙◌, inl, inr, Result, Ok, Err, IfOk, IsOkAnd, OnOk}
 use Rattle.spki_reduce.{specs.Reduction.{FiveTuple}, proofs.Working.{none_taken}}
 use Rattle.spki_decision.proofs.{Charges.{none_joined, unbounded}, EntryChains.{no_steps}}
 use Rattle.spki_decision.proofs.entry_chain.fold_entry.Goals as goal
@@ -10,6 +10,10 @@ always (Err e) p = tt
 along : {T E P Q : Type 0} (r : Result T E) → (P → Q) → OnOk r P → OnOk r Q
 along (Ok x) f p = f p
 along (Err e) f p = tt
+
+of_ok : {T E : Type 0} (P : T → Type 0) (r : Result T E) → IsOkAnd r P → IfOk r P
+of_ok P (Ok x) h = h
+of_ok P (Err e) h = tt
 
 pub returns-then-are_small-clause-fold : goal.returns-then-are_small-clause-fold
 returns-then-are_small-clause-fold g c = rw c.in_ok-own.ensures at c.fold_owned_counted.ensures.fold
@@ -37,7 +41,7 @@ returns-else-are_small-clause-within_limit g c = rw c.in_ok-own.ensures at c.fol
 
 pub returns-then-are_small-clause-alone : goal.returns-then-are_small-clause-alone
 returns-then-are_small-clause-alone g c none =
-    rw c.in_ok-own.ensures at (c.fold_owned_counted.ensures.alone (no_steps c.args.steps.now none))
+    of_ok _ c.fold_owned_counted.result (rw c.in_ok-own.ensures at (c.fold_owned_counted.ensures.alone (no_steps c.args.steps.now none)))
 
 pub returns-then-are_small-clause-issuer : goal.returns-then-are_small-clause-issuer
 returns-then-are_small-clause-issuer g c =
@@ -45,7 +49,8 @@ returns-then-are_small-clause-issuer g c =
 
 pub returns-else-are_small-clause-alone : goal.returns-else-are_small-clause-alone
 returns-else-are_small-clause-alone g c none =
-    rw c.in_ok-own.ensures at (c.fold_owned_counted-else-are_small.ensures.alone (no_steps c.args.steps.now none))
+    of_ok _ c.fold_owned_counted-else-are_small.result
+    (rw c.in_ok-own.ensures at (c.fold_owned_counted-else-are_small.ensures.alone (no_steps c.args.steps.now none)))
 
 pub returns-else-are_small-clause-issuer : goal.returns-else-are_small-clause-issuer
 returns-else-are_small-clause-issuer g c =
