@@ -8,6 +8,7 @@ used stand here:
 | `unread` | whether a line says that an edited text could not be read. The texts of such lines are the toolchain's own |
 | `must_fail`, `REFUSED` | the verdict on one edit. `rt must-fail` proves the whole crate first, and knows no file outside of must-fail/ |
 | `rtlib.crates_below`, `rtlib.ALLOW_C` | the crates as `checked` and `must_fail` take them, also with `below`, with no functions in C |
+| `Kept`, `Crate` | what `rt ci` has kept of a crate. No command puts only the libraries of some crates in their places |
 | `rtlib.guarded` | ends the checks when this process ends. It must be called first in the main thread |
 """
 import functools
@@ -74,3 +75,15 @@ def remove_kept_libraries() -> None:
     over old ones."""
     for path in [*glob.glob(os.path.join(TOP, "crates", "*", "out", "rlib")), os.path.join(TOP, "crates", "spki_c", "out", "incremental")]:
         shutil.rmtree(path, ignore_errors=True)
+
+
+def give_libraries(names: set[str]) -> None:
+    """Puts the libraries of crates in their places, with all those below each, as `rt ci` has kept them of the same files. With names it works on a
+    copy, and leaves none here."""
+    chosen = crates(*names).values() if names else ()
+    rt_module().Crate.cuts_libraries = True
+    kept = rt_module().Kept(chosen, False)
+    for crate in chosen:
+        os.makedirs(os.path.join(crate.folder, "out"), exist_ok=True)
+        if kept.give(crate, False, kept.key(crate)):
+            kept.is_built(crate)
