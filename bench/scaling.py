@@ -41,7 +41,8 @@ def rank_of(count, skew, chance):
 
 
 def bands(count, skew):
-    """Yields bands of ranks, each about a twentieth of a decade: the chance that a request is for one key of the band, and how many keys it has."""
+    """Yields the ranks of `count` keys in bands, for Zipf's law with the exponent `skew`: the chance that a request is for the one key in the middle
+    of the band, and how many keys the band has, which may be a fraction. The first bands have one key each, others are a twentieth of a decade."""
     total = math.log(count) if skew == 1 else (count ** (1 - skew) - 1) / (1 - skew)
     begin = 1.0
     while begin < count:

@@ -1,4 +1,4 @@
-"""Parts of the cases that the benches time: keys, certificates, chains and wide tags."""
+"""Parts of the cases that the benches time: keys, certificates, chains and wide tags. All values are octets in canonical form."""
 import hashlib
 
 from check import STAR, group, key, string
@@ -30,9 +30,9 @@ def certificate(issuer, subject, tag=STAR):
         group(string("tag"), tag))
 
 
-def definition(issuer, subject):
-    """A certificate that defines a name, `issuer`, as a subject."""
-    return group(string("cert"), group(string("issuer"), issuer), group(string("subject"), subject))
+def definition(defined, subject):
+    """A certificate by which a name stands for a subject. `defined` is the name, as `name` returns it."""
+    return group(string("cert"), group(string("issuer"), defined), group(string("subject"), subject))
 
 
 def case(entries, links, keys=(), asks=None):

@@ -69,9 +69,9 @@ def by_peer(syntax, text):
 
 
 def there_and_back(write, read, forms, text):
-    """A list of truth values, one for each of `forms` that one program writes of a text: whether the other one reads it as the same canonical form.
+    """A list of truth values, one for each of `forms`: whether `read` makes the same canonical form of what `write` writes in this form.
 
-    `write` and `read` are `by_spki` and `by_peer`, or the reverse. `write` must not refuse the text.
+    `write` is `by_spki` with FORMS or `by_peer` with SYNTAXES, and `read` the other one. `write` must not refuse the text.
     """
     canonical = write("canonical", text)
     results = []

@@ -14,8 +14,8 @@ VALUE = b"made-up-by-this-page"
 
 
 class SignedText:
-    """The text of a sequence with the signatures that were missing. `added` has where they were written: for each the offset in the text with the
-    signatures, and its length."""
+    """A sequence as it was typed, in octets, to which `add` adds the signatures that are missing. `text` is the text so far. `added` has for each
+    signature its offset in `text` and its length."""
 
     def __init__(self, text):
         self.text, self.added = text, []

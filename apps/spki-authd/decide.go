@@ -225,8 +225,8 @@ func (d *decider) decideBy(result *record, present *access, list *list, question
 	return decision, err
 }
 
-// explain returns why a request that was decided is denied, or notExplained if that was asked more often than explain_rate allows, or the text of an
-// error. Signatures that were not verified, since they could not help, are marked as valid: so the reasons are what else is missing. These marks come
+// explain returns, as a text for the log, why a request that was decided is denied; notExplained, if more denials were explained than explain_rate
+// allows; or the text of the error, if explaining fails. Signatures that were not verified, since they could not help, are marked as valid: so the reasons are what else is missing. These marks come
 // after the decision, and change only the reasons.
 func (d *decider) explain(result *record, opened *guard.Asked) string {
 	if !d.explanations.allows("", d.now()) {

@@ -41,7 +41,7 @@ func hostOf(text string) (string, error) {
 	return host, nil
 }
 
-// isPort says whether a text is a number of at most five digits, or empty.
+// isPort says whether a text may stand behind the colon of a host: at most five digits, or none. A number over 65535 is not refused.
 func isPort(text string) bool {
 	for place := 0; place < len(text); place++ {
 		if text[place] < '0' || text[place] > '9' {

@@ -175,7 +175,8 @@ func (a asker) sendOnce(base *url.URL, each try) (answer probeAnswer, err error)
 	return probeAnswer{each, request.URL.RequestURI(), response.StatusCode, response.ProtoMajor}, nil
 }
 
-// freshAddress returns the URL of a path below `base`, in which each `{}` is replaced by a name that is drawn by chance.
+// freshAddress returns the URL of a path below `base`, as baseOf returns it, with another random name for each `{}`. It fails only if no random octets
+// can be read.
 func freshAddress(base *url.URL, path string) (string, error) {
 	for strings.Contains(path, "{}") {
 		name, err := randomName()

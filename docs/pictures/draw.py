@@ -27,11 +27,11 @@ from spki_cert_tool.drawing import PICTURE_WIDTH, box, page, svg_of_drawing, tex
 CASES = {"granted": "The chain of a request that is granted", "no-delegation": "A chain that stops at a certificate"}
 
 
-def arrow(x1, y1, x2, y2, *beside):
-    """An arrow with lines of text beside its middle."""
+def arrow(x1, y1, x2, y2, *above):
+    """Yields the SVG of an arrow from (x1, y1) to (x2, y2), in pixels, and of lines of text above its middle, from the top."""
     yield f'<path class="line" marker-end="url(#end)" d="M{x1:g} {y1:g} L{x2:g} {y2:g}"/>'
-    for place, line in enumerate(beside):
-        yield f'<text class="small" x="{(x1 + x2) / 2:g}" y="{(y1 + y2) / 2 - 8 - 16 * (len(beside) - 1 - place):g}">{escape(line)}</text>'
+    for place, line in enumerate(above):
+        yield f'<text class="small" x="{(x1 + x2) / 2:g}" y="{(y1 + y2) / 2 - 8 - 16 * (len(above) - 1 - place):g}">{escape(line)}</text>'
 
 
 def chain():

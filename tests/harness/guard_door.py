@@ -172,14 +172,14 @@ class GuardDoor:
         if odd in guard.MARKED:
             past, far, _ = guard.MARKED
             return (self.mark(None if odd not in (past, far) else asked, len(listed) if odd == past else NEAR_MOST + len(listed)), b""), listed
-        self.mark_all(question, asked, listed)
+        self.mark_valid(question, asked, listed)
         answered = self.answer(question, None if odd == "no opened question" else asked)
         if question.command == "guard decide" and odd not in guard.ANSWERED:
             self.truths = self.granted(asked), self.possible(asked)
         return answered, listed
 
-    def mark_all(self, question: GuardQuestion, asked: c_void_p, listed: list[Signed]) -> None:
-        """Marks the signatures that a row accepts, and a place past them, which must have no effect."""
+    def mark_valid(self, question: GuardQuestion, asked: c_void_p, listed: list[Signed]) -> None:
+        """Marks the listed signatures that a row of the question accepts, and the place behind the last one. That mark must not change the answer."""
         for place, is_valid in enumerate([*valid_of(question, listed), True]):
             if is_valid:
                 self.mark(asked, place)
@@ -239,7 +239,7 @@ class GuardDoor:
         if status != DONE:
             status, buffer = self.open_question(question, handle, c_void_p(), len(line) - 1)
             return (status, buffer) == (guard.status_too_small("the line of a refused question"), len(line) * b"\0")
-        self.mark_all(question, asked, self.signatures(asked))
+        self.mark_valid(question, asked, self.signatures(asked))
         length = len(self.answer(question, asked)[1])
         octets, needed = ctypes.create_string_buffer(length), c_size_t()
         status = self.by_wish[question.command.removeprefix("guard ")](asked, octets, length - 1, byref(needed))

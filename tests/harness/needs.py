@@ -26,7 +26,7 @@ class Need:
         return THERE[self.name]
 
     def is_found(self) -> bool:
-        """Looks for it on this machine now, by its kind of name."""
+        """Whether this machine has it now, by the form of its name. `unshare` and `ip` must also be allowed to do what the tests do with them."""
         if self.name.endswith(".h"):
             return has_header(self.name)
         if self.name == "unshare":

@@ -455,6 +455,7 @@ class InRust(Binding):
         self.cargo("fmt", "--check", "--manifest-path", os.path.join("spki-serde", "Cargo.toml"))
 
     def test_questions(self):
+        """The example `asked` of the crate answers each question as the program does. It writes each answer without its last line feed."""
         asked = all_questions(self.program)
         lines = strings_in(self.cargo("run", "--quiet", "--example", "asked", octets=b"".join(map(framed, asked))))
         fault = faults_of_answers(asked, [line + b"\n" for line in lines])

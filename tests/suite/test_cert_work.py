@@ -145,7 +145,7 @@ class OfCheck(unittest.TestCase):
     """`spki-cert check`, which reads a text, says what is probably a mistake, and verifies; and what `entry` does with a list."""
 
     def check_growth(self, work: Callable[[int], None]) -> None:
-        """`work(parts)` must take at most MOST_TIMES as many steps for TIMES as many parts."""
+        """`work(parts)`, which returns None, must take less than MOST_TIMES as many steps for TIMES as many parts."""
         steps = []
         for parts in (FEW, FEW * TIMES):
             with counting():
@@ -154,7 +154,7 @@ class OfCheck(unittest.TestCase):
         self.assertLess(steps[1] / steps[0], MOST_TIMES, steps)
 
     def test_texts(self) -> None:
-        """The work of `check` on each text of CHECKED."""
+        """`check` takes less than MOST_TIMES as many steps for TIMES as many parts, on each text of CHECKED."""
         from spki_cert_tool import checking
         # (so that what a first call alone does is not counted)
         checking.remarks_on("/dev/null", NOW)

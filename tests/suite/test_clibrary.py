@@ -1,15 +1,13 @@
 """Asks the libraries for C what the program is asked, and compares the answers octet by octet.
 
-`clibrary.c` asks each question with no buffer, with one of no octets, with one octet too few, with enough and with more, between
-canaries, with failing allocations, and then from several threads with 256 KiB of stack each: every command on each file of
-`examples/`, the rows of the tables, and cases whose rows of accepted signatures stand apart. It asks the static
-library and the shared one, each also under AddressSanitizer and under valgrind.
-`cguard.c` opens guards and asks them: right and wrong marks, buffers that are too small, requests by strings, failing
-allocations, and one guard from several threads. `misuse.c` makes each call with each argument wrong. They too use each library, also under
-AddressSanitizer, valgrind and helgrind. No allocation of the shared library fails, since it calls the C library itself.
+`clibrary.c` asks each question with no buffer, with one of no octets, with one octet too few, with enough and with more, between canaries, with
+failing allocations, and then from several threads with 256 KiB of stack each: every command on each file of `examples/`, the rows of the tables, and
+cases whose rows of accepted signatures stand apart. It asks both libraries, each also under AddressSanitizer and valgrind.
+`cguard.c` opens guards and asks them: right and wrong marks, too small buffers, requests by strings, failing allocations, one guard from several
+threads. `misuse.c` makes each call with each argument wrong. They too use each library, also under AddressSanitizer, valgrind and helgrind. No
+allocation of the shared library fails, since it calls the C library itself.
 
-`until.c` asks until when a decision holds.
-`later.c` gives spki.c structures of older and newer headers. `swapped.c` changes a guard under threads.
+`until.c` asks until when a decision holds. `later.c` gives spki.c structures of older and newer headers. `swapped.c` changes a guard under threads.
 
 `fuzz/calls.c` makes the parts of questions from fuzzed octets and compares the answers: from the files of `fuzz/corpus/`, and in `.ci/deep` for
 ten minutes. There spki.c is under AddressSanitizer too.
@@ -274,8 +272,8 @@ class OfC(built.OfLibrary):
         self.assertLessEqual(needed, NEEDED)
 
     def check_program(self, source, library, *more, by=(), words=()):
-        """A program in C that checks the library itself must end with status 0. `by` is a command that runs it, and `words` are its arguments.
-        `library` is `static` or `shared`, and `more` are options of the compiler."""
+        """Compiles `source`, a program of tests/programs/ that makes its own checks, and runs it with the arguments `words`, by `self.by` and `by` if
+        there is one: it must end with status 0. `library` is `static` or `shared`, and `more` is nothing or SANITIZED."""
         words = [*self.by, *by, self.compile(source, library, *more), *words]
         done = subprocess.run(words, capture_output=True, text=True, timeout=SECONDS)
         self.assertEqual(done.returncode, 0, f"{' '.join(words)[:300]}: {done.stderr[-2000:]}")

@@ -119,9 +119,11 @@ class InACopy(built.OfLibrary):
         self.check_lines(tempfile.mkdtemp(dir=self.room), "docs/PEERS.md", lines)
 
     def test_help(self) -> None:
-        """The examples of the help of `spki-cert`, each in a folder of its own. What it reads is there, by BEFORE; the file that it writes is not."""
+        """Each example of the help of `spki-cert` ends with status 0, in a folder of its own that has what BEFORE makes, with a key of OpenSSH in
+        ~/.ssh. The file that it writes by `-o`, or by `--acl` of `entry`, is removed first, so that it is made anew."""
         inputs = os.path.join(self.room, "inputs")
         os.mkdir(inputs)
+        # (no command: this makes only what BEFORE makes)
         self.check_lines(inputs, "help", [])
         for number, it in enumerate(page_commands.commands_of_help()):
             with self.subTest(it.line):

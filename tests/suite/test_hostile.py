@@ -1,10 +1,9 @@
-"""Runs the program under hostile conditions: each allocation, each read and each write fails in turn, texts are cut
-short, standard input and output fail, limits are tried from both sides, the stack is small, and texts need the most
-work. `test_one_call` does each call of the libraries by itself in the same way, on two rows of `calls/`.
+"""Runs the program under hostile conditions: each allocation, each read and each write fails in turn, texts are cut short, standard input and output
+fail, limits are tried from both sides, the stack is small, and texts need the most work. `test_one_call` does each call of the libraries by itself in
+the same way, on two rows of `calls/`.
 
-`refuse.c` is compiled by `cc` and preloaded, and lets the chosen calls fail. Each part is a test. It prints the numbers
-of tasks, runs, refused calls and faults. The longest parts are tests only of `tests/run --long`, which `.ci/deep`
-runs."""
+`refuse.c` is compiled by `cc` and preloaded, and lets the chosen calls fail. Each part is a test. It prints the numbers of tasks, runs, refused calls
+and faults. The longest parts are tests only of `tests/run --long`, which `.ci/deep` runs."""
 import os
 import resource
 import sys

@@ -268,16 +268,16 @@ class Changes(OfSite):
         self.check_ann()
 
     def test_ended_certificates(self) -> None:
-        """A certificate whose digest is in the file of ended certificates grants nothing. It grants again once a reload
-        with `-fewer` accepts a file without it."""
+        """A certificate whose digest is in the file of ended certificates grants nothing after a reload. A reload is refused, and changes nothing, if
+        the file is broken, or if a digest is gone and `-fewer` is not given. With `-fewer` the certificate grants again."""
         of_ben = sequence(self.site, "ann", "ben", READ)
         field, before = f"Authorization: SPKI {in_braces(of_ben)}", self.site.text("etc/ended")
         self.assertEqual(self.site.status("ben", "GET", "/web/index.html", field), 200)
-        asks = (self.site.program, "-config", self.site.at("etc/authd.json"), "-reload")
-        for text, words, ended, status in ((sealed(f"{digest_of(of_ben[1]).hex()}\n"), (), 0, 403), ("no digest\n", (), 1, 403),
-                                           (before, (), 1, 403), (before, ("-fewer",), 0, 200)):
+        reload = (self.site.program, "-config", self.site.at("etc/authd.json"), "-reload")
+        for text, options, exit_status, status in ((sealed(f"{digest_of(of_ben[1]).hex()}\n"), (), 0, 403), ("no digest\n", (), 1, 403),
+                                                   (before, (), 1, 403), (before, ("-fewer",), 0, 200)):
             self.site.write("etc/ended", text)
-            self.assertEqual(output_of(*asks, *words)[0], ended)
+            self.assertEqual(output_of(*reload, *options)[0], exit_status)
             self.assertEqual(self.site.status("ben", "GET", "/web/index.html", field), status)
 
 

@@ -47,7 +47,7 @@ SETTINGS = {**os.environ, "DPKG_DEB_COMPRESSOR_TYPE": "gzip", "DPKG_DEB_COMPRESS
 
 
 def make_packages(top: str, *words: str, **settings: str) -> tuple[int, str]:
-    """Runs packages.sh of the sources in a folder. Returns its status, and what it writes."""
+    """Runs the packages.sh of a folder with these words, and more settings of its environment. Returns its status, and what it writes."""
     return output_of(os.path.join(top, "packages.sh"), *words, env={**SETTINGS, **settings}, seconds=golang.SECONDS)
 
 

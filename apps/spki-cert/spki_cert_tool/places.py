@@ -131,7 +131,8 @@ def read_list(node: Node) -> None:
 
 
 def read_sequence(node: Node) -> None:
-    """Reads a sequence. Raises Wrong for a wrong item, or if a certificate has no signature behind it, with at most operations `(do ..)` between."""
+    """Checks a sequence. Raises Wrong for a wrong head or item, for a certificate without its signature behind it, where only operations `(do ..)`
+    may be between, and for a signature for which no certificate waits."""
     read_part("sequence 0", partial(Members, head=b"sequence", what="the sequence"), node)
     # (the number, from 1, and the node of a certificate whose signature has not come yet)
     unsigned: tuple[int, Node] | None = None

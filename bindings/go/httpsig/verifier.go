@@ -260,7 +260,8 @@ func (v *Verifier) checkMessage(message Message, input *input) (text []byte, dig
 	return text, digest, err
 }
 
-// isOwnName says whether an authority, as AuthorityOf returns it, is a name of this service. An empty one never is.
+// isOwnName says whether an authority, as AuthorityOf returns it, is a name of this service. An empty one never is, even if AuthorityOf makes an empty
+// one of a name of the service, such as `:443`.
 func (v *Verifier) isOwnName(authority string) bool {
 	for _, name := range v.Authorities {
 		if authority != "" && AuthorityOf(v.Scheme, name) == authority {

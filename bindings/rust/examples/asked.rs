@@ -3,7 +3,7 @@
 //! Reads strings from standard input, each as LENGTH:OCTETS, and writes each answer as one string, without its last line feed.
 //! A list of strings is first the number of its strings, itself a string, and then these. A question is, in this order:
 //!
-//! - the strings COMMAND (`check`, `explain` or `reduce`), POLICY (`strict`, or any other word for `AllowSha1`), LIMITS (`usual` or
+//! - the strings COMMAND (`decide`, `explain` or `reduce`), POLICY (`strict`, or any other word for `AllowSha1`), LIMITS (`usual` or
 //!   `highest`), ACL, SEQUENCE and KEY
 //! - the request: `text` and a list of one string, its text, or `words` and the list of its strings
 //! - the moment: `text` and a date, or `seconds` and the number of seconds since 1970

@@ -149,9 +149,11 @@ fn answer(requests: &Requests, row: &Row, now: u64) -> &'static str {
     }
 }
 
+/// Each row gets the answer of its column `gives`. If it has `again`, the same request comes first so many seconds earlier, and is valid then.
 #[test]
-fn the_rows_are_answered() {
+fn each_row_gets_its_answer() {
     let rows = rows();
+    // (the table was read whole)
     assert!(rows.len() > 200);
     for row in &rows {
         let requests = Requests::new(&["example.com"], Nonces::new(10), START, sha256);

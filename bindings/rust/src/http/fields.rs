@@ -74,7 +74,7 @@ impl<'a> Parser<'a> {
         behind.is_some()
     }
 
-    /// Passes over a text with which the rest must begin.
+    /// Passes over a text. Fails with `Malformed`, and stays where it is, if the rest does not begin with it.
     fn expect(&mut self, text: &str) -> Result<(), Unproved> {
         self.try_skip(text).then_some(()).ok_or(Unproved::Malformed)
     }
