@@ -100,9 +100,9 @@ pub extern "C" fn spki_c_asked_count(lent: &mut BorrowedHandle) -> usize
     }
 }
 
-/// Sets `texts` to the key, the message and the value of the signature at this place, from 0, in the question of `lent`, and to the
-/// octets of the value if it is one string (`is_string`). A caller verifies by them. They point into the question: nothing is
-/// copied. Memory is needed only while the value is read, to find these octets.
+/// Sets `texts` to the key, the message and the value of the signature at this place, from 0, in the question of `lent`, with which the
+/// caller verifies it. If the value is one string, `is_string` is true, and `octets` has the string's octets. All point into the question:
+/// nothing is copied. Memory is needed only while the value is read, to find these octets.
 ///
 /// Returns `DONE` (6) if they are set. Otherwise they are unchanged. Returns `NONE` (7) if there is no signature at this place,
 /// `NO_MEMORY` (8) if memory ran out, and `MISUSED` (5) if `lent` is the handle of a guard.

@@ -23,8 +23,8 @@ pub struct SignatureTexts<'a> {
     pub is_string: bool,
 }
 
-/// Returns the key, the message and the value of a signature as texts, and the octets of a value that is one string. If
-/// the value is a list, `octets` is empty and `is_string` false. Nothing is copied.
+/// Returns the key, the message and the value of a signature as texts, and of a value that is one string its octets, without
+/// the length prefix and the display hint. If the value is a list, `octets` is empty and `is_string` false. Nothing is copied.
 ///
 /// # Errors
 ///

@@ -34,8 +34,8 @@ fn stop_name(stop: Stop) -> &'static str
     }
 }
 
-/// Prints the line `item J STOP` and its line feed: the certificate that is item J of the sequence fails a test. `item` is J, counted
-/// from 1.
+/// Prints the line `item J STOP` and its line feed: the certificate that is item J of the sequence fails the test that STOP names. `item` is
+/// J, counted from 1.
 #[tactic(auto, using(crate::proofs::ReportLines::decimal_written))]
 pub(crate) fn print_item<S: Sink>(item: usize, stop: Stop, sink: &mut S)
     ensures { S.takes sink.old (item_line item stop) sink.new }

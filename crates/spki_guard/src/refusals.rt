@@ -74,7 +74,7 @@ impl From<CaseFault> for Refusal {
     ghost from_gives = { λ fault refusal.
         IsOuter (fault ≡ CaseFault.Memory) Refusal.Memory (Refusal.Case fault) refusal };
 
-    /// `Memory` becomes `Refusal::Memory`, and every other fault `Refusal::Case` with it.
+    /// `Memory` becomes `Refusal::Memory`. Every other fault is kept, in `Refusal::Case`.
     fn from(fault: CaseFault) -> Refusal {
         match fault {
             CaseFault::Memory => Refusal::Memory,

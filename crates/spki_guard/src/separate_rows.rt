@@ -54,7 +54,7 @@ fn checked(alloc: Global, text: &[u8], rows: &[u8]) -> Result<Answer<'static>, R
     decide_by_rows(alloc, &case, rows)
 }
 
-/// Decides a case by the accepted list in `rows`, a text in any form, and not by its own. Err if `rows` is refused, the
+/// Decides a case by the accepted list in `rows`, a text in any form. Its own accepted list is not used. Err if `rows` is refused, the
 /// case is too large, or memory ran out.
 fn decide_by_rows(alloc: Global, case: &Case, rows: &[u8]) -> Result<Answer<'static>, Refusal>
     ensures answered { IfOk result (PrintsAs (DecidesBy (model case.now) rows.now)) }
