@@ -13,17 +13,17 @@ from merge_gate import toolchain
 # The head of a function: its spaces and its name. The head of an `impl`: its trait, if it has one, and its type. What errors say of a name that an
 # edit has removed.
 HEAD = re.compile(r'^(\s*)(?:pub(?:\([a-z]+\))?\s+)?(?:const\s+)?(?:extern\s+"C"\s+)?fn\s+(\w+)')
-IMPL = re.compile(r"^impl(?:<.*?>)? (?:(\w+)(?:<.*?>)? for )?(\w+)")
+IMPL = re.compile(r"^impl(?:<.*?>)? (?:(\w+)(?:<(\w*).*?>)? for )?(\w+)")
 NAME_GONE = re.compile(r"has no field|is not in scope|has no `|was not admitted")
 
 
 def path_of(file: str, lines: list[str], at: int, name: str) -> str:
-    """The path of the function whose head is line `at`, from 0, which no other function of its crate has: before its name the type and the trait of
-    its `impl`, or else its module."""
+    """The path of the function whose head is line `at`, from 0, which no other function of its crate has: before its name the type, the trait and
+    the trait's argument of its `impl`, or else its module."""
     if lines[at].startswith(" "):
         impl = IMPL.match([line for line in lines[:at] if line[:1].strip()][-1])
         if impl:
-            return f"{impl[2]}{impl[1] or ''}::{name}"
+            return f"{impl[3]}{impl[1] or ''}{impl[2] or ''}::{name}"
     modules = file.removeprefix("src/").removesuffix(".rt").split("/")
     return "::".join([*(module for module in modules if module not in ("lib", "main")), name])
 

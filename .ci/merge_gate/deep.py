@@ -47,7 +47,7 @@ def try_all(names: list[str], counts: Counts) -> None:
     counts.add_log(*run(["rt", "ci", *names], plan.DEEP_MINUTES))
     if counts.failed:
         return counts.add(False, "no wrong body of wrong/ was tried, since rt ci failed")
-    toolchain.give_libraries({it.name for crate in toolchain.crates(*names).values() for it in crate.below()})
+    toolchain.give_libraries({it.name for crate in toolchain.crates(*names).values() for it in crate.below()} if names else set())
     try_bodies([*sums], counts, sums)
 
 

@@ -84,6 +84,7 @@ def give_libraries(names: set[str]) -> None:
     rt_module().Crate.cuts_libraries = True
     kept = rt_module().Kept(chosen, False)
     for crate in chosen:
+        shutil.rmtree(os.path.join(crate.folder, "out", "rlib"), ignore_errors=True)
         os.makedirs(os.path.join(crate.folder, "out"), exist_ok=True)
         if kept.give(crate, False, kept.key(crate)):
             kept.is_built(crate)
