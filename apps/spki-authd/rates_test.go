@@ -90,7 +90,8 @@ func TestAddressesOfOneClient(t *testing.T) {
 	}
 }
 
-// TestLimited asks more often than a key and an address may.
+// TestLimited asks more often than a key or an address may. With a rate of 1, two requests at once are allowed, and further ones get 429, or the
+// refused_status 403, until a second later. Where addresses are limited, a request without one is refused.
 func TestLimited(t *testing.T) {
 	for fields, wanted := range map[string]int{"": 429, `, "refused_status": 403`: 403} {
 		for limit, address := range map[string]string{"address_rate": "192.0.2.1", "key_rate": ""} {

@@ -52,7 +52,7 @@ type timeline struct {
 	past  []*version
 }
 
-// newTimeline opens the store that the environment names, and the servers by which it is changed.
+// newTimeline opens the store that the environment names, and the servers by which it is changed. If it names none, the test is skipped.
 func newTimeline(t *testing.T) *timeline {
 	t.Helper()
 	if os.Getenv(envWriters) == "" {

@@ -66,7 +66,7 @@ def limits_for(wish: str, rng: random.Random) -> Limits:
 
 
 def with_oddity(question: GuardQuestion, rng: random.Random, oddity: str) -> GuardQuestion:
-    """A question whose calls have an oddity, a row of MISUSES or ALLOWED. A policy or limit that is misuse is put in; other limits are the usual."""
+    """The question with an oddity, a row of MISUSES or ALLOWED: for four of them the policy or a limit is wrong, others are made in the calls."""
     policy = rng.choice((2, 3, 255, 2**31, 2**32 - 1)) if oddity == NO_POLICY else question.policy
     octets = rng.choice((HIGHEST.octets + 1, 2**63, 2**64 - 1)) if oddity == OCTETS_ABOVE else USUAL.octets
     nodes = rng.choice((HIGHEST.nodes + 1, 2**63, 2**64 - 1)) if oddity == NODES_ABOVE else USUAL.nodes

@@ -176,7 +176,7 @@ class InC(unittest.TestCase):
         self.room = room_for(self)
 
     def answers(self, program: str, rows: list[Row]) -> list[str]:
-        """The answers of a program to the requests of rows, and to their bodies by the digests that it returns: one for each row."""
+        """Runs a program that was compiled of `proving.c`, which says what it reads. Returns for each row what `answer_of` makes of its line."""
         strings: list[bytes] = []
         for _, message, now, again, _ in rows:
             words = [message.method, message.authority, message.target, str(now), "" if again is None else str(again),

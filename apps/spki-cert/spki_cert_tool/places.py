@@ -224,9 +224,11 @@ def kind_of(node: Node, word: str) -> str | None:
 
 
 def read_as(node: Node, word: str, fault: str) -> None:
-    """Reads a value by the reader of its kind, and tests how long its canonical form is. Raises Wrong. `word` and `fault` are those of the refusal
-    `refused WORD FAULT` that is to be explained, or empty. If FAULT is one of the form other than TooLong, nothing is read."""
-    if fault in FORM_FAULTS[1:]:
+    """Raises Wrong for the first fault of a value of a kind: its canonical form is too long, or the reader of the kind refuses it. Where no refusal
+    is to be explained, a part of a text, such as a certificate, is read too. Other values are not. `word` and `fault` are those of the refusal
+    `refused WORD FAULT` that is to be explained, or empty. If FAULT is one of the form other than TooLong, nothing is read: the form could be
+    read here, so this is not the text that was refused."""
+    if fault in FORM_FAULTS and fault != "TooLong":
         return
     kind, length = kind_of(node, word), len(canonical(node.value))
     if kind and length > MOST_OCTETS:

@@ -51,7 +51,7 @@ impl<'a> Message<'a> {
         self
     }
 
-    /// The values of a field, one for each of its lines, without the spaces around them.
+    /// The values of a field, one for each of its lines, without the spaces and tabs around them.
     pub(super) fn values<'n>(&self, name: &'n str) -> impl Iterator<Item = &'a [u8]> + 'n
     where
         'a: 'n,
@@ -62,7 +62,8 @@ impl<'a> Message<'a> {
             .map(|(_, value)| trimmed(value))
     }
 
-    /// The value of a field, which must be there in one line of printable ASCII and tabs. Fails with `AbsentField`, `RepeatedField` or `BadValue`.
+    /// The value of a field. Fails with `AbsentField` if it has no line, `RepeatedField` if it has more than one, and `BadValue` for octets other
+    /// than printable ASCII and tabs.
     pub(super) fn field(&self, name: &str) -> Result<Vec<u8>, Unproved> {
         let mut values = self.values(name);
         let value = values.next().ok_or(Unproved::AbsentField)?;
