@@ -95,7 +95,8 @@ impl<'a> Doc<'a> {
         self.table[n]
     }
 
-    /// Whether the node with this number, from 0, is a list. The document must have this node.
+    /// Whether the node with this number, from 0, is a list: exactly then `detail` in its record is greater than `end`. The
+    /// document must have this node.
     pub(crate) fn is_list(&self, n: usize) -> bool
         requires { n < size self.now }
         ensures { IsTrue result ↔ IsList (node_at self.now n) }
@@ -114,8 +115,8 @@ impl<'a> Doc<'a> {
         self.text()[start] == b'['
     }
 
-    /// The number of nodes in the node with this number, from 0, itself included. It is 1 for a string. The document must
-    /// have this node.
+    /// The number of nodes in the node with this number, from 0, itself included. It is 1 for a string. For a list it is
+    /// the difference of `detail` and `end` in its record (see `Record`). The document must have this node.
     #[tactic(auto, using(crate::proofs::RecordLaws::string_size))]
     pub(crate) fn node_size(&self, n: usize) -> usize
         requires { n < size self.now }

@@ -128,8 +128,9 @@ fn read_closing(text: &[u8], at: usize) -> Result<Piece, FormFault>
 }
 
 /// Reads the string with a hint, such as `[4:text]3:abc`, whose opening bracket is at the offset `at`, and returns its
-/// record. The text has at most `MOST_OCTETS` octets. Err is `Bad` at the first octet that is not allowed there, or
-/// `Short` if the text ends before the string does.
+/// record: where it begins and ends, and in `detail` where the octets after its hint and length begin. The text has at
+/// most `MOST_OCTETS` octets. Err is `Bad` at the first octet that is not allowed there, or `Short` if the text ends
+/// before the string does.
 #[tactic(auto, using(crate::proofs::Steps::in_hint, crate::proofs::Steps::behind_hint, crate::proofs::Steps::hinted_read))]
 fn read_hinted(text: &[u8], at: usize) -> Result<Record, FormFault>
     requires short { length text.now ≤ 1048576 }
@@ -147,9 +148,10 @@ fn read_hinted(text: &[u8], at: usize) -> Result<Record, FormFault>
     })
 }
 
-/// Reads the string at the offset `at`, with or without a hint, and returns its record. `octet` is the octet there,
-/// which is no opening parenthesis. The text has at most `MOST_OCTETS` octets. Err is `Bad` at the first octet that is
-/// not allowed there, or `Short` if the text ends before the string does.
+/// Reads the string at the offset `at`, with or without a hint, and returns its record: where it begins and ends, and in
+/// `detail` where its octets begin. `octet` is the octet at `at`, which is no opening parenthesis. The text has at most
+/// `MOST_OCTETS` octets. Err is `Bad` at the first octet that is not allowed there, or `Short` if the text ends before
+/// the string does.
 pub(crate) fn read_string(text: &[u8], at: usize, octet: u8) -> Result<Record, FormFault>
     requires short { length text.now ≤ 1048576 }
     requires begins { StandsAt text.now at octet }
@@ -201,9 +203,10 @@ fn read_value(
 }
 
 /// Reads the list whose opening parenthesis is at `at`, and appends the records of its nodes to `nodes`. The list's own
-/// record precedes those of its members, and is replaced when its end is known. Returns the offset after the list. The
-/// text has at most `MOST_OCTETS` octets. At most `room` lists may be open at once, this one included. Err is the first
-/// fault from the left, `TooDeep`, `Short` or `Bad`, or `Memory`. On an error some records may have been appended.
+/// record precedes those of its members, and is replaced when its end is known: `detail` is this end plus the number of
+/// the list's nodes. Returns the offset after the list. The text has at most `MOST_OCTETS` octets. At most `room` lists
+/// may be open at once, this one included. Err is the first fault from the left, `TooDeep`, `Short` or `Bad`, or
+/// `Memory`. On an error some records may have been appended.
 #[cycle(reading)]
 fn read_list(
     text: &[u8],
@@ -265,7 +268,7 @@ fn read_members(
 
 /// Reads a text that is one value in canonical form, and returns the records of its nodes in order. Err is `TooLong`
 /// for over `MOST_OCTETS` octets, otherwise the first fault from the left, `TooDeep`, `Short`, `Bad` or `Trailing`, or
-/// `Memory`.
+/// `Memory`. The vector begins with room for the nodes of a usual text (see `LEAST_ROOM`).
 #[tactic(auto, using(crate::proofs::Refusals::refused, crate::proofs::Refusals::trailing, crate::proofs::Refusals::only_memory))]
 pub(crate) fn parse(alloc: Global, text: &[u8]) -> Result<Vec<Record>, FormFault>
     ensures read { IfOk result (λ nodes.

@@ -34,7 +34,8 @@ impl<'d, 'a> Model for Members<'d, 'a> {
 }
 
 impl<'d, 'a> Members<'d, 'a> {
-    /// The members of the node with number `n`, from 0. The document must have this node, and the node must be a list.
+    /// The members of the node with number `n`, from 0. The document must have this node, and the node must be a list. The
+    /// nodes in a list have the numbers after its own.
     pub(crate) fn of(document: &'d Doc<'a>, n: usize) -> Members<'d, 'a>
         requires known { n < size document.now }
         requires listed { IsList (node_at document.now n) }
@@ -84,7 +85,7 @@ impl<'d, 'a> Members<'d, 'a> {
         !rest.is_empty()
     }
 
-    /// Whether no member is still to be read.
+    /// Whether no member is left: the list is empty, or this handle has passed all its members.
     pub fn is_empty(&self) -> bool
         ensures { IsTrue result ↔ (self.now ≡ []) }
     {
@@ -118,7 +119,7 @@ impl<'d, 'a> Iterator for Members<'d, 'a> {
 
     ghost remaining = { item_count (λ s. s) };
 
-    /// Returns the next member, and moves this handle behind it. None if no member is left.
+    /// Returns the next member, and moves this handle past it. None if no member is left.
     fn next(&mut self) -> Option<Node<'d, 'a>> {
         if self.from == self.to {
             return None;
