@@ -7,8 +7,8 @@ ghost use Rattle.sexpr_text.specs.AdvancedForm.{printed_string, adv};
 use crate::printer::{print_gap, print_hint, print_octets};
 use crate::sinks::Sink;
 
-/// Returns the octets of the string in verbatim form, such as `3:abc`, with which a text begins, and the text behind
-/// it. The text must begin with one, so the last line is not reached.
+/// Returns the octets of the string in verbatim form, such as `3:abc`, with which a text begins, and the text after
+/// it. The text must begin with such a string, so the last line is not reached.
 fn split_verbatim<'t>(text: &'t [u8]) -> (&'t [u8], &'t [u8])
     requires { (octets behind : List ℕ) × (text.now ≡ verbatim octets ++ behind) }
     ensures { (octets behind : List ℕ) → text.now ≡ verbatim octets ++ behind
@@ -26,7 +26,7 @@ fn split_verbatim<'t>(text: &'t [u8]) -> (&'t [u8], &'t [u8])
     (rest, rest)
 }
 
-/// Prints, in advanced form, the string in verbatim form with which a text begins. Returns the text behind it.
+/// Prints, in advanced form, the string in verbatim form with which a text begins. Returns the text after it.
 fn print_verbatim<'t, S: Sink>(text: &'t [u8], sink: &mut S) -> &'t [u8]
     requires { (octets behind : List ℕ) × (text.now ≡ verbatim octets ++ behind) }
     ensures { (octets behind : List ℕ) → text.now ≡ verbatim octets ++ behind
@@ -38,7 +38,7 @@ fn print_verbatim<'t, S: Sink>(text: &'t [u8], sink: &mut S) -> &'t [u8]
 }
 
 /// Prints, in advanced form, a string with a hint. `text` is what follows its opening bracket in a canonical text: the
-/// hint, the closing bracket and the string. Returns the text behind the string.
+/// hint, the closing bracket and the string. Returns the text after the string.
 fn print_hinted<'t, S: Sink>(text: &'t [u8], sink: &mut S) -> &'t [u8]
     requires { (hint octets behind : List ℕ) × (text.now ≡ verbatim hint ++ 93 ∷ (verbatim octets ++ behind)) }
     ensures { (hint octets behind : List ℕ) → text.now ≡ verbatim hint ++ 93 ∷ (verbatim octets ++ behind)
@@ -50,7 +50,7 @@ fn print_hinted<'t, S: Sink>(text: &'t [u8], sink: &mut S) -> &'t [u8]
 }
 
 /// Prints a list in advanced form, with its parentheses. `text` is what follows the opening parenthesis in a canonical
-/// text. It contains the closing one too, so the last line is not reached. Returns the text behind the list.
+/// text. It contains the closing one too, so the last line is not reached. Returns the text after the list.
 #[cycle(printing)]
 fn print_members<'t, S: Sink>(text: &'t [u8], sink: &mut S) -> &'t [u8]
     requires { (vs : Values) × (behind : List ℕ) × (text.now ≡ canons vs ++ 41 ∷ behind) }
@@ -74,7 +74,7 @@ fn print_members<'t, S: Sink>(text: &'t [u8], sink: &mut S) -> &'t [u8]
 }
 
 /// Prints, in advanced form, the value with which `text` begins, which must be in canonical form. The text is not empty
-/// then, so the first return is not reached. Returns the text behind the value.
+/// then, so the first return is not reached. Returns the text after the value.
 #[cycle(printing)]
 fn print_first<'t, S: Sink>(text: &'t [u8], sink: &mut S) -> &'t [u8]
     requires { (v : Value) × (behind : List ℕ) × (text.now ≡ canon v ++ behind) }

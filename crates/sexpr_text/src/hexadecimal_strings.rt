@@ -44,7 +44,7 @@ pub(crate) fn read_hexadecimal(
 }
 
 /// The fault of a hexadecimal string whose digits cannot be decoded: `Memory`, and for any other error `Bad` at the
-/// offset `at` of its closing `#`. For digits of `gather_digits` this error is an odd number of them.
+/// offset `at` of its closing `#`. `gather_digits` keeps only digits, so the other error is that their number is odd.
 fn digits_fault(error: FromHexError, at: usize) -> FormFault
     ensures fault { IsDigitsFault error at result }
     ensures there { IsFaultAt at result }

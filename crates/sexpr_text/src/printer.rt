@@ -13,7 +13,7 @@ use std::alloc::{AllocError, Global};
 /// How many octets are encoded in base64 at once: a multiple of 3, so that only the last piece of a string is padded.
 const PACKED_OCTETS: usize = 384;
 
-/// How many symbols of base64 `PACKED_OCTETS` octets have.
+/// The length of `PACKED_OCTETS` octets in base64: 4 symbols for each 3 octets.
 const PACKED_SYMBOLS: usize = 512;
 
 /// Returns the printed text of a tree in advanced form. Each string is a token if it can be one; otherwise quoted, if

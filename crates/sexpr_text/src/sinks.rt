@@ -36,7 +36,7 @@ pub trait Sink {
     ghost stays: { (s : Self) → full s ≡ true → (octets : List ℕ) → takes s octets s };
 }
 
-/// Appends octets to a vector, and keeps those that it had. If no allocation failed, exactly what was put is behind them.
+/// Appends octets to a vector, and keeps those that it had. If no allocation failed, they are followed by exactly what was put.
 pub struct VectorSink<'v> {
     /// The vector to which octets are appended.
     octets: &'v mut Vec<u8>,
