@@ -1,7 +1,8 @@
 //! The intersection of tags (RFC 2693, section 6.3.1). `ticks` counts the work, and exists only in contracts. A tick is a pair of tags that
 //! is looked at, a member that is copied, or an octet of the head of a list of the second tag. An octet of its other strings is three ticks,
 //! since it is compared up to three times. Making and searching an index is not counted. `meet_cost` is the nodes of the first tag times the
-//! `Tag::node_cost` of the second. An intersection takes at most three times that many ticks.
+//! `Tag::node_cost` of the second. An intersection takes at most three times that many ticks. A value with many parts is freed by a call of
+//! `drop`, so that the proof does not go through its parts at each exit.
 
 ghost use Rattle.std.specs.Prelude.{◌≡◌, ◌+◌, ◌*◌, ◌<◌, ◌≤◌, ◌↔◌, ◌++◌, ◌&&◌, [], max, true, false, IfOk, OnOk, IsErrOf, MatchOption, All, length};
 ghost use Rattle.std.specs.Arc.{arc_slice_items};
@@ -228,7 +229,8 @@ impl Tag {
         self.meet_within(alloc, other, MOST_NODES)
     }
 
-    /// Like `meet`, with `most` as the limit of the product instead. `most` must be at most 1,000,000.
+    /// Like `meet`, with `most` as the limit of the product instead. `most` must be at most 1,000,000. `Brand` and `Blank` make a count of
+    /// work, which exists only in contracts.
     ///
     /// # Errors
     ///
@@ -270,9 +272,10 @@ impl Tag {
         self.meet_counted(alloc, other, most, &mut Ticks::<L>::new(blank))
     }
 
-    /// Does what `meet_within` does, and adds its work to `ticks`, which exists only in contracts: one for each pair of tags that is looked
-    /// at, each member that is copied and each octet of the head of a list of the other tag, and three for each octet of its other strings, where
-    /// it meets one. It adds at most three times the nodes of this tag times the other's `node_cost`, and at least one. `most` must be at most
+    /// Does what `meet_within` does, and adds its work to `ticks`, which exists only in contracts: one for each pair of tags whose
+    /// intersection is made, one for each member that is copied, one for each octet of the head of a list in `other` each time that it is
+    /// intersected with a list, and three for each octet of its other strings each time that they are intersected with a tag without
+    /// members. It adds at most three times the nodes of this tag times the other's `node_cost`, and at least one. `most` must be at most
     /// 1,000,000.
     ///
     /// # Errors

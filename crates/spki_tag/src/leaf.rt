@@ -106,8 +106,8 @@ pub(crate) fn copied_limit(limit: &Option<Limit>) -> Result<Option<Limit>, Alloc
     }
 }
 
-/// Adds a tick for each octet of the limit's string, and none for a missing limit. It only counts: `holds` and
-/// `meet` compare the octets.
+/// Adds to `ticks`, a count of work that exists only in contracts, one for each octet of a range's limit. Adds nothing if the limit is
+/// missing. The octets are compared elsewhere, in `holds` and `meet`.
 fn count_limit<L: Ledger>(limit: &Option<Limit>, ticks: &mut Ticks<L>)
     ensures { ticks.new ≡ ticks.old + limit_octets (limit_of limit.now) }
 {
@@ -134,8 +134,8 @@ impl Leaf {
         }
     }
 
-    /// Like `holds`, and adds a tick for each octet of the tag's strings, whether it is compared or not. The
-    /// caller counts the tag itself, which is the 1 in the contract.
+    /// Returns what `holds` returns, and adds to `ticks`, a count of work that exists only in contracts, one for each octet of the tag's
+    /// strings, compared or not. The weight of a tag also counts the tag itself, which is the 1 in the contract: the caller adds that.
     pub(crate) fn holds_counted<L: Ledger>(&self, octets: &[u8], ticks: &mut Ticks<L>) -> bool
         ensures answer { result ≡ contains (leaf_tag self.now) (string octets.now) }
         ensures cost { ticks.new + 1 ≡ ticks.old + weight (leaf_tag self.now) }
@@ -144,8 +144,8 @@ impl Leaf {
         self.holds(octets)
     }
 
-    /// Adds a tick for each octet of the tag's strings: those of a string, a prefix, or the limits of a range. It
-    /// only counts, for callers that compare them. The caller counts the tag itself, which is the 1 in the contract.
+    /// Adds to `ticks`, a count of work that exists only in contracts, one for each octet of the tag's strings: a string, a prefix, or the
+    /// limits of a range. Nothing is compared here. The weight also counts the tag itself, the 1 in the contract: the caller adds that.
     pub(crate) fn count_strings<L: Ledger>(&self, ticks: &mut Ticks<L>)
         ensures { ticks.new + 1 ≡ ticks.old + weight (leaf_tag self.now) }
     {

@@ -49,10 +49,10 @@ fn meet_ranges(alloc: Global, one: &Range, other: &Range) -> Result<Option<Leaf>
 }
 
 impl Leaf {
-    /// Does what `meet` does, and adds three ticks, which are units of work, for each octet of the other tag's strings, since none is
-    /// compared more often. A prefix is compared most often: as a lower and an upper limit, and one of them once more to see whether the
-    /// limits exclude each other. The 3 in the contract are for the tag itself, which `weight` counts and this function does not. None if
-    /// the intersection is `(* set)`. Err if memory ran out; then too the ticks are added.
+    /// Does what `meet` does, and adds to `ticks`, a count of work that exists only in contracts, three for each octet of the other tag's
+    /// strings, since none is compared more often. A prefix is compared most often: as a lower and an upper limit, and one of them once
+    /// more to see whether the limits exclude each other. The 3 in the contract are for the tag itself, which `weight` counts and this
+    /// function does not. None if the intersection is `(* set)`. Err if memory ran out; then too the ticks are added.
     pub(crate) fn meet_counted<L: Ledger>(
         &self,
         alloc: Global,
@@ -83,6 +83,7 @@ impl Leaf {
                 Leaf::Prefix(second) => meet_prefixes(prefix, second),
                 Leaf::Range(range) => {
                     let strings = prefix.range()?;
+                    // `strings` is freed by a call, so that the proof does not go through its parts.
                     let met = meet_ranges(alloc, &strings, range);
                     drop(strings);
                     met

@@ -14,7 +14,7 @@ use std::sync::ledger::{Blank, Ledger};
 impl Tag {
     /// Whether the tag contains a request (RFC 2693, section 6.3.1). A list contains the lists with the same head and at
     /// least as many members, if each of its members contains the one at the same place. Further members of the request
-    /// may be anything.
+    /// may be anything. `Brand` and `Blank` make a count of work, which exists only in contracts.
     pub fn holds(&self, request: &Ground) -> bool
         ensures { result ≡ contains self.now request.now }
     {
@@ -33,10 +33,11 @@ impl Tag {
         self.holds_counted(request, &mut ticks)
     }
 
-    /// Whether the tag contains a request, as `holds`, with its work added to `ticks`, a count that exists only in contracts: one for each
-    /// tag that is looked at, and one for each octet of its string, limits or head if these are compared. It adds at most the weight of the
-    /// tag, whatever the request is. The weight is the number of tags in the tag, itself included, plus the octets of their strings, limits
-    /// and heads: by the law `read_weight` at most the octets of the canonical text of the value that was read.
+    /// Returns what `holds` returns, and adds its work to `ticks`, a count that exists only in contracts: one for each tag that is tested.
+    /// A string, prefix or range that is tested on a string also adds one for each of its octets, and a list that is tested on a list one
+    /// for each octet of its head, compared or not. So it adds at most the weight of the tag, whatever the request is. The weight is the
+    /// number of tags in the tag, itself included, plus the octets of their strings, limits and heads. For a tag that was read it is at
+    /// most the number of octets of the canonical text that was read (law `read_weight`).
     #[cycle(holds)]
     pub fn holds_counted<L: Ledger>(&self, request: &Ground, ticks: &mut Ticks<L>) -> bool
         ensures answer { result ≡ contains self.now request.now }
@@ -63,8 +64,8 @@ impl Tag {
 }
 
 /// Whether each tag contains the request at the same place: `members` are those of a list that is a tag, `requests` those of a list that is
-/// a request. False if there are fewer requests than tags. Further requests may be anything. The work is added to `ticks`: at most the
-/// weights of the tags, and at least one for each tag if the answer is true.
+/// a request. False if there are fewer requests than tags. Further requests may be anything. The work is added to `ticks`, as by
+/// `holds_counted`: at most the weights of the tags, and at least one for each tag if the answer is true.
 #[cycle(holds)]
 fn each_holds<L: Ledger>(members: &[Tag], requests: &[Ground], ticks: &mut Ticks<L>) -> bool
     ensures answer { result ≡ contain_each (tags members.now) (spec.requests requests.now) }
@@ -83,8 +84,8 @@ fn each_holds<L: Ledger>(members: &[Tag], requests: &[Ground], ticks: &mut Ticks
     true
 }
 
-/// Whether at least one of the tags, the members of a set, contains the request. The work is added to `ticks`: at most the weights of the
-/// tags, and at least one for each tag if the answer is false.
+/// Whether at least one of the tags, the members of a set, contains the request. The work is added to `ticks`, as by `holds_counted`: at
+/// most the weights of the tags, and at least one for each tag if the answer is false.
 #[cycle(holds)]
 fn some_holds<L: Ledger>(members: &[Tag], request: &Ground, ticks: &mut Ticks<L>) -> bool
     ensures answer { result ≡ some_contains (tags members.now) request.now }

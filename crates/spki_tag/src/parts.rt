@@ -19,8 +19,8 @@ pub(crate) fn leaf_or_nothing(leaf: Option<Leaf>) -> Tag
     }
 }
 
-/// Appends `tag`, the intersection of a member of one set with a member of another, to `met`, those made before. If it is `(* set)`, it is
-/// left out. Err if memory ran out; then `met` is unchanged.
+/// Appends `tag`, the intersection of a member of one set with a member of another, to `met`, the intersections so far. The tag `(* set)`
+/// contains no request and is left out. Err if memory ran out; then `met` is unchanged.
 pub(crate) fn push_kept(met: &mut Vec<Tag>, tag: Tag) -> Result<(), AllocError>
     ensures { OnOk result (met.new.items ≡ met.old.items ++ kept tag []) }
 {
@@ -30,8 +30,8 @@ pub(crate) fn push_kept(met: &mut Vec<Tag>, tag: Tag) -> Result<(), AllocError>
     Ok(())
 }
 
-/// Appends a copy of each of `members`, which only the longer of two lists has, to `met`, the members of their intersection so far. Adds a
-/// tick for each. Err if memory ran out; then `met` may have some of them.
+/// Appends a copy of each of `members`, which only the longer of two lists has, to `met`, the members of their intersection so far. Adds
+/// one for each to `ticks`, a count of work that exists only in contracts. Err if memory ran out; then `met` may have some of them.
 #[tactic(auto, using(crate::proofs::Members::fewer_than_nodes))]
 pub(crate) fn push_copies<L: Ledger>(
     met: &mut Vec<Tag>,
