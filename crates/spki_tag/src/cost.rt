@@ -19,8 +19,9 @@ const RANGE: usize = 64;
 
 impl Tag {
     /// How many units of work it costs to intersect one node of another tag with this tag: 15 for each node of this tag, one for each tag
-    /// in it (the head of a list is a node and no tag), one for each octet of its strings, and 48 for each prefix and range. The cost of an
-    /// intersection is this for each node of the other tag. None if it is 2^64 or more. Allocates nothing.
+    /// in it (the head of a list is a node and no tag), one for each octet of its strings, and 48 for each prefix and range. docs/FORMATS.md
+    /// sets these numbers, for the limit `work`. The cost of an intersection is this for each node of the other tag. None if it is 2^64 or
+    /// more. Allocates nothing.
     #[cycle(cost)]
     pub fn node_cost(&self) -> Option<usize>
         ensures { SomeIff result (node_cost self.now < 2 ^ 64) (node_cost self.now) }
@@ -51,7 +52,7 @@ fn costs_of(members: &[Tag]) -> Option<usize>
 }
 
 impl Leaf {
-    /// `Tag::node_cost` of a tag without members. None if it is 2^64 or more.
+    /// `Tag::node_cost` of a tag without members: 16, or 64 for a prefix or a range, and one for each octet. None if it is 2^64 or more.
     fn node_cost(&self) -> Option<usize>
         ensures { SomeIff result (node_cost (leaf_tag self.now) < 2 ^ 64) (node_cost (leaf_tag self.now)) }
     {

@@ -8,8 +8,8 @@ use crate::shared_tags::tags_in;
 use crate::tag::{Node, Tag};
 
 impl Tag {
-    /// Whether another tag has the same normal form, with the members of sets in the same order. So two tags of the same requests may
-    /// differ. Allocates nothing.
+    /// Whether another tag is the same, with the members of sets in the same order. Both are in normal form, but two tags that contain the
+    /// same requests may still differ. Allocates nothing.
     #[cycle(same)]
     pub fn same(&self, other: &Tag) -> bool
         ensures { IsTrue result ↔ (self.now ≡ other.now) }
@@ -98,7 +98,8 @@ impl Leaf {
     }
 }
 
-/// Whether two orderings are the same. A function of its own, so that its contract can say it of the orderings in the specs.
+/// Whether two orderings are the same. It is a function of its own so that its contract can state this of `ordering_of`, the orderings in
+/// the specification.
 fn same_ordering(one: RangeOrdering, other: RangeOrdering) -> bool
     ensures { IsTrue result ↔ (ordering_of one ≡ ordering_of other) }
 {

@@ -42,7 +42,7 @@ pub enum TagFault {
 impl From<AllocError> for TagFault {
     ghost from_gives = { λ _ e. e ≡ Memory };
 
-    /// An allocation that failed is the fault `Memory`.
+    /// An allocation that failed is the fault `Memory`. With this, `?` converts the error.
     fn from(_e: AllocError) -> TagFault {
         TagFault::Memory
     }
@@ -51,7 +51,8 @@ impl From<AllocError> for TagFault {
 impl<T: Drop> From<AllocFailed<T>> for TagFault {
     ghost from_gives = { λ _ e. e ≡ Memory };
 
-    /// An allocation that failed is the fault `Memory`. The value for which there was no memory is dropped.
+    /// An allocation that failed in `Vec::push` is the fault `Memory`. With this, `?` converts the error. The value that was not stored,
+    /// which the error contains, is dropped.
     fn from(_e: AllocFailed<T>) -> TagFault {
         TagFault::Memory
     }
@@ -71,7 +72,7 @@ pub enum MeetFault {
 impl From<AllocError> for MeetFault {
     ghost from_gives = { λ _ e. e ≡ meet.Memory };
 
-    /// An allocation that failed is the fault `Memory`.
+    /// An allocation that failed is the fault `Memory`. With this, `?` converts the error.
     fn from(_e: AllocError) -> MeetFault {
         MeetFault::Memory
     }
@@ -80,7 +81,8 @@ impl From<AllocError> for MeetFault {
 impl<T: Drop> From<AllocFailed<T>> for MeetFault {
     ghost from_gives = { λ _ e. e ≡ meet.Memory };
 
-    /// An allocation that failed is the fault `Memory`. The value for which there was no memory is dropped.
+    /// An allocation that failed in `Vec::push` is the fault `Memory`. With this, `?` converts the error. The value that was not stored,
+    /// which the error contains, is dropped.
     fn from(_e: AllocFailed<T>) -> MeetFault {
         MeetFault::Memory
     }

@@ -122,7 +122,7 @@ impl Tag {
     }
 }
 
-/// Whether the tag has the form `(* set ..)`, which `(*)` has not.
+/// Whether the tag is a set, `(* set ..)`. The tag `(*)` is no set.
 fn is_set(tag: &Tag) -> bool
     ensures { result ≡ spec.is_set tag.now }
 {
@@ -141,14 +141,14 @@ pub(crate) fn has_set(one: &Tag, other: &Tag) -> bool
     is_set(one) || is_set(other)
 }
 
-/// Whether one of these tags is `(*)`, so that the set of them is `(*)`. Members of these tags are not looked at.
+/// Whether one of these tags is `(*)`, so that the set of them is `(*)`. Tags inside of these are not tested.
 pub(crate) fn any_is_everything(members: &[Tag]) -> bool
     ensures { result ≡ list_any spec.is_star members.now }
 {
     members.iter().any(|member| member.is_everything())
 }
 
-/// Whether one of these tags is `(* set)`, so that a list of them contains no request. Members of these tags are not looked at.
+/// Whether one of these tags is `(* set)`, so that a list of them contains no request. Tags inside of these are not tested.
 pub(crate) fn any_is_nothing(members: &[Tag]) -> bool
     ensures { result ≡ list_any spec.is_nothing members.now }
 {

@@ -42,7 +42,7 @@ enum Kind<'a> {
 }
 
 impl<'a> Kind<'a> {
-    /// The kind of a tag: which requests it can contain.
+    /// The kind of a tag: any requests for a set or `(*)`, strings for a prefix or a range, one string, or the lists with one head.
     fn of(tag: &'a Tag) -> Kind<'a>
         ensures { kind_of result ≡ kind tag.now }
     {
@@ -63,8 +63,8 @@ impl<'a> Kind<'a> {
 /// position among the tags, from 1.
 type PlacesByString<'a> = BTreeMap<&'a [u8], Vec<usize>>;
 
-/// Appends the place of one more tag to those that the map has for a string: the tag itself, or the head of a list. A string that the map
-/// has not yet is added. Err if memory ran out; then the map may have the string without the place.
+/// Appends `place`, the place of one more tag, to the places that the map has for `string`, which is the tag itself or, for a list, its
+/// head. A string that is not in the map yet is added. Err if memory ran out; then the map may have the string without the place.
 fn put<'a>(map: &mut PlacesByString<'a>, string: &'a [u8], place: usize) -> Result<(), AllocError>
     ensures { OnOk result ((q : List ℕ) → found_at map.new q ≡ found_at map.old q ++ place_if (bytes_eq q string.now) place) }
 {
@@ -100,7 +100,7 @@ struct PlacesByKind<'a> {
 }
 
 impl<'a> PlacesByKind<'a> {
-    /// An index without tags.
+    /// An index of no tags: each of its fields is empty.
     fn new(alloc: Global) -> PlacesByKind<'a>
         ensures { ArePlacesOf result [] }
     {
@@ -188,8 +188,8 @@ impl<'a> Index<'a> {
         Index::over(alloc, tag.members())
     }
 
-    /// Makes the index of these tags, for `meet_members`, which has the members and no set. Their places count from 1. Err if memory ran
-    /// out.
+    /// Makes the index of these tags, for a caller that has the members of a set but no tag that is this set. Their places count from 1.
+    /// Err if memory ran out.
     pub(crate) fn over(alloc: Global, members: &'a [Tag]) -> Result<Index<'a>, AllocError>
         ensures { IfOk result (λ index. index ≡ members.now) }
     {

@@ -105,8 +105,8 @@ pub fn meet_apart()
     ensures { (t u : Tag) → may_share t u ≡ false → meet t u ≡ nothing }
 {}
 
-/// To intersect a tag with several tags, it is enough to take those at the places where they may have a request in common with it, by kind
-/// and string: the intersections that are not `(* set)` are the same, in the same order. A place counts from 1.
+/// To intersect a tag with several tags, it is enough to take those whose kind and string show that they may have a request in common with
+/// it: the intersections that are not `(* set)` are the same, in the same order. Places are positions among the tags, counted from 1.
 #[tactic(auto, using(crate::proofs::Places::row_at_places))]
 pub fn row_at_places()
     ensures { (t : Tag) (us : List Tag)

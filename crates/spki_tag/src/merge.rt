@@ -5,7 +5,8 @@ ghost use Rattle.spki_tag.specs.Places.{merge};
 
 use std::alloc::{AllocError, Global};
 
-/// Merges two increasing lists, such as places in an index or numbers of entries, in increasing order. A number that both have comes twice.
+/// Merges two increasing lists, such as places in an index or numbers of entries, in increasing order. A number that is in both lists is
+/// in the result twice.
 ///
 /// # Errors
 ///

@@ -30,7 +30,7 @@ pub(crate) fn push_member(members: &mut Vec<Tag>, tag: Tag) -> Result<(), AllocE
 
 impl Tag {
     /// The set of these members, none of which may be a set, in normal form. With a member `(*)` it is `(*)`, with one member it is that
-    /// member, and without members it is `(* set)`. It must have at most 1,000,000 nodes. Err if memory ran out.
+    /// member, and without members it is `(* set)`. The result must have at most 1,000,000 nodes. Err if memory ran out.
     pub(crate) fn set_of(members: Vec<Tag>) -> Result<Tag, AllocError>
         requires { IsNormalTag (set_of members.items) }
         ensures { IfOk result (λ t. t ≡ set_of members.items) }
@@ -41,8 +41,8 @@ impl Tag {
         Tag::gathered(members)
     }
 
-    /// The list of a head, which must not be `*`, and these tags, in normal form. If one of the tags is `(* set)`, which `Tag::list` does
-    /// not allow, the list is `(* set)` too. It must have at most 1,000,000 nodes. Err if memory ran out.
+    /// The list of a head and these tags, in normal form: `(* set)` if one of the tags is `(* set)`, which `Tag::list` does not allow. The
+    /// head must not be `*`. The head, the tags and the list itself must have at most 1,000,000 nodes together. Err if memory ran out.
     #[tactic(auto, using(crate::proofs::NormalForms::any_nothing))]
     pub(crate) fn list_of(head: SharedOctets, further: Vec<Tag>) -> Result<Tag, AllocError>
         requires head { IsHead (arc_slice_items head) }

@@ -48,8 +48,8 @@ impl Prefix {
         self.octets.as_slice()
     }
 
-    /// The lower limit of the strings that start with the prefix: the prefix itself, included. Never None, but an Option as a `Range` has
-    /// it. Err if there are too many copies to count.
+    /// The lower limit of the strings that start with the prefix: the prefix itself, included. Never None: it is an Option because a
+    /// `Range` has each limit as an Option. Err if there are too many copies to count.
     fn lower_limit(&self) -> Result<Option<Limit>, AllocError>
         ensures { IfOk result (λ low. limit_of low ≡ from self.now) }
     {

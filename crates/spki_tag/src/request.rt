@@ -177,8 +177,8 @@ impl Ground {
         Ground::of(alloc, &document.node(n).unwrap())
     }
 
-    /// A fact for the prover: a request is always well-formed, however it was made. It does nothing at run time. A function whose proof
-    /// needs the fact calls it.
+    /// A fact for the prover, from the invariant of `Ground`: a request is always well-formed, however it was made. It does nothing at run
+    /// time. A function whose proof needs the fact calls it.
     pub fn prove_well_formed(&self)
         ensures { spec.IsRequest self.now }
     {

@@ -62,7 +62,7 @@ impl Tag {
         }
     }
 
-    /// The tag `(* set)`, which contains no request. Allocates nothing.
+    /// The tag `(* set)`, which contains no request. It is one node. Allocates nothing.
     pub(crate) fn nothing() -> Tag
         ensures { result ≡ spec.set spec.none }
     {
@@ -89,8 +89,8 @@ impl Tag {
         }
     }
 
-    /// The list of a head, which must not be `*`, and further tags, none of which may be `(* set)`. So it is in normal form. It must have
-    /// at most 1,000,000 nodes. `Tag::list_of` allows `(* set)`. Err if memory ran out.
+    /// The list of a head, which must not be `*`, and further tags, none of which may be `(* set)`. So it is in normal form. Its nodes are
+    /// the list, the head and the nodes of the further tags: at most 1,000,000. `Tag::list_of` allows `(* set)`. Err if memory ran out.
     pub(crate) fn list(head: SharedOctets, further: Vec<Tag>) -> Result<Tag, AllocError>
         requires { spec.IsNormalTag (spec.list (arc_slice_items head) (spec.tags further.items)) }
         ensures { IfOk result (λ t. t ≡ spec.list (arc_slice_items head) (spec.tags further.items)) }
@@ -102,7 +102,7 @@ impl Tag {
     }
 
     /// The set of these tags in normal form: if there is only one, it is that tag; if there is none, `(* set)`. Of several, none may be a
-    /// set or `(*)`. It must have at most 1,000,000 nodes. `Tag::set_of` allows `(*)`. Err if memory ran out.
+    /// set or `(*)`. The result must have at most 1,000,000 nodes. `Tag::set_of` allows `(*)`. Err if memory ran out.
     pub(crate) fn gathered(members: Vec<Tag>) -> Result<Tag, AllocError>
         requires { spec.IsNormalTag (gather members.items) }
         ensures { IfOk result (λ t. t ≡ gather members.items) }
@@ -115,7 +115,7 @@ impl Tag {
         }
     }
 
-    /// The set of these tags: none, or at least two, none of which may be a set or `(*)`. It must have at most 1,000,000 nodes.
+    /// The set of these tags: none, or at least two, none of which may be a set or `(*)`. The set must have at most 1,000,000 nodes.
     /// `Tag::gathered` also takes a single tag. Err if memory ran out.
     fn set(members: Vec<Tag>) -> Result<Tag, AllocError>
         requires { spec.IsNormalTag (spec.set (spec.tags members.items)) }
