@@ -29,7 +29,7 @@ impl Algorithms {
         }
     }
 
-    /// These algorithms, and the algorithm of the principal if it is a hash that may name keys under the policy (RFC 2693, section 2.5).
+    /// Returns these algorithms, and that of the principal if it is a hash that may name keys under the policy (RFC 2693, section 2.5).
     /// Keys are compared with such a hash by their digests. A principal that is a key adds no algorithm.
     pub fn with(self, principal: &Principal, policy: Policy) -> Algorithms
         ensures { (alg : HashAlg) → is_among result alg
@@ -47,7 +47,7 @@ impl Algorithms {
         }
     }
 
-    /// These algorithms, and the algorithm `more`, which may be among them already.
+    /// Returns these algorithms and the algorithm `more`, which may be among them already.
     fn and(self, more: HashAlg) -> Algorithms
         ensures { (alg : HashAlg) → is_among result alg ≡ (is_among self alg || is_same more alg) }
     {

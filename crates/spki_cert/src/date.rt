@@ -29,8 +29,9 @@ impl Model for Date {
 impl Date {
     ghost use Rattle.spki_cert.specs.Time.{upto};
 
-    /// The date with these octets. None if they are no date. `is_date` also checks that there are 19, so the conversion to an array does
-    /// not fail. Allocates nothing.
+    /// Reads a moment from its octets, which must be exactly `YYYY-MM-DD_HH:MM:SS`. None for anything else, also if a number is out of its
+    /// range, such as the month 13 or the hour 24. `is_date` checks all of this, also that there are 19 octets, so the conversion to an
+    /// array does not fail. Allocates nothing.
     #[tactic(auto, unfolding(spki_tag::specs::Tag::is_date))]
     pub fn of(octets: &[u8]) -> Option<Date>
         ensures { MatchOption result (is_date octets.now ≡ false)

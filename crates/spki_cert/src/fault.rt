@@ -62,7 +62,7 @@ pub enum CertFaultKind {
 impl From<AllocError> for CertFaultKind {
     ghost from_gives = { λ _ kind. kind ≡ Memory };
 
-    /// An allocation that failed is the fault `Memory`. So `?` converts the error.
+    /// An allocation that failed is the fault `Memory`. With this, `?` converts the error.
     fn from(_e: AllocError) -> CertFaultKind {
         CertFaultKind::Memory
     }
@@ -71,8 +71,8 @@ impl From<AllocError> for CertFaultKind {
 impl<T: Drop> From<AllocFailed<T>> for CertFaultKind {
     ghost from_gives = { λ _ kind. kind ≡ Memory };
 
-    /// An allocation that failed is the fault `Memory`. So `?` converts the error of `Vec::push`. This error contains the value that was
-    /// not stored, which is dropped here.
+    /// An allocation that failed is the fault `Memory`. With this, `?` converts the error of `Vec::push`. That error contains the value that
+    /// was not stored, which is dropped here.
     fn from(_e: AllocFailed<T>) -> CertFaultKind {
         CertFaultKind::Memory
     }

@@ -230,8 +230,8 @@ fn is_unread(field: &HeadedList) -> bool
     }
 }
 
-/// Reads a field of an entry or of a certificate, as `place` says. Err is the fault of the field. For a head that has no place there it is
-/// `Online` if the head is `online`, otherwise `Shape`. It is `Memory` if memory ran out.
+/// Reads a field of an entry or of a certificate, as `place` says. Err is the fault of the field. If no field there has this head, it is
+/// `Online` for the head `online`, otherwise `Shape`. It is `Memory` if memory ran out.
 fn field_value<'a>(
     alloc: Global,
     place: Place,
@@ -288,8 +288,8 @@ fn is_word_among(words: &[Octets], word: &[u8]) -> bool
     words.iter().any(|w| w.as_slice() == word)
 }
 
-/// The field as a list with its head, if no field before it has this head. None, which the caller refuses, if it is no list that begins with a
-/// string without a display hint, or if its head is one of `heads`, those of the fields before it.
+/// The field as a list with its head, if no field before it has this head; `heads` are those of the fields before it. None, which the caller
+/// refuses, if the field is no list that begins with a string without a display hint, or if its head is one of `heads`.
 fn unrepeated_field<'d, 'a>(field: &Node<'d, 'a>, heads: &[Octets]) -> Option<HeadedList<'d, 'a>>
     ensures { MatchOption result ((head : List ℕ) → IsNew field.now heads.now head → ⊥)
         (λ list. (list ≡ field.now) × ((head : List ℕ) × IsNew field.now heads.now head)) }
@@ -332,7 +332,7 @@ fn read_fields<'a>(
 }
 
 /// Reads all fields of an entry or of a certificate, as `place` says. Fields may be in any order. A missing field is no fault here; its
-/// content is None. Err is the first fault: that of a field, `Shape` for a head that comes twice or has no place there (`Online` for
+/// content is None. Err is the first fault: that of a field, `Shape` for a head that occurs twice or that no field there has (`Online` for
 /// `(online ..)`), or `Memory` if memory ran out.
 pub(crate) fn fields_of<'a>(
     alloc: Global,

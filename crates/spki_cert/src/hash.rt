@@ -56,8 +56,8 @@ impl HashAlg {
         }
     }
 
-    /// Whether `digest` is the digest of the octets by this algorithm. So the digest in a signature is compared with the octets of its
-    /// certificate. Allocates nothing.
+    /// Whether `digest` is the digest of the octets by this algorithm. Callers compare the digest in a signature with the octets of its
+    /// certificate by this. Allocates nothing.
     pub fn fits(&self, digest: &[u8], octets: &[u8]) -> bool
         ensures is_test { result ≡ is_digest self.now digest.now octets.now }
         ensures exact { IsTrue result ↔ (digest_of self.now octets.now ≡ digest.now) }

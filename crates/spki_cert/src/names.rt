@@ -29,7 +29,7 @@ impl<'a> Model for Names<'a> {
     ghost view = { λ n. reverse n.front.items ++ drop n.gone (unwrap_or (option_map arc_slice_items n.read) []) };
 }
 
-/// The names that were read and are not removed. `read` and `gone` are the fields of `Names`.
+/// The names of `read` without the first `gone`, which were removed. Both are the fields of `Names` with these names.
 fn kept<'s, 'a>(read: &'s Option<ArcSlice<Octets<'a>>>, gone: usize) -> &'s [Octets<'a>]
     ensures { result.now ≡ drop gone (unwrap_or (option_map arc_slice_items read.now) []) }
 {
@@ -87,7 +87,7 @@ impl<'a> Names<'a> {
         self.len() == 0
     }
 
-    /// The first name. None if there is no name.
+    /// The first name. None if there is no name. The vector `front` is in reverse, so its last name is the first.
     pub fn first(&self) -> Option<&Octets<'a>>
         ensures { MatchOption result (self.now ≡ []) (λ name. self.now ≡ name.now ∷ drop 1 self.now) }
     {
@@ -97,7 +97,7 @@ impl<'a> Names<'a> {
         }
     }
 
-    /// The name at a place, from 0. The place must be below `len`.
+    /// The name at a place, from 0. The place must be below `len`. The vector `front` is in reverse: a place in it counts from its end.
     pub fn at(&self, place: usize) -> &Octets<'a>
         requires { place < length self.now }
         ensures { slice_get self.now place ≡ Some result.now }
@@ -110,7 +110,8 @@ impl<'a> Names<'a> {
         }
     }
 
-    /// Returns these names without the first. The caller has compared or replaced the first. Without names the result has no names either.
+    /// Returns these names without the first. It is taken from the end of the vector `front`, which is in reverse. If that is empty, the
+    /// first of the names that were read is counted in `gone`. Without names the result has no names either.
     pub fn behind_first(self) -> Names<'a>
         ensures { result ≡ drop 1 self.entry }
     {
@@ -129,8 +130,8 @@ impl<'a> Names<'a> {
         }
     }
 
-    /// Returns `name`, and after it these names. So the name that a definition defines is put in front of the names that remain, where a
-    /// chain is read from its end.
+    /// Returns `name`, and after it these names. A caller that follows a chain of certificates from its end to its beginning puts the name
+    /// that a name certificate defines in front of the names that remain. The vector `front` is in reverse, so `name` is its last.
     ///
     /// # Errors
     ///
@@ -147,8 +148,9 @@ impl<'a> Names<'a> {
         Ok(Names { front, read, gone })
     }
 
-    /// Returns the names of `others`, and after them these names. So the names of a definition's subject are put in front of those that
-    /// come after the defined name. If there are no names here, the result is a copy of `others`.
+    /// Returns the names of `others`, and after them these names. A caller that replaces a name by what a name certificate says it means
+    /// puts the names of the certificate's subject, `others`, in front of the remaining names. The vector `front` is in reverse, so
+    /// `others` are appended to it from the last to the first. If there are no names here, the result is a copy of `others`.
     ///
     /// # Errors
     ///
