@@ -18,7 +18,7 @@ fn words<R: Env + AllocGlobal>(rt: &R) -> io::Result<Vec<String>> {
 }
 
 /// Runs the program on the words of the command line and the standard streams, and returns its exit status. The streams are
-/// in meters, by which `run_words` limits the calls of each. An error of reading the words is passed on for it to report.
+/// in meters, by which `run_words` limits the calls of each. If the words cannot be read, `run_words` reports the error.
 fn main(rt: HostRuntime) -> ExitCode {
     let mut reader = Metered::new(rt.stdin());
     let mut writer = Metered::new(rt.stdout());

@@ -77,7 +77,8 @@ fn program<'a>(alloc: Global) -> Result<clap::Command<'a>, AllocError>
     Ok(program)
 }
 
-/// `spki` as a command of `clap`, before its subcommands are added. Help is the flag `--help`, and no subcommand.
+/// `spki` as a command of `clap`, before its subcommands are added: its name, its help, and that the words must name a subcommand. Help is
+/// asked for by the flag `-h` or `--help`, which `clap` adds, and not by a subcommand `help`.
 fn bare<'a>(alloc: Global) -> clap::Command<'a>
     ensures { IsProgram bare result }
 {
