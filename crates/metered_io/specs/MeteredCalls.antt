@@ -10,7 +10,7 @@ use Rattle.metered_io.specs.declared.meters.Metered.{Metered}
 abbrev pub inner_of : {T : Type 0} → Metered T → T
 inner_of m = m.inner
 
--- what it has counted
+-- how many calls, and how many faults, it has counted since its counts were last reset
 abbrev pub asks_of : {T : Type 0} → Metered T → ℕ
 asks_of m = m.asks
 
@@ -29,7 +29,7 @@ flushed_of m = m.flushed
 abbrev pub earlier_of : {T : Type 0} → Metered T → ℕ
 earlier_of m = m.earlier
 
--- its counts were reset once, before it passed a call on: so what it counts now are all calls since
+-- the counts were reset, and `earlier` grew by the calls that they had, up to the greatest `u64`
 abbrev pub IsReset : {T : Type 0} → Metered T → Metered T → Type 0
 IsReset old new = earlier_of new ≡ min (earlier_of old + asks_of old) (2 ^ 64 - 1)
 

@@ -28,7 +28,7 @@ siblings zero row = []
 siblings (suc most) [] = []
 siblings (suc most) (v ∷ row) = v ∷ siblings most (drop (size v - 1) row)
 
--- those that begin the nodes of a list's members are the members
+-- in the list of the nodes of a list's members, the siblings from the first node on are the members
 pub siblings-nodes_all : (vs : Values) (most : ℕ) → length (nodes_all vs) ≤ most → siblings most (nodes_all vs) ≡ members vs
 siblings-nodes_all none zero le = refl
 siblings-nodes_all none (suc most) le = refl
@@ -42,7 +42,7 @@ siblings-nodes_all (more v vs) (suc most) le =
 
 -- ---- a value as the list of its nodes' labels
 
--- A value as the list of its nodes' labels. Proofs store a value by them and distinguish it from other values.
+-- Proofs store a value as the list of its nodes' labels, and distinguish it from other values by them.
 
 -- for a list the number of the nodes of its members; for a string its display hint and its octets
 abbrev pub Label : Type 0
@@ -56,7 +56,7 @@ label (list vs) = inl (length (nodes_all vs))
 abbrev pub labels : Value → List Label
 labels v = map label (nodes v)
 
--- the nodes from the one with this label on, by those behind it
+-- the nodes from the one with this label on, from those after it
 abbrev grown : Label → List Value → List Value
 grown (inr s) row = string s.0 s.1 ∷ row
 grown (inl n) row = group (siblings n (take n row)) ∷ row
@@ -139,7 +139,7 @@ member_number n i v = n + 1 + size_all (take i (members_of v))
 abbrev pub part_number : ℕ → ℕ → Value → Option ℕ
 part_number n i v = if nat_lt i (length (members_of v)) then Some (member_number n i v) else None
 
--- the same for a node of the document, if it exists
+-- a property of node n of a document; None if the document has no such node
 abbrev pub of_node : {A : Type 0} → (Value → Option A) → Value → ℕ → Option A
 of_node f v n = option_and_then f (node v n)
 
@@ -223,7 +223,7 @@ hint_in text r octets =
     then Some (behind_colon (slice_range text (r.start + 1) (r.detail - head octets - 1)))
     else None
 
--- the label of a list, if the record is one of a list, or of a string
+-- the label of the node that a record describes, a list or a string
 abbrev pub label_in : List ℕ → Record → Label
 label_in text r =
     let octets = slice_range text r.detail r.end in
@@ -247,11 +247,11 @@ pub record IsPlace (text : List ℕ) (r : Record) (v : Value) : Type 0 where
   pub begins : length before ≡ r.start
   pub record_is : r ≡ record_of r.start v
 
--- node n of a value that has so many
+-- node n of a value, from 0; the value must have this node
 abbrev pub node_at : Value → ℕ → Value
 node_at v n = slice_index_or (nodes v) n (plain [])
 
--- a list
+-- the value is a list
 abbrev pub IsList : Value → Type 0
 IsList (string hint octets) = ⊥
 IsList (list vs) = Unit {0}

@@ -104,7 +104,7 @@ abbrev pub size_all : List Value → ℕ
 size_all [] = 0
 size_all (v ∷ vs) = size v + size_all vs
 
--- ---- limits of what is read
+-- ---- values within these limits
 
 abbrev pub IsShallow : Value → Type 0
 IsShallow v = depth v ≤ depth_limit
@@ -127,9 +127,9 @@ IsNoList v = (vs : List Value) → v ≢ group vs
 abbrev pub IsNotHeaded : Value → List ℕ → Type 0
 IsNotHeaded v word = (vs : List Value) → v ≢ group (plain word ∷ vs)
 
--- ---- values of octets
+-- ---- values of octets (RFC 9804, section 4)
 
--- Values of octets (RFC 9804, section 4). In a value octets are plain numbers.
+-- In a value octets are plain numbers.
 
 abbrev mutual
   -- each octet of each string and display hint is below 256

@@ -8,9 +8,7 @@ use Rattle.sexpr_core.specs.{Characters.{char}, Reading.{visible, IsBase64, AreS
 use Rattle.base64.specs.{Engines.{standard}, GeneralPurpose.{encode_of}}
 use Rattle.sexpr_text.specs.declared.converter.Form.{Form, TheVariants.{Canonical, Advanced}}
 
--- ---- which texts spell a string without a display hint in advanced form (RFC 9804, sections 4.1 to 4.5)
-
--- ---- tokens
+-- ---- tokens (RFC 9804, section 4.3)
 
 abbrev pub is_digit : ℕ → Bool
 is_digit c = nat_le (char "0") c && nat_le c (char "9")
@@ -30,7 +28,7 @@ IsApart false rest = Unit {0}
 IsApart true [] = Unit {0}
 IsApart true (c ∷ cs) = is_token_octet c ≡ false
 
--- ---- quoted strings
+-- ---- quoted strings (RFC 9804, section 4.2)
 
 -- the octet that the octet after a backslash means
 abbrev pub escape_value : ℕ → Option ℕ
@@ -104,9 +102,9 @@ abbrev pub ArePieces : List Piece → List ℕ → Type 0
 ArePieces [] rest = Unit {0}
 ArePieces (p ∷ ps) rest = IsPiece p (pieces_text ps ++ rest) × ArePieces ps rest
 
--- ---- strings
+-- ---- strings without a display hint (RFC 9804, sections 4.1 to 4.5)
 
--- the length of a string, if it is written in front
+-- what may precede a string between marks: nothing, or its length in decimal
 abbrev pub IsCount : List ℕ → ℕ → Type 0
 IsCount count n = (count ≡ []) ⊎ (count ≡ decimal n)
 

@@ -1,5 +1,5 @@
--- Parts of a spelling at an offset of a text: what a step of the reader of advanced form has read there, and what
--- stands there whatever follows it.
+-- Parts of a spelling at an offset of a text: what a step of the reader of advanced form has read there, and which part is
+-- there, whatever follows it.
 use Rattle.std.specs.Prelude.{◌≡◌, ◌≢◌, ℕ, ◌+◌, ◌<◌, ◌≤◌, min, Bool, true, false, ◌||◌, List, [], ◌∷◌, ◌++◌, length, drop, Option, Some, None, ◌⊎◌, Ok}
 use Rattle.std.specs.List.{AllByRecursion}
 use Rattle.hex.specs.{declared.error.FromHexError.{FromHexError, TheVariants.{OutOfMemory}}, Hex.{hex_digit_value, is_hex_digit, decode_of}}
@@ -109,7 +109,7 @@ abbrev pub Stops : (ℕ → Bool) → List ℕ → Type 0
 Stops p [] = Unit {0}
 Stops p (c ∷ cs) = p c ≡ false
 
--- so many octets, as they are
+-- this number of octets, as they are
 pub record ReadsOctets (text : List ℕ) (at number : ℕ) (octets : List ℕ) (to : ℕ) : Type 0 where
   pub spelled : drop at text ≡ octets ++ drop to text
   pub counted : length octets ≡ number

@@ -7,10 +7,9 @@ use Rattle.sexpr_core.specs.declared.fault.FormFault.{FormFault, TheVariants.{To
 use Rattle.sexpr_text.specs.Reads.{is_hexadecimal_octet}
 use Rattle.sexpr_text.specs.AdvancedForm.{Simple, IsApart, IsCount, IsQuoted, SpellsAs, Spells, IsSpelledWithin, IsText}
 
--- ---- texts that end inside a string between marks
+-- ---- texts that end inside a string between marks (RFC 9804, sections 4.2 to 4.5)
 
--- Texts that end inside a string between marks (RFC 9804, sections 4.2 to 4.5). Before the closing mark nothing is
--- claimed about how many octets the string has, or whether they are encoded correctly.
+-- Before the closing mark nothing is claimed about how many octets the string has, or whether they are encoded correctly.
 
 -- ---- strings
 
@@ -107,8 +106,6 @@ pub record IsUnclosedText (room : ℕ) (text : List ℕ) : Type 0 where
   pub unclosed : UnclosedValue lists value
 
 -- ---- what a refusal means for a text
-
--- What a refusal means for a text. A text has at most one.
 
 -- a text spells some value
 pub record IsSpelling (text : List ℕ) : Type 0 where

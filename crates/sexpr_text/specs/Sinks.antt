@@ -4,9 +4,7 @@ use Rattle.std.proofs.lemmas.List.{length-append}
 use Rattle.std.specs.{Prelude.{◌+◌, ◌-◌, ◌^◌, ◌==◌, ◌<◌, ◌≤◌, length, Bool, false}, Borrow.{GName}}
 use Rattle.sexpr_text.specs.declared.sinks.{VectorSink.{VectorSink}, Counter.{Counter}}
 
--- ---- what sinks have taken
-
--- ---- vectors
+-- ---- what a vector has taken
 
 -- the reference to the vector, and its octets
 abbrev pub lender_of : VectorSink → GName
@@ -19,13 +17,13 @@ text_of s = s.octets.now.items
 abbrev pub has_failed : VectorSink → Bool
 has_failed s = s.failed
 
--- the vector is the same one and keeps what it had, and unless memory ran out these octets are behind it
+-- the vector is the same one and keeps what it had, and unless memory ran out these octets follow it
 pub record VectorTakes (old : VectorSink) (octets : List ℕ) (new : VectorSink) : Type 0 where
   pub same_lender : lender_of new ≡ lender_of old
   pub kept : (added : List ℕ) × (text_of new ≡ text_of old ++ added)
   pub appended : has_failed new ≡ false → (has_failed old ≡ false) × (text_of new ≡ text_of old ++ octets)
 
--- ---- counts
+-- ---- what a counter has taken
 
 abbrev pub count_of : Counter → ℕ
 count_of c = c.count

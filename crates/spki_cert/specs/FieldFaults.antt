@@ -12,7 +12,7 @@ use Rattle.spki_cert.specs.{Readings.{digest_len}, Fields.{is_headed, behind_hea
 
 -- ---- what is tested in a list, by place
 
--- What is tested in a list, by place. The places after the head are counted from 0.
+-- The places after the head are counted from 0.
 
 -- the fault of the first of some values, or that there is none
 abbrev pub of_first : {A : Type 0} → A → (Value → Option A) → List Value → Option A
@@ -32,12 +32,7 @@ unless_none (v ∷ vs) fault = Some fault
 abbrev pub sole_fault : {A : Type 0} → A → (Value → Option A) → List Value → Option A
 sole_fault other fault_of vs = first_fault (fault_at 0 other fault_of vs ∷ unless_none (drop 1 vs) other ∷ [])
 
--- ---- keys, hashes and dates
-
--- The fault for which a key, a hash or a date is refused: the first from the left. The forms are those of the SPKI
--- working group's structure draft (RFC 2693, sections 2.5 and 6.3.2).
-
--- ---- strings
+-- ---- tests of strings
 
 -- whether a value is a string, with or without a display hint
 abbrev pub is_string : Value → Bool
@@ -130,10 +125,7 @@ hash_fault v =
 unfoldable pub date_fault : Value → Option CertFaultKind
 date_fault v = unless (is_plain is_date v) BadDate
 
--- ---- principals, subjects and issuers
-
--- The fault for which a principal, a subject or an issuer is refused: the first from the left (RFC 2693, sections
--- 2.5, 2.6 and 2.8). The forms are those of the SPKI working group's structure draft.
+-- ---- principals, subjects and issuers (RFC 2693, sections 2.5, 2.6 and 2.8)
 
 -- a key or a hash: a value that is not headed hash is read as a key
 unfoldable pub principal_fault : Value → Option CertFaultKind
@@ -204,12 +196,7 @@ issuer_name_fault vs =
 unfoldable pub issuer_fault : Value → Option CertFaultKind
 issuer_fault v = if is_headed (codes "name") v then issuer_name_fault (behind_head v) else principal_fault v
 
--- ---- fields
-
--- The fault for which a field is refused, and the one of several fields: the first from the left (RFC 2693, sections
--- 3.3, 3.4 and 5). The forms are those of the SPKI working group's structure draft.
-
--- ---- each at most once
+-- ---- fields, each at most once (RFC 2693, sections 3.3, 3.4 and 5)
 
 -- the head of a list, if it is a string without a display hint
 abbrev pub head_of : Value → Option (List ℕ)

@@ -9,10 +9,7 @@ use Rattle.spki_cert.specs.Readings.{KeyOf, HashOf, DateOf}
 use Rattle.spki_tag.specs.Reading.{ReadsAs}
 use Rattle.spki_tag.specs.Tag as tags
 
--- ---- principals, subjects and issuers
-
--- Principals, subjects and issuers of values (RFC 2693, sections 2.5, 2.6 and 2.8). The forms are those of the SPKI
--- working group's structure draft.
+-- ---- principals, subjects and issuers (RFC 2693, sections 2.5, 2.6 and 2.8)
 
 -- a key, or the hash of one
 abbrev pub PrincipalOf : Value → Principal → Type 0
@@ -61,12 +58,7 @@ abbrev pub IssuerOf : Value → Principal → Option (List ℕ) → Type 0
 IssuerOf v principal None = PrincipalOf v principal
 IssuerOf v principal (Some name) = NameOf v principal (name ∷ [])
 
--- ---- fields
-
--- The contents of the fields of an entry and of a certificate, in any order (RFC 2693, sections 3.3, 3.4 and 5). The
--- forms are those of the SPKI working group's structure draft.
-
--- ---- heads
+-- ---- fields by their heads, in any order (RFC 2693, sections 3.3, 3.4 and 5)
 
 -- whether a value is a list with this head
 abbrev pub is_headed : List ℕ → Value → Bool

@@ -22,7 +22,7 @@ pub record HasRefusedEntry (v : Value) (fault : CertFault) : Type 0 where
   pub reason : entry_fault entry ≡ Some fault.kind
 
 -- The value is a list with the head acl, whose first member is headed version and is not (version 0). The kind of the fault is that
--- of what is behind this head.
+-- of the members after this head.
 pub record HasOtherVersion (v : Value) (fault : CertFault) : Type 0 where
   pub first : Value
   pub others : List Value
@@ -71,7 +71,7 @@ abbrev pub GoesOn : List Value → Type 0
 GoesOn [] = Unit {0}
 GoesOn (v ∷ vs) = (is_headed (codes "signature") v ≡ false) × (is_headed (codes "do") v ≡ false)
 
--- The item with the number of the fault is a certificate. Behind it are operations, and no signature behind them.
+-- The item with the number of the fault is a certificate. Operations follow it, and no signature follows them.
 pub record HasUnsignedCertificate (values : List Value) (fault : CertFault) : Type 0 where
   pub kind : fault.kind ≡ UnsignedCert
   pub front : List Value

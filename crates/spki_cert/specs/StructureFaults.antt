@@ -10,10 +10,7 @@ use Rattle.spki_cert.specs.declared.fault.CertFaultKind.{CertFaultKind, TheVaria
 use Rattle.spki_cert.specs.FieldFaults.{fault_at, sole_fault, entry_subject_fault, has, fields_fault, version_fault, entry_field_fault, is_both_ways, unless_none, is_plain, key_fault, alg_fault, hash_fault, principal_fault, cert_field_fault}
 use Rattle.spki_cert.specs.Fields.{is_headed, behind_head, contents}
 
--- ---- entries and access lists
-
--- The fault for which an entry or an access list is refused (RFC 2693, section 3.4). It is the first from the left,
--- with missing fields and clashes last. The forms are those of the SPKI working group's structure draft.
+-- ---- entries (RFC 2693, section 3.4)
 
 -- (entry subject field ..): the head, the subject, the fields, then validity both ways and a missing tag
 unfoldable pub entry_fault : Value → Option CertFaultKind
@@ -61,11 +58,7 @@ entries_fault vs = first_fault (each_looked entry_fault 1 vs)
 unfoldable pub acl_fault : Value → Option CertFault
 acl_fault v = first_fault (at_item 0 (outer_fault v) ∷ entries_fault (behind_version (behind_head v)) ∷ [])
 
--- ---- certificates, signatures and operations
-
--- The fault for which a certificate, a signature or an operation is refused (RFC 2693, sections 3.3 and 6.2). It is
--- the first from the left, with missing fields and clashes last. The forms are those of the SPKI working group's
--- structure draft.
+-- ---- signatures and operations (RFC 2693, sections 3.3 and 6.2)
 
 abbrev pub any_value : Value → Option CertFaultKind
 any_value v = None
@@ -136,8 +129,7 @@ item_fault v =
 
 -- ---- sequences
 
--- The fault for which a sequence is refused: the first from the left, an item's place before the item itself. The
--- forms are those of the SPKI working group's structure draft.
+-- The place of an item is tested before the item itself.
 
 -- the fault of the certificate that is still without its signature, by its number, if there is one
 abbrev pub unsigned_fault : Option ℕ → Option CertFault

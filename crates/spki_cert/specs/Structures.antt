@@ -8,10 +8,7 @@ use Rattle.spki_cert.specs.Fields.{SubjectOf, is_headed, version_field, IsField,
 use Rattle.spki_cert.specs.Readings.{HashOf, alg_name, KeyOf}
 use Rattle.spki_cert.specs.declared.certificate.SeqItem.TheVariants as items
 
--- ---- entries and access lists
-
--- The entries and access lists of values (RFC 2693, section 3.4; the forms are those of the SPKI working group's
--- structure draft).
+-- ---- entries and access lists (RFC 2693, section 3.4)
 
 -- (entry subject field ..)
 pub record EntryOf (v : Value) (e : Entry) : Type 0 where
@@ -43,10 +40,7 @@ abbrev pub BeginsWell : List Value → Type 0
 BeginsWell [] = Unit {0}
 BeginsWell (v ∷ vs) = is_headed (codes "version") v ≡ true → v ≡ version_field
 
--- ---- certificates and signatures
-
--- The certificates and signatures of values (RFC 2693, sections 3.3 and 6.2; the forms are those of the SPKI working
--- group's structure draft).
+-- ---- certificates and signatures (RFC 2693, sections 3.3 and 6.2)
 
 -- the issuer in the fields, with the one name of a name certificate
 abbrev pub IssuedBy : List Value → Principal → Option (List ℕ) → Type 0
@@ -94,7 +88,7 @@ pub record SignatureOf (v : Value) (s : Signature) : Type 0 where
 abbrev pub DoHashOf : Value → HashAlg → Type 0
 DoHashOf v alg = v ≡ group (plain (codes "do") ∷ plain (codes "hash") ∷ plain (alg_name alg) ∷ [])
 
--- ---- the items of a sequence, and their order (the forms are those of the SPKI working group's structure draft)
+-- ---- the items of a sequence, and their order
 
 -- an item: a key, (do hash alg), a certificate or a signature
 abbrev pub ItemOf : Value → SeqItem → Type 0

@@ -19,11 +19,6 @@ abbrev pub unless : {A : Type 0} → Bool → A → Option A
 unless true fault = None
 unless false fault = Some fault
 
--- ---- tags and requests
-
--- The fault for which a value is refused as a tag or as a request: the first one, depth first from the left (RFC
--- 2693, section 6.3.1).
-
 -- ---- the tags in a written tag
 
 -- a word without a display hint

@@ -183,12 +183,7 @@ abbrev mutual
   pairs none bs = []
   pairs (more a ms) bs = row (meet a) bs ++ pairs ms bs
 
--- ---- members that can have a request in common
-
--- Which members of a tag can have a request in common with another tag, by kind and string alone (RFC 2693, section
--- 6.3.1).
-
--- ---- kinds
+-- ---- kinds: which tags can have a request in common, by kind and string alone
 
 -- which requests a tag can contain, by its kind and its string
 pub data Kind : Type 0 where
@@ -252,8 +247,7 @@ tags_at ts (n ∷ ns) = slice_index_or ts (n - 1) star ∷ tags_at ts ns
 
 -- ---- the rules as equations
 
--- The rules of the intersection, as equations of `meet`, in the order in which they are tried (RFC 2693, section
--- 6.3.1).
+-- They are equations of `meet`, in the order in which they are tried (RFC 2693, section 6.3.1).
 
 -- the intersection, in either order
 abbrev pub LeaveEither : Tag → Tag → Tag → Type 0

@@ -76,9 +76,7 @@ IsNoTag fault v = (w : Tag) → IsTag w → nodes w ≤ most_read → tag_value 
 abbrev pub IsNoRequest : TagFault → Value → Type 0
 IsNoRequest fault v = (g : Request) → IsRequest g → request_value g ≡ v → fault ≡ faults.Memory
 
--- ---- the results of the readers' steps
-
--- ---- tags
+-- ---- what the reader of tags has read in a step
 
 -- the first fault of a tag, if so many nodes were counted before it
 unfoldable pub fault_after : ℕ → Value → Option TagFault
@@ -113,7 +111,7 @@ pub record MakeSame (ts us : List Tag) : Type 0 where
   pub star : list_any is_star ts ≡ list_any is_star us
   pub same : list_any is_star ts ≡ false → ts ≡ us
 
--- A value was read as a tag w, and put behind other members of a set; a set as its members.
+-- A value was read as a tag w, and appended to other members of a set; of a set its members were appended.
 pub record IsPut (used : ℕ) (v : Value) (before now : List Tag) (after : ℕ) : Type 0 where
   pub w : Tag
   pub put : List Tag

@@ -44,9 +44,7 @@ is_date text =
     && (slice_index text 10 == 95)
     && is_time (drop 11 text)
 
--- ---- tags as they are written, and the requests that they contain (RFC 2693, section 6.3.1)
-
--- ---- what tags are
+-- ---- what tags are (RFC 2693, section 6.3.1)
 
 -- which strings a range may contain at all
 pub data Ordering : Type 0 where

@@ -25,8 +25,6 @@ commands = Canonical ∷ Advanced ∷ Transport ∷ Intersect ∷ Reduce ∷ Che
 
 -- ---- how `clap` parses words
 
--- How `clap` parses the words of a command line. The first word is the program's name.
-
 -- `spki` without its subcommands, one of which must be given; help is a flag and no subcommand
 abbrev pub bare : App
 bare = on_top (λ s. record s { subcommand_required = true; disable_help_subcommand = true }) (new_app (codes "spki"))
