@@ -1,9 +1,9 @@
--- What goes out of some octets, write by write.
+-- What a writer has accepted of some octets, write by write.
 use Rattle.std.proofs.Common.{◌≡◌, ℕ, List, [], ◌++◌, Option, Result, Ok, Err, OnErr, take, drop, ◌∙◌, sym, ap, append_assoc, append-nil, take-append-drop}
 use Rattle.std.proofs.KnownBytes.{Appends-trans, Appends-kept}
 use Rattle.metered_io.specs.{declared.meters.Metered.{Metered}, MeteredCalls.{Takes, TakesNone, inner_of, SendsFront}}
 
--- one more write took n octets
+-- one more write accepted the first n octets of the rest
 pub SendsFront-more : {W : Type 0} {contents : W → Option (List ℕ)} {a b c : Metered W} {octets rest left : List ℕ} (n : ℕ)
     → SendsFront contents a b octets rest → Takes contents b c (take n rest) → left ≡ drop n rest
     → SendsFront contents a c octets left
@@ -15,7 +15,7 @@ SendsFront-more {W} {contents} {a} {b} {c} {octets} {rest} {left} n h more e =
       taken = Appends-trans (contents (inner_of a)) (contents (inner_of b)) (contents (inner_of c)) h.sent (take n rest) h.taken more;
     }
 
--- all was taken, and nothing after it
+-- all octets were accepted, and none after them
 pub SendsFront-all : {W : Type 0} {contents : W → Option (List ℕ)} {a c : Metered W} {octets : List ℕ} (b : Metered W)
     → Takes contents a b octets → TakesNone contents b c → SendsFront contents a c octets []
 SendsFront-all {W} {contents} {a} {c} {octets} b h kept = record {

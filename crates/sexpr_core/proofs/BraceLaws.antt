@@ -1,5 +1,4 @@
--- Base64 in the standard alphabet: how long it is, and which octets it has. What stands in braces stands there in one
--- way.
+-- Base64 in the standard alphabet: its length, and which octets it has. A text in braces has at most one value.
 use Rattle.std.proofs.Common.{◌≡◌, ℕ, zero, suc, ◌+◌, ◌-◌, ◌*◌, ◌/◌, ◌%◌, ◌<◌, true, List, [], ◌∷◌, ◌++◌, length, get_or, replicate, refl, ap, subst, arith, length-append, append-nil, Bool, ◌&&◌, Ok, rules, ◌≤◌, false, take, drop, sym, ◌∙◌, append_assoc, length-drop}
 use Rattle.std.proofs.lemmas.{Bool.{cases_Bool, and_parts}, List.{length-replicate, length-take-le, Sums.{length-filter, count_by-le-length}}}
 use Rattle.std.specs.List.{AllByRecursion}
@@ -13,7 +12,7 @@ use Rattle.sexpr_core.specs.{Value.{Value, canon, plain, verbatim, decimal, IsWi
 use Rattle.sexpr_core.proofs.Spans.{no_space, stops_here, stops_later, Agree, spelled_too, stands_too, skips_too, long_too, front_is, one_body, same_body, gathers_to_too, one_end}
 use Rattle.sexpr_core.proofs.{Texts.{all-append, all_front}, Prefix.{RefusesPart-less}}
 
--- ---- base64 in the standard alphabet: how long it is, and which octets it has
+-- ---- the length of base64
 
 abbrev table : List ℕ
 table = engine_symbols standard
@@ -84,7 +83,7 @@ body_of : (body : List ℕ) → AreSymbols (visible body) → AreBodyOctets body
 body_of [] h = tt
 body_of (c ∷ cs) h = let p = visible_body c cs h in (p.0, body_of cs p.1)
 
--- the body of a text in base64 has symbols and whitespace alone
+-- the body of a text in base64 has only symbols and whitespace
 pub body_octets : (body octets : List ℕ) → IsBase64 (visible body) octets → AreBodyOctets body
 body_octets body octets b = search (rules, body_of, all_front, encoded_symbols)
 
@@ -95,7 +94,7 @@ whole_is symbols octets padded missing b m e = search (rules, missing_is symbols
 pub no_failure : (input octets : List ℕ) (f : DecodeAllocError) (d : DecodeError) → decode_of standard input ≡ Ok octets → IsDecodeFailure standard input f → f ≡ Failed d → ⊥
 no_failure input octets f d e h is = let k = subst (IsDecodeFailure standard input) is h in cc
 
--- ---- what is encoded has no whitespace
+-- ---- encoded octets have no whitespace
 
 visible_symbols : (xs : List ℕ) → AreSymbols xs → visible xs ≡ xs
 visible_symbols [] h = refl
@@ -104,11 +103,11 @@ visible_symbols (c ∷ cs) h = rw (no_space c h.0) (ap (λ s. c ∷ s) (visible_
 pub visible_encoded : (b : List ℕ) → IsBytes b → visible (encode_of standard b) ≡ encode_of standard b
 visible_encoded b h = visible_symbols (encode_of standard b) (encoded_symbols b h)
 
--- the padded base64 of octets spells them
+-- the padded base64 of octets is base64 of them
 pub packed_encoded : (b : List ℕ) → IsBytes b → IsBase64 (visible (encode_of standard b)) b
 packed_encoded b h = search (rules, append-nil, visible_encoded)
 
--- ---- what stands in braces stands there in one way
+-- ---- a text in braces has at most one value
 
 encoded_once : (a b : List ℕ) → encode_of standard a ≡ encode_of standard b → decode_of standard (encode_of standard a) ≡ Ok a
     → decode_of standard (encode_of standard b) ≡ Ok b → a ≡ b
@@ -126,7 +125,7 @@ read_once text at mark to a body rest b r other packed e =
     let p = one_body r.body body mark mark (drop to text) rest (body_octets r.body a r.packed) (body_octets body b packed) other other (sym r.spelled ∙ e) in
     (one_packed (visible body) a b (subst (λ s. IsBase64 (visible s) a) p.0 r.packed) packed, p.2)
 
--- the brace behind the whitespace
+-- after the whitespace come the opening brace, the body and the closing brace
 pub opening : (text : List ℕ) (begin : ℕ) (v : Value) → Skips text 0 begin → (b : Braced text v) → drop begin text ≡ 123 ∷ (b.body ++ 125 ∷ b.after)
 opening text begin v s b =
     (one_end s.spaces b.before (drop begin text) (123 ∷ (b.body ++ 125 ∷ b.after)) s.are_spaces b.spaces_before s.ends refl
@@ -145,7 +144,7 @@ body_is text begin c v s stands b = cc (sym stands.spelled ∙ opening text begi
 pub visible_le : (xs : List ℕ) → length (visible xs) ≤ length xs
 visible_le xs = search (rules, length-filter, count_by-le-length)
 
--- octets are hardly more than the symbols and whitespace that they stand in
+-- the decoded octets are at most one more than the octets of the body
 pub packed_short : (body octets : List ℕ) → IsBase64 (visible body) octets → length octets ≤ length body + 1
 packed_short body octets p =
     let n = length octets in
@@ -161,7 +160,7 @@ pub read_short : (text : List ℕ) (at mark to : ℕ) (octets : List ℕ) → le
 read_short text at mark to octets few r =
     omega (arith, packed_short r.body octets r.packed, ap length r.spelled, length-append r.body (mark ∷ drop to text), length-drop at text)
 
--- ---- refusals
+-- ---- faults of base64 and of texts in braces
 
 reads_too : (text other : List ℕ) (k at mark to : ℕ) (octets : List ℕ) → Agree text other k → to ≤ k + 1 → ReadsBase64 text at mark octets to
     → ReadsBase64 other at mark octets to
@@ -178,7 +177,7 @@ packed_stops text at mark to symbols g apart never =
     (body_octets w.body w.octets w.packed) w.spelled in
     never w.octets (subst (λ s. IsBase64 s w.octets) (sym same.0) w.packed))
 
--- what is gathered is no base64
+-- the fault, if the gathered symbols are no base64
 pub packed_refused : (text : List ℕ) (at mark to : ℕ) (symbols : List ℕ) (fault : FormFault) → GathersTo text at mark symbols to → is_body_octet mark ≡ false
     → IsFaultAt (to - 1) fault → ((octets : List ℕ) → IsBase64 symbols octets → fault ≡ Memory) → RefusesPart (PackedAt at mark) text at fault
 packed_refused text at mark to symbols (Bad k) g apart is only =
@@ -186,13 +185,13 @@ packed_refused text at mark to symbols (Bad k) g apart is only =
     (packed_stops text at mark to symbols g apart (λ octets b. let e : Bad k ≡ Memory = only octets b in cc))
 packed_refused text at mark to symbols _ g apart is only = search rules
 
--- what is gathered is no body
+-- the fault of a part that is no body is also the fault of the base64
 pub body_not_packed : (text : List ℕ) (at mark : ℕ) (fault : FormFault) → RefusesPart (BodyAt at mark) text at fault → RefusesPart (PackedAt at mark) text at fault
 body_not_packed text at mark fault h =
     RefusesPart-less (BodyAt at mark) (PackedAt at mark) text at fault
     (λ t w. record { body = w.body; rest = w.rest; octets = body_octets w.body w.octets w.packed; spelled = w.spelled }) h
 
--- what is seen of a text in braces that is refused where the fault is met
+-- what each fault says of a text in braces, where the reader finds it
 abbrev pub BraceFault : List ℕ → FormFault → Type 0
 BraceFault text TooLong = octet_limit < length text
 BraceFault text TooDeep = BracesDeep text
@@ -200,14 +199,14 @@ BraceFault text (Bad at) = (at < length text) × (Begins IsBraced (take (at + 1)
 BraceFault text (Trailing at) = (at < length text) × ((v : Value) × IsBracedWithin (take at text) v)
 BraceFault text _ = Unit {0}
 
--- another first octet than a brace
+-- the first octet after the whitespace is no opening brace
 pub not_opened : (text : List ℕ) (begin c : ℕ) → Skips text 0 begin → StandsAt text begin c → (c ≡ 123 → ⊥) → BraceFault text (Bad begin)
 not_opened text begin c s stands apart =
     let h = stops_here IsBraced text begin begin (omega arith) stands.within (λ other a w. apart (opens other begin c w.value
     (skips_too text other begin 0 begin a (omega arith) s) (stands_too text other begin begin c a (omega arith) stands) w.braced)) in
     (h.within, h.none)
 
--- a body that is no base64
+-- the body is no base64
 pub body_missed : (text : List ℕ) (begin c : ℕ) (fault : FormFault) → Skips text 0 begin → StandsAt text begin c
     → RefusesPart (PackedAt (begin + 1) 125) text (begin + 1) fault → BraceFault text fault
 body_missed text begin c (Bad k) s stands h =
@@ -217,7 +216,7 @@ body_missed text begin c (Bad k) s stands h =
     (r.within, r.none)
 body_missed text begin c _ s stands h = search rules
 
--- a body of octets that are no canonical text
+-- the decoded octets are no canonical text
 pub body_unread : (text : List ℕ) (begin c to : ℕ) (octets : List ℕ) (fault : FormFault) → Skips text 0 begin → StandsAt text begin c → c ≡ 123
     → ReadsBase64 text (begin + 1) 125 octets to → RefusesBody octets (to - 1) fault → BraceFault text fault
 body_unread text begin c to octets (Bad k) s stands e r h =
@@ -229,7 +228,7 @@ body_unread text begin c to octets (Bad k) s stands e r h =
     (z.within, z.none)
 body_unread text begin c to octets _ s stands e r h = search rules
 
--- an octet behind the closing brace and whitespace
+-- an octet follows the closing brace and whitespace
 pub braced_before : (text : List ℕ) (begin c to : ℕ) (octets : List ℕ) (fault : FormFault) → length text ≤ 1048576 → Skips text 0 begin → StandsAt text begin c → c ≡ 123
     → ReadsBase64 text (begin + 1) 125 octets to → ((v : Value) × (octets ≡ canon v) × IsWithinLimits v) → IsTrailingBehind text to fault → BraceFault text fault
 braced_before text begin c to octets (Trailing k) few s stands e r v h =

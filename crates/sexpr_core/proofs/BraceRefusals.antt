@@ -1,5 +1,5 @@
--- The refusals of a text in braces: it has at most one that speaks of its form, and where the reader meets a fault,
--- its refusal holds.
+-- A text in braces has at most one of the faults TooDeep, Short, Bad and Trailing. What a fault says is true where the
+-- reader finds it.
 use Rattle.std.proofs.Common.{◌≡◌, ℕ, ◌+◌, ◌-◌, ◌<◌, ◌≤◌, false, ◌⊎◌, inl, inr, List, [], ◌∷◌, ◌++◌, length, take, refl, sym, ◌∙◌, ap, subst, arith, append-nil, append_assoc, length-append, rules, drop, length-drop}
 use Rattle.std.proofs.{lemmas.{List.{take_at, take-append-drop, drop_at, drop-drop, take_all}, Bool.{cases_order}}, Math.Seq.{take-append-add}}
 use Rattle.sexpr_core.specs.Reading.{IsBase64, Braced, IsBraced, IsBracedWithin, BracesDeep, IsShallowBraced, OpensBraces, BracesGoOn, RefusesBraces, is_body_octet, AreBodyOctets, IsOfForm, AreSpaces, IsSpace, visible, RefusesBody, IsTrailingBehind, RefusesPart, ReadsBase64, PackedAt, Passed, IsBodyEnd, Begins, StandsAt, Refused, is_whitespace, StartsVisible, Skips}
@@ -10,12 +10,9 @@ use Rattle.sexpr_core.proofs.Spans.{one_body, one_end, front_is, unpacked_end}
 use Rattle.sexpr_core.proofs.Refusals.{HasFronts, begins_front, goes_less, StopsThere, AreApart, one_fault, no_fault, shallow_text}
 use Rattle.sexpr_core.proofs.Texts.{head_is, tail_is, all_front, fails_among}
 
--- ---- refusals of a text in braces
+-- ---- octets that may continue as a text in braces
 
--- A text in braces has at most one refusal that speaks of its form: braces that are closed, and where nothing goes
--- on.
-
--- whitespace begins a text in braces
+-- whitespace may continue as a text in braces
 pub spaces_go : (xs : List ℕ) → AreSpaces xs → BracesGoOn xs
 spaces_go xs h = inl (spaces_begin_shallow xs h)
 
@@ -32,7 +29,7 @@ body_before : (before m y body : List ℕ) → AreSpaces before → AreBodyOctet
 body_before before [] y body s h e = subst BracesGoOn (sym (append-nil before)) (spaces_go before s)
 body_before before (c ∷ cs) y body s h e = search (rules, head_is, all_front, tail_is)
 
--- what goes on goes on at each octet before
+-- if octets may continue, so may each beginning of them
 goes_before : HasFronts BracesGoOn
 goes_before x y (inl b) = inl (begins_front IsShallowBraced x y b)
 goes_before x y (inr o) = elim (two_cuts x y o.before (123 ∷ o.body) o.parts) [
@@ -45,20 +42,20 @@ whole_goes text v w = search (rules, append-nil text)
 
 -- ---- braces that are closed
 
--- the body and what stands behind an octet that cannot stand in it
+-- a text determines the body, the first octet after it that may not occur in a body, and the rest
 pub one_closed : (a b x y r s : List ℕ) (c d : ℕ) → AreSpaces a → AreSpaces b → AreBodyOctets x → AreBodyOctets y → is_body_octet c ≡ false → is_body_octet d ≡ false
     → a ++ 123 ∷ (x ++ c ∷ r) ≡ b ++ 123 ∷ (y ++ d ∷ s) → (x ≡ y) × (c ≡ d) × (r ≡ s)
 one_closed a b x y r s c d ha hb hx hy hc hd e =
     let p = one_end a b (123 ∷ (x ++ c ∷ r)) (123 ∷ (y ++ d ∷ s)) ha hb refl refl e in
     one_body x y c d r s hx hy hc hd (tail_is 123 123 (x ++ c ∷ r) (y ++ d ∷ s) p.1)
 
--- a body that has an octet which cannot stand in it is not open
+-- octets with one that may not occur in a body do not end inside braces
 pub not_open : (a x r : List ℕ) (c : ℕ) (text : List ℕ) → AreSpaces a → is_body_octet c ≡ false → text ≡ a ++ 123 ∷ (x ++ c ∷ r) → OpensBraces text → ⊥
 not_open a x r c text ha hc e o =
     let p = one_end a o.before (123 ∷ (x ++ c ∷ r)) (123 ∷ o.body) ha o.spaces_before refl refl (sym e ∙ o.parts) in
     fails_among is_body_octet x c r o.body hc o.symbols (tail_is 123 123 (x ++ c ∷ r) o.body p.1)
 
--- a body that is not closed braces nothing
+-- a text without a closing brace braces no value
 pub not_closed : (a x text : List ℕ) (v : Value) → AreSpaces a → AreBodyOctets x → text ≡ a ++ 123 ∷ x → Braced text v → ⊥
 not_closed a x text v ha hx e b =
     let p = one_end a b.before (123 ∷ x) (123 ∷ (b.body ++ 125 ∷ b.after)) ha b.spaces_before refl refl (sym e ∙ b.parts) in
@@ -74,12 +71,12 @@ deep_unbraced text v d b h =
 deep_more : (text more : List ℕ) → BracesDeep text → BracesDeep (text ++ more)
 deep_more text more d = search (rules, append_assoc)
 
--- what is too deep does not go on
+-- octets that are TooDeep may not continue
 pub deep_stops : (text : List ℕ) → BracesDeep text → BracesGoOn text → ⊥
 deep_stops text d (inl b) = search (rules, deep_unbraced, deep_more)
 deep_stops text d (inr o) = not_open d.before d.body d.after 125 text d.spaces_before refl d.parts o
 
--- ---- where what is too deep is closed
+-- ---- the closing brace of octets that are TooDeep
 
 record Closes (text : List ℕ) : Type 0 where
   place : ℕ
@@ -103,12 +100,12 @@ closes text d =
           search (rules, e);
     }
 
--- ---- the place at which nothing goes on
+-- ---- the first octet with which a text may not continue
 
 abbrev pub Stops : List ℕ → ℕ → Type 0
 Stops text at = StopsThere BracesGoOn BracesGoOn text at
 
--- it is the closing brace of what is too deep
+-- it is the closing brace of octets that are TooDeep
 at_close : (text : List ℕ) (at : ℕ) (c : Closes text) → Stops text at → at ≡ c.place
 at_close text at c s = elim (cases_order at c.place) [
   | inl e ↦ e
@@ -141,7 +138,7 @@ trailing_deep text at r d =
     let o : OpensBraces (take at text) = subst (λ n. OpensBraces (take n text)) (sym e) c.before_is in
     not_closed o.before o.body (take at text) r.1.0 o.spaces_before o.symbols o.parts r.1.1.braced
 
--- ---- one refusal
+-- ---- a text in braces has at most one of these faults
 
 are_apart : (text : List ℕ) → AreApart BracesGoOn BracesGoOn text (RefusesBraces text)
 are_apart text = record {
@@ -157,18 +154,16 @@ are_apart text = record {
 pub one_brace_refusal : (text : List ℕ) (e f : FormFault) → IsOfForm e → IsOfForm f → RefusesBraces text e → RefusesBraces text f → e ≡ f
 one_brace_refusal text = one_fault BracesGoOn BracesGoOn goes_before (λ x g. g) text (RefusesBraces text) (are_apart text)
 
--- and none where the text is read
+-- a text that is read has none of them
 pub no_brace_refusal : (text : List ℕ) (e : FormFault) (v : Value) → IsOfForm e → RefusesBraces text e → IsBracedWithin text v → ⊥
 no_brace_refusal text e v p r w =
     let goes = whole_goes text v w in
     no_fault BracesGoOn BracesGoOn goes_before (λ x g. g) text (RefusesBraces text) (are_apart text) goes (λ s. s.1 v w)
     (λ d. deep_stops text d goes) e p r
 
--- ---- where the reader of braces meets a fault, its refusal holds
+-- ---- what a fault says is true where the reader finds it
 
--- ---- where the reader meets a fault
-
--- the octets up to an offset behind the opening brace
+-- the octets up to an offset after the opening brace
 front_at : (text inside : List ℕ) (begin n : ℕ) (s : Skips text 0 begin) → StandsAt text begin 123 → drop (begin + 1) text ≡ inside ++ drop n text → n ≤ length text
     → take n text ≡ s.spaces ++ 123 ∷ inside
 front_at text inside begin n s o e le =
@@ -180,7 +175,7 @@ spaces_unbraced xs v h b =
     let p = one_end xs b.before [] (123 ∷ (b.body ++ 125 ∷ b.after)) h b.spaces_before tt refl (append-nil xs ∙ b.parts) in
     let q : [] ≡ 123 ∷ (b.body ++ 125 ∷ b.after) = p.1 in cc
 
--- another first octet than a brace
+-- no text in braces has another octet after its first whitespace than the opening brace
 other_first : (xs : List ℕ) (c : ℕ) (b r : List ℕ) → AreSpaces xs → is_whitespace c ≡ false → (c ≡ 123 → ⊥) → AreSpaces b → xs ++ c ∷ [] ≡ b ++ 123 ∷ r → ⊥
 other_first xs c b r h v apart k e = apart (head_is c 123 [] r (one_end xs b (c ∷ []) (123 ∷ r) h k v refl e).1)
 
@@ -203,12 +198,12 @@ not_opened_bad text begin c s o apart h = search (rules, front_is, one_more, spa
 opened_to : (text : List ℕ) (begin n : ℕ) → Skips text 0 begin → StandsAt text begin 123 → (p : Passed is_body_octet text (begin + 1) n) → OpensBraces (take n text)
 opened_to text begin n s o p = search (rules, front_at)
 
--- the body and the octet behind it
+-- the octets up to the end of the body, and the octet after it
 stopped_at : (text : List ℕ) (begin k c : ℕ) (s : Skips text 0 begin) → StandsAt text begin 123 → (p : Passed is_body_octet text (begin + 1) k) → StandsAt text k c
     → take (k + 1) text ≡ s.spaces ++ 123 ∷ (p.body ++ c ∷ [])
 stopped_at text begin k c s o p d = search (rules, one_more, front_at, append_assoc)
 
--- base64 of a body stands where its closing brace follows
+-- base64 of a body is at its place if the closing brace follows
 packed_there : (text other body : List ℕ) (begin : ℕ) (octets : List ℕ) (s : Skips text 0 begin) → IsBase64 (visible body) octets → other ≡ s.spaces ++ 123 ∷ (body ++ 125 ∷ [])
     → Begins (PackedAt (begin + 1) 125) other
 packed_there text other body begin octets s packed e =
@@ -217,7 +212,7 @@ packed_there text other body begin octets s packed e =
     let all : other ++ [] ≡ (s.spaces ++ 123 ∷ []) ++ (body ++ 125 ∷ []) = append-nil other ∙ e ∙ sym (append_assoc s.spaces (123 ∷ []) (body ++ 125 ∷ [])) in
     search (rules, drop_at)
 
--- what is too deep and ends at an octet that cannot stand in a body is base64 of that body
+-- if the octets up to the one after a body are TooDeep, the body is base64, and that octet is the closing brace
 deep_body : (a body text : List ℕ) (c : ℕ) → AreSpaces a → AreBodyOctets body → is_body_octet c ≡ false → text ≡ a ++ 123 ∷ (body ++ c ∷ []) → (d : BracesDeep text)
     → (IsBase64 (visible body) d.octets) × (c ≡ 125)
 deep_body a body text c ha hb hc e d =
@@ -251,7 +246,7 @@ body_end text begin c (Bad k) s o e h r b only =
     r.none (packed_there text (take (k + 1) text) passed.body begin d.octets s q.0 (same ∙ ap (λ n. s.spaces ++ 123 ∷ (passed.body ++ n ∷ [])) q.1))) b.1
 body_end text begin c _ s o e h r b only = search rules
 
--- what was read of a body
+-- what was gathered of a body that was read
 abbrev gathered : (text : List ℕ) (at to : ℕ) (octets : List ℕ) → (r : ReadsBase64 text at 125 octets to) → GathersTo text at 125 (visible r.body) to
 gathered text at to octets r =
     record { body = r.body; octets = body_octets r.body octets r.packed; spelled = r.spelled; kept = refl; goes_on = r.goes_on; within = r.within }

@@ -38,7 +38,7 @@ empty_list = refl
 empty_list_depth : depth (group []) ≡ 1
 empty_list_depth = refl
 
--- where the nodes of (1:a[1:h]2:bc) lie
+-- where the nodes of (1:a[1:h]2:bc) are
 small_records :
     records 0 (group (plain (codes "a") ∷ string (Some (codes "h")) (codes "bc") ∷ [])) ≡
     record { start = 0; end = 14; detail = 17 } ∷
@@ -47,7 +47,7 @@ small_records :
 unfolding verbatim decimal
 small_records = refl
 
--- ---- refusals
+-- ---- what faults say
 
 cut_short : Refused (codes "3:ab") Short
 unfolding verbatim decimal

@@ -1,4 +1,4 @@
--- What each step of the reader says of the text where it stops.
+-- What the fault of each step of the reader says of the text.
 use Rattle.std.proofs.Common.{◌≡◌, ℕ, suc, ◌+◌, ◌-◌, ◌<◌, ◌≤◌, List, [], ◌∷◌, ◌++◌, length, take, drop, replicate, Some, None, refl, sym, ◌∙◌, ap, subst, arith, append_assoc, length-append, append-nil, add-one, rules}
 use Rattle.std.proofs.{lemmas.List.{length-replicate, take-append-drop}, Math.Seq.{take-append-add, take-append_seam}}
 use Rattle.sexpr_core.specs.declared.fault.FormFault.{FormFault, TheVariants.{Short, Bad}}
@@ -31,7 +31,7 @@ length_short n xs ys e f = record {
   whole = record { number = n; is = ap (λ t. t ++ 58 ∷ []) (e ∙ ap (λ t. decimal n ++ t) f ∙ append-nil (decimal n)) };
 }
 
--- the octet c cannot stand behind the digits of n
+-- no length with its colon begins with the digits of n and then the octet c
 CannotFollow : ℕ → ℕ → Type 0
 CannotFollow n c = (m : ℕ) (x y : List ℕ) → decimal n ++ c ∷ x ≡ decimal m ++ 58 ∷ y → ⊥
 
@@ -84,7 +84,7 @@ verbatim_fault at xs Short h = FaultAt-head IsVerbatim IsLength IsVerbatim IsLen
 verbatim_fault at xs (Bad k) h = FaultAt-head IsVerbatim IsLength IsVerbatim IsLength at xs (Bad k) Opens-verbatim Opens-verbatim h
 verbatim_fault at xs _ h = absurd h
 
--- no string in verbatim form is missed where one is
+-- where a string in verbatim form is, the reader finds no fault
 pub verbatim_there : (at : ℕ) (octets xs behind : List ℕ) (e : FormFault) → xs ≡ verbatim octets ++ behind → MissesAt IsVerbatim at xs e → ⊥
 verbatim_there at octets xs behind Short e h =
     let whole : verbatim octets ++ (behind ++ h.rest) ≡ verbatim h.whole.octets ++ [] =
@@ -116,7 +116,7 @@ pub canon_some : (v : Value) → 0 < length (canon v)
 canon_some (string None octets) = verbatim_none octets
 canon_some _ = omega arith
 
--- ---- behind a hint
+-- ---- after a hint
 
 pub closing_ended : (xs : List ℕ) → xs ≡ [] → Front IsClosing xs
 closing_ended xs e = Front-none IsClosing (93 ∷ verbatim []) xs e (omega arith) (record { octets = []; is = refl })
@@ -131,7 +131,7 @@ closing_fault at xs ys Short q h = FaultAt-tail IsClosing IsVerbatim IsClosing I
 closing_fault at xs ys (Bad k) q h = FaultAt-tail IsClosing IsVerbatim IsClosing IsVerbatim at (at + 1) (93 ∷ []) xs ys (Bad k) q refl Behind-closing Behind-closing h
 closing_fault at xs ys _ q h = absurd h
 
--- ---- a hinted string behind its bracket
+-- ---- a hinted string after its opening bracket
 
 pub hint_fault : (at : ℕ) (xs : List ℕ) (e : FormFault) → MissesAt IsVerbatim at xs e → FaultAt IsHinted IsHinted at xs e
 hint_fault at xs e h = FaultAt-head IsHinted IsVerbatim IsHinted IsVerbatim at xs e Opens-hinted Opens-hinted (missed IsVerbatim at xs e h)

@@ -1,4 +1,4 @@
--- No canonical text of a list, or of members, is a prefix of another's, and what follows from that.
+-- The canonical text of a list, or of members, is no prefix of another's, and what follows from that.
 use Rattle.std.proofs.Common.{◌≡◌, ℕ, suc, ◌≤◌, max, List, [], ◌∷◌, ◌++◌, Some, None, refl, sym, ◌∙◌, ap, subst, arith, append_assoc, rules}
 use Rattle.std.proofs.lemmas.List.{append-nil}
 use Rattle.sexpr_core.specs.Value.{Value, Values, string, list, none, more, canon, canons, depth, depths}
@@ -68,7 +68,7 @@ Behind-members_within room vs h = record {
       search (rules, fits, members_whole vs is.items r.rest t is.is r.is);
 }
 
--- a list behind its opening parenthesis
+-- a canonical text that begins with an opening parenthesis is that of a list
 list_back : (v : Value) (t x y : List ℕ) → t ≡ canon v → 40 ∷ x ≡ t ++ y → (vs : Values) × (v ≡ list vs)
 list_back (string None a) t x y is e = absurd (search (rules, verbatim_differs, no_open))
 list_back (string (Some h) a) t x y is e = search rules
@@ -89,7 +89,7 @@ Behind-open_within room = record {
       search (rules, arith, is.is ∙ ap canon p.1);
 }
 
--- where no list may open
+-- no canonical text without lists begins with an opening parenthesis
 pub closed_within : (t x y : List ℕ) → IsCanonWithin 0 t → 40 ∷ x ≡ t ++ y → ⊥
 closed_within t x y is e = search (rules, list_back)
 

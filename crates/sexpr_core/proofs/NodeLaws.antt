@@ -1,5 +1,4 @@
--- The nodes of a value: the members of a list are the siblings behind its node, one after another and by their
--- numbers.
+-- The nodes of a value: the members of a list are the siblings after its node, one after another and by their numbers.
 use Rattle.std.proofs.Common.{◌≡◌, ℕ, zero, suc, ◌+◌, ◌<◌, ◌≤◌, List, [], ◌∷◌, ◌++◌, length, get_or, None, refl, sym, ap, ◌∙◌, append_assoc, length-append, arith, inr, rules, subst, inl, ◌≢◌, ◌-◌, take, drop, add-one}
 use Rattle.std.proofs.lemmas.List.{take_at, drop_at, append-nil, get_or_append_left, get_or-append_right, get_or-append-add, length-take, length-take-le, drop-drop, drop-take, length-drop, get_or-drop, get_or-take}
 use Rattle.std.proofs.lemmas.{Option.{slice_get-get_or}, Bool.{cases_lt}}
@@ -7,9 +6,9 @@ use Rattle.std.specs.Prelude.{slice_range}
 use Rattle.sexpr_core.specs.Value.{Value, string, list, Values, none, more, size, nodes, nodes_all, plain, members, values, group, size_all, node, IsNoList}
 use Rattle.sexpr_core.specs.Nodes.{nodes-first, siblings-nodes_all, node_at, IsList, values-members, members-values, siblings, siblings_between, AreSiblings, members_of, member_number, part_at, part_count, of_node}
 
--- ---- the members of a list are the siblings behind its node
+-- ---- the members of a list are the siblings after its node
 
--- the nodes of the n-th of a row stand behind it
+-- the nodes of v are in the row from number n on
 record IsPart (row : List Value) (n : ℕ) (v : Value) : Type 0 where
   before : List Value
   after : List Value
@@ -50,7 +49,7 @@ length-siblings-le zero row = omega arith
 length-siblings-le (suc most) [] = omega arith
 length-siblings-le (suc most) (v ∷ row) = omega (arith, length-siblings-le most (drop (size v - 1) row))
 
--- siblings are what their nodes show
+-- `siblings_between` returns the siblings that the nodes describe
 siblings_are : (v : Value) (from to : ℕ) (vs : List Value) → AreSiblings v from to vs → siblings_between v from to ≡ vs
 siblings_are v from to vs a = search (rules, length-take-le, length-take, siblings-nodes_all, members-values)
 
@@ -92,7 +91,7 @@ pub record IsSplit (v : Value) (from to size : ℕ) : Type 0 where
   pub first_is : siblings_between v from to ≡ node_at v from ∷ siblings_between v (from + size) to
   pub others : AreSiblings v (from + size) to (siblings_between v (from + size) to)
 
--- what stands behind the first part of a row that is known
+-- the first value of a row of nodes, and the nodes after those of this value
 behind_first : (row : List Value) (from to : ℕ) (w : Value) (ws : List Value) → from ≤ to → to ≤ length row → slice_range row from to ≡ nodes w ++ nodes_all (values ws)
     → (get_or row from (plain []) ≡ w) × (from + size w ≤ to) × (slice_range row (from + size w) to ≡ nodes_all (values ws))
 behind_first row from to w ws le within e =
@@ -140,7 +139,7 @@ member_first none k d lt = absurd (omega arith)
 member_first (more v vs) zero d lt = ap (λ (row : List Value). get_or (row ++ nodes_all vs) 0 d) (nodes-first v)
 member_first (more v vs) (suc k) d lt = search (rules, get_or-append-add, member_first vs k d (omega arith))
 
--- where member k of node n stands
+-- the number of member k of node n is that of a node, and the next member comes after its nodes
 pub record IsMember (v : Value) (n k : ℕ) : Type 0 where
   pub within : member_number n k (node_at v n) < size v
   pub next : member_number n (k + 1) (node_at v n) ≡ member_number n k (node_at v n) + size (node_at v (member_number n k (node_at v n)))

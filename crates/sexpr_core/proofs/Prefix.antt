@@ -1,4 +1,4 @@
--- How a fault in a part of a text is a fault of the whole.
+-- How a fault in a part of a text is a fault of the whole text.
 use Rattle.std.proofs.Common.{◌≡◌, ℕ, suc, ◌+◌, ◌<◌, List, [], ◌∷◌, ◌++◌, length, take, sym, ◌∙◌, ap, subst, arith, append_assoc, length-append, add-suc, rules}
 use Rattle.std.proofs.{lemmas.List.{append_cancel_left}, Math.Seq.{take-append-add}}
 use Rattle.sexpr_core.specs.{declared.fault.FormFault.{FormFault, TheVariants.{TooDeep, Short, Bad}}, Reading.{Begins, Front, RefusesPart}}
@@ -22,7 +22,7 @@ pub record Opens (T U : List ℕ → Type 0) : Type 0 where
   pub on : (a : List ℕ) → U a → Begins T a
   pub back : (t : List ℕ) → T t → Headed U t
 
--- behind the octets a, the texts of T go on with those of U
+-- after the octets a, the texts of T continue with those of U
 pub record Behind (T U : List ℕ → Type 0) (a : List ℕ) : Type 0 where
   pub on : (b : List ℕ) → U b → T (a ++ b)
   pub back : (t x y : List ℕ) → T t → a ++ x ≡ t ++ y → Tailed U a t
@@ -48,7 +48,7 @@ FaultAt-head T U S V at xs Short o p h = Front-head S V xs p h
 FaultAt-head T U S V at xs (Bad k) o p h = search (rules, Front-head, Barred-head)
 FaultAt-head T U S V at xs _ o p h = h
 
--- ---- a fault behind a whole part
+-- ---- a fault after a whole part
 
 Front-tail : (S V : List ℕ → Type 0) (a ys : List ℕ) → Behind S V a → Front V ys → Front S (a ++ ys)
 Front-tail S V a ys o f = search (rules, append_assoc)
@@ -112,7 +112,7 @@ FaultAt-from T U S V at c xs ys e q o p h = search (rules, fault_from)
 
 -- ---- faults at the first octet
 
--- a text of T, which is not empty, has no octet yet
+-- the empty text is a proper beginning of a text of T that is not empty
 pub Front-none : (T : List ℕ → Type 0) (t xs : List ℕ) → xs ≡ [] → 0 < length t → T t → Front T xs
 Front-none T t xs e some is = record { rest = t; some = some; whole = subst T (ap (λ s. s ++ t) (sym e)) is }
 
@@ -122,7 +122,7 @@ pub FaultAt-first :
     ((t x y : List ℕ) → T t → c ∷ x ≡ t ++ y → ⊥) → FaultAt T S at xs (Bad at)
 FaultAt-first T S at c xs ys e front never = search (rules)
 
--- ---- texts of a narrower sort
+-- ---- texts of a smaller set
 
 pub RefusesPart-less :
     (T U : List ℕ → Type 0) (text : List ℕ) (at : ℕ) (e : FormFault) → ((t : List ℕ) → U t → T t) →

@@ -1,5 +1,5 @@
--- The table of records of a value: where the node of each record lies in the text, what the record and the first octet
--- say of it, where its octets and its hint are, and that the table shows the value.
+-- The table of records of a value: where the node of each record is in the text, what its record and its first octet say of
+-- it, where its octets and its hint are, and that the table describes the value.
 use Rattle.std.proofs.Common.{◌≡◌, ℕ, zero, suc, ◌+◌, ◌<◌, ◌≤◌, List, [], ◌∷◌, ◌++◌, length, get_or, map, Some, None, refl, sym, ap, ◌∙◌, append_assoc, length-append, arith, rules, Option, subst, inl, ◌≢◌, ◌-◌, take, drop, ◌==◌, false, true}
 use Rattle.std.proofs.lemmas.List.{take_at, drop_at, append-nil, map-append, length-map, take-append-drop, length-take-le, drop-drop, get_or-drop}
 use Rattle.std.proofs.lemmas.{Option.{slice_get_past}, Bool.{Decides.{nat_tests}}}
@@ -11,9 +11,9 @@ use Rattle.sexpr_core.specs.{Reading.{IsVerbatim, ReadsVerbatim}, Inner.PartFaul
 use Rattle.sexpr_core.proofs.Texts.{IsDigit, AreDigits, AreDigits-decimal, decimal_starts, verbatim_is, verbatim_one, no_bracket}
 use Rattle.sexpr_core.proofs.Faults.{canon_some, verbatim_there}
 
--- ---- each record of a table is that of its node, and the node's text lies where the record says
+-- ---- each record of a table is that of its node, and the node's text is where the record says
 
--- so for each record and each value in turn
+-- the same for each record and its value, in order
 abbrev pub ArePlaces : List ℕ → List Record → List Value → Type 0
 ArePlaces text [] [] = Unit {0}
 ArePlaces text [] (v ∷ vs) = ⊥
@@ -52,7 +52,7 @@ mutual
 pub between : (text p q s : List ℕ) (i j : ℕ) → text ≡ p ++ (q ++ s) → length p ≡ i → j ≡ i + length q → slice_range text i j ≡ q
 between text p q s i j e len to = search (rules, drop_at, take_at)
 
--- the octets of a string that stands verbatim behind p
+-- the octets of a string in verbatim form that follows p
 body_between : (text p octets s : List ℕ) (i : ℕ) → text ≡ p ++ (verbatim octets ++ s) → length p ≡ i → slice_range text (i + head octets) (i + head octets + length octets) ≡ octets
 unfolding verbatim
 body_between text p octets s i e len =
@@ -113,7 +113,7 @@ pub string_of : (v : Value) (hint : Option (List ℕ)) (octets : List ℕ) → h
 string_of (string h o) hint octets e f = cc
 string_of (list vs) hint octets e f = absurd cc
 
--- a node is a list exactly if the third number of its record is past the end
+-- a node is a list if `detail` of its record is greater than `end`
 pub ends_list : (text : List ℕ) (r : Record) (v : Value) → IsPlace text r v → r.end < r.detail → IsList v
 ends_list text r (string hint octets) p past =
     let s = string_from text r (string hint octets) p (λ q. cc) in absurd (omega (arith, past, s.ordered))
@@ -151,7 +151,7 @@ verbatim_first octets behind d e =
     let whole : verbatim octets ++ behind ≡ s.digit ∷ ((s.rest ++ 58 ∷ octets) ++ behind) = ap (λ t. t ++ behind) (verbatim_is octets ∙ ap (λ t. t ++ 58 ∷ octets) s.is) in
     no_bracket (subst IsDigit (sym (ap (λ t. get_or t 0 d) whole) ∙ e) s.low)
 
--- a string has a hint exactly if its text begins with a bracket
+-- a string whose text begins with a bracket has a hint
 pub bracket_hint : (text : List ℕ) (r : Record) (v : Value) (d : ℕ) → IsPlace text r v → get_or text r.start d ≡ 91 → hint_of v ≢ None
 bracket_hint text r (string None octets) d p e = absurd (verbatim_first octets p.after d (sym (first_octet text r (string None octets) d p) ∙ e))
 bracket_hint text r (string (Some hint) octets) d p e = λ q. cc
@@ -162,7 +162,7 @@ hint_bracket text r (string None octets) d p some = absurd (some refl)
 hint_bracket text r (string (Some hint) octets) d p some = first_octet text r (string (Some hint) octets) d p
 hint_bracket text r (list vs) d p some = absurd (some refl)
 
--- the hint stands verbatim behind the opening bracket
+-- the hint in verbatim form follows the opening bracket
 record IsHintAt (text : List ℕ) (at : ℕ) (v : Value) : Type 0 where
   pub octets : List ℕ
   pub behind : List ℕ
@@ -182,12 +182,12 @@ hint_behind (list vs) text after at some e = absurd (some refl)
 hint_at : (text : List ℕ) (r : Record) (v : Value) → IsPlace text r v → hint_of v ≢ None → IsHintAt text (r.start + 1) v
 hint_at text r v p some = hint_behind v text p.after r.start some (from_start text r v p)
 
--- it is not missed there
+-- so the reader finds no fault there
 pub hint_there : (text : List ℕ) (r : Record) (v : Value) (e : FormFault) → IsPlace text r v → hint_of v ≢ None → MissesAt IsVerbatim (r.start + 1) (drop (r.start + 1) text) e → ⊥
 hint_there text r v e p some h =
     let k = hint_at text r v p some in verbatim_there (r.start + 1) k.octets (drop (r.start + 1) text) k.behind e k.spelled h
 
--- and what is read there is the hint
+-- and what it reads there is the hint
 pub hint_read : (text : List ℕ) (r : Record) (v : Value) (body to : ℕ) → IsPlace text r v → hint_of v ≢ None → ReadsVerbatim text (r.start + 1) body to → Some (slice_range text body to) ≡ hint_of v
 hint_read text r v body to p some read =
     let k = hint_at text r v p some in
@@ -198,7 +198,7 @@ hint_read text r v body to p some read =
     rw (read.ends, read.begins) (body_between text front read.octets (drop to text) (r.start + 1) whole (length-take-le (r.start + 1) text (omega (arith, begins_within text r v p)))) in
     ap Some (octets ∙ same) ∙ sym k.hint_is
 
--- ---- a table shows its value
+-- ---- a table describes its value
 
 behind_digits : (ds octets : List ℕ) → AreDigits ds → behind_colon (ds ++ 58 ∷ octets) ≡ octets
 behind_digits [] octets h = refl
@@ -209,7 +209,7 @@ behind_digits (d ∷ ds) octets h =
 behind_verbatim : (octets : List ℕ) → behind_colon (verbatim octets) ≡ octets
 behind_verbatim octets = ap behind_colon (verbatim_is octets) ∙ behind_digits (decimal (length octets)) octets (AreDigits-decimal (length octets))
 
--- what the record of a node shows in the text is its hint
+-- the hint that a record shows in the text is that of the string
 hint_shown : (text : List ℕ) (r : Record) (hint : Option (List ℕ)) (octets : List ℕ) → IsPlace text r (string hint octets) → hint_in text r octets ≡ hint
 hint_shown text r None octets p =
     let first = first_octet text r (string None octets) 0 p in
@@ -224,7 +224,7 @@ hint_shown text r (Some hint) octets p =
     let shown : slice_range text (r.start + 1) (r.start + 1 + length (verbatim hint)) ≡ verbatim hint = search (rules, k.spelled, take_at) in
     rw (first, ends, shown, behind_verbatim hint) refl
 
--- what it shows is its label
+-- the label that a record shows in the text is that of its node
 label_at : (text : List ℕ) (r : Record) (v : Value) → IsPlace text r v → label_in text r ≡ label v
 label_at text r (string hint octets) p =
     let s = string_from text r (string hint octets) p (λ q. cc) in
@@ -252,7 +252,7 @@ table_value-is text table v t =
 pub table_of : (text : List ℕ) (table : List Record) (v : Value) → IsTable text table v → IsTable text table (table_value text table)
 table_of text table v t = rw (table_value-is text table v t) t
 
--- the place of node n
+-- node n is where its record says
 place_at : (text : List ℕ) (rs : List Record) (vs : List Value) (n : ℕ) (r : Record) (v : Value) → ArePlaces text rs vs → n < length rs → IsPlace text (get_or rs n r) (get_or vs n v)
 place_at text (s ∷ rs) (w ∷ vs) zero r v p lt = p.0
 place_at text (s ∷ rs) (w ∷ vs) (suc n) r v p lt = place_at text rs vs n r v p.1 (omega arith)
@@ -288,11 +288,11 @@ start_get [] n r lt = absurd (omega arith)
 start_get (s ∷ rs) zero r lt = refl
 start_get (s ∷ rs) (suc n) r lt = start_get rs n r (omega arith)
 
--- where node n begins is what its record says
+-- node n begins where its record says
 pub table_start : (text : List ℕ) (table : List Record) (v : Value) (n : ℕ) (r : Record) → IsTable text table v → n < size v → start_of v n ≡ Some (get_or table n r).start
 table_start text table v n r t lt = search (rules, starts_shown, start_get, length-records)
 
--- no node begins past the last one
+-- there is no start for a number that no node has
 pub starts_end : (v : Value) (n : ℕ) → size v ≤ n → start_of v n ≡ None
 starts_end v n le =
     slice_get_past (starts 0 v) n (omega (arith, ap length (sym (starts_shown 0 v)), length-map (records 0 v) (λ (r : Record). r.start), length-records v))

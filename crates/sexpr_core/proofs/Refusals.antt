@@ -1,5 +1,5 @@
--- The refusals of a whole text: it has at most one that speaks of its form, and what the reader of canonical form
--- meets at a value is a refusal of the whole text.
+-- The faults of a whole text: it has at most one of TooDeep, Short, Bad and Trailing, and a fault that the reader of
+-- canonical form finds in a value is a fault of the whole text.
 use Rattle.std.proofs.Common.{◌≡◌, ℕ, ◌+◌, ◌<◌, ◌≤◌, inl, inr, List, ◌++◌, take, drop, refl, sym, ap, subst, arith, append_assoc, rules, ◌≢◌, [], length, ◌∙◌, append-nil, length-drop, length-append, suc}
 use Rattle.std.proofs.lemmas.{List.{take-append-drop, take-take, length-take-le, take_at}, Bool.{cases_order}}
 use Rattle.sexpr_core.specs.declared.fault.FormFault.{FormFault, TheVariants.{TooLong, TooDeep, Short, Bad, Trailing, Memory}}
@@ -8,11 +8,9 @@ use Rattle.sexpr_core.specs.Reading.{Begins, Front, IsOfForm, IsCanon, IsShallow
 use Rattle.sexpr_core.specs.{Value.{Value, canon, IsShallow, IsWithinLimits}, Inner.PartFaults.{Barred, FaultAt}}
 use Rattle.sexpr_core.proofs.{Texts.{canon_one}, Steps.{read_length}}
 
--- ---- why a text has at most one refusal that speaks of its form, whichever form that is
+-- ---- octets up to an offset, for texts of any form
 
--- ---- octets up to an offset
-
--- octets in front of those of G are in G
+-- a beginning of octets of G is in G
 abbrev pub HasFronts : (List ℕ → Type 0) → Type 0
 HasFronts G = (x y : List ℕ) → G (x ++ y) → G x
 
@@ -28,9 +26,9 @@ goes_less G front m n xs h g = search (rules, take-append-drop m (take n xs), ta
 pub goes_part : (G : List ℕ → Type 0) → HasFronts G → (n : ℕ) (xs : List ℕ) → G xs → G (take n xs)
 goes_part G front n xs g = front (take n xs) (drop n xs) (subst G (sym (take-append-drop n xs)) g)
 
--- ---- the place at which nothing goes on
+-- ---- the first octet with which a text may not continue
 
--- W: what goes on within the limits. A: what goes on at all.
+-- W: the octets that may continue within the limits. A: those that may continue at all.
 pub record StopsThere (W A : List ℕ → Type 0) (text : List ℕ) (at : ℕ) : Type 0 where
   pub begun : W (take at text)
   pub ended : A (take (at + 1) text) → ⊥
@@ -52,9 +50,9 @@ module _ (W A : List ℕ → Type 0) (front : HasFronts W) (any : (x : List ℕ)
     | inr (inr k) ↦ s.ended (goes_less A fronts (at + 1) n text (omega arith) b)
   ]
 
--- ---- one refusal
+-- ---- at most one fault
 
--- what the refusals R of a text are, where it has at most one of them
+-- what the faults R say of a text, so that it has at most one of them
 pub record AreApart (W A : List ℕ → Type 0) (text : List ℕ) (R : FormFault → Type 0) : Type 0 where
   pub short : R Short → W text
   pub bad : (at : ℕ) → R (Bad at) → StopsThere W A text at
@@ -89,7 +87,7 @@ module _ (W A : List ℕ → Type 0) (front : HasFronts W) (any : (x : List ℕ)
     one_fault (Trailing i) (Trailing j) p q a b = ap Trailing (at_one W A front any text i j (k.trailing i a) (k.trailing j b))
     one_fault _ _ p q a b = search rules
 
-    -- none where the text is read
+    -- a text that is read has none of them
     pub no_fault : W text → (R Short → ⊥) → (R TooDeep → ⊥) → (e : FormFault) → IsOfForm e → R e → ⊥
     no_fault goes short deep TooDeep p r = deep r
     no_fault goes short deep Short p r = short r
@@ -97,9 +95,7 @@ module _ (W A : List ℕ → Type 0) (front : HasFronts W) (any : (x : List ℕ)
     no_fault goes short deep (Trailing at) p r = no_short W A front any text at (k.trailing at r) goes
     no_fault goes short deep _ p r = absurd p
 
--- ---- a text has at most one refusal that speaks of its form
-
--- ---- the place at which no canonical text goes on
+-- ---- the first octet with which no canonical text continues
 
 any_depth : (xs : List ℕ) → IsShallowText xs → IsCanon xs
 any_depth xs s = record { value = s.value; is = s.is }
@@ -143,7 +139,7 @@ stops_bad text at r = record { begun = front_begins IsShallowText (take at text)
 stops_trailing : (text : List ℕ) (at : ℕ) → Refused text (Trailing at) → StopsThere (Begins IsShallowText) (Begins IsCanon) text at
 stops_trailing text at r = search (rules, append-nil (take at text), ends_there text at r.0 r.1)
 
--- ---- one refusal
+-- ---- a text has at most one of these faults
 
 not_deep : (text : List ℕ) (at : ℕ) → StopsThere (Begins IsShallowText) (Begins IsCanon) text at → Refused text TooDeep → ⊥
 not_deep text at s d = search (rules, no_deep, begins_front, begins_any)
@@ -165,7 +161,7 @@ are_apart text = record {
 pub one_refusal : (text : List ℕ) (e f : FormFault) → IsOfForm e → IsOfForm f → Refused text e → Refused text f → e ≡ f
 one_refusal text = one_fault (Begins IsShallowText) (Begins IsCanon) (begins_front IsShallowText) begins_any text (Refused text) (are_apart text)
 
--- and none where the text is read
+-- a text that is read has none of them
 pub no_refusal : (text : List ℕ) (e : FormFault) (v : Value) → IsOfForm e → Refused text e → IsWithinLimits v → text ≢ canon v
 no_refusal text e v p r w same =
     let whole : IsShallowText text = record { value = v; fits = w.shallow; is = same } in
@@ -195,7 +191,7 @@ body_refused octets at Memory fault few r e = subst (RefusesBody octets at) (sym
 pub shallow_text : (octets : List ℕ) (v : Value) → IsShallow v → octets ≡ canon v → Refused octets TooDeep → ⊥
 shallow_text octets v h same r = search (rules, take-append-drop r.0 octets)
 
--- ---- from a value read at the beginning of a text to what is said of the whole text
+-- ---- from the fault of a value at the beginning of a text to that of the whole text
 
 barred_begins : (T : List ℕ → Type 0) (xs : List ℕ) → Barred T xs → Begins T xs → ⊥
 barred_begins T xs h b = h.bars (xs ++ b.rest) b.rest [] b.whole (sym (append-nil (xs ++ b.rest)))
@@ -220,7 +216,7 @@ pub trailing :
     Refused text (Trailing to)
 trailing text to old new r h = search (rules, take_at, whole_length text to old new r)
 
--- ---- a canonical text within the limits is refused only for want of memory
+-- ---- a canonical text within the limits is refused only if memory ran out
 
 part : (text : List ℕ) (v : Value) (n : ℕ) → text ≡ canon v → take n text ++ drop n text ≡ canon v
 part text v n e = take-append-drop n text ∙ e

@@ -1,5 +1,5 @@
--- What stands between two offsets of a text, octet by octet: whitespace, and bodies in base64. The same is read of
--- each other text that begins with the same octets.
+-- What is between two offsets of a text, octet by octet: whitespace, and bodies in base64. The same is read of each
+-- other text that begins with the same octets.
 use Rattle.std.proofs.Common.{◌≡◌, ℕ, ◌+◌, ◌<◌, ◌≤◌, List, [], ◌∷◌, ◌++◌, length, take, drop, refl, sym, ap, subst, ◌∙◌, arith, append_assoc, length-append, length-drop, rules, zero, suc, Bool, true, false, ◌-◌, append-nil}
 use Rattle.std.proofs.lemmas.List.{append_cancel_right, drop-append-le, take-append-drop, take_at, length-take-le, drop-drop, drop_at}
 use Rattle.std.proofs.lemmas.List.Elements.{filter-append}
@@ -11,7 +11,7 @@ use Rattle.sexpr_core.proofs.{Texts.{all-append, one_front, head_is, tail_is, fa
 
 -- ---- what is read of the first octets of a text is read of each other text that begins with them
 
--- two texts have the same octets up to and with that at an offset
+-- two texts have the same octets up to an offset, the octet at the offset included
 pub record Agree (text other : List ℕ) (k : ℕ) : Type 0 where
   pub front : List ℕ
   pub rest : List ℕ
@@ -23,7 +23,7 @@ pub record Agree (text other : List ℕ) (k : ℕ) : Type 0 where
 pub agree : (text : List ℕ) (k : ℕ) (more : List ℕ) → k < length text → Agree text (take (k + 1) text ++ more) k
 agree text k more lt = search (rules, take-append-drop (k + 1) text, length-take-le (k + 1) text (omega arith))
 
--- the parts in front of an offset
+-- a text after an offset, if this is within its first part
 drop_front : (text front rest : List ℕ) (i : ℕ) → text ≡ front ++ rest → i ≤ length front → drop i text ≡ drop i front ++ rest
 drop_front text front rest i e le = ap (drop i) e ∙ drop-append-le i front rest le
 
@@ -47,7 +47,7 @@ pub stands_too : (text other : List ℕ) (k i c : ℕ) → Agree text other k �
 stands_too text other k i c a le s =
     search (rules, spelled_too text other k i (i + 1) (c ∷ []) a (omega arith) (omega arith) s.spelled, long_too text other k a)
 
--- the same octet stands first
+-- both begin with the same octet
 pub record SameHead (xs ys : List ℕ) : Type 0 where
   pub octet : ℕ
   pub first : List ℕ
@@ -70,18 +70,18 @@ skips_too text other k at to a le s =
     let ends = subst StartsVisible (sym h.second_is) (subst StartsVisible h.first_is s.ends) in
     search (rules, ends, spelled_too text other k at to s.spaces a (omega (arith, s.ordered)) (omega arith) s.spelled, long_too text other k a)
 
--- the octets in front of an offset, where the whole is these and what follows there
+-- the octets before an offset are `front`, if the text is `front` and then what follows the offset
 pub front_is : (text front : List ℕ) (k : ℕ) → text ≡ front ++ drop k text → k ≤ length text → take k text ≡ front
 front_is text front k e le = search (rules, take_at, length-append, length-drop)
 
--- ---- refusals of a part
+-- ---- where a part is refused
 
--- no text that goes on so far in the same way has the part
+-- if no text with the same octets up to k has the part, it is refused at k
 pub stops_here : (T : List ℕ → Type 0) (text : List ℕ) (at k : ℕ) → at ≤ k → k < length text → ((other : List ℕ) → Agree text other k → T other → ⊥)
     → StopsAt T text at k
 stops_here T text at k le lt never = search (rules, agree)
 
--- each text that goes on so far in the same way and has the part has one that is refused
+-- if each text that has the part T has the part U, and U is refused at k, so is T
 pub stops_later : (T U : List ℕ → Type 0) (text : List ℕ) (at i k : ℕ) → at ≤ i → ((other : List ℕ) (n : ℕ) → Agree text other n → i ≤ n → T other → U other)
     → StopsAt U text i k → StopsAt T text at k
 stops_later T U text at i k le on s = record {
@@ -104,7 +104,7 @@ pub one_passed : (p : ℕ → Bool) (text : List ℕ) (at i c : ℕ) → Passed 
 one_passed p text at i c s stands passes =
     search (rules, all-append (λ k. p k ≡ true) s.body (c ∷ []) s.octets (passes, tt), append_assoc s.body (c ∷ []) (drop (i + 1) text))
 
--- whitespace ends in one way
+-- a text determines where whitespace ends
 pub one_end : (xs ys r s : List ℕ) → AreSpaces xs → AreSpaces ys → StartsVisible r → StartsVisible s → xs ++ r ≡ ys ++ s → (xs ≡ ys) × (r ≡ s)
 one_end = one_front is_whitespace
 
@@ -121,13 +121,11 @@ not_both : (r : List ℕ) → AreSpaces r → StartsVisible r → 0 < length r �
 not_both [] h k lt = omega arith
 not_both (c ∷ cs) h k lt = let g : false ≡ true = sym k ∙ h.0 in cc
 
--- where all that follows is whitespace, all of it is passed over
+-- if only whitespace follows an offset, all of it is skipped
 pub spaces_all : (text : List ℕ) (at to : ℕ) → Skips text at to → AreSpaces (drop at text) → to < length text → ⊥
 spaces_all text at to s h lt = search (rules, not_both, behind_spaces, length-drop)
 
 -- ---- a body in base64, octet by octet
-
--- ---- a body
 
 -- a body's octets from one offset of a text up to another, and what was gathered of them
 pub record Gathers (text : List ℕ) (at : ℕ) (symbols : List ℕ) (to : ℕ) : Type 0 where
@@ -172,18 +170,18 @@ more_gathered text at i end next symbols new g run gap e =
       within = gap.within;
     }
 
--- an octet at which neither symbols nor whitespace begin is none of a body's
+-- an octet that is neither a symbol nor whitespace may not occur in a body
 pub no_body_octet : (text : List ℕ) (i end c : ℕ) → SkipsSymbols text i end → Skips text end i → StandsAt text i c → is_body_octet c ≡ false
 no_body_octet text i end c run gap stands = search rules
 
--- a body ends at the first octet that cannot stand in it
+-- a body ends at the first octet that may not occur in it
 pub one_body : (xs ys : List ℕ) (c d : ℕ) (r s : List ℕ) → AreBodyOctets xs → AreBodyOctets ys → is_body_octet c ≡ false → is_body_octet d ≡ false
     → xs ++ c ∷ r ≡ ys ++ d ∷ s → (xs ≡ ys) × (c ≡ d) × (r ≡ s)
 one_body xs ys c d r s hx hy hc hd e =
     let q = one_front is_body_octet xs ys (c ∷ r) (d ∷ s) hx hy hc hd e in
     (q.0, head_is c d r s q.1, tail_is c d r s q.1)
 
--- no body stands before the mark where the octet behind some of its octets is no other than one that cannot stand in it
+-- the first octet after a body that may not occur in it is its mark
 pub gathered_mark : (text : List ℕ) (at i c mark : ℕ) (symbols body rest : List ℕ) → Gathers text at symbols i → StandsAt text i c
     → is_body_octet c ≡ false → is_body_octet mark ≡ false → AreBodyOctets body → drop at text ≡ body ++ mark ∷ rest → c ≡ mark
 gathered_mark text at i c mark symbols body rest g stands other mark_other all e = search (rules, one_body)
@@ -197,7 +195,7 @@ pub gathered_end : (text : List ℕ) (at i mark : ℕ) (symbols body rest : List
 gathered_end text at i mark symbols body rest g ended other e =
     fails_among is_body_octet body mark rest g.body other g.octets (sym e ∙ g.spelled ∙ ap (λ t. g.body ++ t) ended ∙ append-nil g.body)
 
--- ---- the same in each text that goes on so far in the same way
+-- ---- the same in each text with the same octets up to there
 
 gathers_too : (text other : List ℕ) (k at i : ℕ) (symbols : List ℕ) → Agree text other k → i ≤ k + 1 → Gathers text at symbols i → Gathers other at symbols i
 gathers_too text other k at i symbols a le g =
@@ -221,7 +219,7 @@ body_stops text at i c mark symbols g stands apart other misfit = stops_here (Bo
 passed_to : (text : List ℕ) (at i : ℕ) (symbols : List ℕ) → Gathers text at symbols i → Passed is_body_octet text at i
 passed_to text at i symbols g = record { body = g.body; octets = g.octets; spelled = g.spelled; ordered = g.ordered; within = g.within }
 
--- an offset at which nothing stands is the text's length
+-- the offset that nothing follows is the text's length
 pub end_is : (text : List ℕ) (i : ℕ) → drop i text ≡ [] → i ≤ length text → i ≡ length text
 end_is text i e le = omega (arith, ap length e, length-drop i text)
 
@@ -237,7 +235,7 @@ mark_stands text at mark to symbols g =
     let n : at + length g.body ≡ to - 1 = omega (arith, ap length g.spelled, length-append g.body (mark ∷ drop to text), length-drop at text, length-drop to text, g.goes_on, g.within) in
     sym (ap (λ k. drop k text) n) ∙ sym (drop-drop (length g.body) at text) ∙ ap (drop (length g.body)) g.spelled ∙ drop_at g.body (mark ∷ drop to text) (length g.body) refl
 
--- a body that ends at its mark and is no base64
+-- a body that is no base64 is refused at its mark
 pub unpacked_end : (text : List ℕ) (at mark to : ℕ) (symbols : List ℕ) (fault : FormFault) → GathersTo text at mark symbols to → is_body_octet mark ≡ false
     → IsFaultAt (to - 1) fault → IsBodyEnd is_body_octet text at fault
 unpacked_end text at mark to symbols (Bad k) g other h = search (rules, mark_stands text at mark to symbols g)

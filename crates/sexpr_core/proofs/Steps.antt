@@ -10,7 +10,7 @@ use Rattle.sexpr_core.proofs.Faults.{length_bad, length_zero, verbatim_short, hi
 
 -- ---- offsets
 
--- what was read is as long as its offsets say
+-- the length of what was read is the difference of its offsets
 pub read_length :
     (text xs : List ℕ) (at to : ℕ) → at ≤ length text → to ≤ length text → drop at text ≡ xs ++ drop to text →
     to ≡ at + length xs
@@ -21,7 +21,7 @@ pub slice_read :
     slice_range text at to ≡ xs
 slice_read text xs at to h k e = search (rules, read_length text xs at to (omega arith) k e, take-append_seam xs (drop to text))
 
--- two parts, one behind the other
+-- two parts, one after the other
 pub read_both :
     (text xs ys : List ℕ) (at via to : ℕ) → drop at text ≡ xs ++ drop via text →
     drop via text ≡ ys ++ drop to text → drop at text ≡ (xs ++ ys) ++ drop to text

@@ -40,7 +40,7 @@ fails_among p [] c ys (z ∷ zs) f h e = not_both p c f (ap p (head_is c z ys zs
 fails_among p (x ∷ xs) c ys [] f h e = cc
 fails_among p (x ∷ xs) c ys (z ∷ zs) f h e = fails_among p xs c ys zs f h.1 (tail_is x z (xs ++ c ∷ ys) zs e)
 
--- they end in one way
+-- a text determines where they end
 pub one_front : (p : ℕ → Bool) (xs ys r s : List ℕ) → Passes p xs → Passes p ys → Stops p r → Stops p s → xs ++ r ≡ ys ++ s → (xs ≡ ys) × (r ≡ s)
 one_front p [] [] r s hx hy hr hs e = (refl, e)
 one_front p (x ∷ xs) (y ∷ ys) r s hx hy hr hs e = search (rules, tail_is, one_front p xs ys r s hx.1 hy.1 hr hs (tail_is x y (xs ++ r) (ys ++ s) e))
@@ -133,7 +133,7 @@ decimal_digit (suc k) h = search (rules, decimal_suc k, digits_of_step 10 (suc k
 pub decimal_more : (n d : ℕ) → 0 < n → d < 10 → decimal (n * 10 + d) ≡ decimal n ++ (48 + d) ∷ []
 decimal_more n d p low = search (rules, digits_of_step, decimal_some, map-append)
 
--- ---- one number for a text
+-- ---- a text begins with at most one number
 
 map_same : (ds es : List ℕ) → map digit_of ds ≡ map digit_of es → ds ≡ es
 map_same [] [] e = refl
@@ -161,7 +161,7 @@ decimal_same (suc m) (suc n) e =
     (map_same (digits_of 10 (suc m)) (digits_of 10 (suc n)) (sym (decimal_suc m) ∙ e ∙ decimal_suc n))
 decimal_same m n e = absurd (search (rules, decimal_leads, decimal_zero))
 
--- behind "0" stands what stands behind the number
+-- a text that begins with the number 0 begins with no other number
 pub zero_once : (n d : ℕ) (x y : List ℕ) → decimal 0 ++ x ≡ decimal n ++ d ∷ y → (0 ≡ n) × (x ≡ d ∷ y)
 zero_once zero d x y e = let q : 48 ∷ x ≡ 48 ∷ (d ∷ y) = rw decimal_zero at e in (refl, cc)
 zero_once (suc n) d x y e =
@@ -170,11 +170,9 @@ zero_once (suc n) d x y e =
     let k : s.digit ≡ 48 = cc in
     absurd (decimal_leads (suc n) s.rest (omega arith) (s.is ∙ ap (λ m. m ∷ s.rest) k))
 
--- ---- no canonical text is a prefix of another's, and what follows from that for each sort of text
+-- ---- further sets of texts
 
--- ---- further sorts of texts
-
--- the members of a list, of which there is one, and its closing parenthesis
+-- the members of a list that has at least one, and its closing parenthesis
 pub record IsFilled (t : List ℕ) : Type 0 where
   pub first : Value
   pub others : Values
@@ -186,7 +184,7 @@ pub record IsFilledWithin (room : ℕ) (t : List ℕ) : Type 0 where
   pub fits : depths (more first others) ≤ room
   pub is : t ≡ canons (more first others) ++ 41 ∷ []
 
--- a hinted string behind its opening bracket
+-- a hinted string after its opening bracket
 pub record IsHinted (t : List ℕ) : Type 0 where
   pub hint : List ℕ
   pub octets : List ℕ
@@ -201,7 +199,7 @@ verbatim_is octets = refl
 pub colon_no_digit : IsDigit 58 → ⊥
 colon_no_digit h = omega (arith, h.1)
 
--- what a verbatim string begins with is a digit
+-- a string in verbatim form begins with a digit
 pub verbatim_begins : (octets x y : List ℕ) (c : ℕ) → verbatim octets ++ x ≡ c ∷ y → IsDigit c
 verbatim_begins octets x y c e =
     let s = decimal_starts (length octets) in
@@ -213,7 +211,7 @@ verbatim_begins octets x y c e =
 pub verbatim_differs : (octets x y : List ℕ) (c : ℕ) → (IsDigit c → ⊥) → verbatim octets ++ x ≡ c ∷ y → ⊥
 verbatim_differs octets x y c h e = h (verbatim_begins octets x y c e)
 
--- ---- one value for a text
+-- ---- a text begins with at most one value
 
 pub verbatim_one : (a b x y : List ℕ) → verbatim a ++ x ≡ verbatim b ++ y → (a ≡ b) × (x ≡ y)
 verbatim_one a b x y e = search (rules, verbatim_is, append_assoc, parts_agree, AreDigits-decimal, colon_no_digit, same_length, decimal_same)

@@ -1,5 +1,5 @@
--- Values and owned trees, member by member: how many nodes they have, what is written of them behind other octets,
--- their octets, and when two are the same.
+-- Values and owned trees, member by member: how many nodes they have, what is appended when they are written, their
+-- octets, and when two are the same.
 use Rattle.std.proofs.Common.{◌≡◌, suc, ◌+◌, List, [], ◌∷◌, ◌++◌, length, ap, arith, refl, ℕ, ◌*◌, ◌/◌, ◌%◌, ◌<◌, ◌≤◌, sym, ◌∙◌, append_assoc, map, take, get_or, Vec, Global, append-nil, rules, subst, ◌↔◌, Bool, false, IsTrue}
 use Rattle.std.proofs.lemmas.{List.{map-append, take_more, take_all, get_or-map}, Slice.Eq.{bytes_eq-Decides}, Bool.Decides.{same_from_decides}}
 use Rattle.std.specs.Bool.{Decides}
@@ -17,7 +17,7 @@ pub size_all-append : (vs ws : List Value) → size_all (vs ++ ws) ≡ size_all 
 size_all-append [] ws = omega arith
 size_all-append (v ∷ vs) ws = omega (arith, size_all-append vs ws)
 
--- ---- what is written behind other octets
+-- ---- what is appended to the output
 
 pub digit_written : (n : ℕ) (out new : List ℕ) → n < 10 → new ≡ out ++ (48 + n) ∷ [] → new ≡ out ++ decimal n
 digit_written n out new low e = e ∙ ap (λ s. out ++ s) (sym (decimal_digit n low))
@@ -32,7 +32,7 @@ digits_written n out mid new high e f =
 pub verbatim_written : (octets out a b new : List ℕ) → a ≡ out ++ decimal (length octets) → b ≡ a ++ 58 ∷ [] → new ≡ b ++ octets → new ≡ out ++ verbatim octets
 verbatim_written octets out a b new e f g = search (rules, append_assoc, verbatim_is)
 
--- one octet alone
+-- a string of one octet
 pub one_written : (octets out new : List ℕ) → 1 ≤ length octets → length octets < 2 → new ≡ out ++ 49 ∷ 58 ∷ get_or octets 0 0 ∷ [] → new ≡ out ++ verbatim octets
 one_written (x ∷ []) out new some few e = search (rules, verbatim_is, decimal_digit)
 one_written _ out new some few e = absurd (omega arith)
@@ -86,7 +86,7 @@ same_given r v w h = same_from_decides r (is_same v w) (h.0, h.1) (same_decides 
 
 -- ---- members
 
--- where a member differs, the lists do
+-- if a member differs, the lists differ
 pub member_differs : {A : Type 0} (f : A → Value) (xs ys : List A) (i : ℕ) (d e : A) → i < length xs → length xs ≡ length ys
     → IsTrue false ↔ (f (get_or xs i d) ≡ f (get_or ys i e)) → IsTrue false ↔ (map f xs ≡ map f ys)
 member_differs f xs ys i d e lt same h = search (rules, get_or-map f xs i d (f d) lt, get_or-map f ys i e (f d) (omega (arith, same)))

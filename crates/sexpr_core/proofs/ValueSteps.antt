@@ -63,7 +63,7 @@ list_is inner text at to index many kept old pushed grown s i d r m =
     omega (arith, ap length p, length-append old (kept ∷ records_all (at + 1) r.items), records_all_many (at + 1) r.items) in
     (e, p, n, read_length text (canon (list r.items)) at to (omega arith) r.within e)
 
--- a list's record has room for the number of its nodes
+-- a list has at most as many nodes as its text has octets, so their number fits into its record
 pub list_short :
     (inner : ℕ) (text : List ℕ) (at to index many : ℕ) (kept : Record) (old pushed grown : List Record) →
     StandsAt text at 40 → index ≡ length old → pushed ≡ old ++ kept ∷ [] → ReadsMembers inner text (at + 1) to pushed grown →
@@ -72,7 +72,7 @@ list_short inner text at to index many kept old pushed grown s i d r m =
     let l = list_is inner text at to index many kept old pushed grown s i d r m in
     omega (arith, l.2, l.3, size_short (list r.items), r.within)
 
--- a list's record takes the place that was kept for it
+-- the list's record replaces the one that was put in its place before its end was known
 pub list_read :
     (room inner : ℕ) (text : List ℕ) (at to index many : ℕ) (kept : Record) (old pushed grown : List Record) →
     room ≡ suc inner → StandsAt text at 40 → index ≡ length old → pushed ≡ old ++ kept ∷ [] →
@@ -95,7 +95,7 @@ list_read room inner text at to index many kept old pushed grown q s i d r m =
 
 -- ---- members
 
--- what a loop over members has read when it stands at an offset
+-- the members that a loop has read up to an offset
 pub record HasMembers (room : ℕ) (text : List ℕ) (at to : ℕ) (old new : List Record) : Type 0 where
   pub items : Values
   pub fits : depths items ≤ room

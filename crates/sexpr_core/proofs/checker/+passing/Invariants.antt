@@ -1,4 +1,4 @@
--- Each list that opens leaves room for one less.
+-- Termination: each list that opens leaves room for one list less.
 use Rattle.std.proofs.Common.{◌+◌, ◌*◌, ◌-◌, List, [], length}
 use Rattle.sexpr_core.{specs.declared.layout.Record.{Record}, proofs.ValueSteps.{HasMembers}}
 use Rattle.sexpr_core.proofs.checker.+passing.Given as goal

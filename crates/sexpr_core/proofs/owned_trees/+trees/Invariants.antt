@@ -1,4 +1,4 @@
--- A node has fewer nodes in it than the list that it is a member of.
+-- Termination: a member of a list has fewer nodes than the list.
 use Rattle.std.proofs.Common.{◌≡◌, ◌+◌, ◌*◌, ◌++◌, map}
 use Rattle.sexpr_core.specs.Value.{size, size_all, sexp_value}
 use Rattle.sexpr_core.proofs.owned_trees.+trees.Given as goal

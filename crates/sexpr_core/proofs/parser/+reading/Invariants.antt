@@ -1,4 +1,4 @@
--- Each list that opens leaves room for one less.
+-- Termination: each list that opens leaves room for one list less.
 use Rattle.std.proofs.Common.{◌+◌, ◌*◌, ◌-◌, length}
 use Rattle.sexpr_core.proofs.ValueSteps.{HasMembers}
 use Rattle.sexpr_core.proofs.parser.+reading.Given as goal

@@ -1,4 +1,4 @@
--- What has been read are the digits of a number.
+-- The octets that were read so far are the digits of a number.
 use Rattle.std.proofs.Common.{◌≡◌, ℕ, ◌++◌, ◌-◌, ◌≤◌, min, length, drop}
 use Rattle.sexpr_core.specs.Value.{decimal}
 use Rattle.sexpr_core.proofs.parser.read_length.Given as goal
