@@ -1,4 +1,4 @@
--- What begins a value or the members of a list, and what of these is not closed.
+-- The beginnings of a value and of the members of a list, also if a string in them is not closed.
 use Rattle.std.proofs.Common.{◌≡◌, ℕ, suc, ◌≤◌, Bool, true, false, inl, inr, List, [], ◌∷◌, ◌++◌, length, replicate, Some, None, refl, sym, ap, subst, ◌∙◌, append_assoc, append-nil, arith, rules}
 use Rattle.std.proofs.lemmas.List.{length-replicate}
 use Rattle.sexpr_core.specs.{Reading.{Begins, AreSpaces}, Value.{Value, Values, string, list, none, more, decimal, depth, depths}}
@@ -8,7 +8,7 @@ use Rattle.sexpr_text.specs.Inner.Begun.{IsStringPart, GoesString, IsValuePart, 
 use Rattle.sexpr_text.specs.Refusal.{IsUnclosedString, IsUnclosedHinted, UnclosedMembers, depth_open}
 use Rattle.sexpr_text.proofs.{Printed.{end_apart, hinted_is}, OneValue.{apart_front, spaces_members}}
 
--- digits of a length begin a string, as nothing does
+-- a length in decimal begins a string, and so does the empty text
 pub count_begins : (count : List ℕ) (n : ℕ) → IsCount count n → Begins IsStringPart count
 count_begins count n (inl e) = record {
   rest = 97 ∷ [];
@@ -99,7 +99,7 @@ head_apart : (ends : Bool) (c : ℕ) (xs ys inside : List ℕ) → c ∷ xs ≡ 
 head_apart true c xs ys (d ∷ ds) e h = let q : c ≡ d = cc in subst (λ n. is_token_octet n ≡ false) q h
 head_apart ends c xs ys inside e h = tt
 
--- a whole member, and what begins members behind it; where nothing does, the list is closed
+-- a whole member, and a beginning of the members after it; if nothing follows, the list may be closed
 pub first_part : (room : ℕ) (ends : Bool) (first : List ℕ) (v : Value) (x y : List ℕ) → SpellsAs ends first v → depth v ≤ room → IsApart ends (x ++ y)
     → Begins (IsMembersPart room) x → Begins (IsMembersPart room) (first ++ x)
 first_part room ends first v [] y m deep apart b = record {
@@ -126,7 +126,7 @@ first_part room ends first v (c ∷ cs) y m deep apart b =
       };
     }
 
--- ---- the same of what is not closed
+-- ---- the same if a string is not closed
 
 pub hinted_unclosed : (as_token : Bool) (hint inside hint_text behind_hint behind x : List ℕ) → AreSpaces inside → Simple as_token hint_text hint
     → AreSpaces behind_hint → AreSpaces behind → IsUnclosedString x
@@ -155,7 +155,7 @@ first_unclosed room ends first v x y m deep apart u =
       unclosed = ([], ends, first, x, refl, tt, m, apart_front ends x y apart, u.unclosed);
     }
 
--- ---- either
+-- ---- a beginning, or a part that is not closed
 
 pub goes_string : (room : ℕ) (x : List ℕ) → GoesString x → GoesValue room x
 goes_string room x (inl b) = inl (string_part room x b)

@@ -11,11 +11,9 @@ use Rattle.sexpr_text.specs.{declared.converter.Form.{Form, TheVariants.{Canonic
 use Rattle.sexpr_text.proofs.Printed.{gap_suc, past_first, canonical_spelled, adv_all-append}
 use Rattle.sexpr_text.proofs.Trees.{HasMembers, no_members, more_members, members_end, list_read}
 
--- ---- what a printer of canonical texts has passed, and what is left before it
+-- ---- what a printer of canonical texts has passed of a length
 
--- ---- lengths
-
--- some digits of the length of these octets, the colon, the octets, and what is behind them; the digits before have this number
+-- some digits of the length of these octets, the colon, the octets, and what follows them; the digits before have this number
 pub record IsInLength (rest : List ℕ) (number : ℕ) (octets behind : List ℕ) : Type 0 where
   pub digits : List ℕ
   pub low : AllBelowBase 10 digits
@@ -74,11 +72,11 @@ length_within rest number octets behind h =
 pub split_there : (n : ℕ) (tail octets behind : List ℕ) → n ≡ length octets → tail ≡ octets ++ behind → (take n tail ≡ octets) × (drop n tail ≡ behind)
 split_there n tail octets behind long is = rw is (take_at octets behind n (sym long), drop_at octets behind n (sym long))
 
--- what is behind the first octet
+-- what follows the first octet
 pub behind_first : (xs : List ℕ) (c : ℕ) (ys : List ℕ) → xs ≡ c ∷ ys → take (length xs - 1) (drop 1 xs) ≡ ys
 behind_first xs c ys e = rw e (take_all (length (c ∷ ys) - 1) ys (omega arith))
 
--- ---- values by their first octets
+-- ---- the kind of a value, by its first octet
 
 pub opens_list : (v : Value) (x y : List ℕ) → canon v ++ x ≡ 40 ∷ y → (vs : Values) × (v ≡ list vs) × (y ≡ canons vs ++ 41 ∷ x)
 opens_list (string None a) x y e = absurd (verbatim_differs a x y 40 no_open e)
@@ -100,14 +98,14 @@ opens_plain text c tail (string (Some h) a) x begins no_list no_hint e =
 opens_plain text c tail (list vs) x begins no_list no_hint e =
     let q : c ∷ tail ≡ 40 ∷ ((canons vs ++ 41 ∷ []) ++ x) = sym begins ∙ e in let same : c ≡ 40 = cc in absurd (no_list same)
 
--- a value is not empty
+-- the text of a value is not empty
 pub value_shortens : (text : List ℕ) (v : Value) (x : List ℕ) → text ≡ canon v ++ x → length x < length text
 value_shortens text (string None a) x e =
     omega (arith, ap length e, length-append (verbatim a) x, ap length (verbatim_is a), length-append (decimal (length a)) (58 ∷ a))
 value_shortens text (string (Some h) a) x e = omega (arith, ap length e, length-append (verbatim h ++ 93 ∷ verbatim a) x)
 value_shortens text (list vs) x e = omega (arith, ap length e, length-append (canons vs ++ 41 ∷ []) x)
 
--- ---- members
+-- ---- what a printer of canonical texts has passed of the members of a list
 
 -- what was printed of the members, and those that are left
 pub record IsInMembers (Printed : List ℕ → Type 0) (vs : Values) (behind rest : List ℕ) (member : ℕ) : Type 0 where
@@ -141,7 +139,7 @@ module _ (Printed : List ℕ → Type 0) (vs : Values) (behind rest : List ℕ) 
     pub printed_end : (h : IsInMembers Printed vs behind rest member) → c ≡ 41 → (tail ≡ behind) × (h.front ≡ adv_all 0 vs)
     printed_end h closing = last_of h.left h.front h.spelled h.whole closing
 
--- one member more was printed, with the gap before it
+-- one more member was printed, with the gap before it
 pub member_printed : (Before Printed : List ℕ → Type 0) (vs us : Values) (v : Value) (behind rest tail : List ℕ) (member : ℕ)
     → (h : IsInMembers Before vs behind rest member) → h.left ≡ more v us → tail ≡ canons us ++ 41 ∷ behind
     → Printed (h.front ++ (gap member ++ adv v)) → IsInMembers Printed vs behind tail 1
@@ -155,11 +153,11 @@ member_printed Before Printed vs us v behind rest tail member h is e p = record 
 
 -- ---- what is written of a value as it is read
 
--- a value was read, and is written behind what stood there
+-- a value was read and appended to the output
 abbrev pub IsConverted : ℕ → List ℕ → ℕ → Form → List ℕ → List ℕ → ℕ → Type 0
 IsConverted room text at form old new to = (v : Value) × ReadsValue room text at v to × (new ≡ old ++ written form v)
 
--- the canonical text of a value within the limits spells it, and no other
+-- the canonical text of a value within the limits spells it
 pub canonical_within : (octets : List ℕ) (v : Value) → IsWithinLimits v → octets ≡ canon v → IsSpelledWithin octets v
 canonical_within octets v h e = search (rules, canonical_spelled)
 
@@ -188,7 +186,7 @@ string_converted room text at to form octets old new r e = (
     same Canonical = refl
     same Advanced = refl
 
--- what fits without a list fits with any room
+-- what was read without lists is also read with room for any number of them
 pub roomier : (room : ℕ) (text : List ℕ) (at to : ℕ) (form : Form) (old new : List ℕ) → IsConverted 0 text at form old new to → IsConverted room text at form old new to
 roomier room text at to form old new p = search rules
 
@@ -206,7 +204,7 @@ written_more : (form : Form) (vs : List Value) (v : Value)
 written_more Canonical vs v = canons-append vs (v ∷ []) ∙ ap (λ t. canons (values vs) ++ t) (append-nil (canon v))
 written_more Advanced vs v = search (rules, adv_all-append, append-nil)
 
--- Members were read from one offset up to another and written, and this is what stands before the next.
+-- Members were read from one offset up to another and written, and `next` is to be written before the next member.
 pub record HasConverted (room : ℕ) (text : List ℕ) (at i : ℕ) (form : Form) (old new next : List ℕ) : Type 0 where
   pub items : List Value
   pub read : HasMembers room text at i (values items)

@@ -1,4 +1,4 @@
--- A string with or without its length in front, as the reader meets it.
+-- Strings with or without a length in front, as the reader finds them.
 use Rattle.std.proofs.Common.{◌≡◌, ◌≢◌, ℕ, ◌+◌, ◌≤◌, min, Bool, true, false, ◌⊎◌, inl, inr, List, [], ◌∷◌, ◌++◌, length, drop, refl, sym, ap, subst, ◌∙◌, append_assoc, length-append, length-drop, arith, rules}
 use Rattle.std.proofs.lemmas.Bool.Decides.{nat_tests}
 use Rattle.sexpr_core.specs.{Value.{decimal}, Reading.{StandsAt}}
@@ -7,7 +7,7 @@ use Rattle.sexpr_text.specs.AdvancedForm.{is_digit, is_token_octet, IsToken, IsM
 use Rattle.sexpr_text.specs.Reads.{Reads, ReadsCount, ReadsOctets, ReadsString, StringAt, Stops}
 use Rattle.sexpr_text.proofs.{Marked.{is_mark, marked_first, one_marked, marked_few}, OneValue.{Cut, cut, IsBehind, simple_first}}
 
--- ---- a length ends in one way
+-- ---- a text determines where a length ends
 
 digit_passes : (c : ℕ) → IsDigit c → is_digit c ≡ true
 digit_passes c h = grind (arith, nat_tests)
@@ -25,19 +25,19 @@ count_once w n d x y (inr stops) other e =
     let p = one_front is_digit (decimal w) (decimal n) x (d ∷ y) (digits_pass (decimal w) (AreDigits-decimal w)) (digits_pass (decimal n) (AreDigits-decimal n)) stops (other_digit d other) e in
     (decimal_same w n p.0, p.1)
 
--- ---- what stands behind a length
+-- ---- what follows a length
 
 begins_no_token : (c : ℕ) (cs a rest : List ℕ) → IsToken a → (is_digit c ≡ false → is_token_octet c ≡ true → ⊥) → c ∷ cs ≡ a ++ rest → ⊥
 begins_no_token c cs [] rest h other e = absurd h
 begins_no_token c cs (x ∷ xs) rest h other e =
     let q : x ≡ c = cc in other (subst (λ k. is_digit k ≡ false) q h.0) (subst (λ k. is_token_octet k ≡ true) q h.1.0)
 
--- a string whose first octet begins no token is none
+-- a string whose first octet begins no token is no token
 is_no_token : (ends : Bool) (c : ℕ) (cs s a rest : List ℕ) → Simple ends s a → (is_digit c ≡ false → is_token_octet c ≡ true → ⊥) → c ∷ cs ≡ s ++ rest → Simple false s a
 is_no_token true c cs s a rest h other e = absurd (begins_no_token c cs a rest h.1 other (e ∙ ap (λ t. t ++ rest) h.0))
 is_no_token false c cs s a rest h other e = h
 
--- the octets of a verbatim string behind its colon, or a string between marks
+-- what follows a length: a colon and the octets, or a string between marks
 abbrev pub StandsBehind : List ℕ → List ℕ → List ℕ → Type 0
 StandsBehind x a rest = (x ≡ 58 ∷ (a ++ rest)) ⊎ ((s : List ℕ) × IsMarked s a × (x ≡ s ++ rest))
 
@@ -55,7 +55,7 @@ pub ends_written : (n w : ℕ) (x : List ℕ) → n ≡ min w 1048577 → (n ≡
 ends_written n w x c (inl z) = inl (omega arith)
 ends_written n w x c (inr s) = inr s
 
--- where a length was read, the string that stands there has that length, and the rest of its spelling stands behind
+-- a length that was read is that of the string, and the rest of the string's spelling follows it
 pub counted_stands : (text : List ℕ) (at first number to : ℕ) (a rest : List ℕ) → StandsAt text at first → IsDigit first → (r : ReadsCount text at number to)
     → (number ≡ 0) ⊎ Stops is_digit (drop to text) → StringAt text at a rest → (r.written ≡ length a) × StandsBehind (drop to text) a rest
 counted_stands text at first number to a rest opens low r ends s =
@@ -82,7 +82,7 @@ verbatim_behind : (x : List ℕ) (c : ℕ) (cs a rest : List ℕ) → StandsBehi
 verbatim_behind x c cs a rest (inl h) e n = let q : c ∷ cs ≡ 58 ∷ (a ++ rest) = sym e ∙ h in cc
 verbatim_behind x c cs a rest (inr h) e n = search (rules, marked_first, is_mark)
 
--- the string between marks that stands behind a length
+-- the string between marks that follows a length
 pub marked_stands : (text : List ℕ) (at first number to c : ℕ) (a rest : List ℕ) → StandsAt text at first → IsDigit first → ReadsCount text at number to
     → (number ≡ 0) ⊎ Stops is_digit (drop to text) → StandsAt text to c → c ≢ 58 → StringAt text at a rest
     → (s : List ℕ) × IsMarked s a × (drop to text ≡ s ++ rest)
@@ -123,7 +123,7 @@ counted_string text at number to end octets short r m n =
       within = m.within;
     }
 
--- the length of a string between marks is the one in front of it
+-- there is no string if the length in front is not that of the string between marks
 pub counted_elsewhere : (text : List ℕ) (at first number to c end n : ℕ) (octets a rest : List ℕ) → length octets ≤ 1048576 → StandsAt text at first → IsDigit first
     → ReadsCount text at number to → (number ≡ 0) ⊎ Stops is_digit (drop to text) → StandsAt text to c → c ≢ 58 → Reads IsMarked text to octets end
     → n ≡ length octets → n ≢ number → StringAt text at a rest → ⊥
@@ -135,7 +135,7 @@ counted_elsewhere text at first number to c end n octets a rest short opens low 
     let q : n ≡ number = omega (arith, r.capped, w, ap length one.0) in
     other q
 
--- ---- without a length
+-- ---- strings without a length in front
 
 pub marked_string : (text : List ℕ) (at end : ℕ) (octets : List ℕ) → Reads IsMarked text at octets end → ReadsString text at octets end
 marked_string text at end octets m = search rules
@@ -149,7 +149,7 @@ behind_none c d cs ds t a rest other (inl b) e = search (rules, decimal_starts (
 behind_none c d cs ds t a rest other (inr (m, inl n, k)) e = (d ∷ t, k, e ∙ ap (λ u. u ++ d ∷ (t ++ rest)) n)
 behind_none c d cs ds t a rest other (inr (m, inr i, k)) e = search (rules, decimal_starts (length a))
 
--- a string that begins with no octet of a token stands between marks
+-- a string whose first octet occurs in no token is between marks
 pub uncounted_stands : (text : List ℕ) (at c : ℕ) (a rest : List ℕ) → StandsAt text at c → (IsDigit c → ⊥) → is_token_octet c ≡ false → StringAt text at a rest
     → (s : List ℕ) × IsMarked s a × (drop at text ≡ s ++ rest)
 uncounted_stands text at c a rest opens other n s =

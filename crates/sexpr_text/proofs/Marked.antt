@@ -1,4 +1,4 @@
--- Strings between marks: these, and the pieces of a quoted string, stand in one way; what is read of a hexadecimal
+-- Strings between marks and pieces of quoted strings: a text begins with at most one of each. What is read of a hexadecimal
 -- body.
 use Rattle.std.proofs.Common.{◌≡◌, ◌≢◌, ℕ, zero, suc, ◌+◌, ◌-◌, ◌<◌, ◌≤◌, ◌==◌, ◌&&◌, ◌||◌, false, Some, None, List, [], ◌∷◌, ◌++◌, length, refl, sym, ap, subst, ◌∙◌, append_assoc, length-append, arith, inl, inr, ◌⊎◌, rules, Bool, true, Ok, drop, append-nil, Err}
 use Rattle.std.proofs.lemmas.{Bool.{cases_Bool, Decides.{nat_tests}}, List.Elements.{All-head, All-tail}}
@@ -11,11 +11,9 @@ use Rattle.sexpr_core.proofs.{BraceLaws.{body_octets, one_packed, visible_le, pa
 use Rattle.sexpr_core.proofs.Texts.{Passes, one_front, tail_is, all-append}
 use Rattle.sexpr_core.specs.{Reading.{StandsAt, is_whitespace, visible, IsBase64}, declared.fault.FormFault.{FormFault, TheVariants.{Bad, Memory}}}
 
--- ---- the pieces of a quoted string stand in one way
+-- ---- the kind of a piece is known from its text
 
--- ---- the sort of a piece is seen in its text
-
--- which escape an octet behind a backslash begins: 1 an octet for another, 2 octal, 3 hexadecimal, 4 a line's end
+-- which kind of escape the octet after a backslash begins: 1 another octet, 2 octal, 3 hexadecimal, 4 a line end
 abbrev escape_sort : ℕ → ℕ
 escape_sort e = if e == 120 then 3 else if e == 13 || e == 10 then 4 else if nat_le 48 e && nat_le e 51 then 2 else 1
 
@@ -23,7 +21,7 @@ abbrev behind_sort : List ℕ → ℕ
 behind_sort [] = 5
 behind_sort (e ∷ es) = escape_sort e
 
--- the same of a text; 0 where it begins with no backslash, 5 where it ends before that can be seen
+-- the same for a text; 0 if it does not begin with a backslash, 5 if it ends before the kind is known
 abbrev text_sort : List ℕ → ℕ
 text_sort [] = 5
 text_sort (c ∷ cs) = if c == 92 then behind_sort cs else 0
@@ -81,14 +79,14 @@ octal_same a b c d m n x y e = search rules
 some_same : (m n : ℕ) → Some m ≡ Some n → m ≡ n
 some_same m n e = cc
 
--- behind a lone CR stands no LF, and behind a lone LF no CR
+-- no LF follows a lone CR, and no CR follows a lone LF
 lone : (c d : ℕ) (x y : List ℕ) → ((c ≡ 13) × StartsOther 10 x) ⊎ ((c ≡ 10) × StartsOther 13 x) → ((c ≡ 13) × (d ≡ 10)) ⊎ ((c ≡ 10) × (d ≡ 13)) → x ≡ d ∷ y → ⊥
 lone c d x y (inl h) (inl k) e = let s : StartsOther 10 (d ∷ y) = subst (StartsOther 10) e h.1 in s k.1
 lone c d x y (inl h) (inr k) e = let q : ◌≡◌ {A = ℕ} 13 10 = sym h.0 ∙ k.0 in omega arith
 lone c d x y (inr h) (inl k) e = let q : ◌≡◌ {A = ℕ} 10 13 = sym h.0 ∙ k.0 in omega arith
 lone c d x y (inr h) (inr k) e = let s : StartsOther 13 (d ∷ y) = subst (StartsOther 13) e h.1 in s k.1
 
--- where a piece stands, no other stands
+-- a text begins with at most one piece
 pub one_piece : (p q : Piece) (x y : List ℕ) → IsPiece p x → IsPiece q y → piece_text p ++ x ≡ piece_text q ++ y → (piece_octets p ≡ piece_octets q) × (x ≡ y)
 one_piece (raw c) (raw d) x y hp hq e = (cc, cc)
 one_piece (escaped a c) (escaped b d) x y hp hq e = search (rules, some_same)
@@ -106,7 +104,7 @@ no_quote : (p : Piece) (x t : List ℕ) → IsPiece p x → piece_text p ++ x �
 no_quote (raw c) x t h e = let q : c ≡ 34 = cc in h.0 q
 no_quote _ x t h e = let q : ◌≡◌ {A = ℕ} 92 34 = cc in omega arith
 
--- what is left of pieces behind the first of them, up to the closing quote
+-- the pieces that follow those before, up to the closing quote
 pub record Left (x rest before all : List ℕ) : Type 0 where
   pub pieces : List Piece
   pub spelled : x ≡ pieces_text pieces ++ 34 ∷ rest
@@ -123,7 +121,7 @@ left_pieces (p ∷ ps) (q ∷ qs) x rest hp hq e =
     let l = left_pieces ps qs x rest hp.1 hq.1 o.1 in
     search (rules, append_assoc)
 
--- at a quote no piece stands
+-- no piece begins with a quote
 pub none_left : (ps : List Piece) (r rest : List ℕ) → ArePieces ps (34 ∷ rest) → 34 ∷ r ≡ pieces_text ps ++ 34 ∷ rest → (pieces_octets ps ≡ []) × (r ≡ rest)
 none_left [] r rest h e = (refl, cc)
 none_left (p ∷ ps) r rest h e = absurd (search (rules, no_quote, append_assoc))
@@ -137,12 +135,12 @@ piece_on (line c) t x y l r (inl h) = inl (h.0, starts_on 10 t x y l h.1)
 piece_on (line c) t x y l r (inr h) = inr (h.0, starts_on 13 t x y r h.1)
 piece_on p t x y l r h = h
 
--- pieces stay right in front of other octets, if these begin with LF or CR only where the first do
+-- pieces stay well formed before other octets, if these begin with LF or CR only if the first ones do
 pub are_on : (ps : List Piece) (x y : List ℕ) → (StartsOther 10 x → StartsOther 10 y) → (StartsOther 13 x → StartsOther 13 y) → ArePieces ps x → ArePieces ps y
 are_on [] x y l r h = tt
 are_on (p ∷ ps) x y l r h = (piece_on p (pieces_text ps) x y l r h.0, are_on ps x y l r h.1)
 
--- pieces are right whatever follows their closing quote
+-- pieces are well formed, whatever follows their closing quote
 pub are_followed : (ps : List Piece) (r rest : List ℕ) → ArePieces ps (34 ∷ r) → ArePieces ps (34 ∷ rest)
 are_followed ps r rest h = are_on ps (34 ∷ r) (34 ∷ rest) (λ s. s) (λ s. s) h
 
@@ -155,7 +153,7 @@ pub pieces_few : (ps : List Piece) → length (pieces_octets ps) ≤ length (pie
 pieces_few [] = omega arith
 pieces_few (p ∷ ps) = omega (arith, piece_few p, pieces_few ps, length-append (piece_octets p) (pieces_octets ps), length-append (piece_text p) (pieces_text ps))
 
--- ---- which piece stands behind a backslash and another octet
+-- ---- which piece begins with a backslash and an octet
 
 sort_is : (p : Piece) (rest xs : List ℕ) (k : ℕ) → IsPiece p rest → xs ≡ piece_text p ++ rest → text_sort xs ≡ k → piece_sort p ≡ k
 sort_is p rest xs k h e s = sym (sorted p rest h) ∙ sym (ap text_sort e) ∙ s
@@ -170,20 +168,18 @@ pub octal_piece : (p : Piece) (rest t : List ℕ) (a : ℕ) → a < 4 → IsPiec
 octal_piece (octal d b c) rest t a low k e = (b, c, cc, k.1, k.2)
 octal_piece p rest t a low k e = let s : piece_sort p ≡ 2 = sort_is p rest (92 ∷ (48 + a) ∷ t) 2 k e (octal_sorted a low) in absurd (omega (arith, s))
 
--- behind a backslash stands no octet that begins no escape
+-- an octet that begins no escape follows no backslash
 pub letter_piece : (p : Piece) (rest t : List ℕ) (c : ℕ) → IsPiece p rest → 92 ∷ c ∷ t ≡ piece_text p ++ rest
     → c ≢ 120 → c ≢ 13 → c ≢ 10 → (48 ≤ c → c < 52 → ⊥) → escape_value c ≡ None → ⊥
 letter_piece (escaped e v) rest t c k q x r n o none = search rules
 letter_piece p rest t c k q x r n o none = search (rules, letter_sorted, sort_is)
 
--- ---- strings between marks stand in one way
-
--- ---- marks
+-- ---- opening and closing marks
 
 pub closed : (m : ℕ) (s body r : List ℕ) → s ≡ m ∷ (body ++ m ∷ []) → s ++ r ≡ m ∷ (body ++ m ∷ r)
 closed m s body r e = ap (λ t. t ++ r) e ∙ ap (λ t. m ∷ t) (append_assoc body (m ∷ []) r)
 
--- what stands behind the opening mark
+-- what follows the opening mark
 pub behind_opening : (m : ℕ) (text : List ℕ) (at c : ℕ) (s body rest : List ℕ) → StandsAt text at c → s ≡ m ∷ (body ++ m ∷ []) → drop at text ≡ s ++ rest
     → (c ≡ m) × (drop (at + 1) text ≡ body ++ m ∷ rest)
 behind_opening m text at c s body rest opens spelled e = search (rules, closed)
@@ -192,7 +188,7 @@ opened : (m n : ℕ) (s a r t b q : List ℕ) → s ≡ m ∷ (a ++ m ∷ []) �
     → (m ≡ n) × (a ++ m ∷ r ≡ b ++ n ∷ q)
 opened m n s a r t b q d e h = search (rules, closed)
 
--- ---- quoted strings
+-- ---- a text begins with at most one quoted string
 
 pub one_quoted : (s r a t q b : List ℕ) → IsQuoted s a → IsQuoted t b → s ++ r ≡ t ++ q → (a ≡ b) × (r ≡ q)
 one_quoted s r a t q b h k e =
@@ -201,7 +197,7 @@ one_quoted s r a t q b h k e =
     let n = none_left l.pieces r q l.right l.spelled in
     (h.meant ∙ sym (append-nil (pieces_octets h.pieces)) ∙ ap (λ t. pieces_octets h.pieces ++ t) (sym n.0) ∙ sym l.meant ∙ sym k.meant, n.1)
 
--- ---- hexadecimal
+-- ---- a text begins with at most one hexadecimal string
 
 abbrev digit_holds : ℕ → Type 0
 digit_holds c = is_hex_digit c ≡ true
@@ -218,7 +214,7 @@ hexadecimal_body : (body : List ℕ) → AllPass is_hex_digit (visible body) →
 hexadecimal_body [] h = tt
 hexadecimal_body (c ∷ cs) h = let p = visible_digits c cs h in (p.0, hexadecimal_body cs p.1)
 
--- the body of a hexadecimal string has digits and whitespace alone
+-- the body of a hexadecimal string has only digits and whitespace
 pub hexadecimal_octets : (body octets : List ℕ) → decode_of (visible body) ≡ Ok octets → Passes is_hexadecimal_octet body
 hexadecimal_octets body octets e = hexadecimal_body body (decode_of-ok (visible body) octets e).1
 
@@ -230,7 +226,7 @@ one_hexadecimal s r a t q b h k e =
     let g : decode_of (visible k.body) ≡ Ok b = k.packed in
     (cc, tail_is 35 35 r q f.1)
 
--- ---- base64
+-- ---- a text begins with at most one string in base64
 
 pub one_base64 : (s r a t q b : List ℕ) → IsPacked s a → IsPacked t b → s ++ r ≡ t ++ q → (a ≡ b) × (r ≡ q)
 one_base64 s r a t q b h k e =
@@ -238,9 +234,9 @@ one_base64 s r a t q b h k e =
     let f = one_body h.body k.body 124 124 r q (body_octets h.body a h.packed) (body_octets k.body b k.packed) refl refl o.1 in
     (one_packed (visible k.body) a b (subst (λ t. IsBase64 (visible t) a) f.0 h.packed) k.packed, f.2)
 
--- ---- between marks
+-- ---- a text begins with at most one string between marks
 
--- where a string stands between marks, no other stands, and it ends in one place
+-- a text begins with at most one string between marks, and determines where it ends
 pub one_marked : (s r a t q b : List ℕ) → IsMarked s a → IsMarked t b → s ++ r ≡ t ++ q → (a ≡ b) × (r ≡ q)
 one_marked s r a t q b (inl h) (inl k) e = one_quoted s r a t q b h k e
 one_marked s r a t q b (inr (inl h)) (inr (inl k)) e = one_hexadecimal s r a t q b h k e
@@ -261,7 +257,7 @@ marked_first s a (inl h) = (34, pieces_text h.pieces ++ 34 ∷ [], h.spelled, re
 marked_first s a (inr (inl h)) = (35, h.body ++ 35 ∷ [], h.spelled, refl)
 marked_first s a (inr (inr h)) = (124, h.body ++ 124 ∷ [], h.spelled, refl)
 
--- ---- octets are no more than their text
+-- ---- a string has no more octets than its text
 
 longer : (m : ℕ) (s body : List ℕ) → s ≡ m ∷ (body ++ m ∷ []) → length body + 2 ≤ length s
 longer m s body e = omega (arith, ap length e, length-append body (m ∷ []))
@@ -271,7 +267,7 @@ marked_few s a (inl h) = omega (arith, longer 34 s (pieces_text h.pieces) h.spel
 marked_few s a (inr (inl h)) = search (rules, decode_of-ok, longer, visible_le)
 marked_few s a (inr (inr h)) = omega (arith, longer 124 s h.body h.spelled, packed_short h.body a h.packed)
 
--- ---- which of the three it is
+-- ---- the opening mark says which of the three kinds a string is
 
 sort_of : (text : List ℕ) (at c : ℕ) (s a rest : List ℕ) → StandsAt text at c → IsMarked s a → drop at text ≡ s ++ rest
     → ((c ≡ 34) × IsQuoted s a) ⊎ (((c ≡ 35) × IsHexadecimal s a) ⊎ ((c ≡ 124) × IsPacked s a))
@@ -314,7 +310,7 @@ hexadecimal_read text at i kept octets opens k closes e = record {
   within = omega (arith, closes.within);
 }
 
--- no body stands before the mark where the octet behind some of its octets is no other than one that cannot stand in it
+-- if the next octet may not occur in a body, the octets so far are the whole body, and its mark follows
 kept_stops : (text : List ℕ) (at i : ℕ) (kept body rest : List ℕ) → (k : Keeps text at kept i) → Stops is_hexadecimal_octet (drop i text)
     → Passes is_hexadecimal_octet body → drop at text ≡ body ++ 35 ∷ rest → (k.body ≡ body) × (drop i text ≡ 35 ∷ rest)
 kept_stops text at i kept body rest k stops all e =
@@ -335,7 +331,7 @@ kept_end text at i kept body rest k ended all e =
     let s = kept_stops text at i kept body rest k (subst (Stops is_hexadecimal_octet) (sym ended) tt) all e in
     let q : [] ≡ 35 ∷ rest = sym ended ∙ s.1 in cc
 
--- the digits of the string that stands here
+-- the digits that were kept are those of the string at this offset
 pub same_digits : (text : List ℕ) (at i : ℕ) (kept body rest : List ℕ) → Keeps text at kept i → StandsAt text i 35
     → Passes is_hexadecimal_octet body → drop at text ≡ body ++ 35 ∷ rest → kept ≡ visible body
 same_digits text at i kept body rest k closes all e =

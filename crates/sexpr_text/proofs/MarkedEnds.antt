@@ -1,4 +1,4 @@
--- Where a string between marks, or one with a length in front, is refused, and what stands of it up to there.
+-- Where a string between marks, or one with a length in front, is refused, and what of it was read up to there.
 use Rattle.std.proofs.Common.{◌≡◌, ◌≢◌, ℕ, ◌+◌, ◌-◌, ◌<◌, ◌≤◌, Bool, true, false, ◌⊎◌, inl, inr, List, [], ◌∷◌, ◌++◌, length, take, drop, replicate, refl, sym, ap, subst, ◌∙◌, append_assoc, append-nil, length-append, length-drop, arith, rules}
 use Rattle.std.proofs.lemmas.List.{length-replicate, drop-append-le, drop-drop, drop_at, drop_all}
 use Rattle.std.specs.List.{AllByRecursion}
@@ -49,7 +49,7 @@ packed_marked_end text at c fault s e h =
 quoted_goes : (text : List ℕ) (at to : ℕ) → Begun OpensQuoted text at to → Begun GoesMarked text at to
 quoted_goes text at to b = record { part = b.part; spelled = b.spelled; goes = inr (inl b.goes); ordered = b.ordered; within = b.within }
 
--- a quoted string that is not closed goes on to a whole one
+-- a quoted string that is not closed begins a whole one
 quoted_on : (other : List ℕ) (at : ℕ) → at ≤ length other → StandsAt other at 34 → IsUnclosed (drop at other) → Begins (Stands IsQuoted at) other
 quoted_on other at le s u = search (rules, quoted_is, drop-append-le, append-nil)
 
@@ -127,7 +127,7 @@ cut_counted w c cs x digits n mark tail ends low (inl k) m e f = search (rules, 
 cut_counted w c cs x digits n mark tail ends low (inr k) m e f =
     (count_once w n mark x tail ends (mark_no_digit mark m) (sym e ∙ f ∙ ap (λ t. t ++ mark ∷ tail) k)).1
 
--- behind the length stands the string between marks that is not closed
+-- the string between marks that is not closed follows the length
 counted_open : (text : List ℕ) (at first number to : ℕ) → StandsAt text at first → IsDigit first → ReadsCount text at number to
     → (number ≡ 0) ⊎ Stops is_digit (drop to text) → IsUnclosedString (drop at text) → IsUnclosed (drop to text)
 counted_open text at first number to s low r ends u = search (rules, cut_open, cut_counted, ends_written)
@@ -157,7 +157,7 @@ without_mark s a (inr (inr h)) =
     let symbols = body_octets h.body a h.packed in
     record { front = 124 ∷ h.body; mark = 124; whole = h.spelled; unclosed = inr (inr (record { body = h.body; spelled = refl; symbols = symbols })) }
 
--- a length that is not the number of octets meant
+-- a length that is not that of the string between marks after it
 pub count_end : (text : List ℕ) (at first number to end : ℕ) (octets : List ℕ) → StandsAt text at first → IsDigit first → ReadsCount text at number to
     → (number ≡ 0) ⊎ Stops is_digit (drop to text) → Reads IsMarked text to octets end → IsPartEnd GoesString IsUnclosedString text at (Bad (end - 1))
 count_end text at first number to end octets s low r ends m =

@@ -1,5 +1,5 @@
--- The refusals of a text in advanced form, and of a text in either form. A text has at most one that speaks of its
--- form.
+-- The faults of a text in advanced form, and of a text in any form. A text has at most one of TooDeep, Short, Bad and
+-- Trailing.
 use Rattle.std.proofs.Common.{◌≡◌, ℕ, List, take, append-nil, rules, ◌+◌, ◌<◌, ◌≤◌, true, inl, inr, [], ◌∷◌, ◌++◌, length, drop, refl, sym, ap, ◌∙◌, arith, length-append, length-drop}
 use Rattle.std.proofs.lemmas.{Bool.{cases_lt, cases_Bool}, List.{drop-drop, take-append-le}}
 use Rattle.sexpr_core.specs.{declared.fault.FormFault.{FormFault, TheVariants.{TooDeep, Bad, Trailing}}, Value.{Value, plain}}
@@ -11,12 +11,12 @@ use Rattle.sexpr_text.specs.AdvancedForm.{IsSpelledWithin, Spells, IsText, IsTex
 use Rattle.sexpr_text.specs.Refusal.{GoesOn, GoesOnWithin, RefusesSpelling, IsSpelling, OpensBrace, RefusesText, IsSomeText}
 use Rattle.sexpr_text.proofs.{UnclosedStrings.{goes_front, goes_on_front, goes_anyhow}, WholeTexts.{brace_unspelled}}
 
--- ---- a text in advanced form has at most one refusal that speaks of its form
+-- ---- a text in advanced form has at most one of these faults
 
 spelled_goes : (text : List ℕ) (v : Value) → IsSpelledWithin text v → GoesOnWithin 64 text
 spelled_goes text v w = search (rules, append-nil text)
 
--- ---- the place at which nothing goes on
+-- ---- the first octet with which a text may not continue
 
 abbrev Stops : List ℕ → ℕ → Type 0
 Stops text at = StopsThere (GoesOnWithin 64) GoesOn text at
@@ -41,21 +41,19 @@ are_apart text = record {
   bad_trailing = λ at a b. a.2 b.1.0 b.1.1;
 }
 
--- ---- one refusal
+-- ---- at most one fault
 
 pub one_refusal : (text : List ℕ) (e f : FormFault) → IsOfForm e → IsOfForm f → RefusesSpelling text e → RefusesSpelling text f → e ≡ f
 one_refusal text = one_fault (GoesOnWithin 64) GoesOn (goes_front 64) (goes_anyhow 64) text (RefusesSpelling text) (are_apart text)
 
--- and none where the text is read
+-- a text that is read has none of them
 pub no_refusal : (text : List ℕ) (e : FormFault) (v : Value) → IsOfForm e → RefusesSpelling text e → IsSpelledWithin text v → ⊥
 no_refusal text e v p r w =
     let goes = spelled_goes text v w in
     no_fault (GoesOnWithin 64) GoesOn (goes_front 64) (goes_anyhow 64) text (RefusesSpelling text) (are_apart text) goes (λ s. s.1 v w)
     (λ d. d.2 (goes_part (GoesOnWithin 64) (goes_front 64) d.0 text goes)) e p r
 
--- ---- the refusals of a text in either form
-
--- ---- either form
+-- ---- texts that are spellings, and texts in braces
 
 no_form : (text : List ℕ) (v : Value) → IsText text v → (Spells text v → ⊥) → (Braced text v → ⊥) → ⊥
 no_form text v (inl m) spelled braced = spelled m
@@ -80,12 +78,12 @@ spaces_spell xs all = record {
   };
 }
 
--- an octet that is refused stands no earlier than the first that is no whitespace
+-- the octet at which a text is refused is not in the whitespace at its beginning
 behind_spaces : (T : List ℕ → Type 0) (text : List ℕ) (begin at : ℕ) → ((xs : List ℕ) → AreSpaces xs → Begins T xs) → Skips text 0 begin
     → (Begins T (take (at + 1) text) → ⊥) → begin ≤ at
 behind_spaces T text begin at spaces s never = search (rules, cases_lt, length-append, length-drop, take-append-le, spaces_front)
 
--- where a text opens no brace, what begins as it does is not braced
+-- if a text does not begin with a brace, octets that begin no spelling begin no text in braces
 no_braces : (text : List ℕ) (begin at : ℕ) → Skips text 0 begin → (((rest : List ℕ) × (drop begin text ≡ 123 ∷ rest)) → ⊥) → at < length text
     → (Begins IsSpelling (take (at + 1) text) → ⊥) → Begins IsSomeText (take (at + 1) text) → ⊥
 no_braces text begin at s unopened lt never b =
@@ -111,7 +109,7 @@ pub spelling_refused : (text : List ℕ) (begin : ℕ) (fault : FormFault) → S
 unfolding RefusesText
 spelling_refused text begin fault s unopened h = inr (λ o. unopened (o.rest, brace_found text begin s o), h)
 
--- where a text opens a brace, what begins as it does is no spelling
+-- if a text begins with a brace, octets that begin no text in braces begin no spelling
 no_spelling : (text rest : List ℕ) (begin at : ℕ) → Skips text 0 begin → drop begin text ≡ 123 ∷ rest → at < length text
     → (Begins IsBraced (take (at + 1) text) → ⊥) → Begins IsSomeText (take (at + 1) text) → ⊥
 no_spelling text rest begin at s e lt never b =
@@ -132,7 +130,7 @@ pub braces_refused : (text rest : List ℕ) (begin : ℕ) (fault : FormFault) �
 unfolding RefusesText
 braces_refused text rest begin fault s e h = inl (opens_brace text rest begin s e, h)
 
--- ---- no text of a value goes on at an octet that is refused
+-- ---- no text of a value begins with the octets up to one that is refused
 
 past_spaces : (text : List ℕ) (i : ℕ) (rest : List ℕ) → drop i text ≡ rest → Passed is_whitespace text 0 i → (to : ℕ) × Skips text 0 to
 past_spaces text i [] e s = (i, search rules)
@@ -153,7 +151,7 @@ bad_is_bad text at (inr h) =
     let s = past_spaces text 0 text refl (nothing_passed is_whitespace text 0 (omega arith)) in
     (h.1.0, no_braces text s.0 at s.1 (λ brace. h.0 (opens_brace text brace.0 s.0 s.1 brace.1)) h.1.0 (λ b. h.1.3 (inl b)))
 
--- ---- one refusal of a text in whichever form
+-- ---- a text in any form has at most one of these faults
 
 pub one_of_any : (text : List ℕ) (e f : FormFault) → IsOfForm e → IsOfForm f → RefusesText text e → RefusesText text f → e ≡ f
 unfolding RefusesText

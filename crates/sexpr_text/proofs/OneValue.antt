@@ -1,4 +1,4 @@
--- What spells a string or a value spells it alone, and ends in one place.
+-- A text spells at most one string or value, and determines where it ends.
 use Rattle.std.proofs.Common.{◌≡◌, ℕ, ◌==◌, ◌||◌, Bool, true, false, ◌⊎◌, inl, inr, List, [], ◌∷◌, ◌++◌, length, refl, sym, ap, subst, ◌∙◌, append_assoc, arith, rules, ◌<◌, nat_le, Some, None}
 use Rattle.std.proofs.lemmas.Bool.{or_cases, and_parts, eqb-true, leb-true, cases_Bool, agree_below_at, Decides.{nat_tests}}
 use Rattle.sexpr_core.specs.Value.{decimal, Value, Values, string, list, none, more, canon}
@@ -9,16 +9,16 @@ use Rattle.sexpr_text.specs.AdvancedForm.{is_digit, is_token_octet, IsToken, IsA
 use Rattle.sexpr_text.specs.Reads.{Stops}
 use Rattle.sexpr_text.proofs.Marked.{is_mark, marked_first, one_marked}
 
--- ---- a string without display hint is spelled in one way only
+-- ---- a text spells at most one string without a display hint
 
--- the first octet of a string's spelling: a token octet (digits are), or an opening mark
+-- the first octet of a string's spelling: an octet of a token, also a digit, or an opening mark
 abbrev pub is_string_start : ℕ → Bool
 is_string_start c = is_token_octet c || c == 34 || c == 35 || c == 124
 
 decimal_first : (n : ℕ) (cs : List ℕ) → (c : ℕ) × (ds : List ℕ) × (decimal n ++ cs ≡ c ∷ ds) × IsDigit c
 decimal_first n cs = let s = decimal_starts n in (s.digit, s.rest ++ cs, ap (λ t. t ++ cs) s.is, s.low)
 
--- digits, if there are some, and an opening mark
+-- a string between marks begins with a digit of its length or with its opening mark
 pub string_first : (count : List ℕ) (n mark : ℕ) (tail s : List ℕ) → IsCount count n → is_mark mark ≡ true → s ≡ count ++ mark ∷ tail
     → (c : ℕ) × (cs : List ℕ) × (s ≡ c ∷ cs) × (IsDigit c ⊎ (is_mark c ≡ true))
 string_first count n mark tail s (inl k) m e = (mark, tail, e ∙ ap (λ t. t ++ mark ∷ tail) k, inr m)
@@ -43,14 +43,14 @@ pub simple_first : (e : Bool) (s a : List ℕ) → Simple e s a → (c : ℕ) ×
 simple_first true s a h = token_first s a h.0 h.1
 simple_first false s a h = let f = cut_first s a h in (f.0, f.1, f.2, either_starts f.0 f.3)
 
--- ---- digits, and what stands behind them
+-- ---- digits, and what follows them
 
--- in verbatim form a colon and the octets, else a string between marks
+-- what follows the digits: in verbatim form a colon and the octets, otherwise a string between marks
 abbrev pub IsBehind : List ℕ → ℕ → List ℕ → List ℕ → Type 0
 IsBehind digits mark tail octets =
     ((mark ≡ 58) × (digits ≡ decimal (length octets)) × (tail ≡ octets)) ⊎ ((is_mark mark ≡ true) × IsCount digits (length octets) × IsMarked (mark ∷ tail) octets)
 
--- the spelling of a string that is no token, cut behind the digits with which it begins
+-- the spelling of a string that is no token, divided after the digits with which it begins
 pub record Cut (text octets : List ℕ) : Type 0 where
   pub digits : List ℕ
   pub mark : ℕ
@@ -98,7 +98,7 @@ pub token_other : (c : ℕ) → is_digit c ≡ false → is_token_octet c ≡ tr
 token_other c h k (inl d) = grind (arith, nat_tests)
 token_other c h k (inr m) = grind (arith, nat_tests)
 
--- where a token begins, no other string does
+-- an octet that begins a token begins no other string
 pub no_token : (c : ℕ) (cs t q b : List ℕ) → is_digit c ≡ false → is_token_octet c ≡ true → Simple false t b → c ∷ cs ≡ t ++ q → ⊥
 no_token c cs t q b h k l e = search (rules, cut_first t b l)
 
@@ -106,7 +106,7 @@ token_apart : (a r t q b : List ℕ) → IsToken a → Simple false t b → a ++
 token_apart [] r t q b h l e = absurd h
 token_apart (c ∷ cs) r t q b h l e = no_token c (cs ++ r) t q b h.0 h.1.0 l e
 
--- where a string's spelling stands, no other stands, and it ends in one place
+-- a text begins with at most one spelling of a string, and determines where it ends
 pub one_simple : (e f : Bool) (s r a t q b : List ℕ) → Simple e s a → IsApart e r → Simple f t b → IsApart f q → s ++ r ≡ t ++ q → (a ≡ b) × (r ≡ q)
 one_simple true true s r a t q b h k l m p =
     one_front is_token_octet a b r q (token_passes a h.1) (token_passes b l.1) (apart_stops r k) (apart_stops q m)
@@ -115,9 +115,7 @@ one_simple true false s r a t q b h k l m p = absurd (token_apart a r t q b h.1 
 one_simple false true s r a t q b h k l m p = absurd (token_apart b q s r a l.1 h (ap (λ u. u ++ q) (sym l.0) ∙ sym p))
 one_simple false false s r a t q b h k l m p = one_cut s r a t q b (cut s a h) (cut t b l) p
 
--- ---- what spells a value spells it alone, and ends in one place
-
--- ---- first octets
+-- ---- the first octet of a value
 
 abbrev pub is_value_start : ℕ → Bool
 is_value_start c = is_string_start c || c == 40 || c == 91
@@ -151,7 +149,7 @@ simple_visible e s a x m = search (rules, simple_first, start_visible, string_st
 pub value_visible : (e : Bool) (s x : List ℕ) (v : Value) → SpellsAs e s v → StartsVisible (s ++ x)
 value_visible e s x v m = search (rules, value_first, start_visible)
 
--- ---- what stands behind a token
+-- ---- what follows a token
 
 pub space_apart : (c : ℕ) → is_whitespace c ≡ true → is_token_octet c ≡ false
 space_apart c h = search (rules, agree_below_at, space_low)
@@ -237,7 +235,7 @@ mutual
       let i = one_members m.3 r n.3 q vs ws m.8 n.8 o.1 in
       (ap (λ k. more k vs) o.0 ∙ ap (more w) i.0, i.1)
 
--- whitespace may stand in front of members
+-- whitespace may precede members
 pub spaces_members : (spaces inside : List ℕ) (vs : Values) → AreSpaces spaces → SpellsMembers inside vs → SpellsMembers (spaces ++ inside) vs
 spaces_members spaces inside none h m = all-append IsSpace spaces inside h m
 spaces_members spaces inside (more v vs) h m =

@@ -1,5 +1,5 @@
--- What is printed for a value: what a sink takes in several calls, what is printed behind other octets, and that the
--- printed text spells the value, as the canonical text does.
+-- What is printed for a value: what a sink takes in several calls, what is printed after other octets, and that the printed
+-- text spells the value, as the canonical text does.
 use Rattle.std.proofs.Common.{◌≡◌, ℕ, List, ◌++◌, suc, ◌+◌, ◌%◌, ◌<◌, ◌≤◌, ◌==◌, ◌||◌, Bool, true, false, [], ◌∷◌, length, map, take, drop, take-append-drop, get_or, cond, Vec, Global, Some, refl, sym, ap, ◌∙◌, append_assoc, append-nil, arith, rules, not, None, subst, if◌then◌else◌, inl}
 use Rattle.std.proofs.lemmas.Bool.{cases_Bool, and_parts, or_cases, or_parts, not-true, eqb-true, eqb-false, Decides.{nat_tests}}
 use Rattle.std.proofs.lemmas.List.{map-append, take_more, take_all, length-take-le, length-map}
@@ -14,7 +14,7 @@ use Rattle.sexpr_text.specs.AdvancedForm.{IsToken, every, is_token, is_printable
 
 module _ {S : Type 0} (takes : S → List ℕ → S → Type 0)
     (both : (a b c : S) (x y : List ℕ) → takes a x b → takes b y c → takes a (x ++ y) c) where
-  -- two pieces that are together these octets
+  -- two pieces that are these octets together
   pub in_two : {a b c : S} {x y : List ℕ} (whole : List ℕ) → takes a x b → takes b y c → x ++ y ≡ whole → takes a whole c
   in_two {a} {b} {c} {x} {y} whole f g e = rw (← e) (both a b c x y f g)
 
@@ -22,7 +22,7 @@ module _ {S : Type 0} (takes : S → List ℕ → S → Type 0)
       → (x ++ y) ++ z ≡ whole → takes a whole d
   in_three {a} {b} {c} {d} {x} {y} {z} whole f g h e = rw (← e) (both a c d (x ++ y) z (both a b c x y f g) h)
 
--- ---- what is printed behind other octets
+-- ---- what is printed after other octets
 
 quoted_body-append : (xs ys : List ℕ) → quoted_body (xs ++ ys) ≡ quoted_body xs ++ quoted_body ys
 quoted_body-append [] ys = refl
@@ -61,7 +61,7 @@ adv_all-append n (v ∷ vs) ws = search (rules, append_assoc, adv_all-append (su
 pub gap_suc : (n : ℕ) → gap (suc n) ≡ 32 ∷ []
 gap_suc n = let e : (suc n == 0) ≡ false = grind (arith, nat_tests) in ap (λ b. cond b [] (32 ∷ [])) e
 
--- past the first member, each has a space before it
+-- each member after the first has a space before it
 pub past_first : (n : ℕ) (vs : Values) → adv_all (suc n) vs ≡ adv_all 1 vs
 past_first n none = refl
 past_first n (more v vs) =
@@ -94,9 +94,7 @@ pub hinted_whole : (atom : Atom) (hint : Vec ℕ Global) (hinted body : List ℕ
     → (91 ∷ (printed_string hinted ++ 93 ∷ [])) ++ printed_string body ≡ adv (atom_value atom)
 hinted_whole atom hint hinted body is h b = search (rules, append_assoc (printed_string hinted) (93 ∷ []) (printed_string body))
 
--- ---- what is printed for a value spells it
-
--- ---- tokens
+-- ---- the printed text spells the value: tokens
 
 all_pass : (test : ℕ → Bool) (xs : List ℕ) → every test xs ≡ true → AllByRecursion (λ k. test k ≡ true) xs
 all_pass test [] h = tt
@@ -108,7 +106,7 @@ token_meant (c ∷ cs) h =
     let p = and_parts (not (is_digit c)) (every is_token_octet (c ∷ cs)) h in
     (not-true (is_digit c) p.0, all_pass is_token_octet (c ∷ cs) p.1)
 
--- ---- quoted strings
+-- ---- the printed text spells the value: quoted strings
 
 -- the piece that is printed for an octet
 abbrev piece_of : ℕ → Piece
@@ -139,7 +137,7 @@ pieces_right (c ∷ cs) rest = (piece_right c (pieces_text (pieces_of cs) ++ res
 quoted : (octets : List ℕ) → IsQuoted (34 ∷ (quoted_body octets ++ 34 ∷ [])) octets
 quoted octets = search (rules, text_of, octets_of, pieces_right)
 
--- ---- strings
+-- ---- the printed text spells the value: strings
 
 packed : (octets : List ℕ) → IsBytes octets → IsPacked (124 ∷ (encode_of standard octets ++ 124 ∷ [])) octets
 packed octets h = record { body = encode_of standard octets; spelled = refl; packed = packed_encoded octets h }
@@ -150,9 +148,9 @@ marked octets h other = grind (arith, cases_Bool, printed_quoted, quoted, printe
 string_spelled : (octets : List ℕ) → IsBytes octets → Simple (is_token octets) (printed_string octets) octets
 string_spelled octets h = search (rules, cases_Bool, printed_token, token_meant, marked)
 
--- ---- values
+-- ---- the printed text spells the value: values
 
--- a string with a display hint, of its parts
+-- a string with a display hint, from its parts
 pub hinted_is : (ends as_token : Bool) (text hint octets inside hint_text behind_hint behind octets_text : List ℕ)
     → text ≡ 91 ∷ (inside ++ (hint_text ++ (behind_hint ++ 93 ∷ (behind ++ octets_text)))) → AreSpaces inside → Simple as_token hint_text hint
     → AreSpaces behind_hint → AreSpaces behind → Simple ends octets_text octets → IsHinted ends text hint octets
@@ -174,7 +172,7 @@ pub end_apart : (b : Bool) → IsApart b []
 end_apart true = tt
 end_apart false = tt
 
--- behind a member stands a space or nothing
+-- a space or nothing follows a member
 apart : (b : Bool) (n : ℕ) (vs : Values) → IsApart b (adv_all (suc n) vs)
 apart b n none = end_apart b
 apart b n (more v vs) =
@@ -204,7 +202,7 @@ printed_spelled v h = record {
   spaces_after = tt;
 }
 
--- what is printed behind nothing
+-- what is printed to an empty output
 pub all_spelled : (out text : List ℕ) (v : Value) → out ≡ [] → text ≡ out ++ adv v → HasOctets v → Spells text v
 all_spelled out text v begins e h = subst (λ t. Spells t v) (sym (e ∙ ap (λ s. s ++ adv v) begins)) (printed_spelled v h)
 

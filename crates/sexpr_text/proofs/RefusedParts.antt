@@ -1,4 +1,4 @@
--- A string or a value that is refused at an octet is refused so in each text that goes on up to it in the same way.
+-- A string or a value that is refused at an octet is refused there in each text with the same octets up to it.
 use Rattle.std.proofs.Common.{◌≡◌, ℕ, ◌+◌, ◌≤◌, Err, ◌⊎◌, List, refl, sym, subst, arith, rules, ◌≢◌, ◌<◌, inl, inr, Some, None, [], ◌∷◌, ◌++◌, drop, ap, ◌∙◌, append_assoc, ◌-◌, true, false, length}
 use Rattle.std.proofs.lemmas.Bool.Decides.{nat_tests}
 use Rattle.hex.specs.{declared.error.FromHexError.{FromHexError, TheVariants.{OutOfMemory}}, Hex.{decode_of, hex_digit_value}}
@@ -16,8 +16,6 @@ use Rattle.sexpr_text.proofs.WholeTexts.{hinted_at, behind_hint, hint_at, closin
 
 -- ---- refused hexadecimal strings
 
--- A hexadecimal string that is refused at an octet is refused so in each text that goes on up to it in the same way.
-
 keeps_too : (text other : List ℕ) (n at i : ℕ) (kept : List ℕ) → Agree text other n → i ≤ n + 1 → Keeps text at kept i → Keeps other at kept i
 keeps_too text other n at i kept a le k =
     search (rules, spelled_too text other n at i k.body a (omega (arith, k.ordered)) le k.spelled, long_too text other n a)
@@ -29,13 +27,13 @@ octet_stops text at i c kept k stands apart is = stops_here (DigitsStand at) tex
     (stands_too text other i i c a (omega arith) stands) apart (hexadecimal_octets w.body w.octets w.packed) w.spelled is in
     cc)
 
--- an octet that cannot stand in the body
+-- an octet that may not occur in the body
 pub octet_refused : (text : List ℕ) (at i c : ℕ) (kept : List ℕ) (fault : FormFault) → Keeps text at kept i → StandsAt text i c → (c ≡ 35 → ⊥)
     → IsNoHexadecimalOctet c i fault → RefusesPart (DigitsStand at) text at fault
 octet_refused text at i c kept (Bad n) k stands apart is = search (rules, octet_stops text at i c kept k stands apart (refl, is.1))
 octet_refused text at i c kept _ k stands apart is = search rules
 
--- the same of the whole string
+-- the same for the whole string
 pub body_refused : (text : List ℕ) (at : ℕ) (fault : FormFault) → StandsAt text at 35 → RefusesPart (DigitsStand (at + 1)) text (at + 1) fault
     → RefusesPart (Stands IsHexadecimal at) text at fault
 body_refused text at fault opens h = refused_later (Stands IsHexadecimal at) (DigitsStand (at + 1)) text at (at + 1) fault (omega arith) (λ other n a le w.
@@ -49,7 +47,7 @@ mark_stops text at i kept error opens k closes failed is = stops_here (Stands Is
     (keeps_too text other i (at + 1) i kept a (omega arith) k) (stands_too text other i i 35 a (omega arith) closes) w.meant w.spelled failed is in
     cc)
 
--- digits that are none of octets
+-- digits that cannot be decoded
 pub mark_refused : (text : List ℕ) (at i : ℕ) (kept : List ℕ) (error : FromHexError) (fault : FormFault) → StandsAt text at 35 → Keeps text (at + 1) kept i
     → StandsAt text i 35 → (error ≡ OutOfMemory) ⊎ (decode_of kept ≡ Err error) → IsDigitsFault error i fault → IsFaultAt i fault
     → RefusesPart (Stands IsHexadecimal at) text at fault
@@ -58,9 +56,7 @@ mark_refused text at i kept error (Bad n) opens k closes failed is there =
     (mark_stops text at i kept error opens k closes failed (subst (λ m. IsDigitsFault error i (Bad m)) there is))
 mark_refused text at i kept error _ opens k closes failed is there = search rules
 
--- ---- a quoted string that is refused at an octet is refused so in each text that goes on up to it in the same way
-
--- ---- digits
+-- ---- refused quoted strings: digits
 
 pub digit_refused : (text : List ℕ) (at c : ℕ) → StandsAt text at c → hex_digit_value c ≡ None → StopsAt (DigitStands at) text at at
 digit_refused text at c stands none = stops_here (DigitStands at) text at at (omega arith) stands.within (λ other a w.
@@ -76,7 +72,7 @@ octal_refused text at c stands other_octet = stops_here (OctalStands at) text at
     let same : c ≡ 48 + w.value = cc in
     omega (arith, w.low))
 
--- ---- escapes
+-- ---- refused quoted strings: escapes
 
 pub low_refused : (text : List ℕ) (at m : ℕ) (fault : FormFault) → ReadsDigit text at m → RefusesPart (DigitStands (at + 1)) text (at + 1) fault
     → RefusesPart (PieceStands (92 ∷ 120 ∷ []) at) text at fault
@@ -107,7 +103,7 @@ pub letter_refused : (text : List ℕ) (at c : ℕ) (fault : FormFault) → Stan
 letter_refused text at c (Bad k) stands r n x o h = search (rules, letter_stops text at c stands r n x o h.1)
 letter_refused text at c _ stands r n x o h = search rules
 
--- an octet stands in front
+-- the same for a part that begins one octet earlier
 pub piece_refused : (front text : List ℕ) (at c d : ℕ) (fault : FormFault) → StandsAt text at c → c ≡ d
     → RefusesPart (PieceStands (front ++ d ∷ []) (at + 1)) text (at + 1) fault → RefusesPart (PieceStands front at) text at fault
 piece_refused front text at c d fault stands is h =
@@ -116,7 +112,7 @@ piece_refused front text at c d fault stands is h =
     let e : front ++ drop at other ≡ front ++ d ∷ drop (at + 1) other = ap (λ t. front ++ t) (s.spelled ∙ ap (λ m. m ∷ drop (at + 1) other) is) in
     record { piece = w.piece; rest = w.rest; right = w.right; spelled = append_assoc front (d ∷ []) (drop (at + 1) other) ∙ sym e ∙ w.spelled }) h
 
--- ---- pieces
+-- ---- refused quoted strings: pieces
 
 starts_too : (d : ℕ) (x y : List ℕ) → SameHead x y → StartsOther d x → StartsOther d y
 starts_too d x y h s = subst (StartsOther d) (sym h.second_is) (subst (StartsOther d) h.first_is s)
@@ -137,15 +133,13 @@ quoted_refused text at i c octets fault opens r stands apart h =
     let k = left_next other i c w.rest _ _ l (stands_too text other n i c a le stands) apart in
     record { piece = k.0; rest = k.1; right = k.2; spelled = k.3 }) h
 
--- ---- a string that is refused at an octet is refused so in each text that goes on up to it in the same way
-
--- ---- faults without an octet
+-- ---- refused strings: faults that name no octet
 
 pub short_refused : (T : List ℕ → Type 0) (text : List ℕ) (at : ℕ) (fault : FormFault) → IsShort fault → RefusesPart T text at fault
 short_refused T text at (Bad k) h = absurd h
 short_refused T text at _ h = h
 
--- ---- what was read of a text was read of the other
+-- ---- what was read of a text is read of each text with the same octets up to there
 
 pub marked_too : (text other : List ℕ) (n at to : ℕ) (octets : List ℕ) → Agree text other n → to ≤ n + 1 → Reads IsMarked text at octets to → Reads IsMarked other at octets to
 marked_too text other n at to octets a le r =
@@ -159,7 +153,7 @@ pub ends_too : (text other : List ℕ) (n number to : ℕ) → Agree text other 
 ends_too text other n number to a le (inl z) = inl z
 ends_too text other n number to a le (inr s) = search (rules, same_head text other n to a le)
 
--- ---- between marks
+-- ---- refused strings: between marks
 
 pub quoted_missed : (text : List ℕ) (at c : ℕ) (fault : FormFault) → StandsAt text at c → c ≡ 34 → RefusesPart (Stands IsQuoted at) text at fault
     → RefusesPart (Stands IsMarked at) text at fault
@@ -193,7 +187,7 @@ mark_missed text at c opens p q r = stops_here (Stands IsMarked at) text at at (
     let g : false ≡ true = sym (no_mark c p q r) ∙ ap is_mark same ∙ f.3 in
     cc)
 
--- ---- with a length in front, or without
+-- ---- refused strings: with a length in front, or without
 
 pub marked_missed : (text : List ℕ) (at first number to c : ℕ) (fault : FormFault) → StandsAt text at first → IsDigit first → ReadsCount text at number to
     → (number ≡ 0) ⊎ Stops is_digit (drop to text) → StandsAt text to c → c ≢ 58 → RefusesPart (Stands IsMarked to) text to fault
@@ -204,7 +198,7 @@ marked_missed text at first number to c fault opens low r ends next apart h =
     (count_too text other n at number to a (omega arith) r) (ends_too text other n number to a le ends) (stands_too text other n to c a le next) apart w.stands in
     record { spelling = k.0; octets = w.octets; rest = w.rest; meant = k.1; spelled = k.2 }) h
 
--- a length that is not the number of octets meant
+-- a length that is not that of the string between marks after it
 pub count_missed : (text : List ℕ) (at first number to c end m : ℕ) (octets : List ℕ) → length text ≤ 1048576 → StandsAt text at first → IsDigit first
     → ReadsCount text at number to → (number ≡ 0) ⊎ Stops is_digit (drop to text) → StandsAt text to c → c ≢ 58 → Reads IsMarked text to octets end
     → m ≡ length octets → m ≢ number → StopsAt (StringStands at) text at (end - 1)
@@ -222,7 +216,7 @@ uncounted_missed text at c fault opens no_digit token h = refused_later (StringS
     let k = uncounted_stands other at c w.octets w.rest (stands_too text other n at c a le opens) no_digit token w.stands in
     record { spelling = k.0; octets = w.octets; rest = w.rest; meant = k.1; spelled = k.2 }) h
 
--- ---- with a hint
+-- ---- refused strings: with a hint
 
 pub hint_missed : (text : List ℕ) (at begin : ℕ) (fault : FormFault) → StandsAt text at 91 → Skips text (at + 1) begin → RefusesPart (StringStands begin) text begin fault
     → RefusesPart (ValueStands at) text at fault
@@ -253,7 +247,7 @@ body_missed text at begin to close next read fault opens s r t stands u h =
     let c = stands_too text other n close 93 a (omega (arith, u.ordered)) stands in
     search (rules, body_at other at close next w.rest v e c (skips_too text other n (close + 1) next a le u))) h
 
--- ---- a value that is refused at an octet is refused so in each text that goes on up to it in the same way
+-- ---- refused values
 
 later_value : (T U : List ℕ → Type 0) (text : List ℕ) (at i : ℕ) (fault : FormFault) → at ≤ i
     → ((other : List ℕ) (n : ℕ) → Agree text other n → i ≤ n → T other → U other) → IsValueFault U text i fault → IsValueFault T text at fault

@@ -1,4 +1,4 @@
--- Where an escape or a quoted string is refused, and what stands of it up to there.
+-- Where an escape or a quoted string is refused, and what of it was read up to there.
 use Rattle.std.proofs.Common.{◌≡◌, Result, Ok, Err, IfErr, ℕ, ◌+◌, ◌<◌, ◌≤◌, Bool, true, false, inl, inr, List, [], ◌∷◌, ◌++◌, length, drop, refl, sym, ap, subst, ◌∙◌, append_assoc, append-nil, length-append, arith, rules}
 use Rattle.std.specs.List.{AllByRecursion}
 use Rattle.sexpr_core.specs.{declared.fault.FormFault.{FormFault, TheVariants.{Short, Bad}}, Reading.{Passed, is_body_octet, StandsAt, StopsAt}}
@@ -8,12 +8,12 @@ use Rattle.sexpr_text.specs.{Reads.{ReadsDigit, is_hexadecimal_octet}, Refusal.{
 use Rattle.sexpr_text.specs.Inner.Begun.{Begun, From, IsPartEnd, IsFrontEnd, GoesPiece, GoesDigit}
 use Rattle.sexpr_text.proofs.{Marked.{are_on}, StringLaws.{ReadsPieces, last_text, are_more}}
 
--- what two clauses say of one fault
+-- what two clauses say of the same fault
 pub IfErr-both : {A B : Type 0} (r : Result A B) (P Q R : B → Type 0) → ((e : B) → P e → Q e → R e) → IfErr r P → IfErr r Q → IfErr r R
 IfErr-both (Ok a) P Q R on p q = tt
 IfErr-both (Err e) P Q R on p q = on e p q
 
--- ---- what goes on behind a part that was read
+-- ---- what may continue after a part that was read
 
 pub nothing_begun : (G : List ℕ → Type 0) (text : List ℕ) (at : ℕ) → G [] → at ≤ length text → Begun G text at at
 nothing_begun G text at g le = record { part = []; spelled = refl; goes = g; ordered = omega arith; within = le }
@@ -21,7 +21,7 @@ nothing_begun G text at g le = record { part = []; spelled = refl; goes = g; ord
 pub nothing_left : (G : List ℕ → Type 0) (text : List ℕ) (at : ℕ) → G [] → at ≤ length text → drop at text ≡ [] → Begun G text at (length text)
 nothing_left G text at g le e = subst (Begun G text at) (end_is text at e le) (nothing_begun G text at g le)
 
--- octets stand in front of a part
+-- other octets precede the part
 pub begun_later : (G H : List ℕ → Type 0) (text front : List ℕ) (at i to : ℕ) → at ≤ i → drop at text ≡ front ++ drop i text
     → ((part : List ℕ) → drop i text ≡ part ++ drop to text → G part → H (front ++ part)) → Begun G text i to → Begun H text at to
 begun_later G H text front at i to le e on b = search (rules, append_assoc)
@@ -46,7 +46,7 @@ part_later G H U V text front at i fault le e on step h = search (rules, end_lat
 
 -- ---- escapes
 
--- the octets `seen` of a piece, which these others could complete, stand in front of a digit
+-- the octets `seen` of a piece, which `rest` would complete, precede a digit
 digit_end : (front text seen rest : List ℕ) (at i : ℕ) (fault : FormFault) (p : Piece) → at ≤ i → drop at text ≡ seen ++ drop i text
     → ((behind : List ℕ) → IsPiece p behind) → front ++ (seen ++ rest) ≡ piece_text p → IsFrontEnd GoesDigit text i fault → IsFrontEnd (GoesPiece front) text at fault
 digit_end front text seen rest at i fault p le e right is h = search (rules, front_later, append-nil)
@@ -76,7 +76,7 @@ third_end text at d b fault low few s next h =
 pub letter_goes : GoesPiece (92 ∷ []) []
 letter_goes = record { piece = escaped 97 7; rest = 97 ∷ []; right = λ behind. refl; spelled = refl }
 
--- an octet stands in front
+-- an octet precedes the part
 pub octet_end : (front text : List ℕ) (at c d : ℕ) (fault : FormFault) → StandsAt text at c → c ≡ d
     → IsFrontEnd (GoesPiece (front ++ d ∷ [])) text (at + 1) fault → IsFrontEnd (GoesPiece front) text at fault
 octet_end front text at c d fault s is h =
@@ -85,7 +85,7 @@ octet_end front text at c d fault s is h =
 
 -- ---- quoted strings
 
--- pieces are right where a quote follows
+-- pieces are well formed before a quote
 closes : (ps : List Piece) (x : List ℕ) → ArePieces ps x → ArePieces ps (34 ∷ [])
 closes ps x h = are_on ps x (34 ∷ []) (λ s e. omega (arith, e)) (λ s e. omega (arith, e)) h
 
@@ -135,7 +135,7 @@ quoted_end text at i octets fault opens r h =
 
 -- ---- bodies
 
--- a body that has a wrong octet is none that is not closed
+-- octets with one that may not occur in a body are no beginning of a body
 pub body_fails : (p : ℕ → Bool) (text other : List ℕ) (at k c : ℕ) → Agree text other k → Passed p text at k → StandsAt text k c → p c ≡ false
     → AllByRecursion (λ d. p d ≡ true) (drop at other) → ⊥
 body_fails p text other at k c a b s f all =
@@ -146,7 +146,7 @@ body_fails p text other at k c a b s f all =
 other_marks : (m n : ℕ) (x y : List ℕ) → m ∷ x ≡ n ∷ y → (m ≡ n → ⊥) → ⊥
 other_marks m n x y e f = f (head_is m n x y e)
 
--- which of the three is not closed is seen in its opening mark
+-- the opening mark says which of the three kinds of string is not closed
 pub quoted_is : (x : List ℕ) → IsUnclosed (34 ∷ x) → OpensQuoted (34 ∷ x)
 quoted_is x (inl h) = h
 quoted_is x u = search (rules, other_marks)

@@ -1,12 +1,10 @@
--- What the reader of strings without display hint has read, octet by octet, and of quoted strings piece by piece.
+-- What the reader of strings without a display hint has read, octet by octet, and of quoted strings piece by piece.
 use Rattle.std.proofs.Common.{◌≡◌, ◌≢◌, ℕ, ◌+◌, ◌-◌, ◌*◌, ◌<◌, ◌≤◌, min, true, false, List, [], ◌∷◌, ◌++◌, length, drop, map, refl, sym, ap, subst, ◌∙◌, append_assoc, append-nil, arith, inl, inr, rules, Some, None, Option}
 use Rattle.std.specs.List.{AllByRecursion}
 use Rattle.sexpr_core.{specs.Reading.{StandsAt, ReadsBase64}, proofs.{Texts.{decimal_digit, all-append}, Steps.{more_capped, more_spelled}}}
 use Rattle.sexpr_text.specs.AdvancedForm.{is_digit, is_token_octet, IsToken, Piece, raw, escaped, octal, hexadecimal, line, line_pair, piece_text, piece_octets, StartsOther, IsPiece, pieces_text, pieces_octets, ArePieces, IsQuoted, IsPacked, IsMarked, escape_value}
 use Rattle.sexpr_text.specs.Reads.{Reads, ReadsPlain, ReadsPiece, ReadsToken, ReadsCount, ReadsEscape, ReadsDigit, IsLineEnd, escape_octets}
 use Rattle.sexpr_text.proofs.Marked.{Left, left_pieces, are_followed, behind_opening}
-
--- ---- strings without display hint, octet by octet
 
 -- ---- tokens
 
@@ -76,7 +74,7 @@ pub are_more : (ps : List Piece) (p : Piece) (x rest : List ℕ) → ArePieces p
 are_more [] p x rest h e right = (right, tt)
 are_more (q ∷ qs) p x rest h e right = search (rules, last_text qs p rest, are_more qs p x rest h.1 e right)
 
--- pieces of a quoted string, one behind the other
+-- pieces of a quoted string, one after the other
 pub record ReadsPieces (text : List ℕ) (at : ℕ) (octets : List ℕ) (to : ℕ) : Type 0 where
   pub pieces : List Piece
   pub spelled : drop at text ≡ pieces_text pieces ++ drop to text
@@ -105,7 +103,7 @@ quoted_read text at i octets opens r closes = record {
   within = omega (arith, closes.within);
 }
 
--- ---- quoted strings of octets that stand for themselves
+-- ---- quoted strings whose octets all mean themselves
 
 pub nothing_plain : (text : List ℕ) (at : ℕ) → at ≤ length text → ReadsPlain text at [] at
 nothing_plain text at h = record { spelled = refl; plain = tt; ordered = omega arith; within = h }
@@ -134,9 +132,7 @@ plain_quoted text at end c octets opens r closes e =
     }
     (subst (StandsAt text end) e closes)
 
--- ---- what the reader of quoted strings has read, piece by piece
-
--- ---- octets one behind the other
+-- ---- quoted strings: octets one after the other
 
 stands_two : (text : List ℕ) (at a b : ℕ) → StandsAt text at a → StandsAt text (at + 1) b → drop at text ≡ a ∷ b ∷ drop (at + 2) text
 stands_two text at a b h k = search rules
@@ -145,7 +141,7 @@ stands_three : (text : List ℕ) (at a b c : ℕ) → StandsAt text at a → Sta
     → drop at text ≡ a ∷ b ∷ c ∷ drop (at + 3) text
 stands_three text at a b c h k l = search (rules, stands_two)
 
--- what stands behind an octet of a spelling
+-- what follows an octet of a spelling
 pub second_octet : (text : List ℕ) (at a b : ℕ) (rest : List ℕ) → StandsAt text at a → drop at text ≡ b ∷ rest → drop (at + 1) text ≡ rest
 second_octet text at a b rest h e = let k : a ∷ drop (at + 1) text ≡ b ∷ rest = sym h.spelled ∙ e in cc
 
@@ -161,9 +157,9 @@ starts_seen text i c d h n = subst (StartsOther d) (sym h.spelled) n
 pub starts_ended : (text : List ℕ) (i d : ℕ) → drop i text ≡ [] → StartsOther d (drop i text)
 starts_ended text i d e = subst (StartsOther d) (sym e) tt
 
--- ---- escapes
+-- ---- quoted strings: escapes
 
--- the rest of an escape, of its parts
+-- the rest of an escape, from its parts
 escape_is : (front text : List ℕ) (at to : ℕ) (octet : Option ℕ) (p : Piece) → front ++ drop at text ≡ piece_text p ++ drop to text
     → piece_octets p ≡ escape_octets octet → IsPiece p (drop to text) → at < to → to ≤ length text → ReadsEscape front text at octet to
 escape_is front text at to octet p e m r f w = search rules
@@ -202,13 +198,13 @@ octal_escape text at a b c low h k l =
     escape_is (92 ∷ []) text at (at + 3) (Some (a * 64 + b * 8 + c)) (octal a b c)
     (ap (λ t. 92 ∷ t) (stands_three text at (48 + a) (48 + b) (48 + c) h k.1 l.1)) refl (low, k.0, l.0) (omega arith) (omega (arith, l.1.within))
 
--- ---- pieces
+-- ---- quoted strings: pieces
 
 pub raw_piece : (text : List ℕ) (at c : ℕ) (old new : List ℕ) → StandsAt text at c → c ≢ 34 → c ≢ 92 → new ≡ old ++ c ∷ [] → ReadsPiece text at old new (at + 1)
 raw_piece text at c old new h n m e =
     record { piece = raw c; spelled = h.spelled; meant = e; right = (n, m); forward = omega arith; within = omega (arith, h.within) }
 
--- what is left of the string that stands at the opening quote
+-- the pieces that are still to be read of the string at the opening quote
 pub quoted_left : (text : List ℕ) (at i : ℕ) (octets s a rest : List ℕ) → StandsAt text at 34 → (r : ReadsPieces text (at + 1) octets i) → (q : IsQuoted s a)
     → drop at text ≡ s ++ rest → Left (drop i text) rest (pieces_octets r.pieces) (pieces_octets q.pieces)
 quoted_left text at i octets s a rest opens r q e =

@@ -1,5 +1,5 @@
--- Values and lists, from one offset of a text to another. They are read in the same way of each other text that goes
--- on so far, and one octet further, in the same way.
+-- Values and lists between two offsets of a text. The same is read of each other text that has the same octets up to there,
+-- and the same octet after them.
 use Rattle.std.proofs.Common.{ℕ, ◌≤◌, Bool, true, false, List, drop, sym, subst, arith, ◌≡◌, suc, ◌+◌, ◌<◌, max, [], ◌∷◌, ◌++◌, length, map, Some, None, Vec, Global, refl, ap, ◌∙◌, append_assoc, rules}
 use Rattle.std.proofs.lemmas.List.{map-append}
 use Rattle.sexpr_core.specs.Value.{Value, sexp_value, Values, string, list, none, more, values, depth, depths}
@@ -13,8 +13,7 @@ use Rattle.sexpr_text.proofs.{Beginnings.{goes_spaces, goes_first}, UnclosedStri
 
 -- ---- strings and values, read of longer texts
 
--- A string or a value that was read of a text was read of each other text that goes on so far, and one octet further,
--- in the same way.
+-- What was read of a text is read of each other text that has the same octets up to there, and the same octet after them.
 
 apart_too : (ends : Bool) (x y : List ℕ) → SameHead x y → IsApart ends x → IsApart ends y
 apart_too false x y h s = tt
@@ -32,9 +31,7 @@ value_too room text other n at to v a le r =
     let apart = apart_too r.stands.ends_token (drop to text) (drop to other) (same_head text other n to a le) r.stands.apart in
     search (rules, s, apart, long_too text other n a)
 
--- ---- values and lists, from one offset of a text to another
-
--- ---- which sort of value begins with an octet
+-- ---- the kind of a value, by its first octet
 
 pub octet_is : (text : List ℕ) (at c d : ℕ) (x : List ℕ) → StandsAt text at c → drop at text ≡ d ∷ x → c ≡ d
 octet_is text at c d x stands e = let q : c ∷ drop (at + 1) text ≡ d ∷ x = sym stands.spelled ∙ e in cc
@@ -51,14 +48,14 @@ pub string_at : (room : ℕ) (text : List ℕ) (at c : ℕ) (v : Value) (rest : 
 string_at room text at c (string None octets) rest stands group hinted h = search rules
 string_at room text at c v rest stands group hinted h = absurd (search (rules, octet_is, hinted_text, list_text))
 
--- what was read is the value that stands there
+-- the value that was read is the one at this offset
 pub same_value : (room most : ℕ) (text : List ℕ) (at to : ℕ) (v w : Value) (rest : List ℕ) → ReadsValue room text at v to → ValueAt most text at w rest
     → (v ≡ w) × (drop to text ≡ rest)
 same_value room most text at to v w rest r h = search (rules, one_spelling)
 
 -- ---- lists
 
--- behind an opening parenthesis stand the members of a list
+-- the members of a list follow an opening parenthesis
 pub inside_list : (room less : ℕ) (text : List ℕ) (at : ℕ) (v : Value) (rest : List ℕ) → StandsAt text at 40 → room ≤ suc less → ValueAt room text at v rest
     → (vs : Values) × (0 < room) × MembersAt less text (at + 1) vs rest
 inside_list room less text at (string None octets) rest stands le h = absurd (search (rules, simple_differs))
@@ -115,7 +112,7 @@ members_behind room text at to (more v vs) rest s h =
       fits = h.fits;
     }
 
--- a value and members behind it
+-- a value and the members after it
 more_members_at : (room : ℕ) (text : List ℕ) (at to : ℕ) (v : Value) (vs : Values) (rest : List ℕ) → ReadsValue room text at v to → MembersAt room text to vs rest
     → MembersAt room text at (more v vs) rest
 more_members_at room text at to v vs rest r h = record {
@@ -135,7 +132,7 @@ more_members_at room text at to v vs rest r h = record {
   fits = let a : depth v ≤ room = r.stands.fits in let b : depths vs ≤ room = h.fits in omega arith;
 }
 
--- members that begin with a value, as it stands in the text
+-- members that begin with a value, as they are in the text
 pub record FilledAt (room : ℕ) (text : List ℕ) (at : ℕ) (rest : List ℕ) : Type 0 where
   pub first : Value
   pub others : Values
@@ -144,7 +141,7 @@ pub record FilledAt (room : ℕ) (text : List ℕ) (at : ℕ) (rest : List ℕ) 
   pub meant : SpellsMembers behind others
   pub fits : depths others ≤ room
 
--- members stand where no closing parenthesis stands: there is a first one
+-- where no closing parenthesis is, there is a first member
 pub filled_at : (room : ℕ) (text : List ℕ) (at c : ℕ) (vs : Values) (rest : List ℕ) → StandsAt text at c → (c ≡ 41 → ⊥) → StartsVisible (drop at text)
     → MembersAt room text at vs rest → FilledAt room text at rest
 filled_at room text at c none rest stands other visible h =
@@ -157,9 +154,9 @@ filled_at room text at c (more v vs) rest stands other visible h =
     let deep : max (depth v) (depths vs) ≤ room = h.fits in
     search (rules, apart_append)
 
--- Members were read from an offset up to another: whatever members stand there stand behind them, and whatever
--- members stand at the first offset go on there, also in each other text that goes on so far in the same way. The same
--- of what begins members, and of members that end inside a string.
+-- Members were read from one offset up to another. Further members at the second offset are then members from the first
+-- offset on, and members from the first offset on continue at the second, also in each other text with the same octets
+-- up to there. The same holds for beginnings of members, and for members that end inside a string.
 pub record HasMembers (room : ℕ) (text : List ℕ) (at i : ℕ) (vs : Values) : Type 0 where
   pub ordered : at ≤ i
   pub within : i ≤ length text
@@ -173,7 +170,7 @@ pub record HasMembers (room : ℕ) (text : List ℕ) (at i : ℕ) (vs : Values) 
   pub onward : (most : ℕ) → room ≤ most → (x y : List ℕ) → drop i text ≡ x ++ y → GoesMembers most x → GoesMembers most (front ++ x)
   pub unclosed : (other : List ℕ) (n : ℕ) → Agree text other n → i ≤ n → (most : ℕ) → AreUnclosedMembers most (drop at other) → AreUnclosedMembers most (drop i other)
 
--- members that end inside a string, past whitespace
+-- members that end inside a string, after whitespace
 past_spaces : (most : ℕ) (text : List ℕ) (at to : ℕ) → Skips text at to → AreUnclosedMembers most (drop at text) → AreUnclosedMembers most (drop to text)
 past_spaces most text at to s u = spaces_gone u.items u.unclosed u.few
   where
@@ -185,7 +182,7 @@ past_spaces most text at to s u = spaces_gone u.items u.unclosed u.few
         let p = one_end s.spaces k.0 (drop to text) (k.2 ++ k.3) s.are_spaces k.5 s.ends (value_visible k.1 k.2 k.3 v k.6) (sym s.spelled ∙ k.4) in
         record { items = more v vs; lists = u.lists; few = few; fits = u.fits; unclosed = ([], k.1, k.2, k.3, p.1, tt, k.6, k.7, k.8) }
 
--- and past a value that was read
+-- the same after a value that was read
 past_value : (room most : ℕ) (text : List ℕ) (at to : ℕ) (v : Value) → ReadsValue room text at v to → StartsVisible (drop at text)
     → AreUnclosedMembers most (drop at text) → AreUnclosedMembers most (drop to text)
 past_value room most text at to v r visible u = value_gone u.items u.unclosed u.few
@@ -206,7 +203,7 @@ past_value room most text at to v r visible u = value_gone u.items u.unclosed u.
           unclosed = subst (UnclosedMembers (UnclosedValue u.lists) ws) (sym o.1) k.8;
         }
 
--- a value and the whitespace behind it
+-- a value and the whitespace after it
 value_text : (room : ℕ) (text : List ℕ) (at to next : ℕ) (v : Value) → (r : ReadsValue room text at v to) → (s : Skips text to next)
     → drop at text ≡ (r.stands.spelling ++ s.spaces) ++ drop next text
 value_text room text at to next v r s = search (rules, append_assoc r.stands.spelling s.spaces (drop next text))

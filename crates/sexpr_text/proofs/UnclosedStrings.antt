@@ -1,5 +1,5 @@
--- Strings and values that end inside a string between marks: none stands where a whole one stands, and what goes on
--- goes on at each octet before.
+-- Strings and values that end inside a string between marks: where one is whole, none is unclosed, and if octets may
+-- continue, so may each beginning of them.
 use Rattle.std.proofs.Common.{◌≡◌, ℕ, ◌<◌, Bool, true, false, ◌⊎◌, inl, inr, List, [], ◌∷◌, ◌++◌, length, Some, None, refl, sym, ap, subst, ◌∙◌, append_assoc, append-nil, length-append, arith, rules, ◌≤◌, max}
 use Rattle.std.proofs.lemmas.Bool.Decides.{nat_tests}
 use Rattle.sexpr_core.proofs.{Texts.{IsDigit, parts_agree, head_is, fails_among, tail_is, all_front}, Spans.{one_end}, BraceRefusals.{two_cuts}}
@@ -13,9 +13,7 @@ use Rattle.sexpr_text.proofs.OneValue.{is_string_start, IsBehind, Cut, cut, one_
 use Rattle.sexpr_text.proofs.Beginnings.{count_begins, string_part, hint_part, body_part, list_part, member_part, spaces_part, first_part, hinted_unclosed}
 use Rattle.sexpr_text.proofs.Marked.{is_mark, one_quoted, closed}
 
--- ---- where a string or a value stands whole, none stands that ends inside a string between marks
-
--- ---- between marks
+-- ---- where a string is whole, none is unclosed: between marks
 
 inside_mark : (m : ℕ) (s body r t zs : List ℕ) → s ≡ m ∷ (body ++ m ∷ []) → t ≡ m ∷ zs → s ++ r ≡ t → body ++ m ∷ r ≡ zs
 inside_mark m s body r t zs e f h = search (rules, closed)
@@ -46,7 +44,7 @@ unclosed_first t (inr (inr h)) = (124, h.body, h.spelled, refl)
 
 -- ---- with a length in front, or without
 
--- a string that is not closed, cut behind the digits with which it begins
+-- a string that is not closed, divided after the digits with which it begins
 pub record CutOpen (text : List ℕ) : Type 0 where
   pub digits : List ℕ
   pub number : ℕ
@@ -89,7 +87,7 @@ pub unclosed_simple : (ends : Bool) (s r a t : List ℕ) → Simple ends s a →
 unclosed_simple true s r a t h k e = unclosed_token a r t h.1 k (ap (λ u. u ++ r) (sym h.0) ∙ e)
 unclosed_simple false s r a t h k e = unclosed_cut s r a t (cut s a h) (cut_open t k) e
 
--- ---- with a hint, and in lists
+-- ---- where a value is whole, none is unclosed: with a hint, and in lists
 
 unclosed_start : (t : List ℕ) → IsUnclosedString t → (c : ℕ) × (cs : List ℕ) × (t ≡ c ∷ cs) × (is_string_start c ≡ true)
 unclosed_start t h = let f = unclosed_string_first t h in (f.0, f.1, f.2, either_starts f.0 f.3)
@@ -110,7 +108,7 @@ unclosed_value_first (vs ∷ inner) t h = (40, h.0, h.1, refl)
 pub unclosed_value_visible : (lists : List Values) (t : List ℕ) → UnclosedValue lists t → StartsVisible t
 unclosed_value_visible lists t h = search (rules, unclosed_value_first, start_visible)
 
--- an octet that begins no string begins none that is not closed
+-- an octet that begins no string begins no string that is not closed
 pub unclosed_string_differs : (t x : List ℕ) (d : ℕ) → IsUnclosedString t → is_string_start d ≡ false → t ≡ d ∷ x → ⊥
 unclosed_string_differs t x d h other e =
     let f = unclosed_start t h in
@@ -183,11 +181,9 @@ mutual
       let o = one_spelling m.1 k.1 m.2 (m.3 ++ 41 ∷ r) k.2 k.3 v w m.6 (apart_append m.1 m.3 r 41 m.7 refl) k.6 k.7 p.1 in
       unclosed_members m.3 r vs ws inner k.3 m.8 k.8 o.1
 
--- ---- what stands in front of a string that is not closed, and that what goes on goes on at each octet before
+-- ---- what precedes a string that is not closed
 
--- ---- what stands in front of the string that is not closed
-
--- A text of U is octets that begin one of P, and a string that is not closed; any other may stand there.
+-- A text of U is octets that begin one of P, and a string that is not closed. Any other such string may follow these octets.
 pub record Closing (P U : List ℕ → Type 0) (t : List ℕ) : Type 0 where
   pub front : List ℕ
   pub marked : List ℕ
@@ -199,7 +195,7 @@ pub record Closing (P U : List ℕ → Type 0) (t : List ℕ) : Type 0 where
 closing_string : (t : List ℕ) → IsUnclosedString t → Closing IsStringPart IsUnclosedString t
 closing_string t h = search (rules, count_begins)
 
--- the same of a text with octets in front
+-- the same for a text with octets before it
 closing_behind : (P Q U V : List ℕ → Type 0) (pre x t : List ℕ) (k : Closing P U x) → t ≡ pre ++ x
     → ((m : List ℕ) → IsUnclosed m → U (k.front ++ m) → V (pre ++ (k.front ++ m))) → (Begins P k.front → Begins Q (pre ++ k.front)) → Closing Q V t
 closing_behind P Q U V pre x t k e on begin = record {
@@ -232,7 +228,7 @@ closing_atom room t (inr (inr h)) =
 mark_apart : (c : ℕ) → is_mark c ≡ true → is_token_octet c ≡ false
 mark_apart c h = grind (arith, nat_tests)
 
--- what stands behind a token stands behind it whichever string that is not closed ends it
+-- if one string that is not closed may follow a token, so may any other
 apart_filled : (ends : Bool) (front marked m : List ℕ) → IsApart ends (front ++ marked) → IsUnclosed m → IsApart ends (front ++ m)
 apart_filled false front marked m h u = tt
 apart_filled true [] marked m h u = let f = unclosed_first m u in subst (IsApart true) (sym f.2) (mark_apart f.0 f.3)
@@ -273,7 +269,7 @@ closing_text room t h =
     (λ m i u. record { before = h.before; value = k.front ++ m; lists = h.lists; parts = refl; spaces_before = h.spaces_before; fits = h.fits; unclosed = u })
     (λ b. value_begins room h.before k.front h.spaces_before b)
 
--- ---- what goes on goes on at each octet before
+-- ---- if octets may continue, so may each beginning of them
 
 unclosed_front : (c : ℕ) (cs y : List ℕ) → IsUnclosed ((c ∷ cs) ++ y) → IsUnclosed (c ∷ cs)
 unclosed_front c cs y (inl h) = inl (record {

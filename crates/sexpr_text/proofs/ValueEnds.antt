@@ -1,4 +1,4 @@
--- Where a value is refused, and what stands of it up to there.
+-- Where a value is refused, and what of it was read up to there.
 use Rattle.std.proofs.Common.{◌≡◌, ◌≢◌, ℕ, suc, ◌+◌, ◌-◌, ◌<◌, ◌≤◌, max, Bool, true, ◌⊎◌, inl, inr, List, [], ◌∷◌, ◌++◌, length, drop, refl, sym, ap, subst, ◌∙◌, append_assoc, append-nil, arith, rules}
 use Rattle.std.proofs.lemmas.List.{take_at}
 use Rattle.sexpr_core.specs.declared.fault.FormFault.{FormFault, TheVariants.{TooDeep, Short, Bad, Memory}}
@@ -13,7 +13,7 @@ use Rattle.sexpr_text.proofs.{OneValue.{one_simple, simple_visible, apart_append
 use Rattle.sexpr_text.proofs.MarkedEnds.{none_string}
 use Rattle.sexpr_text.proofs.UnclosedStrings.{unclosed_simple, unclosed_visible, unclosed_string_differs, unclosed_value_visible}
 
--- a text that goes on so far in the same way has no such part
+-- a text with the same octets up to k has no such part
 stops_other : (T : List ℕ → Type 0) (text : List ℕ) (at k : ℕ) (other : List ℕ) → Agree text other k → StopsAt T text at k → T other → ⊥
 stops_other T text at k other a s w = search (rules, take_at)
 

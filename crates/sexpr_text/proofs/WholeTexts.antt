@@ -1,5 +1,5 @@
--- Hinted strings, and whole texts in either form: from a value that is read, that is refused, or that has octets
--- behind it, to what is said of the whole text.
+-- Hinted strings, and whole texts in either form: from a value that was read or refused, or that octets follow, to what is
+-- said of the whole text.
 use Rattle.std.proofs.Common.{◌≡◌, ℕ, ◌+◌, ◌≤◌, Bool, List, ◌∷◌, ◌++◌, length, drop, take, Some, None, refl, sym, ap, ◌∙◌, append_assoc, arith, inl, inr, length-append, length-drop, rules, ◌<◌, true, false, [], subst, append-nil}
 use Rattle.std.proofs.lemmas.{List.{take_at, take-append-drop, take_all}, Bool.{cases_Bool}}
 use Rattle.sexpr_core.specs.Value.{Value, string, list, depth}
@@ -16,11 +16,9 @@ use Rattle.sexpr_text.proofs.Trees.{octet_is, value_too, same_value}
 use Rattle.sexpr_text.proofs.{UnclosedStrings.{value_begins, goes_anyhow, unclosed_value, unclosed_value_visible}, StringLaws.{token_grows}}
 use Rattle.sexpr_text.proofs.Printed.{hinted_is}
 
--- ---- hinted strings, and whole texts in either form
-
 -- ---- hinted strings
 
--- a hinted string stands at an offset, and these octets behind it
+-- a hinted string is at an offset, and these octets follow it
 pub record HintedAt (text : List ℕ) (at : ℕ) (rest : List ℕ) : Type 0 where
   pub ends_token : Bool
   pub spelling : List ℕ
@@ -43,7 +41,7 @@ hinted_at room text at (string (Some hint) octets) rest stands h = record {
 }
 hinted_at room text at (list vs) rest stands h = search (rules, octet_is, list_text)
 
--- the octets behind the hint of such a string
+-- the octets after the hint of such a string
 abbrev pub behind_hint : (text : List ℕ) (at : ℕ) (rest : List ℕ) → HintedAt text at rest → List ℕ
 behind_hint text at rest h = h.meant.behind_hint ++ 93 ∷ (h.meant.behind ++ (h.meant.octets_text ++ rest))
 
@@ -94,39 +92,37 @@ hinted_read text at begin to close next end hint octets opens s r t closes u q =
 
 -- ---- the whole text
 
--- a value that a text spells, of whatever depth
+-- a value that a text spells, at any depth
 pub spelled_at : (text : List ℕ) (begin : ℕ) (v : Value) → Skips text 0 begin → (m : Spells text v) → ValueAt (depth v) text begin v m.after
 spelled_at text begin v s m = search (rules, one_end, value_visible, spaces_apart)
 
 pub whole_at : (text : List ℕ) (begin : ℕ) (v : Value) → Skips text 0 begin → (w : IsSpelledWithin text v) → ValueAt 64 text begin v w.spelling.after
 whole_at text begin v s w = search (rules, spelled_at text begin v s w.spelling)
 
--- the octets up to an offset, where a value and whitespace stand
+-- the octets up to an offset spell the value that was read, if only whitespace follows it
 pub front_read : (text : List ℕ) (begin to k : ℕ) (v : Value) → length text ≤ 1048576 → Skips text 0 begin → ReadsValue 64 text begin v to → Skips text to k
     → IsSpelledWithin (take k text) v
 front_read text begin to k v short s r t = search (rules, append_assoc, length-append, length-drop, take_at)
 
--- ---- either form
+-- ---- texts that are spellings, and texts in braces
 
--- a text that begins with a brace, past whitespace, spells no value
+-- a text that begins with a brace after its whitespace spells no value
 pub brace_unspelled : (text rest : List ℕ) (begin : ℕ) (v : Value) → Skips text 0 begin → drop begin text ≡ 123 ∷ rest → Spells text v → ⊥
 brace_unspelled text rest begin v s e m =
     let h = spelled_at text begin v s m in
     value_differs h.ends_token h.spelling m.after rest v 123 h.meant refl (sym h.spelled ∙ e)
 
--- and is braced if it is a text at all
+-- it braces the value if it is a text of one
 pub braced_text : (text rest : List ℕ) (begin : ℕ) (v : Value) → Skips text 0 begin → drop begin text ≡ 123 ∷ rest → IsTextWithin text v → IsBracedWithin text v
 braced_text text rest begin v s e (inl w) = absurd (brace_unspelled text rest begin v s e w.spelling)
 braced_text text rest begin v s e (inr w) = w
 
--- and one that does not is spelled
+-- a text that does not begin with a brace spells its value
 pub spelled_text : (text : List ℕ) (begin : ℕ) (v : Value) → Skips text 0 begin → (((rest : List ℕ) × (drop begin text ≡ 123 ∷ rest)) → ⊥) → IsTextWithin text v → IsSpelledWithin text v
 spelled_text text begin v s other (inl w) = w
 spelled_text text begin v s other (inr w) = absurd (other (w.braced.body ++ 125 ∷ w.braced.after, opening text begin v s w.braced))
 
--- ---- from a value that is refused, or has octets behind it, to what is said of the whole text
-
--- ---- what goes on
+-- ---- octets that may continue
 
 text_is : (text : List ℕ) (begin to : ℕ) (s : Skips text 0 begin) (part : List ℕ) → drop begin text ≡ part ++ drop to text → to ≤ length text → take to text ≡ s.spaces ++ part
 text_is text begin to s part e le = search (rules, front_is, append_assoc)
@@ -146,13 +142,13 @@ goes_whole room text begin to s b = subst (GoesOnWithin room) (sym (text_is text
       unclosed = u.unclosed;
     })
 
--- the value of a text that is not closed stands past whitespace
+-- in a text that is not closed the value that is not closed follows the whitespace
 unclosed_at : (room : ℕ) (text : List ℕ) (begin : ℕ) → Skips text 0 begin → IsUnclosedText room text → IsUnclosedValue room (drop begin text)
 unclosed_at room text begin s u = search (rules, one_end, unclosed_value_visible)
 
--- ---- a whole value in front of an octet
+-- ---- a whole value before an octet
 
--- a token goes on with an octet of one
+-- a token may continue with an octet that may occur in a token
 grows : (s : List ℕ) (v : Value) (c : ℕ) → SpellsAs true s v → is_token_octet c ≡ true → (w : Value) × SpellsAs true (s ++ c ∷ []) w
 grows s (string None a) c m t = (string None (a ++ c ∷ []), (ap (λ x. x ++ c ∷ []) m.0, token_grows a c m.1 t))
 grows s (string (Some g) a) c m t = (
@@ -162,7 +158,7 @@ grows s (string (Some g) a) c m t = (
 )
 grows s (list vs) c m t = let f : true ≡ false = m.1 in absurd cc
 
--- an octet stands behind a spelling with which it begins none: it stands apart
+-- if a spelling and one more octet begin no spelling, the octet is apart from the spelling
 apart_behind : (ends : Bool) (before middle after : List ℕ) (v : Value) (c : ℕ) (x : List ℕ) → AreSpaces before → SpellsAs ends middle v → AreSpaces after
     → (IsSpelling ((before ++ (middle ++ after)) ++ c ∷ []) → ⊥) → IsApart ends (after ++ c ∷ x)
 apart_behind false before middle after v c x s m t never = tt
@@ -186,7 +182,7 @@ apart_behind true before middle [] v c x s m t never = elim (cases_Bool (is_toke
   | inr e ↦ e
 ]
 
--- a value that the octets before an offset spell stands in the text
+-- the value that the octets before an offset spell is in the text
 whole_before : (text : List ℕ) (begin k c : ℕ) (v : Value) → Skips text 0 begin → StandsAt text k c → (IsSpelling (take (k + 1) text) → ⊥) → IsSpelledWithin (take k text) v
     → (rest : List ℕ) × ValueAt 64 text begin v rest
 whole_before text begin k c v s stands never w =
@@ -248,7 +244,7 @@ value_refused text begin (Bad k) s h b only whole =
     )
 value_refused text begin _ s h b only whole = search rules
 
--- ---- an octet behind the value
+-- ---- an octet after the value
 
 trailing_stops : (text : List ℕ) (begin to k : ℕ) (v : Value) → Skips text 0 begin → ReadsValue 64 text begin v to → Skips text to k → k < length text
     → GoesOn (take (k + 1) text) → ⊥

@@ -1,4 +1,4 @@
--- Each call is given less text.
+-- Termination: each call has less text than its caller.
 use Rattle.std.proofs.Common.{◌≡◌, ◌≤◌, ℕ, ◌+◌, ◌*◌, List, ◌∷◌, ◌++◌, length}
 use Rattle.sexpr_core.specs.Value.{Values, canons}
 use Rattle.sexpr_text.proofs.Converted.{IsInMembers}

@@ -1,4 +1,4 @@
--- Each list that opens leaves room for one less.
+-- Termination: each list that opens leaves room for one list less.
 use Rattle.std.{proofs.Common.{◌+◌, ◌*◌, ◌-◌, length}, specs.Option.{option_to_list}}
 use Rattle.sexpr_text.proofs.Converted.{HasConverted}
 use Rattle.sexpr_text.proofs.converter.+converting.Given as goal

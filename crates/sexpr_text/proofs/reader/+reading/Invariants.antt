@@ -1,4 +1,4 @@
--- Each list that opens leaves room for one less.
+-- Termination: each list that opens leaves room for one list less.
 use Rattle.std.proofs.Common.{◌+◌, ◌*◌, ◌-◌, length, map}
 use Rattle.sexpr_core.specs.Value.{values, sexp_value}
 use Rattle.sexpr_text.proofs.Trees.{HasMembers}
