@@ -1,4 +1,4 @@
--- Two tags without sets leave a tag without sets together, or nothing.
+-- The intersection of two tags without sets is a tag without sets, or `(* set)`.
 use Rattle.std.proofs.Common.{ℕ, Bool, true, false, List, [], ◌∷◌, rules, ◌≡◌, ◌⊎◌, inl, inr, ◌+◌, ◌≤◌, refl, ap, arith}
 use Rattle.std.proofs.lemmas.Bool.{or_from, both_ways, cond_both}
 use Rattle.std.specs.{Prelude.{◌||◌}, List.{AllByRecursion}, Str.{bytes_eq}}
@@ -6,9 +6,9 @@ use Rattle.spki_tag.specs.Tag.{Tag, Tags, tags, star, string, prefix, range, lis
 use Rattle.spki_tag.specs.Meet.{nothing, items, list_meet, across, meet, each_meet, any_is_nothing, listed}
 use Rattle.spki_tag.proofs.{MeetSizes.{nodes-some}, Exact.{IsBare, string-bare, range-bare, prefix-bare, tags-items}}
 
--- ---- two tags without sets leave a tag without sets, or nothing, and it has no more nodes than both together
+-- ---- the intersection of two tags without sets has none or is `(* set)`, and has no more nodes than both together
 
--- a tag without sets, or nothing
+-- a tag without sets, or `(* set)`
 abbrev pub IsPlain : Tag → Type 0
 IsPlain t = (nests_set t ≡ false) ⊎ (t ≡ nothing)
 

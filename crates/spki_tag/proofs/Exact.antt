@@ -1,4 +1,4 @@
--- What two tags leave together contains a request exactly if both do.
+-- The intersection of two tags contains a request exactly if both do.
 use Rattle.std.proofs.Common.{◌≡◌, inl, inr, ℕ, Bool, true, false, ◌&&◌, ◌||◌, not, List, [], ◌∷◌, ◌++◌, length, Option, Some, None, refl, sym, ap, ◌∙◌, subst, true≢false, arith, eqb-true, rules}
 use Rattle.std.proofs.Math.Bool.{and_self, and-true, and-false, and_comm, or-false, or_assoc, and-or_distrib_left, and-or_distrib_right}
 use Rattle.std.proofs.lemmas.Bool.{and_parts, not-true, or_cases, cond_both}
@@ -11,18 +11,18 @@ use Rattle.spki_tag.specs.Request as request
 
 -- ---- truth values
 
--- two pairs, and two of each
+-- two pairs of conditions, in another order
 twice : (a b c d : Bool) → ((a && b) && (c && d)) ≡ ((a && c) && (b && d))
 twice true b true d = refl
 twice true true false d = refl
 twice true false false d = refl
 twice false b c d = refl
 
--- three pairs, and three of each
+-- three pairs of conditions, in another order
 thrice : (a b c d e f : Bool) → ((a && d) && (b && e) && (c && f)) ≡ ((a && b && c) && (d && e && f))
 thrice a b c d e f = ap (λ x. x && (c && f)) (twice a d b e) ∙ twice (a && b) (d && e) c f
 
--- what is said of the first of some tags, what is said of it alone, and what is said of the others
+-- what normal form says of the first of some tags, and of the others
 pub three_parts : (bar : Tag → Bool) (t : Tag) (ts : Tags) → each_normal bar (more t ts) ≡ true
     → (bar t ≡ false) × (is_normal t ≡ true) × (each_normal bar ts ≡ true)
 three_parts bar t ts h = search (rules, and_parts, not-true)
@@ -65,7 +65,7 @@ ordering-exact date alpha x = sym (and-true (is_date x))
 ordering-exact date time x = and_never (is_date x) (is_time x) (λ h k. time_or_date x k h)
 ordering-exact date date x = sym (and_self (is_date x))
 
--- ---- what tags without members leave together has no members either
+-- ---- the intersection of tags without members has no members either
 
 -- a string, a prefix, a range, or (* set)
 abbrev pub IsBare : Tag → Type 0

@@ -76,7 +76,7 @@ set-tried : (contains either (f_of (text_request (codes "a") ∷ [])) ≡ true)
     × (contains either (f_of (text_request (codes "c") ∷ [])) ≡ false)
 set-tried = (refl, refl, refl, refl, refl)
 
--- ---- first-run and shorter-request
+-- ---- the tag and the requests of examples/first-run.csexp and examples/shorter-request.csexp
 
 abbrev ftp_host : Tag
 ftp_host = list (codes "ftp") (tags (string (codes "host") ∷ []))
@@ -167,12 +167,12 @@ fault-tried :
     × (tag_fault (starred_list (word (codes "range") ∷ word (codes "beta") ∷ hinted ∷ [])) ≡ Some RangeOrdering)
     -- (* range alpha (a) [h]x): a hint among the limits before a list
     × (tag_fault (starred_list (word (codes "range") ∷ word (codes "alpha") ∷ group (word (codes "a") ∷ []) ∷ hinted ∷ [])) ≡ Some Hint)
-    -- (* range alpha g ([h]x)): a list among the limits, whatever it holds
+    -- (* range alpha g ([h]x)): a list among the limits, whatever it contains
     × (tag_fault (starred_list (word (codes "range") ∷ word (codes "alpha") ∷ word (codes "g") ∷ group (hinted ∷ []) ∷ []))
     ≡ Some RangeLimit)
-    -- (* online [h]x (tag)): nothing behind an unknown word is looked at
+    -- (* online [h]x (tag)): nothing after an unknown word is tested
     × (tag_fault (starred_list (word (codes "online") ∷ hinted ∷ group [] ∷ [])) ≡ Some UnknownStar)
-    -- the 1,025th tag is one too many, whatever it is, and the 1,024th is looked at
+    -- the 1,025th tag is one too many, whatever it is, and the 1,024th is tested
     × (first_fault (looks 1024 (hinted ∷ [])) ≡ Some TooManyNodes)
     × (first_fault (looks 1023 (hinted ∷ [])) ≡ Some Hint)
     -- (a (* set) [h]x) and (a [h]x (*)) as requests

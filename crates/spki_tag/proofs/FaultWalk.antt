@@ -1,4 +1,4 @@
--- The walk over the tags in a value, and what is found on it.
+-- The walk over the tags in a value, and the fault that it finds.
 use Rattle.std.proofs.Common.{◌≡◌, ℕ, ◌+◌, ◌≤◌, ◌<◌, false, List, [], ◌∷◌, ◌++◌, length, Option, Some, None, refl, sym, ap, subst, ◌∙◌, arith, length-append, nat_lt, rules}
 use Rattle.std.proofs.lemmas.Bool.{lt-ltb, le-ltb, false_from_ne_true, cond_both}
 use Rattle.std.specs.{Prelude.{codes, if◌then◌else◌}, List.{AllByRecursion}, Str.{bytes_eq}, Cmp.Lexicographic.{bytes_decides}}
@@ -10,7 +10,7 @@ use Rattle.spki_tag.specs.Reading.{most_read}
 use Rattle.sexpr_core.specs.Value as value
 use Rattle.spki_tag.specs.declared.fault.TagFault.TheVariants as faults
 
--- ---- the first fault of two lists of looks
+-- ---- the first fault of two lists of tests
 
 pub first-none : {A : Type 0} (fs gs : List (Option A)) → first_fault fs ≡ None → first_fault (fs ++ gs) ≡ first_fault gs
 first-none [] gs e = refl
@@ -27,7 +27,7 @@ pub looks-append : (n : ℕ) (us vs : List Value) → looks n (us ++ vs) ≡ loo
 looks-append n [] vs = ap (λ m. looks m vs) (omega arith)
 looks-append n (u ∷ us) vs = search (rules, nat_lt, looks-append (n + 1) us vs)
 
--- ---- one look
+-- ---- one test
 
 abbrev pub IsFine : Value → Type 0
 IsFine v = own_fault v ≡ None
@@ -49,7 +49,7 @@ pub looks-fine : (n : ℕ) (vs : List Value) → n + length vs ≤ most_read →
 looks-fine n [] h each = refl
 looks-fine n (v ∷ vs) h each = look-past n v vs (omega arith) each.0 ∙ looks-fine (n + 1) vs (omega arith) each.1
 
--- ---- nothing is wrong with a tag that is written
+-- ---- a written tag has no fault
 
 pub both : {A : Type 0} (Q : A → Type 0) (us vs : List A) → AllByRecursion Q us → AllByRecursion Q vs → AllByRecursion Q (us ++ vs)
 both Q [] vs h k = k
@@ -102,7 +102,7 @@ mutual
       both IsFine (tags_in (tag_value w)) (tags_in_all (tag_values ws)) (tag-fine w h.0) (tags-fine ws h.1)
 
 mutual
-  -- there are as many tags in a written tag as nodes
+  -- a written tag contains as many tags as it has nodes
   pub tags_count : (w : Tag) → IsTag w → length (tags_in (tag_value w)) ≡ nodes w
   tags_count (list head further) h = search (rules, tags_in-list, tags-count_all further h.1)
   tags_count (set ws) h = omega (arith, tags-count_all ws h)
@@ -113,7 +113,7 @@ mutual
   tags-count_all (more w ws) h =
       omega (arith, length-append (tags_in (tag_value w)) (tags_in_all (tag_values ws)), tags_count w h.0, tags-count_all ws h.1)
 
--- tags of few enough nodes
+-- a tag with few enough nodes has no fault
 pub tag-past : (n : ℕ) (w : Tag) → IsTag w → n + nodes w ≤ most_read → first_fault (looks n (tags_in (tag_value w))) ≡ None
 tag-past n w h few = search (rules, looks-fine, tags_count, tag-fine)
 

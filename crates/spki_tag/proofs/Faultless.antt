@@ -14,7 +14,7 @@ use Rattle.sexpr_core.specs.Value as value
 use Rattle.spki_tag.specs.declared.fault.TagFault.TheVariants as faults
 use Rattle.spki_tag.specs.Request as request
 
--- ---- what was looked at
+-- ---- tests that find no fault
 
 found-none : {A : Type 0} (o : Option A) (fs : List (Option A)) → first_fault (o ∷ fs) ≡ None → (o ≡ None) × (first_fault fs ≡ None)
 found-none None fs e = (refl, e)
@@ -27,7 +27,7 @@ unless-none false fault e = absurd cc
 room : (n : ℕ) → nat_lt n 1024 ≡ true → n + 1 ≤ most_read
 room n h = grind (arith, nat_tests)
 
--- each is as it must be, and there are few enough
+-- each tag passes its test, and there are few enough of them
 looks-none : (n : ℕ) (vs : List Value) → n ≤ most_read → first_fault (looks n vs) ≡ None
     → AllByRecursion IsFine vs × (n + length vs ≤ most_read)
 looks-none n [] few e = (tt, omega arith)
@@ -78,7 +78,7 @@ prefix-of (value.string (Some hint) octets ∷ w ∷ vs) e = absurd cc
 prefix-of (value.string None octets ∷ []) e = (prefix octets, tt, refl)
 prefix-of (value.string None octets ∷ w ∷ vs) e = absurd cc
 
--- what is behind the star and a word
+-- the tag that begins with the star and this word
 form-of : (word : List ℕ) (vs : Values) → form_fault word (members vs) ≡ None
     → AllByRecursion IsFine (tags_in_set (value.more (plain word) vs))
     → (AllByRecursion IsFine (tags_in_all vs) → TagsOf vs) → TagOf (starred word vs)
@@ -100,7 +100,7 @@ form-of word vs e each rec =
         (p.0, p.1, p.2 ∙ (λ i. starred (sym (same_text word (codes "range") g) i) (values-members vs i)))
     by false false false d f g e each = absurd cc
 
--- what is behind the star
+-- the tag that begins with the star
 star-of : (form : Value) (vs : Values) → star_fault (form ∷ members vs) ≡ None
     → AllByRecursion IsFine (tags_in_set (value.more form vs))
     → (AllByRecursion IsFine (tags_in_all vs) → TagsOf vs)
@@ -108,7 +108,7 @@ star-of : (form : Value) (vs : Values) → star_fault (form ∷ members vs) ≡ 
 star-of (value.string None word) vs e each rec = form-of word vs e each rec
 star-of form vs e each rec = absurd cc
 
--- a list with this head
+-- the tag that is a list with this head
 headed-of : (head : List ℕ) (vs : Values) → list_fault (plain head ∷ members vs) ≡ None
     → AllByRecursion IsFine (tags_in_list (value.more (plain head) vs))
     → (AllByRecursion IsFine (tags_in_all vs) → TagsOf vs)
@@ -155,7 +155,7 @@ tag_some v t = search (rules, tag-past)
 pub tag_none_exactly : (v : Value) → (tag_fault v ≡ None) ↔ ((w : Tag) × IsTag w × (tag_value w ≡ v) × (nodes w ≤ 1024))
 tag_none_exactly v = (tag_none v, tag_some v)
 
--- a value with a fault is no tag
+-- a value with a fault is not a written tag
 pub tag_refused : (fault : TagFault) (v : Value) → IsNamed fault (tag_fault v) → IsNoTag fault v
 unfolding IsNamed
 tag_refused fault v (inl e) w h few spelled = e
@@ -206,7 +206,7 @@ pub request_none_exactly : (v : Value) → HasOctets v
     → (request_fault v ≡ None) ↔ ((g : Request) × IsRequest g × (request_value g ≡ v))
 request_none_exactly v o = (request_none v o, λ g. request-faultless v g.0 g.1 g.2)
 
--- a value with a fault is no request
+-- a value with a fault is not a written request
 request_refused : (fault : TagFault) (v : Value) → IsNamed fault (request_fault v) → IsNoRequest fault v
 unfolding IsNamed
 request_refused fault v (inl e) g h written = e

@@ -1,4 +1,4 @@
--- What limits and prefixes leave together: two limits, a prefix as the range to below the least string above all that
+-- The intersection of limits and of prefixes: two limits, a prefix as the range to below the least string above all that
 -- start with it, and two prefixes.
 use Rattle.std.proofs.Common.{◌≡◌, ℕ, Bool, true, false, ◌&&◌, ◌||◌, not, List, Option, Some, None, refl, sym, ap, ◌∙◌, true≢false, Ordering as Order, Less, Equal, Greater, is_lt, is_le, nat_cmp, ◌+◌, ◌<◌, ◌≤◌, [], ◌∷◌, ◌++◌, lt-ltb, le-ltb, rules, suc, subst, arith, eq-eqb, ne_eqb, ltb-false, ◌⊎◌, inl, inr, length, take, length-take}
 use Rattle.std.proofs.{Math.Bool.{and-true, and-false, or_comm, or-not_self}, lemmas.{Bool.{cond_both, cases_lt, cases_order}, List.{take-take}}}
@@ -10,11 +10,9 @@ use Rattle.spki_tag.specs.Meet.{greater_low, lesser_up, exclude, least_above, ab
 use Rattle.spki_tag.specs.Request.{AreOctets}
 use Rattle.spki_tag.specs.Request as request
 
--- ---- what limits leave together
-
 -- ---- truth values
 
--- what follows from the one changes nothing
+-- a condition that follows from another adds nothing to it
 pub and_left : (a b : Bool) → (a ≡ true → b ≡ true) → a ≡ (a && b)
 and_left true b f = sym (f refl)
 and_left false b f = refl
@@ -149,7 +147,7 @@ pub least_above_most : (front : List ℕ) (octet : ℕ) → 255 ≤ octet
 least_above_most [] octet h = ap (λ b. if b then Some ((octet + 1) ∷ []) else None) (le-ltb octet 255 h)
 least_above_most (first ∷ front) octet h = ap (above_from first) (least_above_most front octet h)
 
--- ---- prefixes as ranges, and two prefixes
+-- ---- prefixes as ranges
 
 pub cmp_self : (c : ℕ) → nat_cmp c c ≡ Equal
 cmp_self c = sym (nat_cmp_is c c Equal refl)
@@ -182,7 +180,7 @@ below_same c x None =
     cond_both (nat_lt c 255) (Some ((c + 1) ∷ [])) None (λ o. is_below (strict_limit o) (c ∷ x) ≡ true)
     (λ _. ap (λ r. is_lt (ordering_then r (slice_cmp nat_cmp x []))) (cmp_less c (c + 1) (omega arith))) (λ _. refl)
 
--- A prefix holds the strings from itself to below the least string above all that start with it.
+-- A prefix contains the strings from itself to below the least string above all that start with it.
 pub least_above_exact : (p x : List ℕ) → AreOctets x
     → starts_with nat_eq x p ≡ (is_above (from p) x && is_below (strict_limit (least_above p)) x)
 least_above_exact [] [] k = refl
@@ -220,7 +218,7 @@ least_above_apart p = apart p (least_above p) (below_least_above p)
 
 -- ---- two prefixes
 
--- what starts with a string that starts with another starts with that one
+-- what starts with a string also starts with each string with which that one starts
 longer : (p q x : List ℕ) → starts_with nat_eq x p ≡ true → starts_with nat_eq p q ≡ true → starts_with nat_eq x q ≡ true
 longer p q x h k =
     let a : p ≡ take (length p) x = (bytes_decides p _).0 h in
@@ -228,14 +226,14 @@ longer p q x h k =
     (bytes_decides q _).1 (b ∙ ap (take (length q)) a
     ∙ take-take (length q) (length p) x (omega (arith, ap length b, length-take (length q) p)))
 
--- one of two strings with which a string starts starts with the other
+-- of two strings with which a string starts, the longer starts with the shorter
 pub shorter : (p q x : List ℕ) → starts_with nat_eq x p ≡ true → starts_with nat_eq x q ≡ true → length q ≤ length p
     → starts_with nat_eq p q ≡ true
 shorter p q x h k few =
     (bytes_decides q _).1 ((bytes_decides q _).0 k ∙ sym (take-take (length q) (length p) x few)
     ∙ ap (take (length q)) (sym ((bytes_decides p _).0 h)))
 
--- the strings that start with both start with the longer, which starts with the shorter
+-- the strings that start with both prefixes are those that the intersection of the prefixes contains
 pub prefixes-exact : (p q x : List ℕ)
     → contains (prefixes_meet p q) (request.string x) ≡ (starts_with nat_eq x p && starts_with nat_eq x q)
 prefixes-exact p q x =

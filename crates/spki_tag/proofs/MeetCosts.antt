@@ -8,7 +8,7 @@ use Rattle.spki_tag.proofs.{MeetSizes.{nodes-some}, MeetSteps.{members_of, membe
 
 -- ---- pairs
 
--- the pairs behind the first, and the first
+-- the pairs after the first, and the first
 pairs-less : (n cost rest costs before now at : ℕ) → now ≤ before + 3 * (n * cost)
     → before + 3 * ((n + rest) * (cost + costs)) ≤ at → now + 3 * (rest * costs) ≤ at
 pairs-less n cost rest costs before now at h k = omega arith
@@ -47,7 +47,7 @@ rows-less : (n rest some all before now at : ℕ) → some ≤ all → now ≤ b
 rows-less n rest some all before now at h k d =
     let less : n * some ≤ n * all = mul-le n some n all (omega arith) h in omega (arith, less)
 
--- a step of the loop over the members of the one
+-- a step of the loop over the members of the first tag
 pub row-step : (ones others : List Tag) (i : ℕ) (one : Tag) (before now at : ℕ) → i < length ones → one ≡ get_or ones i one
     → now ≤ before + 3 * (nodes one * node_costs (tags (tags_at others (places_where (may_share one) 1 others))))
     → before + 3 * (nodes_all (tags (drop i ones)) * node_costs (tags others)) ≤ at
@@ -76,7 +76,7 @@ meet_cost-some a b =
     let least : 1 * 1 ≤ nodes a * node_cost b = mul-le 1 1 (nodes a) (node_cost b) (nodes-some a) (node_cost-some b) in
     omega (arith, least)
 
--- where one is a set, its members cost less than it does
+-- if one tag is a set, the pairs of members cost less than the tags
 pub members-cost : (a b : Tag) (s t : Bool) → is_set a ≡ s → is_set b ≡ t → (s || t) ≡ true
     → 1 + 3 * (nodes_all (members_of a) * node_costs (members_of b)) ≤ 3 * meet_cost a b
 members-cost a b true t h k j =
@@ -93,7 +93,7 @@ members-cost a b false true h k j =
     omega (arith, wide, less, nodes-some a)
 members-cost a b false false h k j = absurd (true≢false (sym j))
 
--- where one is a set, the pairs of members
+-- if one tag is a set, what its pairs of members cost
 pub members-met : (a b : Tag) (ones others : List Tag) (before met now : ℕ) → ones ≡ members a → others ≡ members b
     → (is_set a || is_set b) ≡ true → met ≡ before + 1 → now ≤ met + 3 * (nodes_all (tags ones) * node_costs (tags others))
     → now ≤ before + 3 * meet_cost a b
@@ -104,7 +104,7 @@ members-met a b ones others before met now e f h m d =
 
 -- ---- lists
 
--- two lists: the head of the other, the pairs of members, and copies
+-- two lists: the head of the second, the pairs of members, and the copies
 pub lists-met : (a b : Tag) (head other : List ℕ) (ts us : List Tag) (before now : ℕ) → a ≡ list head (tags ts) → b ≡ list other (tags us)
     → now ≤ before + length other + nodes_all (tags ts) + nodes_all (tags us) + 3 * (nodes_all (tags ts) * node_costs (tags us))
     → now + 1 ≤ before + 3 * meet_cost a b
@@ -122,6 +122,6 @@ take-nodes ts zero = omega arith
 take-nodes [] (suc k) = omega arith
 take-nodes (t ∷ ts) (suc k) = omega (arith, take-nodes ts k)
 
--- what is copied behind the places that both lists have
+-- what is copied after the places that both lists have
 pub rest-nodes : (ts : List Tag) (i k : ℕ) → nodes_all (tags (take k (drop i ts))) ≤ nodes_all (tags ts)
 rest-nodes ts i k = omega (arith, drop-nodes ts i, take-nodes (drop i ts) k)

@@ -1,12 +1,10 @@
--- How large what two tags leave together is, in nodes.
+-- How many nodes the intersection of two tags has.
 use Rattle.std.proofs.{Common.{◌≡◌, ℕ, ◌+◌, ◌*◌, ◌≤◌, List, [], ◌∷◌, ◌++◌, refl, ap, arith, rules}, Math.Nat.{mul-add, one-mul}}
 use Rattle.std.proofs.lemmas.Bool.{cond_both}
 use Rattle.std.specs.Str.{bytes_eq}
 use Rattle.spki_tag.specs.Meet.{nothing, string_meet, range_meet, prefix_meet, kept, row, gather, any_is_nothing, listed, list_meet, across, set_across, meet, each_meet, pairs}
 use Rattle.spki_tag.specs.Tag.{Tag, Tags, tags, star, string, prefix, range, list, set, none, more, nodes, nodes_all, is_nothing}
 use Rattle.spki_tag.proofs.Exact.{IsBare, string-bare, range-bare, prefix-bare, tags-items}
-
--- ---- how large what two tags leave together is
 
 -- ---- at least one node
 
@@ -66,7 +64,7 @@ bare-le : (t c : Tag) → IsBare t → nodes t ≤ 1 * nodes c
 bare-le t c h = omega (arith, bare-one t h, nodes-some c)
 
 mutual
-  -- What two tags leave together has no more nodes than their product.
+  -- The intersection has at most as many nodes as the product of the nodes of both tags.
   pub meet_le : (a b : Tag) → nodes (meet a b) ≤ nodes a * nodes b
   meet_le star b = omega (arith, one-mul (nodes b))
   meet_le (string s) b = across-le (string s) (string_meet s) b (λ c. bare-le (string_meet s c) c (string-bare s c))

@@ -1,4 +1,4 @@
--- The steps of the intersection, with what they need and what they find, and the rules that it follows.
+-- The steps of the intersection: what they require and what they return, and the rules that the intersection follows.
 use Rattle.std.proofs.Common.{◌≡◌, ℕ, zero, suc, ◌+◌, ◌*◌, ◌<◌, ◌≤◌, min, Bool, true, false, ◌||◌, List, [], ◌∷◌, ◌++◌, length, take, drop, get_or, refl, sym, ap, ◌∙◌, true≢false, append_assoc, arith, le_trans, rules, not, map, nat_eq, length-take, append-nil}
 use Rattle.std.proofs.lemmas.{Nat.{mul-le}, List.{drop_more, take_all, Elements.{filter-append}}}
 use Rattle.std.proofs.lemmas.Bool.{and_parts, or_parts, or_from, or_right, cond_both, cond-true, cond-false}
@@ -8,9 +8,7 @@ use Rattle.spki_tag.specs.Tag.{Tag, Tags, tags, star, string, prefix, range, lis
 use Rattle.spki_tag.specs.Meet.{nothing, row, gather, any_is_nothing, across, meet, each_meet, pairs, members, kept, listed, SetRule, StringRule, PrefixRule, RangeRule, OrderingRule, side_by_side, ListRule, ListsAndStrings}
 use Rattle.spki_tag.proofs.{Exact.{three_parts, tags-items, items_tags}, NormalForms.{meet-normal_tag}, Members.{nodes_le-of_read}}
 
--- ---- the steps of the intersection: what they need and what they find
-
--- ---- sets
+-- ---- steps: sets
 
 -- the members of a set; what is no set counts as its only member
 abbrev pub members_of : Tag → Tags
@@ -40,7 +38,7 @@ one_row : (f g : Tag → Tag) (bs : Tags) → ((b : Tag) → is_set_or_star b �
     → is_normal (set bs) ≡ true → gather (row f bs) ≡ gather (row g bs ++ [])
 one_row f g bs e n = search (rules, row-same f g bs e (and_parts (is_none_or_many bs) (each_normal is_set_or_star bs) n).1, append-nil)
 
--- Where one is a set, the members of each are met with those of the other.
+-- If one tag is a set, each member of the first is intersected with each member of the second.
 pub meet-by_members : (a b : Tag) → is_star a ≡ false → is_star b ≡ false → (is_set a || is_set b) ≡ true
     → is_normal b ≡ true → gather (pairs (members_of a) (members_of b)) ≡ meet a b
 meet-by_members star b h k j n = absurd (true≢false h)
@@ -66,7 +64,7 @@ fewer a b true t h k j = omega (arith, members-less a h, members-le b)
 fewer a b false true h k j = omega (arith, members-le a, members-less b k)
 fewer a b false false h k j = absurd (true≢false (sym j))
 
--- what the meeting of members needs
+-- what the intersection of the members requires
 pub record MembersMeet (a b : Tag) : Type 0 where
   pub less : nodes_all (members_of a) + nodes_all (members_of b) + 1 ≤ nodes a + nodes b
   pub bound : nodes_all (members_of a) * nodes_all (members_of b) ≤ most_nodes
@@ -76,20 +74,20 @@ pub members_meet : (a b : Tag) → is_star a ≡ false → is_star b ≡ false �
     → IsNormalTag a → IsNormalTag b → nodes a * nodes b ≤ most_nodes → MembersMeet a b
 members_meet a b h k j n m few = search (rules, fewer, le_trans, mul-le, members-le, meet-by_members, meet-normal_tag)
 
--- the member at a place, and those behind it
+-- the member at a place, and those after it
 pub cut : (ts : List Tag) (i : ℕ) (t : Tag) → i < length ts → t ≡ get_or ts i t → drop i ts ≡ t ∷ drop (i + 1) ts
 cut ts i t h e = drop_more ts i t h ∙ ap (λ (x : Tag). x ∷ drop (i + 1) ts) (sym e)
 
--- A step of the loop over the members of the one.
+-- A step of the loop over the members of the first tag.
 pub pairs-step : (ones others met out ms added : List Tag) (i : ℕ) (t : Tag) → i < length ones
     → met ++ pairs (tags (drop i ones)) (tags others) ≡ ms → t ≡ get_or ones i t
     → out ≡ met ++ added → added ≡ row (meet t) (tags others)
     → out ++ pairs (tags (drop (i + 1) ones)) (tags others) ≡ ms
 pairs-step ones others met out ms added i t h e u o r = rw (o, r, append_assoc) (rw (cut ones i t h u) at e)
 
--- ---- lists
+-- ---- steps: lists
 
--- what the meeting of two lists needs
+-- what the intersection of two lists requires
 pub record ListsMeet (head other : List ℕ) (ts us : List Tag) : Type 0 where
   pub bound : nodes_all (tags ts) * nodes_all (tags us) ≤ most_nodes
   pub one : each_normal is_nothing (tags ts) ≡ true
@@ -121,7 +119,7 @@ pub any_is_nothing-push : (ts : List Tag) (t : Tag) → any_is_nothing ts ≡ fa
     → any_is_nothing (ts ++ t ∷ []) ≡ false
 any_is_nothing-push ts t h k = any_is_nothing-append ts (t ∷ []) h (or_from (is_nothing t) false k refl)
 
--- (* set) is told by its equation
+-- a tag that equals `(* set)` passes the test for it
 pub nothing-is : (t : Tag) → t ≡ nothing → is_nothing t ≡ true
 nothing-is t e = ap is_nothing e
 
@@ -129,7 +127,7 @@ pub nothing-is_not : (t : Tag) → (t ≡ nothing → ⊥) → is_nothing t ≡ 
 nothing-is_not (set none) n = absurd (n refl)
 nothing-is_not t n = refl
 
--- past the end of one the members of the other stay
+-- after the end of one list the members of the other are kept
 pub each_meet-end : (ts us : List Tag) → min (length ts) (length us) ≡ 0 → each_meet (tags ts) (tags us) ≡ ts ++ us
 each_meet-end [] us h = items_tags us
 each_meet-end (t ∷ ts) [] h = ap (λ (us : List Tag). t ∷ us) (items_tags ts) ∙ sym (append-nil (t ∷ ts))
@@ -152,15 +150,13 @@ pub each_meet-last : (ts us met out all : List Tag) (i : ℕ) → min (length (d
     → out ≡ met ++ drop i ts ++ drop i us → (out ≡ all) × (any_is_nothing all ≡ false)
 each_meet-last ts us met out all i h n m e k o = search (rules, append_assoc, each_meet-end, any_is_nothing-append, normal-none, normal-drop)
 
--- ---- the rules of the intersection
-
--- ---- stars
+-- ---- rules: stars
 
 pub star_left : (t : Tag) → meet t star ≡ t
 star_left (range ordering low up) = refl
 star_left t = refl
 
--- ---- sets
+-- ---- rules: sets
 
 abbrev is_some : Tag → Bool
 is_some t = not (is_nothing t)
@@ -185,7 +181,7 @@ set_rule a b h k j n =
     sym (meet-by_members a b h k j n)
     ∙ ap gather ((λ i. pairs (sym (tags-members a) i) (sym (tags-members b) i)) ∙ sym (pairs-filter (members a) (members b)))
 
--- ---- strings
+-- ---- rules: strings
 
 pub same_string : (s x : List ℕ)
     → (if bytes_eq s x then string x else nothing) ≡ (if bytes_eq x s then string s else nothing)
@@ -200,7 +196,7 @@ string_rule s (prefix x) h = (refl, refl)
 string_rule s (range o l u) h = (refl, refl)
 string_rule s y h = absurd h
 
--- ---- ranges
+-- ---- rules: ranges
 
 pub range_rule : RangeRule
 range_rule alpha low up least most = refl
@@ -212,7 +208,7 @@ ordering_rule alpha low up least most = (refl, refl)
 ordering_rule time low up least most = (refl, refl)
 ordering_rule date low up least most = (refl, refl)
 
--- ---- prefixes
+-- ---- rules: prefixes
 
 longer : (p q : List ℕ) → starts_with nat_eq p q ≡ true → starts_with nat_eq q p ≡ true → p ≡ q
 longer p q h k =
@@ -226,7 +222,7 @@ prefix_rule p q h = (
   ap (λ b. if b then prefix q else (if starts_with nat_eq p q then prefix p else nothing)) h,
 )
 
--- ---- lists
+-- ---- rules: lists
 
 each-left : (ts us further : List Tag) → length ts ≡ length us
     → each_meet (tags (ts ++ further)) (tags us) ≡ side_by_side ts us ++ further

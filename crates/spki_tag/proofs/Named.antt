@@ -1,4 +1,4 @@
--- Which fault a reader names.
+-- Which fault a reader returns.
 use Rattle.std.proofs.Common.{◌≡◌, ◌≢◌, ℕ, ◌+◌, ◌≤◌, ◌<◌, Bool, true, false, ◌||◌, not, inl, inr, List, [], ◌∷◌, ◌++◌, length, Option, Some, None, Result, Ok, Err, refl, sym, ap, ◌∙◌, subst, rules, append_assoc, true≢false}
 use Rattle.std.proofs.lemmas.Bool.{and_parts, or_cases, false_from_ne_true}
 use Rattle.std.specs.{Prelude.{codes, if◌then◌else◌, IfErr}, Result.{IsErrAnd}, List.{list_any}, Str.{bytes_eq}}
@@ -17,7 +17,7 @@ use Rattle.spki_tag.specs.declared.fault.TagFault.TheVariants as faults
 abbrev pub IsHinted : Value → Type 0
 IsHinted w = (hint octets : List ℕ) × (w ≡ value.string (Some hint) octets)
 
--- ---- what is named
+-- ---- the fault that a reader returns
 
 pub named-memory : (found : Option TagFault) → IsNamed faults.Memory found
 unfolding IsNamed
@@ -33,9 +33,9 @@ unfolding IsNamed
 named-by fault f g to (inl e) = inl e
 named-by fault f g to (inr e) = inr (to e)
 
--- ---- the tag itself
+-- ---- the fault of a tag itself
 
--- a tag is the first of those in it
+-- a tag is the first of the tags in it
 tags_in-first : (v : Value) → (rest : List Value) × (tags_in v ≡ v ∷ rest)
 tags_in-first (value.string hint octets) = ([], refl)
 tags_in-first (value.list vs) = (tags_in_list vs, refl)
@@ -49,7 +49,7 @@ pub itself : (used : ℕ) (v : Value) (fault : TagFault) (f : Option TagFault) �
 unfolding fault_after IsNamed
 itself used v fault f h own = search (rules, named-by, tags_in-first v, look-own)
 
--- what is wrong with a list of these members
+-- the fault of a list of these members
 pub list-itself : (used : ℕ) (us vs : List Value) (fault : TagFault) → used < most_read → us ≡ vs
     → IsNamed fault (list_fault vs) → IsNamed fault (fault_after used (group us))
 list-itself used us vs fault h e =
@@ -148,7 +148,7 @@ ordering-of name h = by (bytes_eq name (codes "alpha")) (bytes_eq name (codes "t
     by false false true d e f h = (date, sym (same_text name (codes "date") f))
     by false false false d e f h = absurd (true≢false (sym h))
 
--- not the name of an ordering
+-- a name that no ordering has
 unordered : (name : List ℕ) → ((ordering : Ordering) → name ≢ ordering_name ordering) → is_ordering name ≡ false
 unordered name other = false_from_ne_true (is_ordering name) (λ h. let o = ordering-of name h in other o.0 (sym o.1))
 
@@ -156,7 +156,7 @@ pub ordering-other : (v : Value) (name : List ℕ) → plain name ≡ v → ((or
     → (vs : List Value) → range_fault (v ∷ vs) ≡ Some faults.RangeOrdering
 ordering-other v name e other vs = search (rules, unordered)
 
--- a limit behind one of two words
+-- a limit after one of two words
 limit-of : (above from : List ℕ) (v w : Value) → is_limit above from v w ≡ true
     → (l : Limit) × (limit_values above from (Some l) ≡ v ∷ w ∷ [])
 limit-of above from v (value.string (Some hint) octets) h = absurd (true≢false (sym h))
@@ -168,7 +168,7 @@ limit-of above from (value.string None word) (value.string None limit) h = elim 
   | inr d ↦ (record { strict = false; octets = limit }, ap (λ (x : List ℕ). plain x ∷ plain limit ∷ []) (sym ((bytes_decides word from).0 d)))
 ]
 
--- limits that are there
+-- values that are limits
 pub limits-of : (vs : List Value) → are_limits vs ≡ true
     → (low : Option Limit) × (up : Option Limit) × (low_values low ++ up_values up ≡ vs)
 limits-of [] h = (None, None, refl)
@@ -221,7 +221,7 @@ tags_in_all-append : (us : List Value) (v : Value) (vs : List Value)
 tags_in_all-append [] v vs = refl
 tags_in_all-append (u ∷ us) v vs = search (rules, append_assoc, tags_in_all-append us v vs)
 
--- what is found in a member, where nothing is found in those before it
+-- the fault of a member, if the members before it have none
 member-found : (used counted : ℕ) (us : List Value) (v : Value) (vs : List Value) (fault : TagFault)
     → first_fault (looks used (tags_in_all (values us))) ≡ None → counted ≡ used + length (tags_in_all (values us))
     → first_fault (looks counted (tags_in v)) ≡ Some fault
@@ -234,7 +234,7 @@ pub so_far-named : (fault : TagFault) (used counted : ℕ) (vs left further : Li
 unfolding fault_after fault_after_all IsNamed
 so_far-named fault used counted vs left further ts v so_far e = search (rules, named-by, member-found, tags-past, tags-count_all, tag_values-tags)
 
--- ---- the whole
+-- ---- the whole value
 
 pub at_first : (fault : TagFault) (v : Value) → IsNamed fault (fault_after 0 v) → IsNamed fault (tag_fault v)
 unfolding fault_after tag_fault
@@ -244,9 +244,9 @@ pub read-faultless : (v : Value) (t : Tag) (after : ℕ) → IsRead 0 v t after 
 unfolding tag_fault
 read-faultless v t after r = search (rules, tag-past)
 
--- ---- what a caller knows
+-- ---- what a caller can conclude
 
--- the fault that is named, if memory didn't run out
+-- the fault that is found, if memory did not run out
 pub named-sure : (fault : TagFault) (found : Option TagFault) → IsNamed fault found → fault ≢ faults.Memory → found ≡ Some fault
 unfolding IsNamed
 named-sure fault found (inl e) h = absurd (h e)

@@ -1,5 +1,5 @@
--- Tags in normal form: sets and lists of such tags have one, and what two tags in normal form leave together is in
--- normal form, so that two tags of the type leave a tag of the type, where it isn't too large.
+-- Tags in normal form: sets and lists of such tags have a normal form. The intersection of two tags in normal form is in
+-- normal form, and it is a tag of the type `Tag` if it is not too large.
 use Rattle.std.proofs.Common.{◌≡◌, ℕ, zero, suc, max, ◌≤◌, Bool, true, false, ◌||◌, List, [], ◌∷◌, ◌++◌, refl, sym, ap, ◌∙◌, true≢false, arith, le_trans, rules, not, ◌*◌}
 use Rattle.std.proofs.{Math.Bool.{or-false, or-true}, lemmas.Bool.{and_parts, or_parts, or_from, cond_both}}
 use Rattle.std.specs.{List.{list_any, AllByRecursion}, Str.{bytes_eq}}
@@ -9,11 +9,9 @@ use Rattle.spki_tag.specs.{Request.{Request, IsHead}, Reading.{IsNormalOf, AreNo
 use Rattle.spki_tag.proofs.Exact.{IsBare, string-bare, range-bare, prefix-bare, three_parts, all_three, append-exact, gather-exact, tags-items, items_tags, listed-exact}
 use Rattle.spki_tag.proofs.{FaultWalk.{both}, MeetSizes.{append-nodes, gather-le, meet_le}}
 
--- ---- sets and lists of tags in normal form, and their own normal form
-
 -- ---- truth values
 
--- where each implies another, some of the former implies some of the latter
+-- if each of two conditions implies another, and one of the two is true, one of the others is true
 some_too : (a b c d : Bool) → (a ≡ true → c ≡ true) → (b ≡ true → d ≡ true) → (a || b) ≡ true → (c || d) ≡ true
 some_too true b c d f k h = ap (λ x. x || d) (f refl)
 some_too false b c d f k h = ap (λ x. c || x) (k h) ∙ or-true c
@@ -60,7 +58,7 @@ in_place-single : (t : Tag) → is_set t ≡ false → in_place t ≡ t ∷ []
 in_place-single (set ts) h = absurd (true≢false h)
 in_place-single t h = refl
 
--- the members of a set of members that are no sets are these
+-- the members of the set of some tags that are no sets are these tags
 pub in_place-gather : (ts : List Tag) → AllByRecursion IsMember ts → in_place (gather ts) ≡ ts
 in_place-gather [] h = refl
 in_place-gather (t ∷ []) h = in_place-single t h.0.1
@@ -131,9 +129,9 @@ listed-normal head ts h k =
     record { written = (h, n.0); normal = n.1; same = same; no_more = omega arith })
     (listed-exact head ts)
 
--- ---- what two tags in normal form leave together is in normal form, with no more lists one inside another
+-- ---- the intersection of two tags in normal form is in normal form, and its lists are nested no deeper
 
--- a tag in normal form, with at most so many lists one inside another
+-- a tag in normal form, in which at most n lists are nested
 pub record IsFlat (n : ℕ) (t : Tag) : Type 0 where
   pub written : IsTag t
   pub normal : is_normal t ≡ true
@@ -236,7 +234,7 @@ module _ (n : ℕ) where
       gather_flat n (f (more b none)) (e (more b none) (more_flat is_set_or_star n b none refl k (none_flat n is_set_or_star)))
 
 mutual
-  -- and if neither is a set or a star, it is neither, or (* set)
+  -- and if neither is a set or a star, the intersection is neither, or (* set)
   meet_flat : (n : ℕ) (a b : Tag) → IsFlat n a → IsFlat n b
       → IsFlat n (meet a b) × (is_set_or_star a ≡ false → is_set_or_star b ≡ false → IsMet n (meet a b))
   meet_flat n star b h k = (k, λ p q. absurd (true≢false p))
@@ -269,7 +267,7 @@ mutual
       append_flat n (row (meet a) bs) (pairs ms bs)
       (row_flat n (meet a) bs (λ b e q. (meet_flat n a b p.1 q).1 p.0 e) k) (pairs_flat n ms bs p.2 k)
 
--- ---- what two tags of the type leave together is a tag of the type, where it isn't too large
+-- ---- the intersection of two tags of the type `Tag` is one of this type, if it is not too large
 
 deepest_flat : (a b : Tag) → IsNormalTag a → IsNormalTag b → IsFlat (max (ldepth a) (ldepth b)) (meet a b)
 deepest_flat a b h k = (meet_flat _ a b (search rules) (search rules)).0

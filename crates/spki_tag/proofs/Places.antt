@@ -1,5 +1,5 @@
--- The places in an index: those of the members that pass a test, two lists of places joined in one, what one more
--- place changes, and what a tag leaves of the members at such places.
+-- The places in an index: those of the members that pass a test, two lists of places merged, what one more place changes,
+-- and the intersections of a tag with the members at such places.
 use Rattle.std.proofs.Common.{◌≡◌, ℕ, ◌<◌, ◌≤◌, List, [], ◌∷◌, ◌++◌, length, take, drop, refl, sym, ap, ◌∙◌, arith, ◌-◌, append-nil, append_assoc, ◌⊎◌, inl, inr, rules, suc, ◌+◌, Bool, true, false, ◌||◌, ◌&&◌, get_or, subst, length-take, Vec, Option, Some, None}
 use Rattle.std.proofs.lemmas.{Bool.{lt-ltb, le-ltb, cond_both}, List.{take_rest, drop_all, take_more, Elements.{All-cons}}}
 use Rattle.std.proofs.lemmas.Map.Text.{btree_map_str_after}
@@ -27,19 +27,19 @@ pub merge-right : (n : ℕ) (xs ys : List ℕ) → StartsAbove n xs → merge xs
 merge-right n [] ys h = refl
 merge-right n (x ∷ xs) ys h = search (rules, le-ltb)
 
--- ---- joining, step by step
+-- ---- merging, step by step
 
 pub merge-nil : (xs : List ℕ) → merge xs [] ≡ xs
 merge-nil [] = refl
 merge-nil (x ∷ xs) = ap (λ ys. x ∷ ys) (merge-nil xs)
 
--- an end is reached
+-- one of the lists has ended
 merge-end : (xs ys : List ℕ) (i j : ℕ) → (length xs ≤ i) ⊎ (length ys ≤ j)
     → merge (drop i xs) (drop j ys) ≡ drop i xs ++ drop j ys
 merge-end xs ys i j (inl h) = rw (drop_all i xs h) refl
 merge-end xs ys i j (inr h) = rw (drop_all j ys h) (merge-nil (drop i xs) ∙ sym (append-nil (drop i xs)))
 
--- what is left of both goes behind what is joined so far
+-- what is left of both is appended to what is merged so far
 pub joined-end : (xs ys so_far with_xs with_both whole : List ℕ) (i j : ℕ) → (length xs ≤ i) ⊎ (length ys ≤ j)
     → so_far ++ merge (drop i xs) (drop j ys) ≡ whole
     → with_xs ≡ so_far ++ take (length xs - i) (drop i xs)
@@ -47,9 +47,7 @@ pub joined-end : (xs ys so_far with_xs with_both whole : List ℕ) (i j : ℕ) �
     → with_both ≡ whole
 joined-end xs ys so_far with_xs with_both whole i j h e f g = search (rules, take_rest, append_assoc, merge-end)
 
--- ---- the places of members that pass a test, and those of two tests joined
-
--- ---- one test
+-- ---- the places of members that pass a test
 
 -- a tag at the end of the list
 pub places_where-push : (p : Tag → Bool) (n : ℕ) (ts : List Tag) (t : Tag)
@@ -71,14 +69,14 @@ places_where-same p q same n [] = refl
 places_where-same p q same n (t ∷ ts) =
     λ i. if same t i then n ∷ places_where-same p q same (n + 1) ts i else places_where-same p q same (n + 1) ts i
 
--- ---- two tests
+-- ---- the places of two tests, merged
 
 starts_above : (p : Tag → Bool) (n m : ℕ) (ts : List Tag) → n < m → StartsAbove n (places_where p m ts)
 starts_above p n m [] h = tt
 starts_above p n m (t ∷ ts) h =
     cond_both (p t) (m ∷ places_where p (m + 1) ts) _ (StartsAbove n) (λ _. h) (λ _. starts_above p n (m + 1) ts (omega arith))
 
--- the places of two tests that are never both true, joined
+-- the places of two tests that are never both true, merged
 pub merge-places : (p q : Tag → Bool) → ((t : Tag) → (p t && q t) ≡ false) → (n : ℕ) (ts : List Tag)
     → merge (places_where p n ts) (places_where q n ts) ≡ places_where (λ t. p t || q t) n ts
 merge-places p q apart n [] = refl
@@ -111,19 +109,17 @@ lists-apart : (head : List ℕ) (k : Kind) → (is_lists head k && is_any k) ≡
 lists-apart head (lists other) = and-false (bytes_eq head other)
 lists-apart head k = refl
 
--- the places of what can share a string: those of the string and those of what has more strings
+-- the places of the tags that may contain a string: those of this string, and those with many strings
 pub places_of_string : (octets : List ℕ) (ts : List Tag)
     → merge (places_where (λ t. is_one octets (kind t)) 1 ts) (places_where (λ t. has_many_strings (kind t)) 1 ts)
     ≡ places_where (λ t. kinds_share (one octets) (kind t)) 1 ts
 places_of_string octets ts = search (rules, merge-places, one-apart, places_where-same, one-shares)
 
--- the places of what can share a list
+-- the places of the tags that may contain a list with a head: those of such lists, and those of sets and stars
 pub places_of_lists : (head : List ℕ) (ts : List Tag)
     → merge (places_where (λ t. is_lists head (kind t)) 1 ts) (places_where (λ t. is_any (kind t)) 1 ts)
     ≡ places_where (λ t. kinds_share (lists head) (kind t)) 1 ts
 places_of_lists head ts = search (rules, merge-places, lists-apart, places_where-same, lists-share)
-
--- ---- members
 
 -- ---- tags by kind
 
@@ -150,7 +146,7 @@ places_more old new ts i t k h read same kept added =
     subst (ArePlacesOf new) (sym (take_more ts i t h ∙ ap (λ u. take i ts ++ u ∷ []) (sym read)))
     (places-push old new (take i ts) t (i + 1) (omega (arith, length-take i ts)) kept (subst (λ j. IsAdded old new j (i + 1)) same added))
 
--- ---- what one more place changes on the places of an index
+-- ---- how one more place changes the places of an index
 
 abbrev Entries : Type 0
 Entries = List (Bor (List ℕ) × Vec ℕ Global)
@@ -163,13 +159,13 @@ value_at es q = lookup (is_at (λ k. slice_cmp nat_cmp q k.now)) es
 abbrev places_in : Entries → List ℕ → List ℕ
 places_in es q = option_map_or (λ places. places.items) (value_at es q) []
 
--- the places that an entry begins with
+-- the places that the map has for a string before one is added
 pub places-begun : (es : Entries) (key : List ℕ) (o : Option (Vec ℕ Global)) (v : Vec ℕ Global)
     → o ≡ value_at es key → UnwrapsOrElse o (λ x. x.items ≡ []) v → v.items ≡ places_in es key
 places-begun es key None v e h = h ∙ ap (λ p. option_map_or (λ x. x.items) p []) e
 places-begun es key (Some x) v e h = ap (λ y. y.items) h ∙ ap (λ p. option_map_or (λ x. x.items) p []) e
 
--- the places of each string, where one came to those of the string key
+-- the places of each string, after one was added for the string key
 pub places-put : (old mid new : Entries) (key : Bor (List ℕ)) (v : Vec ℕ Global) (place : ℕ)
     → KeepsOthers (eq_by_cmp (λ x y. slice_cmp nat_cmp x.now y.now)) (is_at (λ k. slice_cmp nat_cmp key.now k.now)) old mid
     → value_at mid key.now ≡ Some v
@@ -186,9 +182,9 @@ places-put old mid new key v place kept here same e q =
           ∙ ap (λ b. places_in old q ++ place_if b place) (sym h.0)
     ] in ap (λ es. places_in es q) same ∙ met
 
--- ---- what a tag leaves of those that it can have a request in common with, and of the others
+-- ---- the intersections of a tag with those that may have a request in common with it, and with the others
 
--- tags that can have no request in common leave nothing together
+-- the intersection of tags that can have no request in common is (* set)
 pub meet_apart : (t u : Tag) → may_share t u ≡ false → meet t u ≡ nothing
 meet_apart (string octets) (string other) e = search (rules, nat_list_eq_equiv.symm)
 meet_apart (string octets) (list head ts) e = refl
@@ -200,7 +196,7 @@ meet_apart (list head ts) (range o l u) e = refl
 meet_apart (list head ts) (list other us) e = ap (λ b. if b then listed head (each_meet ts us) else nothing) e
 meet_apart t u e = absurd cc
 
--- the tags at places, in a list and behind its first tag
+-- the tags at places of a list, and at the same places of the list without its first tag
 tags_at-behind : (t : Tag) (ts : List Tag) (p : Tag → Bool) (m n : ℕ) (us : List Tag) → m ≡ n + 1 → 0 < n
     → tags_at (t ∷ ts) (places_where p m us) ≡ tags_at ts (places_where p n us)
 tags_at-behind t ts p m n [] e h = refl
@@ -215,7 +211,7 @@ tags_at-behind t ts p m n (u ∷ us) e h = by (p u) (tags_at-behind t ts p (m + 
     by true k = λ i. here i ∷ k i
     by false k = k
 
--- what a tag leaves of some tags is what it leaves of those that it can have a request in common with
+-- the intersections of a tag with some tags are those with the tags that may have a request in common with it
 pub row_at_places : (t : Tag) (us : List Tag)
     → row (meet t) (tags us) ≡ row (meet t) (tags (tags_at us (places_where (may_share t) 1 us)))
 row_at_places t [] = refl
@@ -226,7 +222,7 @@ row_at_places t (u ∷ us) =
     cond_both (may_share t u) (1 ∷ rest) rest (λ ns. kept (meet t u) (row (meet t) (tags us)) ≡ row (meet t) (tags (tags_at (u ∷ us) ns)))
     (λ e. ap (kept (meet t u)) k) (λ e. ap (λ v. kept v (row (meet t) (tags us))) (meet_apart t u e) ∙ k)
 
--- the tags at places have no more nodes and weight than all
+-- the tags at some places cost no more than all of them
 pub at_places-le : (p : Tag → Bool) (us : List Tag)
     → node_costs (tags (tags_at us (places_where p 1 us))) ≤ node_costs (tags us)
 at_places-le p [] = omega arith

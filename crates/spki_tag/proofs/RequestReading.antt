@@ -1,4 +1,4 @@
--- Which request is written as a value, and which fault a reader of requests names.
+-- Which request is written as a value, and which fault a reader of requests returns.
 use Rattle.std.proofs.Common.{◌≡◌, ℕ, List, [], ◌∷◌, ◌++◌, map, refl, ap, append_assoc, ◌≤◌, rules, not, Option, Some, None, Result, Ok, Err, ◌∙◌}
 use Rattle.std.proofs.lemmas.List.{map_push, map-append}
 use Rattle.std.specs.{Prelude.{codes, IfOk}, List.{AllByRecursion}}
@@ -11,9 +11,7 @@ use Rattle.spki_tag.proofs.Named.{named-by, named_first, out_of_memory, passed}
 use Rattle.sexpr_core.specs.Value as value
 use Rattle.spki_tag.specs.declared.fault.TagFault.TheVariants as faults
 
--- ---- which requests are written as a value
-
--- ---- a request is the only one that is written so
+-- ---- a value is the written form of at most one request
 
 mutual
   pub request_only : (g h : Request) → request_value h ≡ request_value g → h ≡ g
@@ -49,21 +47,19 @@ pub so_far_push : (vs left further : List Value) (gs : List Request) (v : Value)
     → AreReadSoFar vs (gs ++ g ∷ []) further
 so_far_push vs left further gs v g so_far e k r = search (rules, AreRequests-push, map_push, append_assoc)
 
--- a member that is left weighs no more than all
+-- a member that is left is no larger than all members together
 pub so_far_weight : (vs left further : List Value) (gs : List Request) (v : Value) → AreReadSoFar vs gs left
     → left ≡ v ∷ further → weight v ≤ weights (values vs)
 so_far_weight vs left further gs v so_far e = search (rules, weight, weights, weight_le-weights)
 
--- a list of members that were read
+-- the list of the members that were read
 pub list_is_request : (head : List ℕ) (vs : List Value) (gs : List Request) → AreReadRequests vs gs
     → request_value (list head (requests gs)) ≡ group (plain head ∷ vs)
 list_is_request head vs gs r = search (rules, request_values-requests)
 
--- ---- which fault a reader of requests names
+-- ---- the fault of a value itself
 
--- ---- a value itself
-
--- a value is the first of its parts
+-- a value is the first of its nodes
 nodes-first : (v : Value) → (rest : List Value) × (value.nodes v ≡ v ∷ rest)
 nodes-first (value.string hint octets) = ([], refl)
 nodes-first (value.list vs) = (value.nodes_all vs, refl)
@@ -91,7 +87,7 @@ pub group-members : (head : List ℕ) (vs : List Value) (fault : TagFault) → I
 unfolding request_fault fault_of_requests
 group-members head vs fault h = search (rules, named-by, group-fine)
 
--- ---- nothing is wrong with a request that is written
+-- ---- a written request has no fault
 
 abbrev pub IsFinePart : Value → Type 0
 IsFinePart v = part_fault v ≡ None
@@ -128,7 +124,7 @@ pub so_far-named : (fault : TagFault) (vs left further : List Value) (gs : List 
 unfolding request_fault fault_of_requests IsNamed
 so_far-named fault vs left further gs v so_far e = search (rules, named-by, part-found, parts-fine, requests-fine, request_values-requests)
 
--- ---- the whole
+-- ---- the whole value
 
 pub request-faultless : (v : Value) (g : Request) → IsRequest g → request_value g ≡ v → request_fault v ≡ None
 unfolding request_fault

@@ -1,5 +1,5 @@
--- Which tag is written as a value, and which is read from it: only one is written so, and the one that is read,
--- member by member, is its normal form.
+-- Which tag is written as a value, and which is read from it: a value is the written form of at most one tag, and the normal
+-- form of this tag is read, member by member.
 use Rattle.std.proofs.Common.{◌≡◌, ℕ, Bool, true, false, List, ◌++◌, Option, Some, None, refl, sym, ap, rules, ◌≤◌, ◌&&◌, ◌||◌, [], ◌∷◌, ◌∙◌, arith, ◌+◌, map, append_assoc, append-nil, true≢false, subst}
 use Rattle.std.proofs.lemmas.{Bool.{or_parts}, List.{map_push, Folds.{list_any-append}}}
 use Rattle.std.specs.{Prelude.{codes, if◌then◌else◌}, Str.{bytes_eq}, Cmp.Lexicographic.{other_text}, List.{list_any, AllByRecursion}}
@@ -11,7 +11,7 @@ use Rattle.spki_tag.proofs.NormalForms.{set_of-normal, listed-normal, spread-mem
 use Rattle.spki_tag.specs.Request as request
 use Rattle.sexpr_core.specs.Value as value
 
--- ---- one tag is written as a value
+-- ---- a value is the written form of at most one tag
 
 -- two words that are not the same
 pub apart : (a b : List ℕ) → false ≡ bytes_eq a b → a ≡ b → ⊥
@@ -76,9 +76,7 @@ mutual
   tags_only (more t ts) (more w ws) h k e = search (rules, tag_only t w h.0 k.0 cc, tags_only ts ws h.1 k.1 cc)
   tags_only ts ws h k e = absurd cc
 
--- ---- the normal form of a written tag is in normal form, and contains the same requests
-
--- ---- one of each, in order
+-- ---- normal forms of several tags, in order
 
 abbrev pub AreNormalOf : Tags → List Tag → Type 0
 AreNormalOf none [] = Unit {0}
@@ -118,12 +116,12 @@ list-same : (head : List ℕ) (ws : Tags) (ts : List Tag) (g : Request) → AreN
 list-same head ws ts (request.string s) h = refl
 list-same head ws ts (request.list requested gs) h = ap (λ b. bytes_eq head requested && b) (contain_each-of ws ts gs h)
 
--- the same of a list
+-- the same for a list
 list-of : (head : List ℕ) (ws : Tags) (ts : List Tag) (t : Tag) → AreNormalOf ws ts
     → IsNormalOf (list head (tags ts)) t → IsNormalOf (list head ws) t
 list-of head ws ts t h k = search (rules, list-same, nodes_all-of)
 
--- ---- the normal form
+-- ---- `normal` returns the normal form
 
 mutual
   pub normal-of : (w : Tag) → IsTag w → IsNormalOf w (normal w)
@@ -135,18 +133,18 @@ mutual
   normals-of none h = tt
   normals-of (more w ws) h = (normal-of w h.0, normals-of ws h.1)
 
--- one more at the end
+-- one more tag at the end
 pub normals-push : (ws : List Tag) (w : Tag) → normals (tags (ws ++ w ∷ [])) ≡ normals (tags ws) ++ normal w ∷ []
 normals-push [] w = refl
 normals-push (u ∷ ws) w = ap (λ (ts : List Tag). normal u ∷ ts) (normals-push ws w)
 
--- ---- readings
+-- ---- what a value is read as
 
--- a value is read as one tag
+-- a value is read as at most one tag
 pub reading-one : (v : Value) (t u : Tag) → ReadsAs v t → ReadsAs v u → t ≡ u
 reading-one v t u r s = search (rules, tag_only)
 
--- ---- how large a value is, by which reading ends
+-- ---- the size of a value, which decreases while it is read
 
 abbrev mutual
   pub weight : Value → ℕ
@@ -157,12 +155,10 @@ abbrev mutual
   weights value.none = 0
   weights (value.more v vs) = weight v + weights vs
 
--- a member weighs no more than all of them
+-- a member is no larger than all members together
 pub weight_le-weights : (us : List Value) (v : Value) (vs : List Value) → weight v ≤ weights (values (us ++ v ∷ vs))
 weight_le-weights [] v vs = omega arith
 weight_le-weights (u ∷ us) v vs = omega (arith, weight_le-weights us v vs)
-
--- ---- which tags are written as a value
 
 -- ---- the members of a list, one after the other
 
@@ -207,7 +203,7 @@ so_far_push used counted after vs left further ts v t so_far e r = record {
 
 -- ---- what was read
 
--- a list of members that were read
+-- the list of the members that were read
 pub list_is_read : (used after : ℕ) (head : List ℕ) (vs : List Value) (ts : List Tag) (t : Tag) → IsHead head
     → AreRead (used + 2) vs ts after → t ≡ listed head ts → IsRead used (group (plain head ∷ vs)) t after
 list_is_read used after head vs ts t h r n = record {
@@ -241,7 +237,7 @@ set_of-same ts us h = by (list_any is_star ts) (list_any is_star us) h.star h.sa
     by false false e s = ap gather (s refl)
     by a b e s = absurd cc
 
--- the members of the set of some members are these
+-- the members of the set of some members are these members
 in_place-set_of : (ts us : List Tag) → AllByRecursion IsMember us → MakeSame ts us → MakeSame ts (in_place (set_of us))
 in_place-set_of ts us all h = by (list_any is_star us) refl
   where
@@ -253,7 +249,7 @@ spread-push : (ts : List Tag) (t : Tag) → spread (ts ++ t ∷ []) ≡ spread t
 spread-push [] t = append-nil (in_place t)
 spread-push (u ∷ ts) t = ap (λ (us : List Tag). in_place u ++ us) (spread-push ts t) ∙ sym (append_assoc (in_place u) (spread ts) (in_place t))
 
--- a tag that was read was put behind others
+-- a tag that was read was appended to other members
 pub tag_is_put : (used after : ℕ) (v : Value) (t : Tag) (before members : List Tag) → IsRead used v t after
     → members ≡ before ++ in_place t → IsPut used v before members after
 tag_is_put used after v t before members r e = record {
@@ -267,7 +263,7 @@ tag_is_put used after v t before members r e = record {
   few = r.few;
 }
 
--- the members of a set were put behind others
+-- the members of a set were appended to other members
 pub set_is_put : (used after : ℕ) (vs : List Value) (v : Value) (before members : List Tag) → ArePut (used + 1) vs before members after
     → v ≡ starred (codes "set") (values vs) → IsPut used v before members after
 set_is_put used after vs v before members r e = record {
@@ -282,7 +278,7 @@ set_is_put used after vs v before members r e = record {
   few = r.few;
 }
 
--- the members so far were read as tags and put behind others, and these are left
+-- the members so far were read as tags and appended to other members, and these are left
 pub record IsPutSoFar (used : ℕ) (vs : List Value) (before after : List Tag) (counted : ℕ) (left : List Value) : Type 0 where
   pub ws : List Tag
   pub put : List Tag
@@ -313,7 +309,7 @@ put_push used counted after vs left further before ts us v so_far e r = record {
   few = r.few;
 }
 
--- what was read of them, as if each had been kept as it is
+-- the same members, as if each had been read as one tag
 pub read_so_far : (used counted : ℕ) (vs left : List Value) (before after : List Tag)
     → (h : IsPutSoFar used vs before after counted left) → IsReadSoFar used vs (normals (tags h.ws)) counted left
 read_so_far used counted vs left before after h =
@@ -344,7 +340,7 @@ put_all used counted vs left before now h e = record {
   few = h.few;
 }
 
--- a set of members that were put behind none
+-- the set whose members were appended to no other members
 pub set_is_read : (used after : ℕ) (vs : List Value) (before ts : List Tag) (t : Tag) → ArePut (used + 1) vs before ts after → before ≡ []
     → t ≡ set_of ts → IsRead used (starred (codes "set") (values vs)) t after
 set_is_read used after vs before ts t r empty n = record {
@@ -366,7 +362,7 @@ set_is_normal used after vs before ts r empty =
 each_normal : (used after : ℕ) (vs : List Value) (ts : List Tag) (r : AreRead used vs ts after) → AreNormalOf (tags r.ws) ts
 each_normal used after vs ts r = search (rules, normals-of)
 
--- few enough nodes for a list or a set of members that were read
+-- the list or the set of the members that were read has few enough nodes
 pub members_fit : (used after : ℕ) (vs : List Value) (ts : List Tag) → AreRead used vs ts after
     → 2 + nodes_all (tags ts) ≤ most_nodes
 members_fit used after vs ts r = omega (arith, r.counted, r.few, nodes_all-of (tags r.ws) ts (each_normal used after vs ts r))
@@ -374,7 +370,7 @@ members_fit used after vs ts r = omega (arith, r.counted, r.few, nodes_all-of (t
 pub members_normal : (used after : ℕ) (vs : List Value) (ts : List Tag) → AreRead used vs ts after → AreNormal ts
 members_normal used after vs ts r = AreNormal-of (tags r.ws) ts (each_normal used after vs ts r)
 
--- a member that is left weighs no more than all
+-- a member that is left is no larger than all members together
 pub so_far_weight : (used counted : ℕ) (vs left further : List Value) (ts : List Tag) (v : Value)
     → IsReadSoFar used vs ts counted left → left ≡ v ∷ further → weight v ≤ weights (values vs)
 so_far_weight used counted vs left further ts v so_far e = search (rules, weight, weights, weight_le-weights)

@@ -1,4 +1,4 @@
--- The weight of a tag is at most the octets of its canonical text.
+-- The weight of a tag that was read is at most the number of octets of its canonical text.
 use Rattle.std.proofs.Common.{◌≡◌, ℕ, ◌+◌, ◌≤◌, List, [], ◌∷◌, ◌++◌, length, length-append, arith, Option, Some, None, codes, ap}
 use Rattle.std.proofs.lemmas.Bool.{cond_both}
 use Rattle.std.specs.{Prelude.{if◌then◌else◌}, List.{list_any}}
@@ -77,7 +77,7 @@ mutual
   weights_octets none = omega arith
   weights_octets (more t ts) = omega (arith, canons_more (tag_value t) (tag_values ts), weight_octets t, weights_octets ts)
 
--- ---- the normal form has no more weight
+-- ---- the normal form has no greater weight
 
 in_place-weight : (t : Tag) → weight_all (tags (in_place t)) ≤ weight t
 in_place-weight (set ts) = omega (arith, ap weight_all (tags-items ts))
@@ -116,6 +116,6 @@ mutual
   normals_weight none = omega arith
   normals_weight (more t ts) = omega (arith, normal_weight t, normals_weight ts)
 
--- so a request is looked for in a tag that was read in fewer steps than its text has octets
+-- so a request is looked for in a tag that was read in at most as many steps as the text has octets
 pub read_weight : (w : Tag) → weight (normal w) ≤ length (canon (tag_value w))
 read_weight w = omega (arith, normal_weight w, weight_octets w)
