@@ -1,4 +1,4 @@
--- What is read of an entry or of a sequence is at most a multiple of the octets of its canonical text.
+-- The weight of an entry or of a sequence is bounded by a multiple of the octets of its canonical text.
 use Rattle.std.proofs.Common.{◌≡◌, ℕ, ◌+◌, ◌*◌, ◌≤◌, ◌<◌, inl, inr, List, [], ◌∷◌, length, arith, Option, Some, None, codes, ap, rules}
 use Rattle.std.proofs.lemmas.Bool.{cond_both}
 use Rattle.std.specs.List.{AllZip}
@@ -28,7 +28,7 @@ more_long v vs = canons_more v (values vs)
 group_ge : (head : List ℕ) (vs : List Value) → 3 + length head + longs vs ≤ long (group (plain head ∷ vs))
 group_ge head vs = omega (arith, canon_list (values (plain head ∷ vs)), more_long (plain head) vs, verbatim_ge head)
 
--- the same of a value that is the list
+-- the same for a value that is the list
 headed_ge : (v : Value) (head : List ℕ) (vs : List Value) → v ≡ group (plain head ∷ vs) → 3 + length head + longs vs ≤ long v
 headed_ge v head vs e = omega (arith, ap long e, group_ge head vs)
 
@@ -85,7 +85,7 @@ behind_ge (list none) = omega arith
 behind_ge (list (more head others)) =
     omega (arith, canon_list (more head others), canons_more head others, ap (λ (vs : Values). length (canons vs)) (values-members others))
 
--- the octets of several contents
+-- the octets of the contents of several fields
 abbrev total : List (List Value) → ℕ
 total [] = 0
 total (vs ∷ rest) = longs vs + total rest
@@ -99,7 +99,7 @@ total_ge word (v ∷ vs) =
     cond_both (is_headed word v) (behind_head v ∷ contents word vs) (contents word vs) (λ (rest : List (List Value)). total rest ≤ longs (v ∷ vs))
     (λ _. omega (arith, more_of, later, inner)) (λ _. omega (arith, more_of, later))
 
--- the only value behind the only field with a head
+-- the only value after the head of the only field with this head
 sole_ge : (word : List ℕ) (fields rest : List Value) (v : Value) → contents word fields ≡ rest ∷ [] → rest ≡ v ∷ [] → long v ≤ longs fields
 sole_ge word fields rest v once sole = omega (arith, total_ge word fields, ap total once, ap longs sole, more_long v [])
 

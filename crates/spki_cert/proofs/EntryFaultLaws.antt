@@ -1,4 +1,4 @@
--- Entries and access lists along the way of their reading: the fault that is named of them, and what is none.
+-- The fault of an entry and of an access list, step by step as they are read, and which values are none.
 use Rattle.std.proofs.Common.{◌≡◌, ℕ, inl, inr, Bool, true, false, cond, List, [], ◌∷◌, ◌++◌, refl, ap, ◌∙◌, rules, drop, Option, Some, None}
 use Rattle.std.specs.{Prelude.{codes, not, ◌&&◌, if◌then◌else◌}, List.{AllZip}}
 use Rattle.sexpr_core.specs.Value.{Value, plain, group, IsNotHeaded}
@@ -13,20 +13,16 @@ use Rattle.spki_cert.proofs.HeadedLists.{same_others, not-headed, behind-group, 
 use Rattle.spki_cert.proofs.SubjectFaultLaws.{name-is_no_principal, string-is_no_principal, principal-else}
 use Rattle.spki_tag.specs.Faults.{first_fault, unless}
 
--- ---- entries and access lists that were read, and those that are none
+-- ---- a relative name as a subject
 
--- ---- windows
-
--- ---- subjects
-
--- a relative name is no name
+-- a relative name is no subject of an entry
 pub relative-is_no_subject : (v : Value) (names : List (List ℕ)) → RelativeOf v names → (s : Subject) → SubjectOf v s → ⊥
 relative-is_no_subject v names relative s (inl read) = name-is_no_principal v (plains names) relative.written s.principal read.0
 relative-is_no_subject v names relative s (inr read) = search (rules, same_others, string-is_no_principal)
 
 -- ---- access lists
 
--- an entry is not headed version
+-- an entry does not have the head version
 pub entry-unversioned : (v : Value) (e : Entry) → EntryOf v e → is_headed (codes "version") v ≡ false
 entry-unversioned v e read = ap (is_headed (codes "version")) read.written
 
@@ -38,7 +34,7 @@ entries-behind version entries es is zip = absurd (search rules)
 
 -- ---- the outer list
 
--- no version stands first
+-- the first member does not have the head version
 pub unversioned : (v : Value) (all : List Value) (first : Value) (others : List Value) → v ≡ group (plain (codes "acl") ∷ all) → all ≡ first ∷ others
     → IsNotHeaded first (codes "version")
     → (vs : List Value) × (v ≡ group (plain (codes "acl") ∷ vs)) × BeginsWell vs × (all ≡ behind_version vs)
@@ -53,8 +49,6 @@ acl-read v (first ∷ others) members es e well f zip = by (is_headed (codes "ve
     by : (b : Bool) → is_headed (codes "version") first ≡ b → AllZip EntryOf (if b then others else first ∷ others) es → AclOf v es
     by true here each = record { version = first ∷ []; entries = others; version_is = well here; written = e; each = each }
     by false here each = record { version = []; entries = first ∷ others; version_is = tt; written = e; each = each }
-
--- ---- the fault that is named of an entry or of an access list, along the way of its reading
 
 -- ---- subjects of entries
 
@@ -97,7 +91,7 @@ pub entry-form : (v : Value) (rest : List Value) → v ≡ group (plain (codes "
 unfolding entry_fault
 entry-form v rest e = of-form entry_looked (codes "entry") v rest e
 
--- what is found in the parts of an entry
+-- the first fault of the parts of an entry
 abbrev pub parts_looked : Option CertFaultKind → Option CertFaultKind → Bool → Bool → Option CertFaultKind
 parts_looked subject fields both tag = first_fault (subject ∷ fields ∷ unless (not both) Shape ∷ unless tag Shape ∷ [])
 

@@ -1,4 +1,4 @@
--- A value has no fault as an entry or as an access list exactly where it is one.
+-- A value has no fault as an entry or as an access list exactly if it is one.
 use Rattle.std.proofs.Common.{◌≡◌, ℕ, ◌+◌, List, [], ◌∷◌, ◌++◌, length, arith, Bool, true, false, ◌&&◌, ◌||◌, Option, Some, None, refl, sym, ap, ◌∙◌, rules}
 use Rattle.std.proofs.{Math.Bool.{and-false}, lemmas.Bool.{or_parts}}
 use Rattle.std.specs.{Prelude.{codes, ◌↔◌, if◌then◌else◌}, List.{AllZip}}
@@ -18,7 +18,7 @@ use Rattle.spki_cert.proofs.FieldFaultNone.{given-read, entry_fields-none, versi
 
 -- ---- windows
 
--- words of fields that say nothing of validity
+-- heads of the fields that say nothing of validity
 abbrev pub untimed_words : List (List ℕ)
 untimed_words =
     codes "propagate" ∷ codes "tag" ∷ codes "comment" ∷ codes "version" ∷ codes "issuer" ∷ codes "subject" ∷ codes "display" ∷ codes "issuer-info" ∷ codes "subject-info" ∷ []

@@ -56,7 +56,7 @@ from_june = record { not_before = Some june; not_after = None }
 abbrev to_june : Window
 to_june = record { not_before = None; not_after = Some june }
 
--- both limits are within a window, and what is met is that moment
+-- both limits are within a window, and the intersection of the two windows is that moment
 in_june : (within june from_june ≡ true) × (within june to_june ≡ true)
 in_june = (refl, refl)
 
@@ -120,7 +120,7 @@ reads = record {
   normal = normal-of ftp_host ftp_is_tag;
 }
 
--- the entry of the first run: (entry (public-key (test a)) (tag (ftp host)))
+-- the entry of examples/first-run.csexp: (entry (public-key (test a)) (tag (ftp host)))
 first_run : EntryOf (group (plain (codes "entry") ∷ ka ∷ ftp_field ∷ [])) (record { subject = record { principal = Key ka_octets; names = [] }; propagate = false; tag = ftp_host; window = record { not_before = None; not_after = None } })
 first_run = record {
   subject = ka;
@@ -179,15 +179,15 @@ an_operation = group (plain (codes "do") ∷ [])
 signed_behind_operation : AreInPlace false (a_cert ∷ an_operation ∷ a_signature ∷ []) × (waits_after false (a_cert ∷ an_operation ∷ a_signature ∷ []) ≡ false)
 signed_behind_operation = ((refl, (inl refl, (inr refl, tt))), refl)
 
--- a key does not stand there
+-- a key may not be between them
 key_between : AreInPlace false (a_cert ∷ ka ∷ a_signature ∷ []) → ⊥
 key_between places = elim places.1.0 [ inl e ↦ absurd (cc) | inr e ↦ absurd (cc) ]
 
--- nor does a second signature behind the first
+-- nor may a second signature follow the first
 second_signature : AreInPlace false (a_cert ∷ a_signature ∷ a_signature ∷ []) → ⊥
 second_signature places = absurd (let e = places.1.1.0 in cc)
 
--- a signature behind a key belongs to no certificate
+-- a signature after a key belongs to no certificate
 stray_signature : HasWrongItem (group (plain (codes "sequence") ∷ ka ∷ a_signature ∷ [])) (record { item = 2; kind = StraySignature })
 stray_signature = record {
   values = ka ∷ a_signature ∷ [];
@@ -204,7 +204,7 @@ stray_signature = record {
   }));
 }
 
--- and its number is no other one
+-- and the number is no other one
 stray_at : (front : List Value) (stray : Value) (behind : List Value) → ka ∷ a_signature ∷ [] ≡ front ++ stray ∷ behind → 1 ≡ length front + 1
     → is_headed (codes "signature") stray ≡ true → ⊥
 stray_at [] stray behind e place is =

@@ -1,4 +1,4 @@
--- The fault that is named of a field, and of fields one after the other, along the way of their reading.
+-- The fault of a field, and of fields one after the other, step by step as they are read.
 use Rattle.std.proofs.Common.{◌≡◌, ◌≢◌, ℕ, List, [], ◌∷◌, ◌++◌, Bool, true, false, Option, Some, None, refl, sym, ap, ◌∙◌, inr, rules, subst}
 use Rattle.std.proofs.lemmas.Bool.{false_from_ne_true, true_from_ne_false}
 use Rattle.std.specs.{Prelude.{codes, not, is_some, if◌then◌else◌, ◌||◌, ◌&&◌}, List.{AllByRecursion}}
@@ -19,7 +19,7 @@ pub version-faultless : (vs : List Value) → vs ≡ plain (codes "0") ∷ [] �
 unfolding version_fault
 version-faultless vs e = ap (sole_fault Shape version_fault) e
 
--- ---- heads that were met
+-- ---- whether a head occurred before
 
 has-more : (word : List ℕ) (v : Value) (vs : List Value) (b : Bool) → is_headed word v ≡ b → has word (v ∷ vs) ≡ (b || has word vs)
 has-more word v vs b e = ap (λ (x : Bool). x || has word vs) e
@@ -39,7 +39,7 @@ has-given word R vs (Some a) given = has-contents word vs ∙ ap some_are given.
 pub again-headed : (word : List ℕ) (before : List Value) (v : Value) (rest : List Value) → v ≡ group (plain word ∷ rest) → is_again before v ≡ has word before
 again-headed word before v rest e = ap (λ (w : Value). has_head before (head_of w)) e
 
--- a head that no limit has is not among limits
+-- no limit has the head online
 no-online : (vs : List Value) → AllByRecursion IsLimitField vs → has (codes "online") vs ≡ false
 no-online [] all = refl
 no-online (v ∷ vs) all = search (rules, has-more, no-online vs all.1)
@@ -66,9 +66,9 @@ limit-online v rest p q e = search (rules, limit-by v true, not-headed, headed-b
 pub limit-other : (v : Value) → IsNotHeaded v (codes "not-before") → IsNotHeaded v (codes "not-after") → IsNotHeaded v (codes "online") → limit_fault v ≡ Some Shape
 limit-other v p q r = search (rules, limit-by v false, not-headed)
 
--- ---- one field behind others
+-- ---- one field after others
 
--- what is looked at in one field
+-- what is tested in one field
 abbrev pub field_looked : (Value → Option CertFaultKind) → List Value → Value → List (Option CertFaultKind)
 field_looked fault_of before v = unless (not (is_again before v)) Shape ∷ fault_of v ∷ []
 
@@ -79,11 +79,11 @@ pub field-new : (fault_of : Value → Option CertFaultKind) (before : List Value
     → first_fault (field_looked fault_of before v) ≡ found
 field-new fault_of before v found e f = ap (λ (b : Bool). first_fault (unless (not b) Shape ∷ fault_of v ∷ [])) e ∙ one-look (fault_of v) ∙ f
 
--- a field that has no form is so, met again or not
+-- a field of an unknown form has the fault Shape, whether its head occurred before or not
 pub field-misfit : (fault_of : Value → Option CertFaultKind) (before : List Value) (v : Value) → fault_of v ≡ Some Shape → first_fault (field_looked fault_of before v) ≡ Some Shape
 field-misfit fault_of before v e = search (rules, one-look)
 
--- a limit that stands among these already, and one that does not
+-- whether a limit occurred before
 pub again-limit : (word : List ℕ) (R : List Value → List ℕ → Type 0) (before : List Value) (v : Value) (rest : List Value) (o : Option (List ℕ)) (b : Bool)
     → v ≡ group (plain word ∷ rest) → Given word R before o → is_some o ≡ b → is_again before v ≡ b
 again-limit word R before v rest o b e given f = again-headed word before v rest e ∙ has-given word R before o given ∙ f
@@ -93,7 +93,7 @@ online-new before v rest w e read = again-headed (codes "online") before v rest 
 
 -- ---- fields one after the other
 
--- the first fault among all is that among those that are left
+-- the first fault of all fields is that of the fields that are left
 abbrev pub Left : (Value → Option CertFaultKind) → List Value → List Value → List Value → Type 0
 Left fault_of all before rest = fields_fault fault_of all ≡ first_fault (fields_looked fault_of before rest)
 
@@ -192,7 +192,7 @@ pub cert-common : (v : Value) (found : Option CertFaultKind) → IsNotHeaded v (
     → entry_field_fault v ≡ found → cert_field_fault v ≡ found
 cert-common v found p q r other e = search (rules, cert-else, not-headed, not-unread)
 
--- ---- what has no head is no field
+-- ---- a value without a head is no field
 
 headless : (word : List ℕ) (v : Value) → head_of v ≡ None → is_headed word v ≡ false
 headless word (sexpr.list (sexpr.more (sexpr.string None head) others)) e = absurd (cc)
@@ -208,13 +208,13 @@ headless-field : (place : Place) (v : Value) → head_of v ≡ None → fault_in
 headless-field places.Entry v e = headless-entry v e
 headless-field places.Certificate v e = search (rules, cert-else, headless, headless-entry)
 
--- a list has one head, so a new one is this
+-- a list has one head, so a head that is new is this one
 pub new-of : (v w : Value) (heads : List (List ℕ)) (word : List ℕ) → w ≡ v → head_of w ≡ Some word → (head : List ℕ) × IsNew v heads head → IsNew v heads word
 new-of v w heads word e f (head, new) =
     let same : Some head ≡ Some word = sym (ap head_of new.written) ∙ (ap head_of (sym e) ∙ f) in
     let h : head ≡ word = cc in subst (λ (x : List ℕ). IsNew v heads x) h new
 
--- a field whose head is not new, or that has none
+-- a field whose head is not new, or that has none, has the fault Shape
 pub field-not_new : (place : Place) (before : List Value) (heads : List (List ℕ)) (k : FieldValues) (v : Value) → AreRead before heads k
     → ((head : List ℕ) → IsNew v heads head → ⊥) → first_fault (field_looked (fault_in place) before v) ≡ Some Shape
 field-not_new place before heads k v read none = by (head_of v) refl
@@ -230,7 +230,7 @@ pub field-is_new : (before : List Value) (heads : List (List ℕ)) (k : FieldVal
     → is_again before v ≡ false
 field-is_new before heads k v head read new = again-headed head before v new.rest new.written ∙ sym (read.heads_are head) ∙ new.fresh
 
--- ---- clashes
+-- ---- limits both directly and in (valid ..)
 
 pub both-known : (fields : List Value) (k : FieldValues) → FieldValuesOf fields k → is_both_ways fields ≡ (is_some k.valid && (is_some k.limits.not_before || is_some k.limits.not_after))
 both-known fields k known = search (rules, has-given)

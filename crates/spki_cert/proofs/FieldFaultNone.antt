@@ -1,4 +1,4 @@
--- A value has no fault as a limit or as a field, and values have none as fields, exactly where they are.
+-- A value has no fault as a limit or as a field, and several values have none as fields, exactly if they are.
 use Rattle.std.proofs.Common.{◌≡◌, ℕ, ◌≤◌, List, [], ◌∷◌, ◌++◌, length, append_assoc, append-nil, arith, Bool, true, false, Option, Some, None, refl, sym, ap, subst, ◌∙◌, inl, inr, rules}
 use Rattle.std.proofs.lemmas.{Slice.Eq.{bytes_eq-Decides}, Bool.{or_from}}
 use Rattle.std.specs.{Prelude.{codes, ◌↔◌, not, if◌then◌else◌}, List.{AllByRecursion}}
@@ -86,7 +86,7 @@ module _ (fault_of : Value → Option CertFaultKind) (IsOne : Value → Type 0) 
 pub limits-none : (vs : List Value) → (fields_fault limit_fault vs ≡ None) ↔ AreFields IsLimitField vs
 limits-none vs = fields-none limit_fault IsLimitField limit-none limit-word vs
 
--- ---- what the one field with a head gives
+-- ---- the content of the only field with a head
 
 module _ {A : Type 0} (word : List ℕ) (R : List Value → A → Type 0) (IsOne : Value → Type 0)
     (reads : (v : Value) → is_headed word v ≡ true → IsOne v → Reads R (behind_head v)) where

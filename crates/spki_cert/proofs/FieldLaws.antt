@@ -1,4 +1,4 @@
--- What fields and limits say that were read one after the other.
+-- What fields and limits say, as they are read one after the other.
 use Rattle.std.proofs.Common.{◌≡◌, ℕ, ◌+◌, ◌≤◌, Bool, true, false, cond, List, [], ◌∷◌, ◌++◌, length, Option, Some, None, refl, ap, ◌∙◌, arith, append-nil, length-append, rules, inl, inr, sym, subst}
 use Rattle.std.proofs.lemmas.{Bool.{false_from_ne_true}, List.Folds.{list_any-append}}
 use Rattle.std.specs.{List.{AllByRecursion, list_any}, Prelude.{codes}}
@@ -9,8 +9,6 @@ use Rattle.spki_cert.specs.{declared.{window.Window.{Window}, fields.{FieldValue
 use Rattle.spki_cert.proofs.HeadedLists.{Reads, other-head, head-same, headed-by, behind-group, headed-else}
 use Rattle.spki_tag.specs.Reading.{ReadsAs}
 use Rattle.spki_cert.specs.declared.fields.FieldValue.TheVariants as field_value
-
--- ---- what fields say, one field after the other
 
 -- ---- lists
 
@@ -42,7 +40,7 @@ contents-other word v vs e = ap (λ (b : Bool). cond b (behind_head v ∷ conten
 pub contents-kept : (word : List ℕ) (xs : List Value) (v : Value) → is_headed word v ≡ false → contents word (xs ++ v ∷ []) ≡ contents word xs
 contents-kept word xs v e = search (rules, contents-append word xs (v ∷ []), contents-other word v [] e, append-nil (contents word xs))
 
--- the first field with a head
+-- the first field with this head
 pub contents-first : (word : List ℕ) (xs : List Value) (v : Value) → is_headed word v ≡ true → contents word xs ≡ [] → contents word (xs ++ v ∷ []) ≡ behind_head v ∷ []
 contents-first word xs v e none = search (rules, contents-append word xs (v ∷ []))
 
@@ -70,7 +68,7 @@ pub once-new : (xs : List Value) (v : Value) (head : List ℕ) (rest : List Valu
     → AreOnce (xs ++ v ∷ [])
 once-new xs v head rest e once fresh = search (rules, once-push, head-same)
 
--- ---- what is given
+-- ---- the content of a field, if there is one with this head
 
 pub given-kept : {A : Type 0} (word : List ℕ) (R : List Value → A → Type 0) (xs : List Value) (v : Value) (o : Option A)
     → is_headed word v ≡ false → Given word R xs o → Given word R (xs ++ v ∷ []) o
@@ -81,21 +79,19 @@ pub given-first : {A : Type 0} (word : List ℕ) (R : List Value → A → Type 
     → is_headed word v ≡ true → behind_head v ≡ rest → R rest a → contents word xs ≡ [] → Given word R (xs ++ v ∷ []) (Some a)
 given-first word R xs v rest a e f read none = (rest, contents-first word xs v e none ∙ ap (λ (c : List Value). c ∷ []) f, read)
 
--- where nothing stands, nothing is given
+-- if nothing is given, no field has this head
 pub given-none : {A : Type 0} (word : List ℕ) (R : List Value → A → Type 0) (xs : List Value) (o : Option A)
     → Given word R xs o → o ≡ None → contents word xs ≡ []
 given-none word R xs None given e = given
 given-none word R xs (Some a) given e = absurd cc
 
--- what is not given is not there
+-- if something is given, a field has this head
 pub given-else : {A : Type 0} (word : List ℕ) (R : List Value → A → Type 0) (xs : List Value) (a : A) → Given word R xs (Some a) → contents word xs ≡ [] → ⊥
 given-else word R xs a given e = absurd (let f = given.1 in cc)
 
--- ---- limits and versions that were read, and those that are none
-
 -- ---- one limit
 
--- what is read behind the head of a limit
+-- what is read after the head of a limit
 pub first-limit : (v : Value) → is_headed (codes "not-before") v ≡ true → IsLimitField v → Reads (Sole DateOf) (behind_head v)
 first-limit v h (word, rest, date, inl is, e, read) = (date, rw (behind-group v (plain word) rest e) read)
 first-limit v h (word, rest, date, inr is, e, read) = absurd (let same = head-same v word (codes "not-before") rest e h in cc)
@@ -130,15 +126,13 @@ pub valid-more : (xs : List Value) (v : Value) (w after : Window) → ValidOf xs
 valid-more xs v w after read (first date says none is) = subst (ValidOf (xs ++ v ∷ [])) (sym is) (valid-first xs v w date read says none)
 valid-more xs v w after read (last date says none is) = subst (ValidOf (xs ++ v ∷ [])) (sym is) (valid-last xs v w date read says none)
 
--- ---- which fields there are, by their heads
-
--- ---- heads
+-- ---- fields by their heads
 
 -- a list whose head is one of these words
 abbrev pub HeadAmong : List (List ℕ) → Value → Type 0
 HeadAmong words v = (word : List ℕ) × (rest : List Value) × (v ≡ group (plain word ∷ rest)) × (is_word_among words word ≡ true)
 
--- its head is no other word
+-- it has no other head
 pub other-word : (words : List (List ℕ)) (v : Value) (word : List ℕ) → is_headed word v ≡ true → is_word_among words word ≡ false → HeadAmong words v → ⊥
 other-word words v word h unknown among = search (rules, head-same)
 
@@ -219,9 +213,7 @@ cert-word v (version e) = (codes "version", plain (codes "0") ∷ [], e)
 cert-word v (issuer rest i e read) = (codes "issuer", rest, e)
 cert-word v (subject rest s e read) = (codes "subject", rest, e)
 
--- ---- what is known of fields that were read one after the other
-
--- ---- whether a head was met
+-- ---- whether a head occurred before
 
 pub none-headed : (word : List ℕ) (xs : List Value) → list_any (is_headed word) xs ≡ false → contents word xs ≡ []
 none-headed word [] e = refl
@@ -231,7 +223,7 @@ pub headed-none : (word : List ℕ) (xs : List Value) → contents word xs ≡ [
 headed-none word [] e = refl
 headed-none word (x ∷ xs) e = search (rules, contents-headed, contents-other, headed-none word xs)
 
--- the head of a new field was not met
+-- the head of a new field did not occur before
 pub new-first : (xs : List Value) (heads : List (List ℕ)) (k : FieldValues) (v : Value) (head : List ℕ) → AreRead xs heads k → IsNew v heads head
     → (word : List ℕ) → is_headed word v ≡ true → contents word xs ≡ []
 new-first xs heads k v head read new word e =
@@ -251,7 +243,7 @@ silent-more xs v k known says = search (rules, given-kept)
 abbrev Fresh : List Value → Value → Type 0
 Fresh xs v = (word : List ℕ) → is_headed word v ≡ true → contents word xs ≡ []
 
--- the field with this head is the first with it
+-- the field with this head is the first one with it
 filled : {A : Type 0} (word : List ℕ) (R : List Value → A → Type 0) (xs : List Value) (v : Value) (a : A) → Headed word R v a → Fresh xs v → Given word R (xs ++ v ∷ []) (Some a)
 filled word R xs v a says fresh = search (rules, headed-by, given-first, behind-group)
 

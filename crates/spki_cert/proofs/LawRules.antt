@@ -1,4 +1,4 @@
--- What the laws are proved by.
+-- The lemmas by which the laws are proved.
 use Rattle.spki_cert.proofs.OneReading.{key-one, hash-one, date-one}
 use Rattle.spki_cert.proofs.SubjectFaultNone.{key-none, hash-none, date-none, principal-none, subject-none, entry_subject-none, issuer-none}
 use Rattle.spki_cert.proofs.FieldFaultNone.{limits-none, entry_fields-none, cert_fields-none}

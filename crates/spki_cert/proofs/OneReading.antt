@@ -1,4 +1,4 @@
--- A value has one reading.
+-- A value has at most one reading.
 use Rattle.std.proofs.Common.{◌≡◌, ℕ, inl, inr, List, [], ◌∷◌, ◌++◌, Option, Some, None, refl, sym, ap, subst, ◌∙◌, rules}
 use Rattle.std.specs.{Prelude.{codes}, List.{AllZip}}
 use Rattle.sexpr_core.specs.Value.{Value, plain, group}
@@ -34,7 +34,7 @@ hash-one v a b d e read other = search (rules, same_second, same_rest, alg-one, 
 pub date-one : (v : Value) (s t : List ℕ) → DateOf v s → DateOf v t → s ≡ t
 date-one v s t read other = plain-one s t (sym read.written ∙ other.written)
 
--- ---- who is meant
+-- ---- principals, names and subjects
 
 principal-one : (v : Value) (p q : Principal) → PrincipalOf v p → PrincipalOf v q → p ≡ q
 principal-one v (Key k) (Key l) read other = ap Key (key-one v k l read other)
@@ -78,7 +78,7 @@ issued-one issuer v s t (inr read) (inr other) =
 
 -- ---- fields
 
--- what one field with a head says
+-- two readings of a single value are equal
 sole-one : {A : Type 0} (R : Value → A → Type 0) → ((v : Value) (a b : A) → R v a → R v b → a ≡ b)
     → (vs : List Value) (a b : A) → Sole R vs a → Sole R vs b → a ≡ b
 sole-one R one vs a b (v, e, read) (w, f, other) = search rules
@@ -87,7 +87,7 @@ given-one : {A : Type 0} (word : List ℕ) (R : List Value → A → Type 0) →
     → (fields : List Value) (a b : A) → Given word R fields (Some a) → Given word R fields (Some b) → a ≡ b
 given-one word R one fields a b (rest, e, read) (behind, f, other) = search rules
 
--- what may be given is given once
+-- two readings of a field that may be missing are equal
 maybe-one : {A : Type 0} (word : List ℕ) (R : List Value → A → Type 0) → ((vs : List Value) (a b : A) → R vs a → R vs b → a ≡ b)
     → (fields : List Value) (o p : Option A) → Given word R fields o → Given word R fields p → o ≡ p
 maybe-one word R one fields None None read other = refl
@@ -117,7 +117,7 @@ entry-one v e f read other =
     let window = window-one other.fields e.window f.window (subst (λ (vs : List Value). WindowOf vs e.window) fields read.window_is) other.window_is in
     λ i. record { subject = who i; propagate = propagate i; tag = tag i; window = window i }
 
--- place by place
+-- two readings of several values, place by place, are equal
 items-one : {A : Type 0} (R : Value → A → Type 0) → ((v : Value) (a b : A) → R v a → R v b → a ≡ b)
     → (vs : List Value) (xs ys : List A) → AllZip R vs xs → AllZip R vs ys → xs ≡ ys
 items-one R one [] [] [] read other = refl
@@ -165,7 +165,7 @@ parts-one fields p q read other =
       window = window i;
     }
 
--- what two readings of one certificate have in common
+-- two readings of the fields of one certificate are equal
 same-parts : (v : Value) (us vs : List Value) (p q : CertParts) → v ≡ group (plain (codes "cert") ∷ us) → v ≡ group (plain (codes "cert") ∷ vs)
     → PartsOf us p → PartsOf vs q → p ≡ q
 same-parts v us vs p q e f read other =

@@ -30,7 +30,7 @@ upto-turned s t h = ap is_le (nat_list_cmp_total.antisymm t s) ∙ turned (slice
 
 -- ---- tests
 
--- a test that holds wherever another does is all that a conjunction adds
+-- a condition equals its conjunction with each condition that it implies
 narrower : (p q : Bool) → (q ≡ true → p ≡ true) → q ≡ (p && q)
 narrower false true h = absurd (let e : false ≡ true = h refl in cc)
 narrower p q h = refl
@@ -68,12 +68,12 @@ inner v w = record { not_before = later v.not_before w.not_before; not_after = e
 pub within-inner : (v w : Window) → IsMeet v w (inner v w)
 within-inner v w t = search (rules, is_from-later, is_until-earlier, regrouped)
 
--- a first and a last moment round a third are in order
+-- if a moment is not before a first one and not after a last one, these are in order
 in_order-around : (p q : Option (List ℕ)) (t : List ℕ) → is_from p t ≡ true → is_until q t ≡ true → in_order p q ≡ true
 in_order-around (Some s) (Some r) t h k = upto-then s t r h k
 in_order-around p q t h k = refl
 
--- between limits in order there is a moment
+-- if two limits are in order, there is a moment between them
 moment-between : (p q : Option (List ℕ)) → IsLimit p → IsLimit q → in_order p q ≡ true → (t : List ℕ) × (is_date t ≡ true) × (is_from p t ≡ true) × (is_until q t ≡ true)
 unfolding is_date is_time
 moment-between None None d e h = (codes "0000-01-01_00:00:00", refl, refl, refl)

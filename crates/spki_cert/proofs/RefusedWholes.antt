@@ -15,7 +15,7 @@ use Rattle.spki_cert.proofs.SequenceFaultNone.{item-none, place-read, waits-same
 
 -- ---- access lists
 
--- the entry that is refused stands behind the version
+-- the entry that is refused is after the version
 entry_behind : (v : Value) (all : List Value) (fault : CertFault) → v ≡ group (plain (codes "acl") ∷ all) → BeginsWell all
     → (entry : Value) → IsRefusedAt EntryOf (behind_version all) fault.item entry → entry_fault entry ≡ Some fault.kind → HasRefusedEntry v fault
 entry_behind v [] fault form well entry refused reason =
@@ -43,7 +43,7 @@ entry-wrong v fault e above = by (outer_fault v) refl e
         let refused = entries-refused (behind_version (behind_head v)) fault (sym (one-look (entries_fault (behind_version (behind_head v)))) ∙ g) in
         entry_behind v (behind_head v) fault outer.0 outer.1 refused.0 refused.1 refused.2
 
--- the first member of a list with the head acl, where its version has a fault
+-- an access list whose version has a fault
 other_version : (v : Value) (all : List Value) (fault : CertFault) → v ≡ group (plain (codes "acl") ∷ all)
     → acl_version_fault all ≡ Some fault.kind → HasOtherVersion v fault
 other_version v [] fault form e = absurd (cc)
@@ -88,9 +88,7 @@ list-wrong v fault e at = by (is_headed (codes "acl") v) refl e
         let same : record { item = 0; kind = Shape } ≡ fault = cc in inl (here, sym (ap (λ (x : CertFault). x.kind) same))
     by true here f = versioned (acl_version_fault (behind_head v)) here refl f
 
--- ---- sequences
-
--- one value more behind others
+-- ---- sequences: one more item after others
 
 in_place-more : (waits : Bool) (front : List Value) (v : Value) → AreInPlace waits front → IsInPlace (waits_after waits front) v
     → AreInPlace waits (front ++ v ∷ [])
@@ -105,7 +103,7 @@ all-more : (P : Value → Type 0) (xs : List Value) (x : Value) → AllByRecursi
 all-more P [] x all here = (here, tt)
 all-more P (y ∷ xs) x all here = (all.0, all-more P xs x all.1 here)
 
--- the certificate with this number waits for its signature: only operations are behind it
+-- the certificate with this number is without its signature: only operations follow it
 record WaitsIn (number : ℕ) (front : List Value) : Type 0 where
   pub before : List Value
   pub certificate : Value
@@ -119,7 +117,7 @@ abbrev Waits : Option ℕ → List Value → Type 0
 Waits None front = Unit {0}
 Waits (Some number) front = WaitsIn number front
 
--- the items that were looked at, where no fault was found
+-- the items that were tested, none of which had a fault
 record AreLooked (waits : Option ℕ) (front : List Value) : Type 0 where
   pub items : List SeqItem
   pub readings : AllZip ItemOf front items
@@ -127,7 +125,7 @@ record AreLooked (waits : Option ℕ) (front : List Value) : Type 0 where
   pub waiting : is_some waits ≡ waits_after false front
   pub waits_in : Waits waits front
 
--- the faults of an item's place
+-- the fault of a certificate without its signature
 abbrev lacking : ℕ → CertFault
 lacking number = record { item = number; kind = UnsignedCert }
 
@@ -141,7 +139,7 @@ begins : (values front others : List Value) (waits : Option ℕ) → values ≡ 
 begins values front others waits e looked = record { parts = e; items = looked.items; readings = looked.readings; in_place = looked.in_place }
 
 module _ (values : List Value) (fault : CertFault) where
-  -- a certificate that waits is without its signature
+  -- a certificate that is still without its signature has this fault
   unsigned : (front others : List Value) (number : ℕ) → values ≡ front ++ others → AreLooked (Some number) front → GoesOn others
       → lacking number ≡ fault → HasUnsignedCertificate values fault
   unsigned front others number e looked on same =
@@ -174,7 +172,7 @@ module _ (values : List Value) (fault : CertFault) where
       none = λ item read. absurd (let f = sym ((item-none v).1 (item, read)) ∙ found in cc);
     }
 
-    -- what waits behind one item more
+    -- which certificate is without its signature after one more item
     waits-then : (item : SeqItem) → ItemOf v item → place_fault waits number v ≡ None → Waits (waiting v waits number) (front ++ v ∷ [])
     waits-then item read place = by (is_headed (codes "cert") v) (is_headed (codes "signature") v) refl refl
       where
@@ -229,7 +227,7 @@ module _ (values : List Value) (fault : CertFault) where
         by (Some kind) f g = inl (refused kind place f (let same : record { item = number; kind = kind } ≡ fault = cc in same))
         by None f g = let read = (item-none v).0 f in later (looked-then read.0 read.1 place) g
 
-    -- one that is not
+    -- an item that is not in its place
     displaced : (other : CertFault) → place_fault waits number v ≡ Some other → other ≡ fault → IsWrong values fault
     displaced other found same = by waits found looked
       where
@@ -282,7 +280,7 @@ module _ (values : List Value) (fault : CertFault) where
 none-looked : AreLooked None []
 none-looked = record { items = []; readings = tt; in_place = tt; waiting = refl; waits_in = tt }
 
--- the number of what is wrong is above 0
+-- the number of the item that is wrong is above 0
 above : (values : List Value) (fault : CertFault) → IsWrong values fault → 0 < fault.item
 above values fault (inl h) = omega (arith, h.place)
 above values fault (inr (inl h)) = omega (arith, h.place)

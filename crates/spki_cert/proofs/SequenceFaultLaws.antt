@@ -1,5 +1,4 @@
--- Signatures, operations, certificates and sequences along the way of their reading: what was read, and the fault
--- that is named of each.
+-- Signatures, operations, certificates and sequences, step by step as they are read: what was read, and the fault of each.
 use Rattle.std.proofs.Common.{◌≡◌, ℕ, List, [], ◌∷◌, drop, Bool, true, Option, Some, None, ◌∙◌, rules, false, refl, ◌++◌, ap}
 use Rattle.std.proofs.Math.Bool.{or-false}
 use Rattle.std.specs.Prelude.{codes, is_some, not, if◌then◌else◌, ◌||◌}
@@ -18,8 +17,7 @@ use Rattle.spki_cert.proofs.SubjectFaultLaws.{principal-else}
 
 -- ---- lists of a head and three members
 
--- The fault that is named of a list of a head and three members, of which the last is any value: a signature, or a
--- row.
+-- Signatures, and rows of accepted lists, are such lists. The last member is any value.
 
 abbrev LooksAt : Type 0
 LooksAt = Value → Option CertFaultKind
@@ -31,7 +29,7 @@ triple_looked first_of second_of headed rest =
     ∷ unless_none (drop 3 rest) Shape ∷ []
     )
 
--- what is looked at in a list with this head
+-- what is tested in a list with this head
 pub record IsTriple (word : List ℕ) (fault_of first_of second_of : LooksAt) : Type 0 where
   pub looked : (v : Value) → fault_of v ≡ triple_looked first_of second_of (is_headed word v) (behind_head v)
 
@@ -84,8 +82,6 @@ name_parts c = record {
 pub name-parts : (v : Value) (c : NameCert) (read : NameCertOf v c) → PartsOf read.fields (name_parts c)
 name-parts v c read = search rules
 
--- ---- the fault that is named of a signature or of an operation, along the way of its reading
-
 -- ---- signatures
 
 pub signature-looks : IsTriple (codes "signature") signature_fault hash_fault principal_fault
@@ -105,8 +101,6 @@ pub do-form : (v : Value) (rest : List Value) → v ≡ group (plain (codes "do"
 unfolding do_fault
 do-form v rest e = of-form do_looked (codes "do") v rest e
 
--- ---- the fault that is named of a certificate or of a sequence, along the way of its reading
-
 -- ---- the fields of certificates
 
 abbrev parts_found : Option CertFaultKind → Bool → Bool → Bool → Option CertFaultKind
@@ -118,7 +112,7 @@ pub parts-tested : (fields : List Value) (found : Option CertFaultKind) (both is
 unfolding parts_fault
 parts-tested fields found both issuer subject e f g h = λ i. parts_found (e i) (f i) (g i) (h i)
 
--- the same by what is known of the fields
+-- the same, from what is known of the fields
 pub parts-known : (fields : List Value) (k : FieldValues) (both : Bool) (issuer : Option Issuer) (subject : Option WrittenSubject) → FieldValuesOf fields k
     → fields_fault cert_field_fault fields ≡ None → is_both_ways fields ≡ both → k.issuer ≡ issuer → k.subject ≡ subject
     → parts_fault fields ≡ parts_found None both (is_some issuer) (is_some subject)
@@ -140,7 +134,7 @@ pub cert-form : (v : Value) (rest : List Value) → IsCert v rest → cert_fault
 unfolding cert_fault
 cert-form v rest e = of-form cert_looked (codes "cert") v rest e
 
--- what is found in the fields, and then whether tag and propagate are right
+-- the first fault of the fields, and then whether tag and propagate are right
 pub cert-looked : (v : Value) (rest : List Value) (found : Option CertFaultKind) (b : Bool) → IsCert v rest → parts_fault rest ≡ found
     → is_tagged_right rest ≡ b
     → cert_fault v ≡ first_fault (found ∷ unless b Shape ∷ [])

@@ -1,4 +1,4 @@
--- A value has no fault as a signature, an operation, a certificate, an item or a sequence exactly where it is one.
+-- A value has no fault as a signature, an operation, a certificate, an item or a sequence exactly if it is one.
 use Rattle.std.proofs.Common.{◌≡◌, ℕ, ◌⊎◌, inl, inr, List, [], ◌∷◌, Bool, true, false, Option, Some, None, refl, sym, ◌∙◌, rules, ◌+◌, subst}
 use Rattle.std.proofs.lemmas.Slice.Eq.{bytes_eq-Decides}
 use Rattle.std.specs.{Prelude.{codes, ◌↔◌, is_some, if◌then◌else◌}, List.{AllZip}}
@@ -19,8 +19,6 @@ use Rattle.spki_cert.proofs.{SubjectFaultNone.{hash-none, alg-none, principal-no
 use Rattle.spki_cert.proofs.EntryFaultNone.{untimed_words, field-timed, TimedBy, window-read, window-window_of_limits, some-given, at-none}
 use Rattle.spki_tag.specs.Tag as tags
 use Rattle.spki_cert.specs.declared.certificate.SeqItem.TheVariants as items
-
--- ---- a value has no fault as a signature, an operation or a certificate exactly where it is one
 
 -- ---- signatures
 
@@ -86,7 +84,7 @@ cert-tag v h (issuer rest i e read) = absurd (other-head (codes "tag") v _ e h r
 cert-tag v h (subject rest s e read) = absurd (other-head (codes "tag") v _ e h refl)
 cert-tag v h (unread u) = absurd (other-word unread_words v (codes "tag") h refl (unread-head v u))
 
--- the subject of a certificate, where the issuer's principal stands for one that is not written
+-- the subject of a certificate; if no principal is written, it is the issuer's
 issued-to : (p : Principal) (v : Value) (o : Option Principal) (names : List (List ℕ)) → WrittenSubjectOf v o names → (s : Subject) × IssuedTo p v s
 issued-to p v None names read = (record { principal = p; names = names }, inr (refl, read))
 issued-to p v (Some q) names read = (record { principal = q; names = names }, inl read)
@@ -180,7 +178,7 @@ cert-read v e =
     let parts = parts-read (behind_head v) found.0 in
     cert-of v (behind_head v) form parts.0 parts.1 (search (rules, none-found, unless-none))
 
--- by what was read in the fields
+-- the first fault of a certificate, from what was read in its fields
 pub cert-parts : (v : Value) (fields : List Value) (p : CertParts) (named tagged shared : Bool) → v ≡ group (plain (codes "cert") ∷ fields) → PartsOf fields p
     → is_some p.issuer.name ≡ named → is_some p.tag ≡ tagged → p.propagate ≡ shared → cert_fault v ≡ first_fault (None ∷ unless (right named tagged shared) Shape ∷ [])
 cert-parts v fields p named tagged shared e parts f g h =
@@ -192,8 +190,6 @@ cert-faultless v (inr (c, read)) = cert-parts v read.fields (name_parts c) true 
 
 pub cert-none : (v : Value) → (cert_fault v ≡ None) ↔ SomeCert v
 cert-none v = (cert-read v, cert-faultless v)
-
--- ---- a value has no fault as an item or as a sequence exactly where it is one
 
 -- ---- items
 

@@ -1,5 +1,5 @@
--- Keys, hashes, dates, principals, subjects and issuers along the way of their reading: the fault that is named of
--- each, and what is none.
+-- Keys, hashes, dates, principals, subjects and issuers, step by step as they are read: the fault of each, and which values
+-- are none.
 use Rattle.std.proofs.Common.{◌≡◌, ◌≢◌, ℕ, List, [], ◌∷◌, length, drop, arith, Bool, true, false, Option, Some, None, refl, ap, ◌∙◌, rules, ◌++◌, inl, inr}
 use Rattle.std.proofs.lemmas.{Bool.{false_from_ne_true}, Slice.Eq.{bytes_eq-Decides}}
 use Rattle.std.specs.{Prelude.{codes, is_some, if◌then◌else◌, ◌==◌, not}, Str.{bytes_eq}, List.{list_all}}
@@ -15,9 +15,7 @@ use Rattle.spki_cert.specs.Fields.{PrincipalOf, WrittenSubjectOf, plains, is_hea
 use Rattle.spki_cert.proofs.HeadedLists.{headed-by, is-group, of-form, first-of, same_others, apart, behind-group, one-look, headed-else}
 use Rattle.sexpr_core.specs.Value as sexpr
 
--- ---- the fault that is named of a key, a hash or a date, along the way of its reading
-
--- ---- keys
+-- ---- faults of keys
 
 pub begins-plain : (v : Value) → IsAlgorithm v → begins_plain v ≡ true
 begins-plain v (alg, parts, e) = ap begins_plain e
@@ -29,7 +27,7 @@ algorithm v e = absurd (cc)
 pub begins-other : (v : Value) → (IsAlgorithm v → ⊥) → begins_plain v ≡ false
 begins-other v other = false_from_ne_true (begins_plain v) (λ e. other (algorithm v e))
 
--- what is looked at in a key, by its head and what stands behind it
+-- what is tested in a key: its head and what follows it
 abbrev pub key_looked : Bool → List Value → Option CertFaultKind
 key_looked headed rest =
     first_fault (unless headed Shape ∷ fault_at 0 Shape (λ body. unless (begins_plain body) Shape) rest ∷ behind_key (drop 1 rest) ∷ [])
@@ -38,13 +36,13 @@ pub key-form : (v : Value) (rest : List Value) → v ≡ group (plain (codes "pu
 unfolding key_fault
 key-form v rest e = of-form key_looked (codes "public-key") v rest e
 
--- ---- dates
+-- ---- faults of dates
 
 pub date-tested : (v : Value) (octets : List ℕ) (b : Bool) → v ≡ plain octets → is_date octets ≡ b → date_fault v ≡ unless b BadDate
 unfolding date_fault
 date-tested v octets b e f = ap (λ (w : Value). unless (is_plain is_date w) BadDate) e ∙ ap (λ (x : Bool). unless x BadDate) f
 
--- ---- algorithms
+-- ---- faults of algorithms
 
 pub named-alg : (alg : HashAlg) → alg_named (alg_name alg) ≡ Some alg
 named-alg Sha1 = refl
@@ -64,7 +62,7 @@ alg-other v octets e other =
 pub alg-known : (v : Value) (alg : HashAlg) → v ≡ plain (alg_name alg) → alg_fault v ≡ None
 alg-known v alg e = alg-plain v (alg_name alg) true e (ap (λ (o : Option HashAlg). is_some o) (named-alg alg))
 
--- ---- hashes
+-- ---- faults of hashes
 
 abbrev pub hash_looked : Bool → List Value → Option CertFaultKind
 hash_looked headed rest =
@@ -81,7 +79,7 @@ pub hash-form : (v : Value) (rest : List Value) → v ≡ group (plain (codes "h
 unfolding hash_fault
 hash-form v rest e = of-form hash_looked (codes "hash") v rest e
 
--- what is found in a digest and in what stands behind it
+-- the first fault of a digest and of what follows it
 pub hash-digest : (v word digest : Value) (rest more others : List Value) (alg : HashAlg) (found : Option CertFaultKind) (uris : Bool)
     → v ≡ group (plain (codes "hash") ∷ rest) → rest ≡ word ∷ more → word ≡ plain (alg_name alg) → more ≡ digest ∷ others
     → digest_fault alg digest ≡ found → are_uris others ≡ uris → hash_fault v ≡ first_fault (found ∷ unless uris Shape ∷ [])
@@ -109,7 +107,7 @@ sized-eq m n e = grind (arith, e)
 pub digest-sized : (alg : HashAlg) (v : Value) (octets : List ℕ) → v ≡ plain octets → length octets ≡ digest_len alg → digest_fault alg v ≡ None
 digest-sized alg v octets e f = search (rules, sized-eq (length octets) (digest_len alg) f)
 
--- ---- what is no principal, no subject and no issuer
+-- ---- values that are no principal, no subject and no issuer
 
 abbrev pub IsNoPrincipal : Value → Type 0
 IsNoPrincipal v = (principal : Principal) → PrincipalOf v principal → ⊥
@@ -140,30 +138,28 @@ pub name-who : (v : Value) (rest : List Value) → v ≡ group (plain (codes "na
 name-who v rest e None names read = search rules
 name-who v rest e (Some principal) names read = search rules
 
--- ---- what was read behind a principal
+-- ---- what was read after a principal
 
 pub principal-names : (vs : List Value) (owner : Value) (rest : List Value) (p : Principal) (all behind : List (List ℕ))
     → vs ≡ owner ∷ rest → PrincipalOf owner p → (rest ≡ [] → ⊥) → all ≡ [] ++ behind → rest ≡ plains behind → NamesWrittenSubject vs (Some p) all
 principal-names vs owner rest p all [] e read some f g = absurd (some g)
 principal-names vs owner rest p all (first ∷ others) e read some f g = search rules
 
--- ---- names in a row
+-- ---- several names
 
 pub plains-push : (seen : List (List ℕ)) (octets : List ℕ) → plains (seen ++ octets ∷ []) ≡ plains seen ++ plain octets ∷ []
 plains-push [] octets = refl
 plains-push (name ∷ seen) octets = ap (λ (vs : List Value). plain name ∷ vs) (plains-push seen octets)
 
--- ---- the fault that is named of a principal, a subject or an issuer, along the way of its reading
+-- ---- faults of principals
 
--- ---- principals
-
--- a principal has the head of a key or of a hash
+-- a principal has no other head than public-key and hash
 pub principal-else : (word : List ℕ) (v : Value) (p : Principal) → PrincipalOf v p → bytes_eq (codes "public-key") word ≡ false → bytes_eq (codes "hash") word ≡ false
     → is_headed word v ≡ false
 principal-else word v (Key octets) read e f = ap (is_headed word) read.written ∙ e
 principal-else word v (Hash alg digest) read e f = ap (is_headed word) read.written ∙ f
 
--- ---- names
+-- ---- faults of names
 
 pub plains-all : (names : List (List ℕ)) → list_all is_name (plains names) ≡ true
 plains-all [] = refl
@@ -178,7 +174,7 @@ pub some-names : (others : List Value) → (others ≡ [] → ⊥) → are_names
 some-names [] some = absurd (some refl)
 some-names (v ∷ vs) some = refl
 
--- ---- subjects
+-- ---- faults of subjects
 
 pub subject-names : (v : Value) (rest : List Value) (found : Option CertFaultKind) → v ≡ group (plain (codes "name") ∷ rest) → names_fault rest ≡ found → subject_fault v ≡ found
 unfolding subject_fault
@@ -188,7 +184,7 @@ subject-names v rest found e f =
     ∷ (if headed-by v (codes "name") rest e i then names_fault (behind-group v (plain (codes "name")) rest e i) else principal_fault v) ∷ []))
     ∙ one-look (names_fault rest) ∙ f
 
--- ---- issuers
+-- ---- faults of issuers
 
 pub issuer-form : (v : Value) (rest : List Value) → v ≡ group (plain (codes "name") ∷ rest) → issuer_fault v ≡ issuer_name_fault rest
 unfolding issuer_fault

@@ -1,4 +1,4 @@
--- A value has no fault as a key, a hash, a date, a principal, a subject or an issuer exactly where it is one.
+-- A value has no fault as a key, a hash, a date, a principal, a subject or an issuer exactly if it is one.
 use Rattle.std.proofs.Common.{◌≡◌, ℕ, List, [], ◌∷◌, arith, true, None, refl, sym, ◌∙◌, rules, Bool, false, Option, Some, ap, subst, inl, inr}
 use Rattle.std.specs.Prelude.{codes, ◌↔◌, ◌==◌, not, if◌then◌else◌}
 use Rattle.sexpr_core.specs.Value.{Value, plain, group, IsNoString}
@@ -13,8 +13,6 @@ use Rattle.spki_cert.proofs.SubjectFaultLaws.{key_looked, key-form, begins-plain
 use Rattle.spki_cert.proofs.HeadedLists.{Reads, unless-none, none-found, behind-none, is-group, plain-passes, no-plain}
 use Rattle.spki_cert.proofs.EntryFaultLaws.{subject-relative, subject-absolute}
 use Rattle.sexpr_core.specs.Value as sexpr
-
--- ---- a value has no fault as a key, a hash or a date exactly where it is one
 
 -- ---- keys
 
@@ -68,8 +66,6 @@ hash-none v = (
 pub date-none : (v : Value) → (date_fault v ≡ None) ↔ Reads DateOf v
 unfolding date_fault
 date-none v = (λ e. search (rules, unless-none, plain-passes), λ date. date-tested v date.0 true date.1.written date.1.date)
-
--- ---- a value has no fault as a principal, a subject or an issuer exactly where it is one
 
 -- ---- principals
 

@@ -3,7 +3,7 @@ use Rattle.spki_tag.specs.Faults.{first_fault}
 use Rattle.spki_cert.specs.{declared.entry.Entry.{Entry}, Structures.{EntryOf}, StructureFaults.{entry_fault, each_looked, entries_fault}}
 use Rattle.spki_cert.proofs.acl.principals_in.Given as goal
 
--- what is read of the rest stands behind the entries so far, whose principals are kept, and the first fault is that among the rest
+-- the entries so far, whose principals are kept, and those of the rest are all entries, and the first fault of all is that of the rest
 abbrev pub invariant-loop-member : goal.invariant-loop-member
 invariant-loop-member l =
     ((read : List Entry) × (l.principals.items ≡ map (λ e. e.subject.principal) read)

@@ -4,7 +4,7 @@ use Rattle.spki_cert.specs.{declared.fault.CertFaultKind.TheVariants.{Shape}, Fi
 use Rattle.spki_cert.specs.StructureFaults.{signature_fault}
 use Rattle.spki_cert.proofs.signature.signature_of.Goals as goal
 
--- a member behind the value of a signature
+-- a member after the value of a signature
 one_more : (v : Value) (members rest last more : List Value) (first second value : Value)
     → v ≡ group (plain (codes "signature") ∷ members) → members ≡ first ∷ rest → rest ≡ second ∷ last → last ≡ value ∷ more
     → (more ≡ [] → ⊥) → hash_fault first ≡ None → principal_fault second ≡ None → signature_fault v ≡ Some Shape

@@ -1,4 +1,4 @@
--- The names in front so far: the last of the others, and those of before. Nothing else is changed.
+-- In reverse, `front` is the last `done` names of `others`, and then the names that it had. Nothing else changes.
 use Rattle.std.proofs.Common.{◌≡◌, ◌++◌, ◌-◌, length, drop, reverse}
 use Rattle.spki_cert.proofs.names.Names.behind.Given as goal
 
