@@ -10,10 +10,11 @@ use Rattle.metered_io.specs.declared.meters.Metered.{Metered}
 abbrev pub inner_of : {T : Type 0} → Metered T → T
 inner_of m = m.inner
 
--- how many calls, and how many faults, it has counted since its counts were last reset
+-- how many calls it has counted since its counts were last reset
 abbrev pub asks_of : {T : Type 0} → Metered T → ℕ
 asks_of m = m.asks
 
+-- how many faults it has counted since then
 abbrev pub faults_of : {T : Type 0} → Metered T → ℕ
 faults_of m = m.faults
 

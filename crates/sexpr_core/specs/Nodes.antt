@@ -9,10 +9,12 @@ use Rattle.sexpr_core.specs.declared.layout.Record.{Record}
 
 -- ---- the members of a list as siblings in the list of its nodes
 
+-- the list of a list's members, made into members again, is these members
 pub values-members : (vs : Values) → values (members vs) ≡ vs
 values-members none = refl
 values-members (more v vs) = ap (more v) (values-members vs)
 
+-- and the other way round
 pub members-values : (vs : List Value) → members (values vs) ≡ vs
 members-values [] = refl
 members-values (v ∷ vs) = ap (λ (ws : List Value). v ∷ ws) (members-values vs)
@@ -48,6 +50,7 @@ siblings-nodes_all (more v vs) (suc most) le =
 abbrev pub Label : Type 0
 Label = ℕ ⊎ (Option (List ℕ) × List ℕ)
 
+-- the label of a value's first node
 abbrev pub label : Value → Label
 label (string hint octets) = inr (hint, octets)
 label (list vs) = inl (length (nodes_all vs))
@@ -66,6 +69,7 @@ abbrev pub grow : List Label → List Value
 grow [] = []
 grow (l ∷ ls) = grown l (grow ls)
 
+-- the first node, or the empty string if there is none
 abbrev first : List Value → Value
 first [] = plain []
 first (v ∷ row) = v
@@ -94,6 +98,7 @@ mutual
       ∙ ap (λ (row : List Value). nodes v ++ row) (grow-labels_all vs ls)
       ∙ sym (append_assoc (nodes v) (nodes_all vs) (grow ls))
 
+-- the labels of a value represent this value
 pub tree-labels : (v : Value) → tree (labels v) ≡ v
 tree-labels v =
     ap tree (sym (append-nil (labels v)))
@@ -136,6 +141,7 @@ part_at i v = slice_get (members_of v) i
 abbrev pub member_number : ℕ → ℕ → Value → ℕ
 member_number n i v = n + 1 + size_all (take i (members_of v))
 
+-- the same, or None if the list has no member i
 abbrev pub part_number : ℕ → ℕ → Value → Option ℕ
 part_number n i v = if nat_lt i (length (members_of v)) then Some (member_number n i v) else None
 
@@ -229,6 +235,7 @@ label_in text r =
     let octets = slice_range text r.detail r.end in
     if nat_lt r.end r.detail then inl (r.detail - r.end - 1) else inr (hint_in text r octets, octets)
 
+-- the value that a table of records describes in a text
 abbrev pub table_value : List ℕ → List Record → Value
 table_value text table = tree (map (label_in text) table)
 
@@ -240,6 +247,7 @@ pub record IsTable (text : List ℕ) (table : List Record) (v : Value) : Type 0 
 
 -- ---- a node's text is where its record says
 
+-- the value's canonical text is in the text where the record begins, and the record is the value's
 pub record IsPlace (text : List ℕ) (r : Record) (v : Value) : Type 0 where
   pub before : List ℕ
   pub after : List ℕ

@@ -45,6 +45,7 @@ pub record IsMembers (t : List ℕ) : Type 0 where
   pub items : Values
   pub is : t ≡ canons items ++ char ")" ∷ []
 
+-- the same if at most so many lists are open at once in the members
 pub record IsMembersWithin (room : ℕ) (t : List ℕ) : Type 0 where
   pub items : Values
   pub fits : depths items ≤ room
@@ -113,10 +114,11 @@ pub record ReadsMembers (room : ℕ) (text : List ℕ) (at to : ℕ) (old new : 
   pub goes_on : at < to
   pub within : to ≤ length text
 
--- The same for a value, and for the members of a list with its closing parenthesis, if no records are kept.
+-- a value was read in the same way, and no records are kept
 abbrev pub PassesValue : ℕ → List ℕ → ℕ → ℕ → Type 0
 PassesValue room text at to = (nodes : List Record) × ReadsValue room text at to [] nodes
 
+-- the same for the members of a list with its closing parenthesis
 abbrev pub PassesMembers : ℕ → List ℕ → ℕ → ℕ → Type 0
 PassesMembers room text at to = (nodes : List Record) × ReadsMembers room text at to [] nodes
 
@@ -150,9 +152,11 @@ IsOfForm _ = Unit {0}
 abbrev pub is_whitespace : ℕ → Bool
 is_whitespace c = c == char " " || (nat_le 9 c && nat_le c 13)
 
+-- the octet is whitespace
 abbrev pub IsSpace : ℕ → Type 0
 IsSpace c = is_whitespace c ≡ true
 
+-- all the octets are whitespace
 abbrev pub AreSpaces : List ℕ → Type 0
 AreSpaces xs = AllByRecursion IsSpace xs
 
@@ -236,9 +240,11 @@ pub record PackedAt (at mark : ℕ) (text : List ℕ) : Type 0 where
 abbrev pub is_symbol : ℕ → Bool
 is_symbol c = (nat_le (char "A") c && nat_le c (char "Z")) || (nat_le (char "a") c && nat_le c (char "z")) || (nat_le (char "0") c && nat_le c (char "9")) || (c == char "+") || (c == char "/") || (c == char "=")
 
+-- an octet that may occur in a body: a symbol, = or whitespace
 abbrev pub is_body_octet : ℕ → Bool
 is_body_octet c = is_whitespace c || is_symbol c
 
+-- all the octets may occur in a body
 abbrev pub AreBodyOctets : List ℕ → Type 0
 AreBodyOctets xs = AllByRecursion (λ c. is_body_octet c ≡ true) xs
 

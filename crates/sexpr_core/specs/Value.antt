@@ -32,10 +32,12 @@ mutual
 
 -- ---- members as a list, and back
 
+-- members as a list
 abbrev pub members : Values → List Value
 members none = []
 members (more v vs) = v ∷ members vs
 
+-- a list as members
 abbrev pub values : List Value → Values
 values [] = none
 values (v ∷ vs) = more v (values vs)
@@ -65,6 +67,7 @@ abbrev mutual
   canon (string (Some hint) octets) = char "[" ∷ (verbatim hint ++ char "]" ∷ verbatim octets)
   canon (list vs) = char "(" ∷ (canons vs ++ char ")" ∷ [])
 
+  -- the canonical texts of members, one after another
   pub canons : Values → List ℕ
   canons none = []
   canons (more v vs) = canon v ++ canons vs
@@ -77,6 +80,7 @@ abbrev mutual
   depth (string hint octets) = 0
   depth (list vs) = suc (depths vs)
 
+  -- the depth of the deepest member
   pub depths : Values → ℕ
   depths none = 0
   depths (more v vs) = max (depth v) (depths vs)
@@ -88,6 +92,7 @@ abbrev mutual
   nodes (string hint octets) = string hint octets ∷ []
   nodes (list vs) = list vs ∷ nodes_all vs
 
+  -- the nodes of members, in order
   pub nodes_all : Values → List Value
   nodes_all none = []
   nodes_all (more v vs) = nodes v ++ nodes_all vs
@@ -100,12 +105,14 @@ node v n = slice_get (nodes v) n
 abbrev pub size : Value → ℕ
 size v = length (nodes v)
 
+-- the number of nodes of several values together
 abbrev pub size_all : List Value → ℕ
 size_all [] = 0
 size_all (v ∷ vs) = size v + size_all vs
 
 -- ---- values within these limits
 
+-- at most 64 lists are open at once in the value
 abbrev pub IsShallow : Value → Type 0
 IsShallow v = depth v ≤ depth_limit
 
@@ -120,6 +127,7 @@ pub record IsWithinLimits (v : Value) : Type 0 where
 abbrev pub IsNoString : Value → Type 0
 IsNoString v = (octets : List ℕ) → v ≢ plain octets
 
+-- not a list
 abbrev pub IsNoList : Value → Type 0
 IsNoList v = (vs : List Value) → v ≢ group vs
 
@@ -138,6 +146,7 @@ abbrev mutual
   HasOctets (string (Some hint) octets) = IsBytes hint × IsBytes octets
   HasOctets (list vs) = HaveOctets vs
 
+  -- the same for members
   pub HaveOctets : Values → Type 0
   HaveOctets none = Unit {0}
   HaveOctets (more v vs) = HasOctets v × HaveOctets vs
@@ -150,6 +159,7 @@ is_same v w = bytes_eq (canon v) (canon w)
 
 -- ---- the value of an owned tree
 
+-- the value of a string of a tree, with its display hint if it has one
 abbrev pub atom_value : Atom → Value
 atom_value a = string (option_map (λ h. h.items) a.hint) a.body.items
 
@@ -158,5 +168,6 @@ abbrev pub level_value : Sexp-F Value → Value
 level_value (Leaf a) = atom_value a
 level_value (Branch members) = group members.items
 
+-- the value of a tree
 abbrev pub sexp_value : Sexp → Value
 sexp_value = fold-Sexp Value level_value

@@ -10,6 +10,7 @@ use Rattle.sexpr_text.specs.declared.converter.Form.{Form, TheVariants.{Canonica
 
 -- ---- tokens (RFC 9804, section 4.3)
 
+-- a decimal digit
 abbrev pub is_digit : ℕ → Bool
 is_digit c = nat_le (char "0") c && nat_le c (char "9")
 
@@ -57,6 +58,7 @@ pub data Piece : Type 0 where
   line : ℕ → Piece
   line_pair : ℕ → ℕ → Piece
 
+-- the octets with which a piece is written
 abbrev pub piece_text : Piece → List ℕ
 piece_text (raw c) = c ∷ []
 piece_text (escaped e c) = char "\\" ∷ e ∷ []
@@ -89,10 +91,12 @@ IsPiece (hexadecimal h l m n) rest = (hex_digit_value h ≡ Some m) × (hex_digi
 IsPiece (line c) rest = ((c ≡ 13) × StartsOther 10 rest) ⊎ ((c ≡ 10) × StartsOther 13 rest)
 IsPiece (line_pair c d) rest = ((c ≡ 13) × (d ≡ 10)) ⊎ ((c ≡ 10) × (d ≡ 13))
 
+-- the octets with which pieces are written, one after another
 abbrev pub pieces_text : List Piece → List ℕ
 pieces_text [] = []
 pieces_text (p ∷ ps) = piece_text p ++ pieces_text ps
 
+-- the octets that pieces mean, one after another
 abbrev pub pieces_octets : List Piece → List ℕ
 pieces_octets [] = []
 pieces_octets (p ∷ ps) = piece_octets p ++ pieces_octets ps
@@ -247,6 +251,7 @@ abbrev mutual
 
 -- ---- the text of a value in canonical or advanced form
 
+-- the text of a value in this form
 abbrev pub written : Form → Value → List ℕ
 written Canonical v = canon v
 written Advanced v = adv v

@@ -71,6 +71,7 @@ pub record IsUnclosedHinted (text : List ℕ) : Type 0 where
   pub spaces_behind : AreSpaces behind
   pub unclosed : IsUnclosedString last
 
+-- a string that is not closed, with a display hint or without
 abbrev pub IsUnclosedAtom : List ℕ → Type 0
 IsUnclosedAtom text = IsUnclosedString text ⊎ (IsUnclosedHint text ⊎ IsUnclosedHinted text)
 

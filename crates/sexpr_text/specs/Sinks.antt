@@ -6,10 +6,11 @@ use Rattle.sexpr_text.specs.declared.sinks.{VectorSink.{VectorSink}, Counter.{Co
 
 -- ---- what a vector has taken
 
--- the reference to the vector, and its octets
+-- the reference to the vector
 abbrev pub lender_of : VectorSink → GName
 lender_of s = s.octets.ghost_name
 
+-- the octets of the vector
 abbrev pub text_of : VectorSink → List ℕ
 text_of s = s.octets.now.items
 
@@ -25,6 +26,7 @@ pub record VectorTakes (old : VectorSink) (octets : List ℕ) (new : VectorSink)
 
 -- ---- what a counter has taken
 
+-- how many octets were counted
 abbrev pub count_of : Counter → ℕ
 count_of c = c.count
 
@@ -40,6 +42,7 @@ pub record IsCounted (old : Counter) (octets : List ℕ) (new : Counter) : Type 
 
 -- ---- what sinks take, one call after another
 
+-- a vector that does not change has taken no octets
 pub vector_takes_nothing : (s : VectorSink) → VectorTakes s [] s
 vector_takes_nothing s = record {
   same_lender = refl;
@@ -47,6 +50,7 @@ vector_takes_nothing s = record {
   appended = λ ok. (ok, sym (append-nil (text_of s)));
 }
 
+-- two pieces that a vector takes are together one
 pub vector_takes_both : (a b c : VectorSink) (x y : List ℕ) → VectorTakes a x b → VectorTakes b y c → VectorTakes a (x ++ y) c
 vector_takes_both a b c x y f g = record {
   same_lender = g.same_lender ∙ f.same_lender;
@@ -57,6 +61,7 @@ vector_takes_both a b c x y f g = record {
       (first.0, second.1 ∙ ap (λ s. s ++ y) first.1 ∙ append_assoc (text_of a) x y);
 }
 
+-- a vector for which memory ran out may take no more
 pub vector_stays : (s : VectorSink) → has_failed s ≡ true → (octets : List ℕ) → VectorTakes s octets s
 vector_stays s full octets = record {
   same_lender = refl;
@@ -64,6 +69,7 @@ vector_stays s full octets = record {
   appended = λ well. absurd (true≢false (sym full ∙ well));
 }
 
+-- a counter that does not change has taken no octets
 pub nothing_counted : (c : Counter) → IsCounted c [] c
 nothing_counted c = record {
   grows = omega arith;
@@ -71,6 +77,7 @@ nothing_counted c = record {
   sum = λ _. omega arith;
 }
 
+-- two pieces that a counter takes are together one
 pub both_counted : (a b c : Counter) (x y : List ℕ) → IsCounted a x b → IsCounted b y c → IsCounted a (x ++ y) c
 both_counted a b c x y f g = record {
   grows = omega (arith, f.grows, g.grows);
@@ -78,6 +85,7 @@ both_counted a b c x y f g = record {
   sum = λ below. omega (arith, length-append x y, f.sum (omega (arith, g.grows, below)), g.sum below);
 }
 
+-- a counter at the greatest `u64` takes any octets without a change
 pub counter_stays : (c : Counter) → is_at_end c ≡ true → (octets : List ℕ) → IsCounted c octets c
 counter_stays c full octets = record {
   grows = omega arith;

@@ -31,6 +31,7 @@ item_weight (items.Auth c) = 4 + subject_weight c.subject + weight c.tag
 item_weight (items.Name c) = 4 + subject_weight c.subject
 item_weight (items.Signature s) = 0
 
+-- the sum of the weights of items
 abbrev pub items_weight : List SeqItem → ℕ
 items_weight [] = 0
 items_weight (i ∷ is) = item_weight i + items_weight is

@@ -83,6 +83,7 @@ alg_named word =
     )
     )
 
+-- whether an algorithm has this name
 abbrev pub is_alg : List ℕ → Bool
 is_alg word = is_some (alg_named word)
 
@@ -210,6 +211,7 @@ head_of (list (more (list us) vs)) = None
 abbrev pub has : List ℕ → List Value → Bool
 has word vs = list_any (is_headed word) vs
 
+-- the same for a head that a field may lack; false if it lacks one
 abbrev pub has_head : List Value → Option (List ℕ) → Bool
 has_head vs None = false
 has_head vs (Some word) = has word vs
@@ -229,6 +231,7 @@ fields_fault fault_of vs = first_fault (fields_looked fault_of [] vs)
 
 -- ---- versions
 
+-- whether the octets are the version 0
 abbrev pub is_zero : List ℕ → Bool
 is_zero octets = bytes_eq octets (codes "0")
 
@@ -258,6 +261,7 @@ abbrev pub as_tag : Option TagFault → Option CertFaultKind
 as_tag None = None
 as_tag (Some fault) = Some (Tag fault)
 
+-- the fault of a tag, as the fault of a structure
 abbrev pub kind_of_tag : Value → Option CertFaultKind
 kind_of_tag v = as_tag (tag_fault v)
 

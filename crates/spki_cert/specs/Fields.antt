@@ -16,6 +16,7 @@ abbrev pub PrincipalOf : Value → Principal → Type 0
 PrincipalOf v (Key octets) = KeyOf v octets
 PrincipalOf v (Hash alg digest) = HashOf v alg digest
 
+-- several strings without a display hint
 abbrev pub plains : List (List ℕ) → List Value
 plains [] = []
 plains (octets ∷ rest) = plain octets ∷ plains rest
@@ -105,6 +106,7 @@ Given word R fields (Some a) = (rest : List Value) × IsOnce word fields rest ×
 
 -- ---- validity (section 5)
 
+-- the head of a limit
 abbrev pub IsLimitWord : List ℕ → Type 0
 IsLimitWord word = (word ≡ codes "not-before") ⊎ (word ≡ codes "not-after")
 
@@ -140,13 +142,15 @@ pub data IsField (v : Value) : Type 0 where
   time : IsTimeField v → IsField v
   comment : (xs : List Value) → v ≡ group (plain (codes "comment") ∷ xs) → IsField v
 
--- the members after the head issuer, and those after the head subject
+-- the members after the head issuer
 abbrev pub IssuerIn : List Value → Principal × Option (List ℕ) → Type 0
 IssuerIn rest i = Sole (λ v (j : Principal × Option (List ℕ)). IssuerOf v j.0 j.1) rest i
 
+-- the members after the head subject
 abbrev pub WrittenSubjectIn : List Value → Option Principal × List (List ℕ) → Type 0
 WrittenSubjectIn rest s = Sole (λ v (t : Option Principal × List (List ℕ)). WrittenSubjectOf v t.0 t.1) rest s
 
+-- (version 0)
 abbrev pub version_field : Value
 version_field = group (plain (codes "version") ∷ plain (codes "0") ∷ [])
 

@@ -19,6 +19,7 @@ pub record KeyOf (v : Value) (octets : List ℕ) : Type 0 where
 abbrev pub IsKey : List ℕ → Type 0
 IsKey octets = (v : Value) × KeyOf v octets
 
+-- the name of an algorithm
 abbrev pub alg_name : HashAlg → List ℕ
 alg_name Sha1 = codes "sha1"
 alg_name Sha256 = codes "sha256"
@@ -56,11 +57,14 @@ pub record DateOf (v : Value) (octets : List ℕ) : Type 0 where
 
 -- ---- values that are none of these
 
+-- the value is not a key
 abbrev pub IsNoKey : Value → Type 0
 IsNoKey v = (octets : List ℕ) → KeyOf v octets → ⊥
 
+-- the value is not a hash
 abbrev pub IsNoHash : Value → Type 0
 IsNoHash v = (alg : HashAlg) (digest : List ℕ) → HashOf v alg digest → ⊥
 
+-- the value is not a date
 abbrev pub IsNoDate : Value → Type 0
 IsNoDate v = (octets : List ℕ) → DateOf v octets → ⊥

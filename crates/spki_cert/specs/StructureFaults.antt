@@ -60,6 +60,7 @@ acl_fault v = first_fault (at_item 0 (outer_fault v) ∷ entries_fault (behind_v
 
 -- ---- signatures and operations (RFC 2693, sections 3.3 and 6.2)
 
+-- any value, which has no fault
 abbrev pub any_value : Value → Option CertFaultKind
 any_value v = None
 
@@ -75,6 +76,7 @@ signature_fault v =
     ∷ []
     )
 
+-- whether the octets are the operation `hash`
 abbrev pub is_hash_word : List ℕ → Bool
 is_hash_word octets = bytes_eq octets (codes "hash")
 

@@ -104,6 +104,7 @@ ItemOf v (items.Signature s) = SignatureOf v s
 abbrev pub waits_behind : Bool → Value → Bool
 waits_behind waits v = if is_headed (codes "cert") v then true else if is_headed (codes "signature") v then false else waits
 
+-- the same after several items
 abbrev pub waits_after : Bool → List Value → Bool
 waits_after waits [] = waits
 waits_after waits (v ∷ vs) = waits_after (waits_behind waits v) vs
@@ -113,6 +114,7 @@ abbrev pub IsInPlace : Bool → Value → Type 0
 IsInPlace true v = (is_headed (codes "do") v ≡ true) ⊎ (is_headed (codes "signature") v ≡ true)
 IsInPlace false v = is_headed (codes "signature") v ≡ false
 
+-- each of the items is in its place
 abbrev pub AreInPlace : Bool → List Value → Type 0
 AreInPlace waits [] = Unit {0}
 AreInPlace waits (v ∷ vs) = IsInPlace waits v × AreInPlace (waits_behind waits v) vs

@@ -17,6 +17,7 @@ abbrev mutual
   weight (list head further) = 1 + length head + weight_all further
   weight (set members) = 1 + weight_all members
 
+  -- the sum of the weights of some tags
   pub weight_all : Tags → ℕ
   weight_all none = 0
   weight_all (more t ts) = weight t + weight_all ts
@@ -31,6 +32,7 @@ abbrev mutual
   ranges (list head further) = ranges_all further
   ranges (set members) = ranges_all members
 
+  -- the same for some tags
   pub ranges_all : Tags → ℕ
   ranges_all none = 0
   ranges_all (more t ts) = ranges t + ranges_all ts

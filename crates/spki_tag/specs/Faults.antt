@@ -34,14 +34,17 @@ abbrev mutual
   tags_in (string hint octets) = string hint octets ∷ []
   tags_in (list vs) = list vs ∷ tags_in_list vs
 
+  -- the tags in a list of these members
   pub tags_in_list : Values → List Value
   tags_in_list none = []
   tags_in_list (more v vs) = if is_word (codes "*") v then tags_in_set vs else tags_in v ++ tags_in_all vs
 
+  -- the tags in a list of these members after the star: those after `set`, and otherwise none
   pub tags_in_set : Values → List Value
   tags_in_set none = []
   tags_in_set (more v vs) = if is_word (codes "set") v then tags_in_all vs else []
 
+  -- the tags in each of these values, in order
   pub tags_in_all : Values → List Value
   tags_in_all none = []
   tags_in_all (more v vs) = tags_in v ++ tags_in_all vs
@@ -73,6 +76,7 @@ are_limits (v ∷ w ∷ x ∷ []) = false
 are_limits (v ∷ w ∷ x ∷ y ∷ []) = is_limit (codes "g") (codes "ge") v w && is_limit (codes "l") (codes "le") x y
 are_limits (v ∷ w ∷ x ∷ y ∷ z ∷ vs) = false
 
+-- the name of an ordering of a range
 abbrev pub is_ordering : List ℕ → Bool
 is_ordering name = bytes_eq name (codes "alpha") || bytes_eq name (codes "time") || bytes_eq name (codes "date")
 

@@ -4,6 +4,7 @@ use Rattle.spki_tag.specs.{declared.{range.Range.{Range}, leaf.Leaf.{Leaf}}, Lim
 use Rattle.spki_tag.specs.Tag.{Tag, star, string, prefix, range}
 use Rattle.spki_tag.specs.declared.leaf.Leaf.TheVariants as leaves
 
+-- the tag that a range of the code represents
 abbrev pub range_tag : Range → Tag
 range_tag r = range (ordering_of r.ordering) (limit_of r.low) (limit_of r.up)
 
@@ -12,6 +13,7 @@ abbrev pub range_or_nothing : Option Range → Tag
 range_or_nothing None = nothing
 range_or_nothing (Some r) = range_tag r
 
+-- the tag that a tag without members of the code represents
 abbrev pub leaf_tag : Leaf → Tag
 leaf_tag leaves.Star = star
 leaf_tag (leaves.String octets) = string octets

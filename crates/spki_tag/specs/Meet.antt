@@ -51,6 +51,7 @@ ordering_meet date alpha = Some date
 ordering_meet date time = None
 ordering_meet date date = Some date
 
+-- (* set), which contains no request
 abbrev pub nothing : Tag
 nothing = set none
 
@@ -61,6 +62,7 @@ ranged (Some ordering) low up = if exclude low up then nothing else range orderi
 
 -- ---- prefixes
 
+-- the least string above all that start with an octet and a string, from the least above all that start with this string
 abbrev pub above_from : ℕ → Option (List ℕ) → Option (List ℕ)
 above_from octet None = if nat_lt octet 255 then Some ((octet + 1) ∷ []) else None
 above_from octet (Some q) = Some (octet ∷ q)
@@ -71,6 +73,7 @@ abbrev pub least_above : List ℕ → Option (List ℕ)
 least_above [] = None
 least_above (octet ∷ octets) = above_from octet (least_above octets)
 
+-- the limit at a string, which it excludes; None for no string
 abbrev pub strict_limit : Option (List ℕ) → Option Limit
 strict_limit None = None
 strict_limit (Some octets) = Some (record { strict = true; octets = octets })
@@ -90,6 +93,7 @@ abbrev pub prefixes_meet : List ℕ → List ℕ → Tag
 prefixes_meet p q =
     if starts_with nat_eq p q then prefix p else (if starts_with nat_eq q p then prefix q else nothing)
 
+-- the intersection of a range and a tag that is neither a set nor a star
 abbrev pub range_meet : Ordering → Option Limit → Option Limit → Tag → Tag
 range_meet o l u (string octets) = string_meet octets (range o l u)
 range_meet o l u (prefix p) =
@@ -99,6 +103,7 @@ range_meet o l u (list head further) = nothing
 range_meet o l u star = nothing
 range_meet o l u (set members) = nothing
 
+-- the intersection of a prefix and a tag that is neither a set nor a star
 abbrev pub prefix_meet : List ℕ → Tag → Tag
 prefix_meet p (string octets) = string_meet octets (prefix p)
 prefix_meet p (prefix q) = prefixes_meet p q
@@ -110,6 +115,7 @@ prefix_meet p (set members) = nothing
 
 -- ---- members
 
+-- tags as a list
 abbrev pub items : Tags → List Tag
 items none = []
 items (more t ts) = t ∷ items ts
@@ -118,6 +124,7 @@ items (more t ts) = t ∷ items ts
 abbrev pub kept : Tag → List Tag → List Tag
 kept t ts = if is_nothing t then ts else t ∷ ts
 
+-- the results of a function for some tags, without those that are (* set)
 abbrev pub row : (Tag → Tag) → Tags → List Tag
 row f none = []
 row f (more b bs) = kept (f b) (row f bs)
@@ -128,6 +135,7 @@ gather [] = nothing
 gather (t ∷ []) = t
 gather (t ∷ u ∷ us) = set (more t (more u (tags us)))
 
+-- one of the tags is (* set)
 abbrev pub any_is_nothing : List Tag → Bool
 any_is_nothing [] = false
 any_is_nothing (t ∷ ts) = is_nothing t || any_is_nothing ts
@@ -136,6 +144,7 @@ any_is_nothing (t ∷ ts) = is_nothing t || any_is_nothing ts
 abbrev pub listed : List ℕ → List Tag → Tag
 listed head ts = if any_is_nothing ts then nothing else list head (tags ts)
 
+-- the intersection of a list and a tag that is neither a set nor a star; f intersects its further members with those of the other
 abbrev pub list_meet : List ℕ → (Tags → List Tag) → Tag → Tag
 list_meet head f (list other us) = if bytes_eq head other then listed head (f us) else nothing
 list_meet head f star = nothing
@@ -196,6 +205,7 @@ pub data Kind : Type 0 where
   -- lists with one head
   lists : List ℕ → Kind
 
+-- the kind of a tag
 abbrev pub kind : Tag → Kind
 kind star = any
 kind (string octets) = one octets

@@ -8,6 +8,7 @@ abbrev pub shared_items : {Z : Type 0} → Option (ArcSlice Tag Z) → List Tag
 shared_items None = []
 shared_items (Some members) = arc_slice_items members
 
+-- the tag that a node of the code represents
 abbrev pub node_tag : Node → Tag
 node_tag (Leaf leaf) = leaf_tag leaf
 node_tag (Group head further count) = list (arc_slice_items head) (tags (shared_items further))

@@ -27,10 +27,12 @@ abbrev pub IsHead : List ℕ → Type 0
 IsHead head = head ≢ codes "*"
 
 abbrev mutual
+  -- Octets are below 256, and no list begins with the star.
   pub IsRequest : Request → Type 0
   IsRequest (string octets) = AreOctets octets
   IsRequest (list head further) = AreOctets head × IsHead head × AreRequests further
 
+  -- the same for each of several requests
   pub AreRequests : Requests → Type 0
   AreRequests none = Unit {0}
   AreRequests (more g gs) = IsRequest g × AreRequests gs
@@ -41,6 +43,7 @@ abbrev mutual
   request_value (string octets) = plain octets
   request_value (list head further) = value.list (value.more (plain head) (request_values further))
 
+  -- the S-expressions of requests, in order
   pub request_values : Requests → Values
   request_values none = value.none
   request_values (more g gs) = value.more (request_value g) (request_values gs)
@@ -51,6 +54,7 @@ abbrev mutual
   request_size (string octets) = 1
   request_size (list head further) = 2 + requests_size further
 
+  -- the sum of the sizes of requests
   pub requests_size : Requests → ℕ
   requests_size none = 0
   requests_size (more g gs) = request_size g + requests_size gs

@@ -91,12 +91,14 @@ abbrev mutual
   IsTag (list head further) = IsHead head × AreTags further
   IsTag (set members) = AreTags members
 
+  -- the same for each of several tags
   pub AreTags : Tags → Type 0
   AreTags none = Unit {0}
   AreTags (more t ts) = IsTag t × AreTags ts
 
 -- ---- how tags are written
 
+-- the word for an ordering
 abbrev pub ordering_name : Ordering → List ℕ
 ordering_name alpha = codes "alpha"
 ordering_name time = codes "time"
@@ -130,6 +132,7 @@ abbrev mutual
   tag_value (list head further) = value.list (value.more (plain head) (tag_values further))
   tag_value (set members) = starred (codes "set") (tag_values members)
 
+  -- the S-expressions of tags, in order
   pub tag_values : Tags → Values
   tag_values none = value.none
   tag_values (more t ts) = value.more (tag_value t) (tag_values ts)
@@ -141,10 +144,12 @@ abbrev mutual
 abbrev pub is_within : Bool → List ℕ → List ℕ → Bool
 is_within strict x y = if strict then is_lt (slice_cmp nat_cmp x y) else is_le (slice_cmp nat_cmp x y)
 
+-- the string is above the lower limit, or equal to one that is not strict; true without a limit
 abbrev pub is_above : Option Limit → List ℕ → Bool
 is_above None octets = true
 is_above (Some limit) octets = is_within limit.strict limit.octets octets
 
+-- the string is below the upper limit, or equal to one that is not strict; true without a limit
 abbrev pub is_below : Option Limit → List ℕ → Bool
 is_below None octets = true
 is_below (Some limit) octets = is_within limit.strict octets limit.octets
@@ -194,6 +199,7 @@ abbrev mutual
   nodes (list head further) = 2 + nodes_all further
   nodes (set members) = 1 + nodes_all members
 
+  -- the sum of the nodes of some tags
   pub nodes_all : Tags → ℕ
   nodes_all none = 0
   nodes_all (more t ts) = nodes t + nodes_all ts
@@ -208,6 +214,7 @@ abbrev mutual
   ldepth (list head further) = 1 + ldepth_most further
   ldepth (set members) = ldepth_most members
 
+  -- the greatest depth among some tags
   pub ldepth_most : Tags → ℕ
   ldepth_most none = 0
   ldepth_most (more t ts) = max (ldepth t) (ldepth_most ts)
@@ -223,6 +230,7 @@ is_star (range ordering low up) = false
 is_star (list head further) = false
 is_star (set members) = false
 
+-- a tag (* set ..)
 abbrev pub is_set : Tag → Bool
 is_set star = false
 is_set (string octets) = false
@@ -231,6 +239,7 @@ is_set (range ordering low up) = false
 is_set (list head further) = false
 is_set (set members) = true
 
+-- a set, or (*)
 abbrev pub is_set_or_star : Tag → Bool
 is_set_or_star t = is_set t || is_star t
 
@@ -244,6 +253,7 @@ abbrev mutual
   nests_set (list head further) = some_nests_set further
   nests_set (set members) = true
 
+  -- one of the tags is a set, or has one as a member at any depth
   pub some_nests_set : Tags → Bool
   some_nests_set none = false
   some_nests_set (more t ts) = nests_set t || some_nests_set ts

@@ -9,6 +9,7 @@ abbrev pub limit_shown : Option shown.TagLimit → Option Limit
 limit_shown None = None
 limit_shown (Some limit) = Some (record { strict = limit.strict; octets = limit.octets.now })
 
+-- what `Tag::form` returns is the form of the tag
 abbrev pub IsFormOf : Tag → TagForm → Type 0
 IsFormOf t form.Everything = t ≡ star
 IsFormOf t (form.String octets) = t ≡ string octets.now

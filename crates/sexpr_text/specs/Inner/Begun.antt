@@ -54,6 +54,7 @@ pub record IsStringPart (text : List ℕ) : Type 0 where
   pub octets : List ℕ
   pub meant : Simple ends_token text octets
 
+-- a beginning of such a string, or a string between marks that is not closed
 abbrev pub GoesString : List ℕ → Type 0
 GoesString part = Begins IsStringPart part ⊎ IsUnclosedString part
 
@@ -64,11 +65,13 @@ pub record IsValuePart (room : ℕ) (text : List ℕ) : Type 0 where
   pub meant : SpellsAs ends_token text value
   pub fits : depth value ≤ room
 
+-- a value that ends inside a string between marks, with at most so many lists open at once
 pub record IsUnclosedValue (room : ℕ) (text : List ℕ) : Type 0 where
   pub lists : List Values
   pub fits : depth_open lists ≤ room
   pub unclosed : UnclosedValue lists text
 
+-- a beginning of a value, or a value that ends inside a string between marks
 abbrev pub GoesValue : ℕ → List ℕ → Type 0
 GoesValue room part = Begins (IsValuePart room) part ⊎ IsUnclosedValue room part
 
@@ -80,6 +83,7 @@ pub record IsMembersPart (room : ℕ) (text : List ℕ) : Type 0 where
   pub meant : SpellsMembers inside items
   pub fits : depths items ≤ room
 
+-- members that end inside a string between marks, with at most so many lists open at once
 pub record AreUnclosedMembers (room : ℕ) (text : List ℕ) : Type 0 where
   pub items : Values
   pub lists : List Values
@@ -87,6 +91,7 @@ pub record AreUnclosedMembers (room : ℕ) (text : List ℕ) : Type 0 where
   pub fits : depth_open lists ≤ room
   pub unclosed : UnclosedMembers (UnclosedValue lists) items text
 
+-- a beginning of members, or members that end inside a string between marks
 abbrev pub GoesMembers : ℕ → List ℕ → Type 0
 GoesMembers room part = Begins (IsMembersPart room) part ⊎ AreUnclosedMembers room part
 
@@ -98,6 +103,7 @@ pub record ValueStandsIn (room at : ℕ) (text : List ℕ) : Type 0 where
   pub rest : List ℕ
   pub stands : ValueAt room text at value rest
 
+-- the members of a list, with such a depth, are at an offset
 pub record MembersStandIn (room at : ℕ) (text : List ℕ) : Type 0 where
   pub items : Values
   pub rest : List ℕ

@@ -57,10 +57,11 @@ LimitLook w v found =
     (before : List Value) → ValidOf before w
     → first_fault (unless (not (is_again before v)) kinds.Shape ∷ limit_fault v ∷ []) ≡ found
 
--- the content of one field
+-- the members after the head issuer, as the code has the issuer
 abbrev pub IssuerAt : List Value → Issuer → Type 0
 IssuerAt rest i = IssuerIn rest (i.principal, i.name)
 
+-- the members after the head subject, as the code has the subject
 abbrev pub WrittenSubjectAt : List Value → WrittenSubject → Type 0
 WrittenSubjectAt rest s = WrittenSubjectIn rest (s.principal, s.names)
 
@@ -73,6 +74,7 @@ pub record IsSilent (v : Value) : Type 0 where
   pub last : is_headed (codes "not-after") v ≡ false
   pub valid : is_headed (codes "valid") v ≡ false
 
+-- the field has this content
 abbrev pub FieldValueOf : Value → FieldValue → Type 0
 FieldValueOf v field_value.Nothing = IsSilent v
 FieldValueOf v (field_value.Issuer i) = Headed (codes "issuer") IssuerAt v i
@@ -147,6 +149,7 @@ abbrev pub IsOneWay : Window → Option Window → Window → Type 0
 IsOneWay limits None w = w ≡ limits
 IsOneWay limits (Some window) w = (limits.not_before ≡ None) × (limits.not_after ≡ None) × (w ≡ window)
 
+-- there are limits both directly and in (valid ..)
 abbrev pub IsBothWays : Window → Option Window → Type 0
 IsBothWays limits None = ⊥
 IsBothWays limits (Some window) = (is_some limits.not_before ≡ true) ⊎ (is_some limits.not_after ≡ true)
@@ -176,6 +179,7 @@ parts_looked fields =
     ∷ unless (has (codes "subject") fields) kinds.Shape
     ∷ []
 
+-- the first fault of the fields of a certificate of either kind
 unfoldable pub parts_fault : List Value → Option CertFaultKind
 parts_fault fields = first_fault (parts_looked fields)
 

@@ -9,6 +9,7 @@ use Rattle.spki_tag.specs.Request as request
 
 -- ---- labels
 
+-- a limit as a pair: whether it is strict, and its octets
 abbrev pub limit_code : Coded Limit
 limit_code =
     code_by (Bool × List ℕ) (coded× coded_bool (coded_list coded_ℕ)) (λ l. (l.strict, l.octets))
@@ -21,6 +22,7 @@ pub record Label : Type 0 where
   pub low : Option Limit
   pub up : Option Limit
 
+-- a label as its four fields
 abbrev pub label_code : Coded Label
 label_code =
     code_by (ℕ × (List ℕ × (Option Limit × Option Limit)))
@@ -33,6 +35,7 @@ label_code =
 abbrev label : ℕ → List ℕ → Label
 label kind octets = record { kind = kind; octets = octets; low = None; up = None }
 
+-- the kind of the label of a range, by its ordering
 abbrev ordering_kind : Ordering → ℕ
 ordering_kind alpha = 6
 ordering_kind time = 7
@@ -75,10 +78,12 @@ tag_step (suc (suc (suc (suc (suc (suc zero)))))) l made = put (range alpha l.lo
 tag_step (suc (suc (suc (suc (suc (suc (suc zero))))))) l made = put (range time l.low l.up) made
 tag_step (suc (suc (suc (suc (suc (suc (suc (suc n)))))))) l made = put (range date l.low l.up) made
 
+-- the tags that several labels make, on top of those that were made before
 abbrev tags_made : List Label → List Tags → List Tags
 tags_made [] made = made
 tags_made (l ∷ ls) made = tags_made ls (tag_step l.kind l made)
 
+-- the first tag on top of the stack
 abbrev first_tag : List Tags → Tag
 first_tag [] = star
 first_tag (none ∷ below) = star
@@ -101,6 +106,7 @@ mutual
   made-tags none rest below = refl
   made-tags (more t ts) rest below = made-tags ts (tag_labels t rest) below ∙ made-tag t rest ts below
 
+-- a tag as its labels
 abbrev pub tag_code : Coded Tag
 tag_code =
     code_by (List Label) (coded_list label_code) (λ t. tag_labels t []) (λ ls. first_tag (tags_made ls (none ∷ [])))
@@ -117,23 +123,28 @@ abbrev mutual
   requests_labels request.none rest = rest
   requests_labels (request.more g gs) rest = requests_labels gs (request_labels g rest)
 
+-- a request is put before those on top of the stack
 abbrev put_request : Request → List Requests → List Requests
 put_request g [] = []
 put_request g (top ∷ below) = request.more g top ∷ below
 
+-- the requests on top become one request of the level below
 abbrev fold_requests : (Requests → Request) → List Requests → List Requests
 fold_requests f [] = []
 fold_requests f (top ∷ below) = put_request (f top) below
 
+-- how a label, a kind and octets, changes the requests that were made so far
 abbrev request_step : ℕ → List ℕ → List Requests → List Requests
 request_step zero octets made = request.none ∷ made
 request_step (suc zero) octets made = put_request (request.string octets) made
 request_step (suc (suc n)) octets made = fold_requests (request.list octets) made
 
+-- the requests that several labels make, on top of those that were made before
 abbrev requests_made : List (ℕ × List ℕ) → List Requests → List Requests
 requests_made [] made = made
 requests_made (l ∷ ls) made = requests_made ls (request_step l.0 l.1 made)
 
+-- the first request on top of the stack
 abbrev first_request : List Requests → Request
 first_request [] = request.string []
 first_request (request.none ∷ below) = request.string []
@@ -151,6 +162,7 @@ mutual
   made-requests (request.more g gs) rest below =
       made-requests gs (request_labels g rest) below ∙ made-request g rest gs below
 
+-- a request as its labels
 abbrev pub request_code : Coded Request
 request_code =
     code_by (List (ℕ × List ℕ)) (coded_list (coded× coded_ℕ (coded_list coded_ℕ))) (λ g. request_labels g [])
