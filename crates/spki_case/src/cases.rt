@@ -229,16 +229,16 @@ impl<'a> Case<'a> {
     }
 }
 
-/// The fault of a part that has no items, the key or the moment: `kind`, with the item 0. `kind` is never `Memory`, because reading these
-/// parts allocates nothing.
+/// Makes the fault of a part that has no items, which is the key or the moment: of this kind, with the item number 0. `kind` is never
+/// `Memory`, because reading these parts allocates nothing.
 fn fault_of_part(kind: CertFaultKind) -> CertFault
     ensures { result ≡ record { item = 0; kind = kind } }
 {
     CertFault { item: 0, kind }
 }
 
-/// The fault of a case for a part whose fault has this kind: `Memory` if memory ran out while the part was read, otherwise `named`, the fault of that
-/// part.
+/// The error of reading a case one of whose parts has a fault of this kind: `Memory` if the kind says that memory ran out, otherwise `named`,
+/// which the caller has made of the part's fault.
 fn outer_fault(kind: CertFaultKind, named: CaseFault) -> CaseFault
     ensures { IsOuter (kind ≡ CertFaultKind.Memory) CaseFault.Memory named result }
 {
@@ -248,7 +248,7 @@ fn outer_fault(kind: CertFaultKind, named: CaseFault) -> CaseFault
     }
 }
 
-/// The fault of a case for a fault of its request: `Memory` if memory ran out, otherwise `Request` with the fault.
+/// The error of reading a case whose request has this fault: `Memory` if memory ran out, otherwise `Request` with the fault.
 fn fault_of_request(fault: TagFault) -> CaseFault
     ensures { IsOuter (fault ≡ TagFault.Memory) CaseFault.Memory (CaseFault.Request fault) result }
 {

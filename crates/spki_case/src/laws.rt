@@ -19,7 +19,7 @@ pub fn one_list()
     ensures { (text : List ℕ) (rows others : List Row) → IsRowsText text rows → IsRowsText text others → rows ≡ others }
 {}
 
-/// A text that is read as a case, or as an accepted list, is not refused as such.
+/// A text that is read as a case is not refused as a case, for any fault. The same holds for an accepted list.
 pub fn no_refusal()
     ensures case { (text : List ℕ) (c : Case) (fault : CaseFault) → IsCaseText text c → ¬ TextRefused text fault }
     ensures rows { (text : List ℕ) (rows : List Row) (fault : RowsFault) → IsRowsText text rows → ¬ RowsTextRefused text fault }

@@ -53,7 +53,7 @@ fn take_part<'d, 'a>(members: Members<'d, 'a>, word: &[u8]) -> Option<TakenPart<
     })
 }
 
-/// The only one of the members, such as K of `(key K)` after the head. None if there is no member, or more than one.
+/// The only member, such as K if `members` are those of `(key K)` after the head. None if there is no member, or more than one.
 fn sole<'d, 'a>(members: Members<'d, 'a>) -> Option<Node<'d, 'a>>
     ensures { MatchOption result ((v : Value) → members.entry ≢ v ∷ []) (λ v. members.entry ≡ v ∷ []) }
 {

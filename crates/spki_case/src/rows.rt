@@ -70,7 +70,7 @@ impl<'a> AcceptedTable<'a> {
     }
 }
 
-/// The fault of an accepted list for a fault of its rows: `Memory` if memory ran out, otherwise `Row` with the fault.
+/// The error of reading an accepted list for `fault`, that of reading its rows: `Memory` if memory ran out, otherwise `Row` with the fault.
 fn fault_of_row(fault: CertFault) -> RowsFault
     ensures { IsOuter (fault.kind ≡ CertFaultKind.Memory) RowsFault.Memory (RowsFault.Row fault) result }
 {
@@ -151,8 +151,9 @@ fn read_rows<'a>(alloc: Global, members: Members<'_, 'a>) -> Result<Vec<Row<'a>>
     Ok(rows)
 }
 
-/// Reads an accepted list, of a case or a separate one, from its members after the head. Err is the first fault, with the number of its
-/// row, from 1. It is `Memory` if memory ran out, with the number 0 if that was after all rows were read.
+/// Reads an accepted list, the signatures that a service has verified, from `members`: its rows, which come after its head `accepted`. The
+/// list is part of a case or a text of its own. Err is the fault of the first row that cannot be read, with the number of this row, from 1.
+/// If memory ran out, the fault is `Memory`, and its number is 0 if all rows had been read.
 pub(crate) fn table_of<'a>(
     alloc: Global,
     members: Members<'_, 'a>,

@@ -33,8 +33,8 @@ pub struct AcceptedTable<'a> {
 }
 
 impl<'a> AcceptedTable<'a> {
-    /// Makes the table of these signatures, so that each can be found by its digest, value and key. Verifies nothing,
-    /// and keeps doubled rows.
+    /// Makes the table of these signatures, so that each can be found by its digest, value and key. Verifies nothing, and keeps rows that are
+    /// there twice.
     ///
     /// # Errors
     ///

@@ -55,7 +55,7 @@ pub trait Verifier {
 impl<'a> Verifier for AcceptedTable<'a> {
     ghost accepted = { verified_by };
 
-    /// Whether some row of the table is of this key and value, and of the message's SHA-256 digest. Always Ok: nothing is allocated.
+    /// Whether some row of the table has this key, this value and the message's SHA-256 digest. Always Ok: nothing is allocated.
     fn accepts(
         &self,
         _alloc: Global,
@@ -70,8 +70,8 @@ impl<'a> Verifier for AcceptedTable<'a> {
         Ok(some_accepts(self, key, digest.as_slice(), value))
     }
 
-    /// Whether some row of the table is of this key and value, and of `digest`, which must be the SHA-256 digest of the message. The
-    /// message is not digested again. Always Ok: nothing is allocated.
+    /// Whether some row of the table has this key, this value and this digest, which must be the SHA-256 digest of the message. So the
+    /// message itself is not used. Always Ok: nothing is allocated.
     fn accepts_digested(
         &self,
         _alloc: Global,
@@ -88,7 +88,7 @@ impl<'a> Verifier for AcceptedTable<'a> {
     }
 }
 
-/// Whether some row of the table is of this key, of a message with this SHA-256 digest, and of this value. The sorted rows are searched.
+/// Whether some row of the table has this key, this SHA-256 digest of a message and this value, by a binary search of the sorted rows.
 fn some_accepts(table: &AcceptedTable, key: &Key, digest: &[u8], value: &[u8]) -> bool
     ensures { (message : List ℕ) → sha256 message ≡ digest.now
         → IsTrue result ↔ verified_by table.now key.now message value.now }

@@ -48,9 +48,9 @@ impl<'a> ChainRequirement<'a> {
         ChainRequirement::of_with_new_count::<Brand>(alloc, case, steps, Blank::new(1))
     }
 
-    /// Does what `of` does: calls `of_counted` with a new count of ticks, kept in the ledger of the toolchain that `blank` opens, which must be
-    /// that of `L` (`Ticks`). The count exists only in contracts, and is dropped afterwards. This is a function of its own, since only the call
-    /// of a generic function can pick the type `L` of a count. Err if memory ran out.
+    /// Does what `of` does: calls `of_counted` with a new count of ticks (operations that contracts count). The count exists only in contracts,
+    /// and is dropped afterwards. `blank` is a new ledger of the toolchain, to keep the count in; it must be that of `L`. This is a function of
+    /// its own, since only the call of a generic function can pick the type `L` of a count. Err if memory ran out.
     fn of_with_new_count<L: Ledger>(
         alloc: Global,
         case: &Case<'a>,
@@ -66,7 +66,7 @@ impl<'a> ChainRequirement<'a> {
         ChainRequirement::of_counted(alloc, case, steps, &mut Ticks::<L>::new(blank))
     }
 
-    /// What certificates require of an entry, as `of`. The work is added to `ticks`, a count that exists only in contracts. A tick is a
+    /// What certificates require of an entry, as `of`. The operations are added to `ticks`, a count that exists only in contracts. A tick is a
     /// certificate, a tag or a name that is looked at, or an octet that is compared. There are at most three for each certificate (for its
     /// tag and window, for its step, and for a name that it defines), and one for each tag, name and octet in its tag and its subject.
     /// `prove_well_formed` is only for the prover.
@@ -105,9 +105,9 @@ impl<'a> ChainRequirement<'a> {
         self.grants_with_new_count::<Brand>(entry, case, Blank::new(1))
     }
 
-    /// Does what `grants` does: calls `grants_counted` with a new count of ticks, kept in the ledger of the toolchain that `blank` opens, which
-    /// must be that of `L` (`Ticks`). The count exists only in contracts, and is dropped afterwards. This is a function of its own, since only
-    /// the call of a generic function can pick the type `L` of a count.
+    /// Does what `grants` does: calls `grants_counted` with a new count of ticks (operations that contracts count). The count exists only in
+    /// contracts, and is dropped afterwards. `blank` is a new ledger of the toolchain, to keep the count in; it must be that of `L`. This is a
+    /// function of its own, since only the call of a generic function can pick the type `L` of a count.
     fn grants_with_new_count<L: Ledger>(&self, entry: &Entry, case: &Case, blank: Blank) -> bool
         requires name { blank.name ≡ L.name }
         requires parts { blank.parts ≡ L.parts }
@@ -118,9 +118,9 @@ impl<'a> ChainRequirement<'a> {
         self.grants_counted(entry, case, &mut Ticks::<L>::new(blank))
     }
 
-    /// Whether an entry and the certificates grant what this case asks, as `grants`. The work is added to `ticks`, a count that exists only
-    /// in contracts. A tick is the entry, or a name or a tag in it that is looked at, or an octet of it that is compared. Making the digest
-    /// of a key is not counted.
+    /// Whether an entry and the certificates grant what the case asks, as `grants`. `case` must be the one that `of` was called with. The
+    /// operations are added to `ticks`, a count that exists only in contracts. A tick is the entry, or a name or a tag in it that is looked
+    /// at, or an octet of it that is compared. Making the digest of a key is not counted.
     pub fn grants_counted<L: Ledger>(
         &self,
         entry: &Entry,
@@ -152,8 +152,8 @@ impl<'a> ChainRequirement<'a> {
     }
 }
 
-/// Whether the tags of all steps contain the request of a case, and their windows its moment. If so, `until` becomes the least not-after of
-/// these windows and of what it was. If not, some windows may be left out, and `until` means nothing. Ticks are those of `contains`.
+/// Whether the tags of all steps contain the request of a case, and their windows its moment. If so, `until` becomes the earliest not-after of
+/// these windows and of what it was. If not, some windows may be left out, and `until` means nothing. `ticks` counts as in `contains`.
 fn all_contain<L: Ledger>(
     steps: &[Step],
     case: &Case,

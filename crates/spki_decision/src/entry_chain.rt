@@ -14,10 +14,10 @@ use std::alloc::{AllocError, Global};
 use std::sync::ledger::Ledger;
 
 /// Joins an entry's 5-tuple with the steps after it, as `fold_owned_counted` does, under the policy and the limits of the case. The work
-/// of the steps is taken from the budget, which must be one for these steps. An entry is spared if the numbers of nodes alone show that the
-/// intersections of its chain are small (`Sizes::are_small`). Then it does not count as work (`Case::uncounted`): its work has no bound,
-/// and the budget stays the same. `ticks` counts the work in contracts only. Err is `TooLarge` if the product of the nodes of two tags that
-/// are to be intersected is over the case's `most_nodes`, or a step costs more than the budget has left; or `Memory`.
+/// of the steps is taken from the budget, which `Budget::of` must have made for these steps. An entry is spared if the numbers of nodes alone
+/// show that the intersections of its chain are small (`Sizes::are_small`). Then it does not count as work (`Case::uncounted`): its work has no
+/// bound, and the budget stays the same. `ticks` counts operations, in contracts only. Err is `TooLarge` if the product of the nodes of two tags
+/// that are to be intersected is over the case's `most_nodes`, or a step costs more than the budget has left; or `Memory`.
 pub(crate) fn fold_entry<'a, L: Ledger>(
     alloc: Global,
     entry: &Entry<'a>,
@@ -74,8 +74,8 @@ pub(crate) fn fold_entry<'a, L: Ledger>(
     }
 }
 
-/// An entry's 5-tuple, whose issuer is the owner of the access list (RFC 2693, section 6.1). Err if memory ran out, or if there are too many
-/// copies to count.
+/// An entry's 5-tuple, whose issuer is the owner of the access list (RFC 2693, section 6.1). Err if memory ran out, or if a tag or a list of
+/// names has too many copies to count.
 fn own_five<'a>(entry: &Entry<'a>) -> Result<Five<'a>, AllocError>
     ensures { IfOk result (λ f. five_tuple f ≡ entry_tuple entry.now) }
 {

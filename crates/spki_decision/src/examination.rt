@@ -42,8 +42,8 @@ pub enum Unverified<'a> {
 }
 
 impl<'a> Unverified<'a> {
-    /// The evidence, once every signature of `ExaminedSequence::signed` is found to be valid. It tests nothing: the caller has asked the
-    /// verifier.
+    /// The evidence of the sequence: the tuples of its certificates, or the first that fails a test. The caller must have asked the verifier
+    /// about every signature of `ExaminedSequence::signed`, and found all valid. Nothing is tested here.
     pub(crate) fn verified(self) -> Evidence<'a>
         ensures { (policy : Policy) (items : List SeqItem) → IsUnverified policy items self.entry
             → IsEvidence policy every items result }

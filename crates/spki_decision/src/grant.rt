@@ -17,7 +17,7 @@ pub struct Grant {
 }
 
 impl Grant {
-    /// The decision of an answer that also says until when: `Yes` with the entry of the grant, and `No` if there is no grant.
+    /// The decision that a grant stands for, without the date until which it holds: `Yes` with its entry, or `No` if `grant` is None.
     pub fn decision(grant: Option<Grant>) -> Decision
         ensures { result ≡ decision_of grant }
     {

@@ -34,8 +34,8 @@ pub fn keys_of<'a>(alloc: Global, sequence: &[SeqItem<'a>]) -> Result<Vec<Key<'a
     Ok(keys)
 }
 
-/// Returns the place, from 0, of the first of `keys` that the principal names: for which the closure `names` returns
-/// true. None if there is none. What `names` requires must hold for the principal and each key. Allocates nothing.
+/// Returns the place, from 0, of the first of `keys` that the principal names: the first for which the closure `names` returns
+/// true. None if there is none. The precondition of `names` must hold for the principal and each key. Allocates nothing.
 ///
 /// It is for programs that use this library. The caller supplies `names`, such as `Principal::names` under a policy, so that
 /// test programs can let two keys have one digest. `examine` does not call it: it finds keys by an index of their digests

@@ -80,8 +80,8 @@ impl<'a> RequiredSubject<'a> {
             && is_name_of(&subject.principal, &self.key, policy, ticks)
     }
 
-    /// The subject that is required before a step, if `self` is required after it. None if there is no such subject. Err if memory
-    /// ran out. Ticks are those of `required_subject`.
+    /// The subject that is required before a step, if `self` is required after it. None if there is no such subject. `policy` says which
+    /// hashes may name keys. Err if memory ran out. `ticks` counts as in `required_subject`, in contracts only.
     fn before<L: Ledger>(
         self,
         alloc: Global,
@@ -102,7 +102,7 @@ impl<'a> RequiredSubject<'a> {
 
     /// The subject that is required before `next`, an authorization step, if `self` is required after it. It is the key of the step's
     /// issuer, without names, and it must be allowed to delegate (the field `delegation`), since it issued `next`. None if the subject and
-    /// `propagate` of `next` are not as `self` requires, or if its issuer is the owner of the access list. Ticks are those of `is_met_by`.
+    /// `propagate` of `next` are not as `self` requires, or if its issuer is the owner of the access list. `ticks` counts as in `is_met_by`.
     fn before_authorization<L: Ledger>(
         self,
         alloc: Global,
@@ -186,7 +186,7 @@ fn names_after<'a, L: Ledger>(
     Some(rest)
 }
 
-/// Whether the first of some names is `name`. False if there are no names.
+/// Whether the first of `names` is `name`. False if there are no names.
 fn has_first(names: &Names, name: &Octets) -> bool
     ensures { IsTrue result ↔ (names.now ≡ name.now ∷ drop 1 names.now) }
 {
@@ -224,7 +224,8 @@ fn count_name<L: Ledger>(name: &Octets, ticks: &mut Ticks<L>)
     ticks.read(name.as_slice().len());
 }
 
-/// Whether a principal names a key, as `Principal::names`. Each octet of the principal, of its key or digest, is a tick.
+/// Whether a principal names a key, as `Principal::names`: it is this key, or a hash of it that may name keys under the policy. Each octet of
+/// the principal's own key or digest adds 1 to `ticks`, a count that exists only in contracts.
 fn is_name_of<L: Ledger>(
     principal: &Principal,
     key: &Key,

@@ -31,7 +31,7 @@ pub(crate) struct PlainNodes {
 }
 
 impl Sizes {
-    /// Counts the nodes of the tags of these steps.
+    /// Counts the nodes of the tags of these steps: their product and, if no tag has a set, their sum and the greatest number of one tag.
     pub(crate) fn of(steps: &[Step]) -> Sizes
         ensures { AreSizes (tuples_of steps.now) result }
     {

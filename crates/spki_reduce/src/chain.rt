@@ -65,8 +65,8 @@ pub fn fold_chain<'a>(
 }
 
 /// Like `fold_chain`, but consumes `first`, so that it is not copied, and the caller sets the limits. `most`, which must be
-/// at most 1,000,000, is the greatest product of the numbers of nodes of two tags that are intersected. `work` bounds the
-/// cost of all steps together: each step that joins, at least except for its tag, subtracts from `work` what `Work` says.
+/// at most 1,000,000, is the greatest product of the numbers of nodes of two tags that are intersected. `work` bounds the cost of
+/// all steps together: the cost of each step that joins, or that would join but for its tag, is subtracted from it. `Work` says what it is.
 ///
 /// # Errors
 ///
@@ -111,9 +111,9 @@ pub fn fold_owned<'a>(
     fold_with_new_count::<Brand>(alloc, first, steps, policy, most, work, Blank::new(1))
 }
 
-/// Does what `fold_owned` does, with its errors `TooLarge` and `Memory`: calls `fold_owned_counted` with a new count of ticks, kept in the
-/// new ledger of `L` that `blank` opens. The count exists only in contracts, and is dropped afterwards. `Ticks` says why this is a function of
-/// its own.
+/// Does what `fold_owned` does, with its errors `TooLarge` and `Memory`: calls `fold_owned_counted` with a new count of ticks (operations that
+/// contracts count). The count exists only in contracts, and is dropped afterwards. `blank` is a new ledger of the toolchain, to keep the count
+/// in; it must be that of `L`. This is a function of its own, since only the call of a generic function can pick the type `L` of a count.
 fn fold_with_new_count<'a, L: Ledger>(
     alloc: Global,
     first: Five<'a>,
@@ -162,9 +162,9 @@ fn fold_with_new_count<'a, L: Ledger>(
     )
 }
 
-/// Does what `fold_owned` does, and adds its work to `ticks`, a count that exists only in contracts. Each step that is looked at is a tick.
-/// One that joins, at least except for its tag, costs one unit of `Work` or more, and adds at most three ticks for each unit. So there are
-/// at most four ticks for each unit that the steps cost, and one more for a step at which the chain ends early.
+/// Does what `fold_owned` does, and adds its operations to `ticks`, a count that exists only in contracts. Each step that is looked at adds one
+/// tick. A step that joins, or that would join but for its tag, costs at least one unit of `Work`, and adds at most three more ticks for each
+/// unit. So there are at most four ticks for each unit that the steps cost, and one more for a step at which the chain ends early.
 ///
 /// # Errors
 ///
@@ -227,7 +227,7 @@ pub fn fold_owned_counted<'a, L: Ledger>(
 }
 
 impl<'a> Five<'a> {
-    /// Returns a copy of the authorization. Err if memory ran out, or if there are too many copies to count.
+    /// Returns a copy of the authorization. Err if memory ran out, or if its tag or its names have too many copies to count.
     pub(crate) fn copy(&self) -> Result<Five<'a>, AllocError>
         ensures { IfOk result (λ f. five_tuple f ≡ five_tuple self.now) }
     {
@@ -240,8 +240,8 @@ impl<'a> Five<'a> {
         })
     }
 
-    /// What joining this authorization with a step takes from a `Work`, in units. None if it is 2^64 or more. 0 if they do not
-    /// join, and their tags are not the cause: then no tags are intersected, and nothing is copied.
+    /// What joining this authorization with a step takes from a `Work`, in units. None if it is 2^64 or more. 0 if they do not join and
+    /// their tags are not the cause: then no tags are intersected, and nothing is copied. `policy` says which hashes may name keys.
     fn cost_with(&self, step: &Step<'a>, policy: Policy) -> Option<usize>
         ensures { (n : ℕ) × IsNumber result n × IsCostOf policy (five_tuple self.now) self.now.tag (step_tuple step.now) n }
     {
@@ -265,8 +265,8 @@ impl<'a> Five<'a> {
 
     /// Joins this authorization with a step: an authorization by `into_then`, a definition by `into_resolve_counted`. If they do
     /// not join, the result is `Stopped` with the cause. `policy` says which hashes may name keys. `most`, which must be at most
-    /// 1,000,000, is the greatest product of the numbers of nodes of two tags that are intersected. Err is `TooLarge` if the step
-    /// is an authorization, they join except for their tags and this product is greater, or `Memory`. `ticks` counts the work, and
+    /// 1,000,000, is the greatest product of the numbers of nodes of two tags that are intersected. Err is `TooLarge` if the step is an
+    /// authorization, the two would join but for their tags, and this product is greater; or `Memory`. `ticks` counts operations, and
     /// exists only in contracts: at most three ticks are added for each unit of `cost_with`. If they do not join, and the cause is
     /// not `NoTag`, `cost_with` is 0, so there are no ticks.
     #[tactic(auto, using(crate::proofs::ReducedForms::unrefused))]

@@ -159,9 +159,9 @@ impl<'a> Five<'a> {
         self.into_resolve_with_new_count::<Brand>(definition, policy, Blank::new(1))
     }
 
-    /// Does what `into_resolve` does, with its only error `Memory`: calls `into_resolve_counted` with a new count of ticks, kept in the ledger
-    /// of the toolchain that `blank` opens. The count exists only in contracts, and is dropped afterwards. This is a function of its own,
-    /// since only the call of a generic function can pick the type `L` of a count.
+    /// Does what `into_resolve` does, with its only error `Memory`: calls `into_resolve_counted` with a new count of ticks (operations that
+    /// contracts count). The count exists only in contracts, and is dropped afterwards. `blank` is a new ledger of the toolchain, to keep the
+    /// count in; it must be that of `L`. This is a function of its own, since only the call of a generic function can pick the type `L`.
     fn into_resolve_with_new_count<L: Ledger>(
         self,
         definition: &Four<'a>,
@@ -180,8 +180,8 @@ impl<'a> Five<'a> {
         self.into_resolve_counted(definition, policy, &mut Ticks::<L>::new(blank))
     }
 
-    /// Does what `into_resolve` does, and adds its work to `ticks`, a count that exists only in contracts. If the name and the windows fit,
-    /// there is one tick for the definition, and one for each name of both subjects, also if memory runs out then. Otherwise there is none:
+    /// Does what `into_resolve` does, and adds its operations to `ticks`, a count that exists only in contracts. If the name and the windows
+    /// fit, it adds one tick for the definition and one for each name of both subjects, also if memory then runs out. Otherwise it adds none:
     /// comparing the name is not counted. Err is only `Memory`.
     #[tactic(auto, using(crate::proofs::ReducedForms::resolves))]
     pub(crate) fn into_resolve_counted<L: Ledger>(
@@ -234,9 +234,9 @@ impl<'a> Five<'a> {
         }
     }
 
-    /// The intersection of the windows of this authorization and the next, if they join, their tags left out of account: the issuer and
-    /// the delegation are tested too. `policy` says by which hashes a principal may name a key. Err is the first cause why they do not:
-    /// `NotIssuer`, `NoDelegation` or `NoValidity`.
+    /// Tests whether this authorization and the next join, without looking at their tags: the issuer, the delegation and the windows. Returns
+    /// the intersection of both windows. Err is the first cause why they do not join: `NotIssuer`, `NoDelegation` or `NoValidity`. `policy`
+    /// says by which hashes a principal may name a key.
     pub(crate) fn joined_window(&self, next: &Five, policy: Policy) -> Result<Window, Cause>
         ensures joins { IfOk result (λ window. Issues policy (five_tuple self.now) (five_tuple next.now)
             × (self.now.propagate ≡ true) × IsMeet self.now.window next.now.window window
@@ -261,8 +261,8 @@ impl<'a> Five<'a> {
         begins(&self.subject, definition, policy) && self.window.meet(&definition.window).is_some()
     }
 
-    /// Whether this authorization's subject is the issuer of `next`. False if that issuer is the owner of the access
-    /// list.
+    /// Whether this authorization's subject is the issuer of `next`: it has no names, and is the issuer's key or a hash that names this key
+    /// under the policy. False if the issuer is the owner of the access list.
     fn issues(&self, next: &Five, policy: Policy) -> bool
         ensures { IsTrue result ↔ Issues policy (five_tuple self.now) (five_tuple next.now) }
     {

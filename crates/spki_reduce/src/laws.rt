@@ -33,8 +33,8 @@ pub fn one_root()
         root ≡ another }
 {}
 
-/// A chain stops at most at one step, for one cause. Then it becomes no authorization whose tag is the intersection of all tags, one
-/// after another: the tag that `fold_chain` gives.
+/// A chain, which is tuples that are joined from the left, stops at most at one step, for one cause (`stop`). A chain that stops does not
+/// also become an authorization with the tag that `fold_chain` gives it, the intersection of all tags, one after another (`nothing`).
 pub fn one_stop()
     ensures stop { (policy : Policy) (first : Tuple) (steps : List Step) (s t : ℕ) (a b : Cause) →
         StopsAt policy first (tuples_of steps) s a → StopsAt policy first (tuples_of steps) t b → (s ≡ t) × (a ≡ b) }
@@ -43,9 +43,9 @@ pub fn one_stop()
         (f : Five) → FoldsTo policy first (tuples_of steps) f → HasMet first (tuples_of steps) f → ⊥ }
 {}
 
-/// A chain of at least two tuples becomes at most one authorization whose tag is the intersection of all tags, one after another: the
-/// tag that `fold_chain` gives. Its window is determined too: it has a moment, and windows with the same moments, and at least one, are
-/// the same. The premises `IsLimit` always hold in a program: the limits of every `Window` are dates (`Window::prove_limits`).
+/// A chain of at least two tuples becomes at most one authorization with the tag that `fold_chain` gives it: the intersection of all tags,
+/// one after another. Its window is determined too: it contains a moment, and two windows that contain the same moments, at least one, are
+/// equal. The premises `IsLimit` always hold in a program: the limits of every `Window` are dates (`Window::prove_limits`).
 pub fn one_fold()
     ensures { (policy : Policy) (first : Tuple) (others : List Tuple) (f g : Five) → others ≢ [] →
         IsLimit f.window.not_before → IsLimit g.window.not_before →
@@ -85,8 +85,8 @@ pub fn strict_implies_open()
         Supports Strict tree holder request moment → Supports Open tree holder request moment }
 {}
 
-/// If a chain of tuples has a derivation, each beginning of the chain has one too. So a tuple that does not join the
-/// root of those before it stops every chain that begins so.
+/// If a chain of tuples has a derivation, each beginning of the chain has one too. So if a tuple does not join the root of the tuples before
+/// it, no chain that begins with these tuples has a derivation.
 #[tactic(auto, using(crate::proofs::Derivations::front))]
 pub fn fronts()
     ensures { (policy : Policy) (tree : Tree) (root first : Tuple) (before after : List Tuple) →

@@ -20,15 +20,15 @@ pub struct Work {
 }
 
 impl Work {
-    /// Allows at most this much work, or any amount if `bound` is None.
+    /// Allows at most `bound` units of work, or any amount if `bound` is None. The doc comment of `Work` says what a step costs.
     pub fn new(bound: Option<usize>) -> Work
         ensures { left_of result ≡ bound }
     {
         Work { left: bound }
     }
 
-    /// Subtracts `work`, the cost of a step, from what may still be done. A `work` of None stands for 2^64 or more. Does nothing
-    /// if there is no bound.
+    /// Subtracts `work`, the cost of a step in units, from the work that may still be done. A `work` of None stands for 2^64 or more.
+    /// Does nothing if there is no bound.
     ///
     /// # Errors
     ///

@@ -11,7 +11,8 @@ use spki_cert::{Date, HashAlg, Key, Names, Principal, Window};
 use std::alloc::{AllocError, Global};
 
 impl<'a> Five<'a> {
-    /// A fact for the prover: there is a value that `write` may return for the authorization, however it was made. Does nothing.
+    /// Does nothing at run time. It tells the prover that this authorization has a written form: a value that `write` may return for it.
+    /// `prove_line` of the crate `spki_guard` needs this fact for an authorization whose line is not printed.
     pub fn prove_writable(&self)
         ensures { (v : Value) × IsWrittenFive self.now v }
     {
@@ -41,7 +42,7 @@ impl<'a> Five<'a> {
     }
 }
 
-/// A fact for the prover: there are members that `push_issuer` may append for the issuer. Does nothing.
+/// Does nothing at run time. It tells the prover that the issuer has a written form: members that `push_issuer` may append for it.
 fn prove_issuer(issuer: &Issuer)
     ensures { (written : List Value) × IsWrittenIssuer issuer.now written }
 {
@@ -50,7 +51,7 @@ fn prove_issuer(issuer: &Issuer)
     }
 }
 
-/// A fact for the prover: there is a value that `write_principal` may return for the principal. Does nothing.
+/// Does nothing at run time. It tells the prover that the principal has a written form: a value that `write_principal` may return for it.
 fn prove_principal(principal: &Principal)
     ensures { (owner : Value) × IsWrittenPrincipal principal.now owner }
 {
@@ -59,7 +60,8 @@ fn prove_principal(principal: &Principal)
     }
 }
 
-/// Returns the members of a new list: only its head, a string without a display hint. The caller appends any others. Err if memory ran out.
+/// Returns a vector with the first member of a new list: `head`, as a string without a display hint. The caller appends the other members
+/// and makes the list of them. Err if memory ran out.
 fn begun(alloc: Global, head: &[u8]) -> Result<Vec<Sexp>, AllocError>
     ensures { IfOk result (λ members. map sexp_value members.items ≡ plain head.now ∷ []) }
 {
@@ -68,7 +70,7 @@ fn begun(alloc: Global, head: &[u8]) -> Result<Vec<Sexp>, AllocError>
     Ok(members)
 }
 
-/// Appends the list `(head further)` to the members. Err if memory ran out.
+/// Appends the list `(head further)` to `members`: the string `head` without a display hint, and then `further`. Err if memory ran out.
 fn push_headed(
     alloc: Global,
     members: &mut Vec<Sexp>,
@@ -84,8 +86,8 @@ fn push_headed(
     Ok(())
 }
 
-/// Returns a key as a value, from its canonical form. Err if memory ran out. Readers make keys, and others are copies of these, so a key is a
-/// canonical form within the limits. So memory is the only fault of `decode` here, and `map_err` drops no other.
+/// Returns a key as a value, from its canonical form. Err if memory ran out. Each key was made by a reader or copied from such a key, so its
+/// octets are a canonical form within the limits. So `decode` has no other fault here, and `map_err` hides none.
 fn write_key(alloc: Global, key: &Key) -> Result<Sexp, AllocError>
     ensures { IfOk result (λ s. key.now ≡ canon (sexp_value s)) }
 {

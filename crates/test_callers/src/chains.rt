@@ -26,7 +26,7 @@ pub struct AccessQuestion<'r, 'k> {
 ///
 /// # Errors
 ///
-/// Those of `fold_chain`.
+/// `TooLarge` or `Memory`, as for `fold_chain`.
 pub fn grants<'a>(
     alloc: Global,
     first: &Five<'a>,
