@@ -203,9 +203,9 @@ impl<'a> PreparedQuestion<'a> {
         self.reduce_by_with_new_count::<Brand>(alloc, Blank::new(1))
     }
 
-    /// Reduces the question as `reduce_by` does, and puts what each entry becomes into `sink` as soon as it is found. So no more
-    /// than one entry, and what it becomes, takes memory at a time. Returns the first certificate that fails a test, and then puts nothing.
-    /// None if all certificates pass. A listed signature without a mark fails the last test.
+    /// Reduces the question as `reduce_by` does, and puts what each entry becomes into `sink` as soon as it is known. So only one entry, and
+    /// what it becomes, takes memory at a time. If a certificate fails a test, returns the first that does, and puts nothing. Returns None if
+    /// all certificates pass. A certificate whose listed signature has no mark fails the last test.
     ///
     /// # Errors
     ///
@@ -231,9 +231,9 @@ impl<'a> PreparedQuestion<'a> {
         }
     }
 
-    /// Puts what each entry becomes into `sink`, if all listed signatures are valid. Returns the first certificate that fails another test,
-    /// and then puts nothing. None if all certificates pass. Err is `TooLarge` or `Memory`. When, and what `sink` has then, is as for
-    /// `reduce_into`.
+    /// Puts what each entry becomes into `sink`, if all listed signatures are valid. If a certificate fails another test, returns the first
+    /// that does, and puts nothing. Returns None if all certificates pass. Err is `TooLarge` or `Memory`, as for `reduce_into`; then drop what
+    /// `sink` has taken.
     fn put_folds<S: FoldSink<'a>>(
         &self,
         alloc: Global,

@@ -58,7 +58,7 @@ fn has_more_certificates(items: &[SeqItem], most: usize) -> bool
     false
 }
 
-/// 1 for a certificate, which is an authorization or a definition of a name, and 0 for another item.
+/// How many certificates an item of a sequence is: 1 for an authorization or a definition of a name, and 0 for any other item.
 fn certificate_count(item: &SeqItem) -> usize
     ensures { result ≡ certificate_count item.now }
 {

@@ -10,8 +10,8 @@ use spki_cert::{Date, Window};
 /// The last second, counted from 1970-01-01 00:00:00 UTC, that is not after a date. A grant holds until a date: this is the same limit for a
 /// caller whose clock counts seconds. Usually the result is the second of the date itself, which is negative before 1970. There are two
 /// exceptions. If the month does not have the date's day, as for 30 February, the result is the last second of the month: `constrain` lowers
-/// the day to the last one, whose last second is number 86,399 from 0. Otherwise a second 60 counts as 59. The offsets in the code are those
-/// of a date such as `2024-01-01_00:00:00`. The window is only for `prove_limits`, which tells the prover that the octets are those of a date.
+/// the day to the last one, which ends 86,399 seconds after its first second. Otherwise a second 60 counts as 59. The offsets in the code are
+/// those of a date such as `2024-01-01_00:00:00`. The window is only for `prove_limits`, which tells the prover that the octets are a date's.
 pub fn last_second(date: &Date) -> i64
     ensures { result ≡ last_second date.now }
 {
@@ -66,8 +66,8 @@ fn number_at(octets: &[u8], place: usize) -> u8
     10 * (octets[place] - b'0') + (octets[place + 1] - b'0')
 }
 
-/// The date of a number of seconds since 1970-01-01 00:00:00 UTC. None if it is negative, as of a clock that failed, or the year is after
-/// 9999 (`Err` of `from_nanosecond`). `Date::of` does not return None here, since `octets_of` makes a date. Allocates nothing.
+/// The date of a number of seconds since 1970-01-01 00:00:00 UTC. None if it is negative, as of a clock that failed, or the year is after 9999
+/// (then `from_nanosecond` returns Err). `Date::of` returns None for octets that are no date, but `octets_of` writes a date. Allocates nothing.
 pub(crate) fn date_at(seconds: i64) -> Option<Date>
     ensures { MatchOption result (IsAtNoDate seconds) (λ date. IsDateAt seconds date) }
 {

@@ -19,10 +19,10 @@ use std::marker::Brand;
 use std::sync::ledger::{Blank, Ledger};
 
 impl<'a> PreparedQuestion<'a> {
-    /// Decides the question by the marks, as `decide_by`, for a caller whose contract bounds the ticks, which exist only in contracts. A tick
-    /// is a signature, a certificate, an entry, a tag or a name that is looked at, or an octet that is read or compared. There are at most
-    /// four for each octet of the sequence's canonical text (`shown`), and two for each octet of the entries that the index finds (`found`).
-    /// If no certificate fails and no entry grants, there is at least one for each listed signature and each octet of these entries.
+    /// Decides the question, if exactly the marked signatures are valid, as `decide_by`. `ticks` counts operations, in contracts only. A tick is
+    /// a signature, a certificate, an entry, a tag or a name that is looked at, or an octet that is read or compared. There are at most four
+    /// for each octet of the sequence's canonical text (`shown`), and two for each octet of the entries that the index finds (`found`). If no
+    /// certificate fails and no entry grants, there is at least one for each listed signature and each octet of these entries.
     /// `docs/PERFORMANCE.md` says what is not counted.
     ///
     /// # Errors
@@ -43,8 +43,8 @@ impl<'a> PreparedQuestion<'a> {
         Ok(Grant::decision(self.grant_by_counted(alloc, ticks)?))
     }
 
-    /// What is granted by the marks, as by `grant_by`, in at most as many ticks (operations that contracts count) as `decide_by_counted`.
-    /// None if a listed signature has no mark, a certificate fails another test, or no entry grants the request. Err if memory ran out.
+    /// What is granted if exactly the marked signatures are valid, as `grant_by`. None if a listed signature has no mark, a certificate fails
+    /// another test, or no entry grants the request. `ticks` counts as in `decide_by_counted`, in contracts only. Err if memory ran out.
     fn grant_by_counted<L: Ledger>(
         &self,
         alloc: Global,
@@ -62,9 +62,9 @@ impl<'a> PreparedQuestion<'a> {
         }
     }
 
-    /// Does the work of `grant_by`, whose caller has no count of ticks: calls `grant_by_counted` with a new one, in the ledger `blank`, which must be
-    /// a new one of `L`. The count, of operations, exists only in contracts, and is dropped afterwards. `Ticks` says why this is a function of
-    /// its own. None if nothing is granted. Err if memory ran out.
+    /// Does the work of `grant_by`: calls `grant_by_counted` with a new count of ticks (operations that contracts count). The count exists only
+    /// in contracts, and is dropped afterwards. `blank` is a new ledger of the toolchain, to keep the count in; it must be that of `L`. This is a
+    /// function of its own, since only the call of a generic function can pick the type `L`. None if nothing is granted. Err if memory ran out.
     pub(crate) fn grant_by_with_new_count<L: Ledger>(
         &self,
         alloc: Global,
@@ -99,9 +99,9 @@ impl<'a> PreparedQuestion<'a> {
         }
     }
 
-    /// Does the work of `granted`, whose caller has no count of ticks: calls `granted_counted` with a new one, in the ledger `blank`, which must be
-    /// a new one of `L`. The count, of operations, exists only in contracts, and is dropped afterwards. `Ticks` says why this is a function of
-    /// its own. None if nothing is granted. Err if memory ran out.
+    /// Does the work of `granted`: calls `granted_counted` with a new count of ticks (operations that contracts count). The count exists only in
+    /// contracts, and is dropped afterwards. `blank` is a new ledger of the toolchain, to keep the count in; it must be that of `L`. This is a
+    /// function of its own, since only the call of a generic function can pick the type `L`. None if nothing is granted. Err if memory ran out.
     pub(crate) fn granted_with_new_count<L: Ledger>(
         &self,
         alloc: Global,
@@ -138,8 +138,8 @@ impl<'a> PreparedQuestion<'a> {
         first_granted(alloc, &guard.texts, &numbers, &self.case, steps, ticks)
     }
 
-    /// The first listed signature without a mark at its place. None if each has one. Each signature that is looked at adds 1 to `ticks`, a
-    /// count that exists only in contracts.
+    /// The first listed signature without a mark, which would say that it is valid. None if each has one. Each signature that is looked at adds
+    /// 1 to `ticks`, a count that exists only in contracts.
     pub(crate) fn unmarked_counted<L: Ledger>(&self, ticks: &mut Ticks<L>) -> Option<&Signed<'a>>
         ensures answer { MatchOption result (AllMarked (asked self.now.case) self.now.marks)
             (λ one. IsUnmarked (asked self.now.case) self.now.marks (signed_of one.now)) }

@@ -27,7 +27,8 @@ pub(crate) fn entry_texts(alloc: Global, list: &Node, count: usize) -> Result<Te
     Ok(last(member_texts(alloc, members)?, count))
 }
 
-/// Returns the last `count` texts. There must be `count` texts, or one more: the version of the access list, which is first.
+/// Returns the last `count` of the texts: those of an access list's entries. There must be `count` texts, or one more, which is first: the
+/// list's version.
 fn last(texts: TextList, count: usize) -> TextList
     ensures all { length texts ≡ count → result ≡ texts }
     ensures behind { length texts ≡ 1 + count → result ≡ drop 1 texts }

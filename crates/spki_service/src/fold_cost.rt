@@ -25,12 +25,12 @@ use std::alloc::Global;
 use std::sync::ledger::{Blank, Ledger};
 
 impl<'a> PreparedQuestion<'a> {
-    /// Explains the question by the marks, as `explain_by`. A tick is a signature, an entry or a step of a chain that is looked at, an
-    /// octet of an entry that is read, or what an intersection compares or copies. There are at most four for each unit of the guard's
-    /// limit of work, one for each octet of the access list's entries, two for each entry, and one for each listed signature, also if the
-    /// answer is an error. This bound requires that the case's `uncounted`, the size up to which a chain takes no work, is 0, as it is in
-    /// each question that a guard has read. If no certificate fails and memory does not run out, there is at least one for each of these
-    /// octets, entries and signatures. `docs/PERFORMANCE.md` says what is not counted.
+    /// Explains the question, if exactly the marked signatures are valid, as `explain_by`. `ticks` counts operations, in contracts only. A tick
+    /// is a signature, an entry or a step of a chain that is looked at, an octet of an entry that is read, or what an intersection compares or
+    /// copies. There are at most four for each unit of the guard's limit of work, one for each octet of the access list's entries, two for each
+    /// entry, and one for each listed signature, also if the answer is an error. This bound requires that the case's `uncounted`, the size up to
+    /// which a chain takes no work, is 0, as it is in each question that a guard has read. If no certificate fails and memory does not run out,
+    /// there is at least one for each of these octets, entries and signatures. `docs/PERFORMANCE.md` says what is not counted.
     ///
     /// # Errors
     ///
@@ -56,9 +56,9 @@ impl<'a> PreparedQuestion<'a> {
         }
     }
 
-    /// Does the work of `explain_by`, whose caller has no count of ticks: calls `explain_by_counted` with a new one, in the ledger `blank`, which
-    /// must be a new one of `L`. The count, of operations, exists only in contracts, and is dropped afterwards. `Ticks` says why this is a
-    /// function of its own. Err is `TooLarge` or `Memory`, as for `explain_by_counted`.
+    /// Does the work of `explain_by`: calls `explain_by_counted` with a new count of ticks (operations that contracts count). The count exists
+    /// only in contracts, and is dropped afterwards. `blank` is a new ledger of the toolchain, to keep the count in; it must be that of `L`. This
+    /// is a function of its own, since only the call of a generic function can pick the type `L`. Err is `TooLarge` or `Memory`, as there.
     pub(crate) fn explain_by_with_new_count<L: Ledger>(
         &self,
         alloc: Global,
@@ -72,7 +72,8 @@ impl<'a> PreparedQuestion<'a> {
         self.explain_by_counted(alloc, &mut Ticks::<L>::new(blank))
     }
 
-    /// Reduces the question by the marks, as `reduce_by`, in at most as many ticks (operations that contracts count) as `explain_by_counted`.
+    /// Reduces the question, if exactly the marked signatures are valid, as `reduce_by`. `ticks` counts operations, in contracts only: at most
+    /// as many as for `explain_by_counted`.
     ///
     /// # Errors
     ///
@@ -99,9 +100,9 @@ impl<'a> PreparedQuestion<'a> {
         }
     }
 
-    /// Does the work of `reduce_by`, whose caller has no count of ticks: calls `reduce_by_counted` with a new one, in the ledger `blank`, which
-    /// must be a new one of `L`. The count, of operations, exists only in contracts, and is dropped afterwards. `Ticks` says why this is a
-    /// function of its own. Err is `TooLarge` or `Memory`, as for `reduce_by_counted`.
+    /// Does the work of `reduce_by`: calls `reduce_by_counted` with a new count of ticks (operations that contracts count). The count exists
+    /// only in contracts, and is dropped afterwards. `blank` is a new ledger of the toolchain, to keep the count in; it must be that of `L`. This
+    /// is a function of its own, since only the call of a generic function can pick the type `L`. Err is `TooLarge` or `Memory`, as there.
     pub(crate) fn reduce_by_with_new_count<L: Ledger>(
         &self,
         alloc: Global,
@@ -116,9 +117,9 @@ impl<'a> PreparedQuestion<'a> {
         self.reduce_by_counted(alloc, &mut Ticks::<L>::new(blank))
     }
 
-    /// Reduces the question by the marks, and puts what each entry becomes into `sink`, as `reduce_into`, in at most as many ticks
-    /// (operations that contracts count) as `explain_by_counted`. What the sink does is not counted. Returns the first certificate that fails
-    /// a test, and then puts nothing. None if all certificates pass. A listed signature without a mark fails the last test.
+    /// Reduces the question, if exactly the marked signatures are valid, and puts what each entry becomes into `sink`, as `reduce_into`. `ticks`
+    /// counts operations, in contracts only: at most as many as for `explain_by_counted`, without those of the sink. If a certificate fails a
+    /// test, returns the first that does, and puts nothing. Returns None if all pass. A certificate whose listed signature has no mark fails.
     ///
     /// # Errors
     ///
@@ -173,9 +174,10 @@ impl<'a> PreparedQuestion<'a> {
         }
     }
 
-    /// The explanation if all listed signatures are valid, for `explain`, whose caller has no count of ticks: calls `explained_counted` with
-    /// a new one, in the ledger `blank`, which must be a new one of `L`. The count, of operations, exists only in contracts, and is dropped
-    /// afterwards. `Ticks` says why this is a function of its own. Err is `TooLarge` or `Memory`, as for `explained_counted`.
+    /// The explanation if all listed signatures are valid, for `explain`: calls `explained_counted` with a new count of ticks (operations that
+    /// contracts count). The count exists only in contracts, and is dropped afterwards. `blank` is a new ledger of the toolchain, to keep the
+    /// count in; it must be that of `L`. This is a function of its own, since only the call of a generic function can pick the type `L`. Err is
+    /// `TooLarge` or `Memory`, as there.
     pub(crate) fn explained_with_new_count<L: Ledger>(
         &self,
         alloc: Global,
@@ -210,9 +212,10 @@ impl<'a> PreparedQuestion<'a> {
         }
     }
 
-    /// The reduction if all listed signatures are valid, for `reduce`, whose caller has no count of ticks: calls `reduced_counted` with a new
-    /// one, in the ledger `blank`, which must be a new one of `L`. The count, of operations, exists only in contracts, and is dropped afterwards.
-    /// `Ticks` says why this is a function of its own. Err is `TooLarge` or `Memory`, as for `reduced_counted`.
+    /// The reduction if all listed signatures are valid, for `reduce`: calls `reduced_counted` with a new count of ticks (operations that
+    /// contracts count). The count exists only in contracts, and is dropped afterwards. `blank` is a new ledger of the toolchain, to keep the
+    /// count in; it must be that of `L`. This is a function of its own, since only the call of a generic function can pick the type `L`. Err is
+    /// `TooLarge` or `Memory`, as there.
     pub(crate) fn reduced_with_new_count<L: Ledger>(
         &self,
         alloc: Global,
@@ -227,8 +230,8 @@ impl<'a> PreparedQuestion<'a> {
         self.reduced_counted(alloc, &mut Ticks::<L>::new(blank))
     }
 
-    /// Puts what each entry becomes into `sink`, as `put_folds`, if all listed signatures are valid. Returns the first certificate that fails
-    /// another test, and then puts nothing. None if all certificates pass. Its ticks (operations that contracts count) are those of
+    /// Puts what each entry becomes into `sink`, as `put_folds`, if all listed signatures are valid. If a certificate fails another test,
+    /// returns the first that does, and puts nothing. Returns None if all pass. Its ticks (operations that contracts count) are those of
     /// `reduce_into_counted` without the signatures. Err is `TooLarge` or `Memory`, as there.
     fn put_folds_counted<L: Ledger, S: FoldSink<'a>>(
         &self,

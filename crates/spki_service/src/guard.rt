@@ -209,7 +209,7 @@ impl Guard {
     }
 }
 
-/// The fault of an access list: `Memory` if the kind of this fault is `Memory`, otherwise `Acl` with the fault.
+/// The error of reading an access list that has this fault: `Memory` if memory ran out, otherwise `Acl` with the fault.
 fn fault_of_acl(fault: CertFault) -> AclFault
     ensures { IsOuter (fault.kind ≡ CertFaultKind.Memory) AclFault.Memory (AclFault.Acl fault) result }
 {

@@ -139,7 +139,7 @@ impl EntryIndex {
     }
 
     /// Those of `rows` whose principal has these octets, by two binary searches: for where they begin, and for how many they are. `rows` must
-    /// be in the order of `compare`.
+    /// be in the order of `compare`, which compares the last eight octets first.
     fn rows_at<'i>(&'i self, rows: &'i [Row], octets: &[u8]) -> &'i [Row]
         ensures { IsInOrder self.now.principals rows.now
             → map row_number result.now ≡ numbers_with self.now.principals octets.now rows.now }
@@ -153,7 +153,7 @@ impl EntryIndex {
     }
 }
 
-/// Returns for each of these principals its octets, in order: those of the key, or the digest. Err if memory ran out.
+/// Returns the octets of each of these principals, in order: those of the key, or the digest. Err if memory ran out.
 fn principals_of(alloc: Global, owners: &[Principal]) -> Result<TextList, AllocError>
     ensures { IfOk result (λ principals. principals ≡ map octets_of owners.now) }
 {
@@ -270,8 +270,9 @@ fn numbers_of(alloc: Global, rows: &[Row]) -> Result<Vec<usize>, AllocError>
     Ok(numbers)
 }
 
-/// Merges `own`, ascending numbers of entries, with those of the rows, which ascend too. A number that both have comes twice, but `found`
-/// merges none such: an entry has one principal. If one of the two is empty, nothing is compared. Err if memory ran out.
+/// Merges `own`, ascending numbers of entries, with the numbers of the rows, which ascend too, into one ascending list. A number that is in both
+/// is kept twice, but `found` passes no such number: an entry has one principal. If one of the two is empty, nothing is compared. Err if memory
+/// ran out.
 fn joined(alloc: Global, own: Vec<usize>, rows: &[Row]) -> Result<Vec<usize>, AllocError>
     ensures { IfOk result (λ numbers. numbers.items ≡ merge own.items (map row_number rows.now)) }
 {

@@ -44,8 +44,8 @@ pub fn one_date()
     ensures none { (seconds : ℤ) (date : List ℕ) → IsAtNoDate seconds → ¬ IsDateAt seconds date }
 {}
 
-/// By one verifier, a question that was read has at most one answer of `PreparedQuestion::decide`, of `explain` and of `reduce`, unless
-/// memory ran out. The guard's texts must be those of some entries, as they are in every guard.
+/// For a question that was read and one verifier, each of the calls `PreparedQuestion::decide`, `explain` and `reduce` has at most one result,
+/// unless memory ran out. The guard's texts must be those of some entries, as they are in every guard.
 pub fn one_answer<V: Verifier>()
     ensures decision { (verifier : V) (a : PreparedModel) (es : List Entry) (x y : Decision) → AreEntries a.texts es
         → Decides (V.accepted verifier) a x → Decides (V.accepted verifier) a y → x ≡ y }
@@ -59,8 +59,8 @@ pub fn one_answer<V: Verifier>()
         → Answers (λ c answer. IsReduced c (V.accepted verifier) answer) a y → AreSame IsSameReduction x y }
 {}
 
-/// A question that was read has at most one answer of `PreparedQuestion::decide_by`, of `explain_by` and of `reduce_by` by its marks,
-/// unless memory ran out. The guard's texts must be those of some entries, as they are in every guard.
+/// For a question that was read, with its marks of the signatures that are valid, each of the calls `PreparedQuestion::decide_by`, `explain_by`
+/// and `reduce_by` has at most one result, unless memory ran out. The guard's texts must be those of some entries, as they are in every guard.
 pub fn one_marked_answer()
     ensures decision { (a : PreparedModel) (es : List Entry) (x y : Decision) → AreEntries a.texts es → DecidesMarked a x → DecidesMarked a y
         → x ≡ y }
@@ -70,14 +70,15 @@ pub fn one_marked_answer()
         → x ≢ Err Memory → y ≢ Err Memory → ReducesMarked a x → ReducesMarked a y → AreSame IsSameReduction x y }
 {}
 
-/// If the places with a mark are those of the signatures that a verifier accepts, `PreparedQuestion::decide_by` decides as `PreparedQuestion::decide`
-/// by the verifier.
+/// A mark says that the signature at its place in a list is valid. If exactly the signatures that a verifier accepts have a mark,
+/// `PreparedQuestion::decide_by`, which decides by the marks, decides as `PreparedQuestion::decide` does by the verifier.
 pub fn marked_as_verified<V: Verifier>()
     ensures { (verifier : V) (a : PreparedModel) (d : Decision) → MarksTell (V.accepted verifier) (asked a.case) a.marks
         → DecidesMarked a d → Decides (V.accepted verifier) a d }
 {}
 
-/// A yes by marks means that each listed signature has a mark at its place. So if one of them has no mark, the answer is no.
+/// A mark says that the signature at its place in a list is valid. If the decision by marks is yes, each listed signature has a mark. So if one
+/// of them has no mark, the decision is no.
 pub fn all_marked()
     ensures yes { (a : PreparedModel) (n : ℕ) → DecidesMarked a (Yes n) → AllMarked (asked a.case) a.marks }
     ensures no { (a : PreparedModel) (d : Decision) (one : Signed) → IsUnmarked (asked a.case) a.marks one → DecidesMarked a d → d ≡ No }

@@ -38,9 +38,9 @@ pub(crate) fn first_unmarked(count: usize, marks: &[bool]) -> Option<usize>
     first_unmarked_with_new_count::<Brand>(count, marks, Blank::new(1))
 }
 
-/// Does the work of `first_unmarked`, whose caller has no count of ticks: calls `first_unmarked_counted` with a new one, in the ledger
-/// `blank`, which must be a new one of `L`. The new count, of operations, exists only in contracts, and is dropped afterwards. `Ticks` says why
-/// this is a function of its own. The parameter `count` is another thing: how many places there are.
+/// Does the work of `first_unmarked`, for `count` places: calls `first_unmarked_counted` with a new count of ticks (operations that contracts
+/// count). The new count exists only in contracts, and is dropped afterwards. `blank` is a new ledger of the toolchain, to keep it in, and must
+/// be that of `L`. This is a function of its own, since only the call of a generic function can pick the type `L`.
 fn first_unmarked_with_new_count<L: Ledger>(
     count: usize,
     marks: &[bool],

@@ -111,8 +111,9 @@ fn shared_key(
     }
 }
 
-/// The key with these octets, if a signature of `owned` has it. Otherwise Err is the place in `order`, from 0, at which a signature by this key
-/// must be inserted. `order` is as for `shared_key`: each of its numbers is a place in `owned`, so the `else` is not reached.
+/// The key with these octets, if a signature of `owned` has it, by a binary search. Otherwise Err is the place in `order`, from 0, at which a
+/// signature by this key must be inserted. `order` has for each key the place in `owned` of the first signature by it, sorted by the keys'
+/// octets. Each of its numbers is a place in `owned`, so the `else` is not reached.
 fn found_key<'o>(
     owned: &'o [OwnedSigned],
     order: &[usize],

@@ -63,8 +63,8 @@ pub(crate) fn case_of<'a>(
     )?)
 }
 
-/// Opens the canonical text of a part, so that its value can be read. Err is `Form` with the part and the fault of the given text, if that
-/// has no value within the limits of its form, or `Memory`.
+/// Opens the canonical text of a question's part, so that its value can be read. Err is `Form` with `part` and the fault, if the text that the
+/// client gave has no value within the limits of its form (1,048,576 octets, 64 open lists); or `Memory`.
 pub(crate) fn opened<'a>(
     alloc: Global,
     part: Part,
@@ -80,8 +80,8 @@ pub(crate) fn opened<'a>(
     }
 }
 
-/// Reads the sequence from the text of that part. Err is `Form` if the text has no value within the limits, `Sequence` if
-/// the value is no sequence, or `Memory`.
+/// Reads a question's sequence, the keys, certificates and signatures that the client shows, from its canonical text. Err is `Form` if the text
+/// has no value within the limits of its form (`opened`), `Sequence` with the first fault if the value is no sequence, or `Memory`.
 fn sequence_in<'a>(alloc: Global, text: &'a CanonicalText<'_>) -> Result<Vec<SeqItem<'a>>, AskFault>
     ensures read { IfOk result (λ items. OfText text.entry.now (λ v. SeqOf v items.items)) }
     ensures signed { IfOk result (λ items. AreSigned items.items) }
@@ -91,8 +91,8 @@ fn sequence_in<'a>(alloc: Global, text: &'a CanonicalText<'_>) -> Result<Vec<Seq
     sequence_at(alloc, &text.top())
 }
 
-/// Reads the client's key from the text of that part. Err is `Form` if the text has no value within the limits, `Key` if
-/// the value is no key, or `Memory`.
+/// Reads a question's key, the client's public key, from its canonical text. Err is `Form` if the text has no value within the limits of its
+/// form (`opened`), `Key` with the first fault if the value is no key, or `Memory`.
 fn key_in<'a>(alloc: Global, text: &'a CanonicalText<'_>) -> Result<Key<'a>, AskFault>
     ensures read { IfOk result (λ key. OfText text.entry.now (λ v. KeyOf v key)) }
     ensures refused { IfErr result (λ fault. fault ≢ AskFault.Memory → NamesPart Part.Key NamesKey text.entry.now fault) }
@@ -101,8 +101,8 @@ fn key_in<'a>(alloc: Global, text: &'a CanonicalText<'_>) -> Result<Key<'a>, Ask
     key_at(&text.top())
 }
 
-/// Reads the request from the text of that part. Err is `Form` if the text has no value within the limits, `Request` if
-/// the value is no request, or `Memory`.
+/// Reads a question's request, what the client asks for, from its canonical text. Err is `Form` if the text has no value within the limits of
+/// its form (`opened`), `Request` with the first fault if the value is no request, or `Memory`.
 fn request_in(alloc: Global, text: &CanonicalText) -> Result<Ground, AskFault>
     ensures read { IfOk result (λ request. OfText text.now (λ v. RequestOf v request)) }
     ensures refused { IfErr result (λ fault. fault ≢ AskFault.Memory → NamesPart Part.Request NamesRequest text.now fault) }
@@ -111,8 +111,8 @@ fn request_in(alloc: Global, text: &CanonicalText) -> Result<Ground, AskFault>
     request_at(alloc, &text.top())
 }
 
-/// Reads the date from the text of the moment. Err is `Form` if the text has no value within the limits, `Moment` if
-/// the value is no date, or `Memory`.
+/// Reads the date of a question's moment from its canonical text. Err is `Form` if the text has no value within the limits of its form
+/// (`opened`), `Moment(BadDate)` if the value is no date, or `Memory`.
 fn date_in(alloc: Global, text: &CanonicalText) -> Result<Date, AskFault>
     ensures read { IfOk result (λ date. OfText text.now (λ v. DateOf v date)) }
     ensures refused { IfErr result (λ fault. fault ≢ AskFault.Memory → NamesPart Part.Moment NamesMoment text.now fault) }
@@ -121,8 +121,8 @@ fn date_in(alloc: Global, text: &CanonicalText) -> Result<Date, AskFault>
     moment_date(&text.top())
 }
 
-/// The date of a moment that was given as a text or as seconds. For a text, Err is that of `date_in`: `Form`, `Moment` or `Memory`.
-/// For seconds that are negative or in a year after 9999 it is `Moment(BadDate)`.
+/// The date of a question's moment, which is a text or a number of seconds. For a text, Err is that of `date_in`: `Form`, `Moment` or
+/// `Memory`. For seconds that are negative or in a year after 9999 it is `Moment(BadDate)`.
 fn moment_in(alloc: Global, text: &MomentText) -> Result<Date, AskFault>
     ensures read { IfOk result (λ date. HasDate text.now date) }
     ensures refused { IfErr result (λ fault. fault ≢ AskFault.Memory → NamesDate text.now fault) }
@@ -157,7 +157,7 @@ fn sequence_at<'a>(alloc: Global, node: &Node<'_, 'a>) -> Result<Vec<SeqItem<'a>
     }
 }
 
-/// The fault of a question whose sequence is refused: `Memory` if the kind of this fault is `Memory`, otherwise `Sequence` with the fault.
+/// The error of reading a question whose sequence has this fault: `Memory` if memory ran out, otherwise `Sequence` with the fault.
 fn fault_of_sequence(fault: CertFault) -> AskFault
     ensures { IsOuter (fault.kind ≡ CertFaultKind.Memory) AskFault.Memory (AskFault.Sequence fault) result }
 {
@@ -189,7 +189,7 @@ fn request_at(alloc: Global, node: &Node) -> Result<Ground, AskFault>
     }
 }
 
-/// The fault of a question whose request is refused: `Memory` if this fault is `Memory`, otherwise `Request` with the fault.
+/// The error of reading a question whose request has this fault: `Memory` if memory ran out, otherwise `Request` with the fault.
 fn fault_of_request(fault: TagFault) -> AskFault
     ensures { IsOuter (fault ≡ TagFault.Memory) AskFault.Memory (AskFault.Request fault) result }
 {

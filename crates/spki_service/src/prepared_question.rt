@@ -45,8 +45,8 @@ impl<'a> PreparedQuestion<'a> {
         mark_at(&mut self.marks, place)
     }
 
-    /// The first listed signature without a mark at its place. None if each has one. This is for `reduce_into`, which has no count of ticks
-    /// (operations that contracts count); `unmarked_counted` is the same with a count.
+    /// The first listed signature without a mark, which would say that it is valid. None if each has one. This is for `reduce_into`, which has
+    /// no count of ticks (operations that contracts count); `unmarked_counted` is the same with a count.
     pub(crate) fn unmarked(&self) -> Option<&Signed<'a>>
         ensures { MatchOption result (AllMarked (asked self.now.case) self.now.marks)
             (λ one. IsUnmarked (asked self.now.case) self.now.marks (signed_of one.now)) }

@@ -91,8 +91,8 @@ fn moment_text<'q>(alloc: Global, moment: &Moment<'q>) -> Result<MomentText<'q>,
 }
 
 impl Texts<'_> {
-    /// Returns the same texts in memory of their own: the question's texts may change afterwards. A text that `texts_of` has made, of another
-    /// form or of strings, is not copied again. A part that has a fault in place of a text keeps it.
+    /// Returns the same texts in memory of their own, so that the question's texts may change afterwards. A text that `texts_of` has made itself,
+    /// from another form or from strings, is not copied again. A part that has a fault in place of a text keeps it.
     ///
     /// # Errors
     ///
