@@ -28,7 +28,8 @@ impl<T: Drop, A: Allocator> BoxPointer<T, A> {
         BoxPointer { at, alloc }
     }
 
-    /// Makes the pointer a box again, which owns the value, and frees it when it is dropped.
+    /// Makes the pointer a box again, which owns the value, and frees it when it is dropped. By `box_owns`, which holds for every `BoxPointer`,
+    /// the value is there.
     pub(crate) fn into_box(self) -> Box<T, A>
         ensures { result.value ≡ self.value }
     {

@@ -28,8 +28,8 @@ pub(crate) fn read_guard(
     }
 }
 
-/// The policy of a number: for 0 strict, by which hashes by SHA-1 name no key, and for 1 open, by which they do. None for any
-/// other number.
+/// The policy with this number in `spki.h`: 0 for strict, by which no hash by SHA-1 names a key, and 1 for open, by which such hashes name
+/// keys. None for any other number.
 pub(crate) fn policy_of(number: u32) -> Option<Policy>
     ensures { MatchOption result ((p : Policy) → number ≢ policy_number p) (λ p. number ≡ policy_number p) }
 {

@@ -46,8 +46,8 @@ impl Handle {
         self.at = at as *mut u8;
     }
 
-    /// Takes the value over from the handle, and returns its pointer with the right to free it, by the allocator `alloc`. The handle
-    /// must own a value.
+    /// Takes the value over from the handle, which must own one. Returns the value's pointer, with the right to free it by the allocator
+    /// `alloc`.
     pub(crate) fn take(self, alloc: Global) -> BoxPointer<HandleValue, Global>
         requires { IsSome self.held }
         ensures { self.held ≡ Some result.value }
@@ -61,7 +61,7 @@ impl Handle {
 }
 
 impl BorrowedHandle {
-    /// The guard or question that this call borrows.
+    /// The guard or question that this call borrows. By `held_lent`, which holds for every `BorrowedHandle`, it is at the pointer.
     pub(crate) fn content(&mut self) -> &HandleValue
         ensures { result.now ≡ self.entry.now.content }
     {

@@ -16,7 +16,7 @@ pub enum HandleValue {
 }
 
 impl HandleValue {
-    /// The guard. None for a question.
+    /// The guard that the C program holds. None if it holds a question.
     pub(crate) fn guard(&self) -> Option<&SharedGuard>
         ensures { MatchOption result ((g : GuardModel) → self.now ≢ HandleValue.Guard g) (λ g. self.now ≡ HandleValue.Guard g.now) }
     {
@@ -26,7 +26,7 @@ impl HandleValue {
         }
     }
 
-    /// The question. None for a guard.
+    /// The opened question that the C program holds. None if it holds a guard.
     pub(crate) fn question(&self) -> Option<&OwnedQuestion>
         ensures { MatchOption result ((o : OwnedQuestion) → self.now ≢ HandleValue.Question o) (λ o. self.now ≡ HandleValue.Question o.now) }
     {

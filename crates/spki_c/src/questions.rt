@@ -45,7 +45,7 @@ impl Parts {
     }
 }
 
-/// The request: its strings, `words`, if `is_worded` is true, otherwise its text.
+/// The request of a question: its strings, which are `words`, if `is_worded` is true, otherwise its text.
 fn request_of<'a>(is_worded: bool, text: &'a [u8], words: &'a [&'a [u8]]) -> RequestInput<'a>
     ensures { IsRequestBy is_worded text.entry.now (map (λ w. w.now) words.entry.now) result }
 {
@@ -56,7 +56,7 @@ fn request_of<'a>(is_worded: bool, text: &'a [u8], words: &'a [&'a [u8]]) -> Req
     }
 }
 
-/// The moment: the first of `seconds`, or the text if there are none.
+/// The moment of a question: the first of `seconds`, since 1970-01-01 00:00:00 UTC, or `text`, that of a date, if there are none.
 fn moment_of<'a>(text: &'a [u8], seconds: &[i64]) -> Moment<'a>
     ensures { IsMomentBy text.entry.now seconds.now result }
 {

@@ -39,8 +39,8 @@ impl Text {
         at.is_null()
     }
 
-    /// The octets of the text. `count` must be their number, and not 0. Only the method `octets` calls this: it also takes a text
-    /// of no octets, whose pointer may be null.
+    /// The octets of the text. `count` must be their number, and not 0. By `text_owns`, which holds for every `Text`, they may then be read at
+    /// the pointer. Only the method `octets` calls this: it also takes a text of no octets, whose pointer may be null.
     pub(crate) fn slice(&mut self, count: usize) -> &[u8]
         requires { (count ≡ length self.old.octets) × (0 < count) }
         ensures { result.now ≡ self.entry.now.octets }

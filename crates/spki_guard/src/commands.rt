@@ -57,7 +57,7 @@ pub(crate) fn answer_source<'s, 't: 's>(
     }
 }
 
-/// The answer of a command to the source that was read for it. Err says why the text is refused, or that memory ran
+/// The answer of a command to `source`, what `source_of` has read of the text for it. Err says why the text is refused, or that memory ran
 /// out.
 fn try_answer<'s, 't: 's>(
     alloc: Global,

@@ -74,7 +74,7 @@ impl<'a> FoldSink<'a> for FoldPrinter {
     ghost takes = { PrintsFolds };
 
     /// Prints the line of the entry. Entries are put in order, from 1 and without gaps, so `entry` is also how many were put. Once the
-    /// lines are too long, none is printed, and `end` refuses them; `prove_line` is then a fact for the prover, and does nothing. Err
+    /// lines are too long, none is printed, and `end` refuses them; then `prove_line` only tells the prover a fact, and does nothing. Err
     /// if memory ran out.
     fn put(&mut self, alloc: Global, entry: usize, fold: EntryFold<'a>) -> Result<(), AllocError> {
         self.count = entry;

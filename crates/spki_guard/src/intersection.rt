@@ -78,7 +78,7 @@ fn operands_of<'d, 'a>(node: &Node<'d, 'a>) -> Option<Operands<'d, 'a>>
     two(node.headed(b"intersect")?)
 }
 
-/// The fault of tag A: `First` with it, or `Memory` if memory ran out.
+/// The error of `intersect` if tag A of `(intersect A B)` has this fault: `Memory` if memory ran out, otherwise `First` with the fault.
 fn fault_of_first(fault: TagFault) -> IntersectFault
     ensures { IsOuter (fault ≡ TagFault.Memory) IntersectFault.Memory (IntersectFault.First fault) result }
 {
@@ -88,7 +88,7 @@ fn fault_of_first(fault: TagFault) -> IntersectFault
     }
 }
 
-/// The fault of tag B: `Second` with it, or `Memory` if memory ran out.
+/// The error of `intersect` if tag B of `(intersect A B)` has this fault: `Memory` if memory ran out, otherwise `Second` with the fault.
 fn fault_of_second(fault: TagFault) -> IntersectFault
     ensures { IsOuter (fault ≡ TagFault.Memory) IntersectFault.Memory (IntersectFault.Second fault) result }
 {
@@ -98,8 +98,8 @@ fn fault_of_second(fault: TagFault) -> IntersectFault
     }
 }
 
-/// Returns the intersection of the tags A and B of the value `(intersect A B)`. Err is `Shape`, `First`, `Second` or `TooLarge`, as
-/// for `intersect` and tested in this order, or `Memory`.
+/// Returns the intersection of the tags A and B of the value `(intersect A B)`. Err is `Shape` if the value is no such list, `First` if A is no
+/// tag, `Second` if B is none, `TooLarge` if the product of their nodes is over 1,000,000, tested in this order; or `Memory`.
 fn meet_in(alloc: Global, node: &Node) -> Result<Tag, IntersectFault>
     ensures read { IfOk result (λ tag. Intersects node.now tag) }
     ensures refused { IfErr result (λ fault. fault ≢ IntersectFault.Memory → ValueNotMet node.now fault) }

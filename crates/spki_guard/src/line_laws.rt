@@ -24,8 +24,8 @@ pub fn one_line()
         → refusal ≢ refusals.Memory → other ≢ refusals.Memory → refusal ≡ other }
 {}
 
-/// A text that is refused as `TooLarge` is refused for nothing else, unless memory ran out: `refused` of `one_line` for the two refusals
-/// by limits of work. `chain` is the law for a case, and `product` that for `(intersect A B)`.
+/// A text that a command refuses as `TooLarge` is refused for nothing else, unless memory ran out. The clause `chain` is about a case whose tags
+/// or work are too large, and `product` about two tags of `(intersect A B)`. Both follow from `refused` of `one_line`.
 pub fn one_too_large()
     ensures chain { (command : Command) (text : List ℕ) (refusal : Refusal)
         → RefusesAnswer command text (refusals.Decision guard.TooLarge)
@@ -35,15 +35,15 @@ pub fn one_too_large()
         → RefusesAnswer command text refusal → refusal ≢ refusals.Memory → refusal ≡ refusals.Intersect intersect.TooLarge }
 {}
 
-/// A question that is asked of a guard has one answer by the same marks, unless memory ran out: one output and verdict. So
-/// `answer_opened` returns one answer. It is required that the guard's texts are those of entries, which holds for every guard.
+/// A question to a guard, with marks that say which of its signatures are valid, has at most one output and verdict, unless memory ran out. So
+/// `answer_opened` returns one answer. The guard's texts must be those of entries, as they are in every guard.
 pub fn one_answer_held()
     ensures { (query : Query) (held : GuardModel) (q : Question) (marks : List Bool) (es : List Entry) (x y : Verdict) (output line : List ℕ)
         → AreEntries held.texts es → IsAnswerHeld query held q marks x output → IsAnswerHeld query held q marks y line
         → ¬ RefusesForMemory x output → ¬ RefusesForMemory y line → (x ≡ y) × (output ≡ line) }
 {}
 
-/// A question that is refused has one refusal, unless memory ran out. So `open_question` refuses it in one line.
+/// A question that is refused has one refusal, unless memory ran out. So `open_question` always refuses it in the same line.
 pub fn one_refused_question()
     ensures { (held : GuardModel) (q : Question) (x y : Verdict) (output line : List ℕ)
         → IsUnreadQuestion held q x output → IsUnreadQuestion held q y line

@@ -117,7 +117,7 @@ fn answer_again(alloc: Global, query: Query, opened: &OwnedQuestion) -> Printed
     }
 }
 
-/// The result with an answer to an explanation or a reduction. No grant belongs to it.
+/// The result for an explanation or a reduction: its printed answer, and no grant, since only a decision has one.
 fn without_grant(answer: Printed) -> OpenedAnswer
     ensures { (result.answer ≡ answer) × (result.grant ≡ None) }
 {

@@ -51,7 +51,7 @@ fn lines_of_query(
     }
 }
 
-/// The line of the decision by the marks: `yes entry N` or `no`. Err if memory ran out.
+/// The line of the decision on a question, if exactly its marked signatures are valid: `yes entry N` or `no`. Err if memory ran out.
 fn decided(alloc: Global, read: &PreparedQuestion) -> Result<Printed, AllocError>
     ensures { IfOk result (λ a. WritesAsked Query.Decide read.now a.verdict (written_by a)) }
 {
@@ -59,7 +59,8 @@ fn decided(alloc: Global, read: &PreparedQuestion) -> Result<Printed, AllocError
     Ok(Printed::whole(alloc, &answer_of_decision(decision))?)
 }
 
-/// The lines of the explanation by the marks. Err is `TooLarge`, as `lines_of_query` says, or `Memory`.
+/// The lines of the explanation of a question, if exactly its marked signatures are valid. Err is `TooLarge`, as `lines_of_query` says, or
+/// `Memory`.
 fn explained(alloc: Global, read: &PreparedQuestion) -> Result<Printed, GuardFault>
     ensures written { IfOk result (λ a. WritesAsked Query.Explain read.now a.verdict (written_by a)) }
     ensures large { IsErrOf result GuardFault.TooLarge → IsTooLargeFor Query.Explain read.now }
@@ -69,8 +70,8 @@ fn explained(alloc: Global, read: &PreparedQuestion) -> Result<Printed, GuardFau
     Printed::within(alloc, &answer, read.most_answer())
 }
 
-/// The lines of the reduction by the marks, or the one line of the first certificate that fails a test: then nothing was put into
-/// the printer. Err is `TooLarge`, as `lines_of_query` says, or `Memory`.
+/// The lines of the reduction of a question, if exactly its marked signatures are valid: one for each entry, or the one line of the first
+/// certificate that fails a test; then nothing was put into the printer. Err is `TooLarge`, as `lines_of_query` says, or `Memory`.
 fn reduced(alloc: Global, read: &PreparedQuestion) -> Result<Printed, GuardFault>
     ensures written { IfOk result (λ a. WritesAsked Query.Reduce read.now a.verdict (written_by a)) }
     ensures large { IsErrOf result GuardFault.TooLarge → IsTooLargeFor Query.Reduce read.now }

@@ -143,7 +143,7 @@ pub(crate) fn print_refusal<S: Sink>(refusal: Refusal, sink: &mut S)
     }
 }
 
-/// Prints a line of `refused` and these words, such as `refused case Shape`, and its line feed.
+/// Prints the line `refused` with the words `why` after it, such as `refused case Shape`, and a line feed.
 fn print_refused<S: Sink>(why: &[&str], sink: &mut S)
     ensures { S.takes sink.old (refused (map (λ word. word.now) why.now)) sink.new }
 {
@@ -165,7 +165,7 @@ fn print_text_fault<S: Sink>(text: &str, fault: FormFault, sink: &mut S)
     }
 }
 
-/// Prints `refused TEXT KIND AT`; `at` is the offset in the text, from 0, at which it is refused.
+/// Prints `refused TEXT KIND AT`, such as `refused form Bad 5`, and a line feed. `at` is AT, the offset in the text, from 0, of the fault.
 #[tactic(auto, using(crate::proofs::ReportLines::decimal_written))]
 fn print_refused_at<S: Sink>(text: &str, kind: &str, at: usize, sink: &mut S)
     ensures { S.takes sink.old (refused_at text.now kind.now at) sink.new }
@@ -174,7 +174,8 @@ fn print_refused_at<S: Sink>(text: &str, kind: &str, at: usize, sink: &mut S)
     print_refused(&[text, kind, digits.format(at)], sink);
 }
 
-/// Prints `refused PART N KIND`, such as `refused acl 2 BadDate`; `item` is N, counted from 1, or 0 for the whole part.
+/// Prints `refused PART N KIND`, such as `refused acl 2 BadDate`, and a line feed. `part` is PART, the word for the list that is refused. `item`
+/// is N, the number of its entry, row or item, from 1, or 0 for the whole list. `kind` is KIND, the fault.
 #[tactic(auto, using(crate::proofs::ReportLines::decimal_written))]
 fn print_refused_item<S: Sink>(part: &str, item: usize, kind: &str, sink: &mut S)
     ensures { S.takes sink.old (refused_item part.now item kind.now) sink.new }
@@ -183,7 +184,8 @@ fn print_refused_item<S: Sink>(part: &str, item: usize, kind: &str, sink: &mut S
     print_refused(&[part, digits.format(item), kind], sink);
 }
 
-/// Prints `refused PART N Tag KIND`, for a fault of a tag in item N; `item` is N, counted from 1.
+/// Prints `refused PART N Tag KIND`, such as `refused acl 2 Tag Hint`, and a line feed: the tag in item N of the list PART has the fault KIND.
+/// `item` is N, counted from 1.
 #[tactic(auto, using(crate::proofs::ReportLines::decimal_written))]
 fn print_refused_tag<S: Sink>(part: &str, item: usize, kind: &str, sink: &mut S)
     ensures { S.takes sink.old (refused_tag part.now item kind.now) sink.new }
@@ -244,8 +246,8 @@ fn print_decision_fault<S: Sink>(fault: GuardFault, sink: &mut S)
     }
 }
 
-/// Prints the line of a fault of `intersect`, such as `refused intersect Shape`, `refused tag N KIND` with N 1 or 2, or
-/// `refused TooLarge`.
+/// Prints the line of a fault of `intersect`: `refused form ..`, `refused intersect Shape`, `refused tag N KIND` where N is 1 for the first tag
+/// and 2 for the second, `refused TooLarge` or `refused Memory`. `met` is the fault of the text or tag.
 fn print_intersect_fault<S: Sink>(fault: IntersectFault, sink: &mut S)
     ensures { S.takes sink.old (refused_intersect fault) sink.new }
 {

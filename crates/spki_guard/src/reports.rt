@@ -21,7 +21,8 @@ pub(crate) fn verdict_of(yes: bool) -> Verdict
     if yes { Verdict::Done } else { Verdict::No }
 }
 
-/// Prints the line `entry N (five ..)` of an entry that becomes this authorization, and its line feed; `entry` is N, counted from 1.
+/// Prints the line `entry N (five ..)` and a line feed: entry N of the access list, joined with all certificates, becomes the authorization
+/// `five`, which `print_five` prints. `entry` is N, counted from 1.
 fn print_done<S: Sink>(entry: usize, five: &Five, sink: &mut S)
     ensures { (v : Value) × IsWrittenFive five.now v × S.takes sink.old (entry_line entry (adv v ∷ [])) sink.new }
 {
@@ -30,8 +31,8 @@ fn print_done<S: Sink>(entry: usize, five: &Five, sink: &mut S)
     sink.put_octet(b'\n');
 }
 
-/// Prints the line of an entry: `entry N (five ..)` with its authorization, or `entry N item J CAUSE` for the
-/// certificate that stops it; `entry` is counted from 1.
+/// Prints the line that says what an entry becomes with all certificates: `entry N (five ..)`, an authorization, or `entry N item J CAUSE` if
+/// the certificate that is item J does not join. `entry` is N, counted from 1.
 pub(crate) fn print_fold<S: Sink>(entry: usize, fold: &EntryFold, sink: &mut S)
     ensures { (line : List ℕ) × IsFoldLine entry fold.now line × S.takes sink.old line sink.new }
 {
@@ -41,7 +42,7 @@ pub(crate) fn print_fold<S: Sink>(entry: usize, fold: &EntryFold, sink: &mut S)
     }
 }
 
-/// Prints a line for what each entry becomes. The first line is that of entry 1.
+/// Prints a line for each entry of the access list, which says what it becomes with all certificates. The first of `folds` is that of entry 1.
 pub(crate) fn print_folds<S: Sink>(folds: &[EntryFold], sink: &mut S)
     ensures { (lines : List ℕ) × AreFoldLines 1 folds.now lines × S.takes sink.old lines sink.new }
 {
@@ -50,7 +51,8 @@ pub(crate) fn print_folds<S: Sink>(folds: &[EntryFold], sink: &mut S)
     }
 }
 
-/// A fact for the prover: what an entry becomes can be printed as a line. `entry` is counted from 1. Does nothing.
+/// Does nothing at run time. It tells the prover that what an entry becomes could be printed as a line. `FoldPrinter::put` needs this fact for
+/// the entries whose lines it no longer prints. `entry` is counted from 1.
 pub(crate) fn prove_line(entry: usize, fold: &EntryFold)
     ensures { (line : List ℕ) × IsFoldLine entry fold.now line }
 {
@@ -82,7 +84,7 @@ pub(crate) fn is_done(fold: &EntryFold) -> bool
     }
 }
 
-/// Prints for each entry the line that explains it. The first line is that of entry 1.
+/// Prints for each entry the line that says why it grants the request or does not. The first of `reasons` is that of entry 1.
 pub(crate) fn print_reasons<S: Sink>(reasons: &[Reason], sink: &mut S)
     ensures { S.takes sink.old (reason_lines 1 reasons.now) sink.new }
 {

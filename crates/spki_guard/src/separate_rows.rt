@@ -31,7 +31,7 @@ pub fn check_accepted(alloc: Global, text: &[u8], rows: &[u8]) -> Printed
     Printed::of(alloc, &answer_apart(alloc, text, rows))
 }
 
-/// The answer of `check_accepted`, before it is printed.
+/// The answer of `check_accepted` to the case in `text` and the accepted list in `rows`, before it is printed. A refusal is an answer too.
 fn answer_apart(alloc: Global, text: &[u8], rows: &[u8]) -> Answer<'static>
     ensures answer { PrintsAs (IsAnswerApart text.now rows.now) result }
     ensures too_long { 1048576 < length text.now → result ≡ Answer.Refused (Refusal.Form FormFault.TooLong) }
@@ -67,8 +67,8 @@ fn decide_by_rows(alloc: Global, case: &Case, rows: &[u8]) -> Result<Answer<'sta
     Ok(answer_of_decision(decided?))
 }
 
-/// Reads the accepted list of a text. Err is `Form` if the text has no value within the limits, or its canonical form
-/// has more than 1,048,576 octets. Otherwise it is `Shape` or `Row`, the fault of its value, or `Memory`.
+/// Reads the accepted list (the signatures that a service has verified) of a text. Err is `Form` if the text has no value within the limits, or
+/// its canonical form has more than 1,048,576 octets; `Shape` or `Row` if the value is no accepted list; or `Memory`.
 fn rows_in<'a>(alloc: Global, text: &'a CanonicalText<'_>) -> Result<AcceptedTable<'a>, RowsFault>
     ensures read { (given : List ℕ) → IsReadAs (IsTextWithin given) (RefusesForm given) text.entry.now
         → IfOk result (λ table. ReadsRows given (rows_of table)) }
