@@ -7,11 +7,11 @@ ghost use Rattle.spki_cert.specs.{declared.hash.HashAlg.TheVariants.{Sha256}, Na
 use sexpr_core::Doc;
 use spki_cert::{CertFaultKind, HashAlg, Key, key_of};
 
-/// Reads the key of a document, if its SHA-256 digest is one that a service has stored for it.
+/// Reads the key that a document is. Ok(None) if its SHA-256 digest is not `pin`, the 32 octets that a service has stored for it.
 ///
 /// # Errors
 ///
-/// Those of `key_of`.
+/// Those of `key_of`, for a document that is no key.
 pub fn pinned_key<'a>(document: &Doc<'a>, pin: &[u8]) -> Result<Option<Key<'a>>, CertFaultKind>
     ensures pinned { IfOk result (λ found. (octets : List ℕ) × KeyOf document.now octets
         × MatchOption found (digest_of Sha256 octets ≢ pin.now)

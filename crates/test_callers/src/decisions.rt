@@ -19,7 +19,7 @@ pub struct Unrevoked<'v, 'k, V> {
     pub revoked: &'v [Key<'k>],
 }
 
-/// Whether a key is among the keys.
+/// Whether one of `keys` is `key`: has the same canonical octets.
 fn is_among(keys: &[Key], key: &Key) -> bool
     ensures { IsTrue result ↔ Contains keys.now key.now }
 {
@@ -48,12 +48,12 @@ impl<'v, 'k, V: Verifier> Verifier for Unrevoked<'v, 'k, V> {
     }
 }
 
-/// Decides a case like `decide`, but accepts no signature of a revoked key. `verifier` decides about those of other
-/// keys. The case's accepted list is not used, unless it is the verifier.
+/// Decides a case like `decide`, but accepts no signature of a revoked key. `verifier` decides whether those of other keys are valid. The
+/// case's own accepted list is not used, unless the caller passes it as the verifier.
 ///
 /// # Errors
 ///
-/// Those of `decide`.
+/// `TooLarge` or `Memory`, as for `decide`.
 pub fn decide_unrevoked<V: Verifier>(
     alloc: Global,
     case: &Case,

@@ -56,7 +56,7 @@ fn answer<V: Verifier>(
 ///
 /// # Errors
 ///
-/// `List` if the list is refused, `Question` if a question is, each also for lack of memory. `Memory` at a decision.
+/// `List` if the list is refused, `Question` if a question is, each also if memory ran out there. `Memory` if it ran out at a decision.
 pub fn answer_both<V: Verifier>(
     alloc: Global,
     list: &[u8],
@@ -91,7 +91,7 @@ fn shareable<T: Send + Sync>(value: T) -> T
 ///
 /// # Errors
 ///
-/// Those of `Guard::read`.
+/// `Form`, `Acl` or `Memory`, as for `Guard::read`.
 pub fn shared_guard(alloc: Global, list: &[u8]) -> Result<Guard, AclFault>
     ensures list { IfOk result (λ guard. HoldsList list.now guard.texts) }
     ensures policy { IfOk result (λ guard. guard.policy ≡ Policy.Strict) }

@@ -13,7 +13,7 @@ use std::alloc::Global;
 ///
 /// # Errors
 ///
-/// That of the first text, otherwise that of the second, by `read_any`.
+/// The fault that `read_any` returns for the first text, otherwise that for the second; also if memory ran out.
 pub fn same_value(alloc: Global, text: &[u8], other: &[u8]) -> Result<bool, FormFault>
     ensures same { IfOk result (λ same. (v : Value) (w : Value) → IsText text.now v → IsText other.now w
         → IsTrue same ↔ (v ≡ w)) }

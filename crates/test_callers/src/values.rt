@@ -12,7 +12,7 @@ use std::alloc::Global;
 ///
 /// # Errors
 ///
-/// Those of `Doc::open`.
+/// Those of `Doc::open`: the text is no canonical form within the limits, or memory ran out.
 pub fn first_member<'a>(alloc: Global, text: &'a [u8]) -> Result<Option<&'a [u8]>, FormFault>
     ensures first { IfOk result (λ member. (v : Value) × (text.entry.now ≡ canon v)
         × (option_copied member ≡ option_map canon (part_at 0 v))) }
