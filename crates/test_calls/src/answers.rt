@@ -73,8 +73,8 @@ fn numbered<T: Debug>(alloc: Global, number: usize, value: &T) -> Reply {
     Ok(format!(in alloc; "{number} {value:?}")?.into_bytes())
 }
 
-/// The answer for the value, or the fault as a `Failure`.
 impl<T: Answered, E: Copy + Into<Failure>> Answered for Result<T, E> {
+    /// Answers Ok as its value is answered. Err is the fault, as a `Failure`.
     fn answered(&self, alloc: Global) -> Reply {
         match self {
             Ok(value) => value.answered(alloc),
@@ -83,51 +83,51 @@ impl<T: Answered, E: Copy + Into<Failure>> Answered for Result<T, E> {
     }
 }
 
-/// The octets.
 impl Answered for Vec<u8> {
+    /// Answers octets by a copy of them.
     fn answered(&self, alloc: Global) -> Reply {
         octets(alloc, self)
     }
 }
 
-/// The numbers, as `Debug` writes them.
 impl Answered for Vec<usize> {
+    /// Answers numbers by their list as `Debug` writes it, such as `[1, 2]`.
     fn answered(&self, alloc: Global) -> Reply {
         shown(alloc, self)
     }
 }
 
-/// `yes` or `no`.
 impl Answered for bool {
+    /// Answers true by `yes` and false by `no`.
     fn answered(&self, alloc: Global) -> Reply {
         word(alloc, if *self { "yes" } else { "no" })
     }
 }
 
-/// The tree in canonical form.
 impl Answered for Sexp {
+    /// Answers a tree by its canonical form.
     fn answered(&self, alloc: Global) -> Reply {
         Ok(encode(alloc, self)?)
     }
 }
 
-/// The tag in canonical form.
 impl Answered for Tag {
+    /// Answers a tag by its canonical form.
     fn answered(&self, alloc: Global) -> Reply {
         answer(alloc, self.write(alloc))
     }
 }
 
-/// `yes`: the request was read. For a request that was refused, `Result` answers the fault.
 impl Answered for Ground {
+    /// Answers a request by `yes`, since it was read. One that was refused is an Err, which is answered by its fault.
     fn answered(&self, alloc: Global) -> Reply {
         word(alloc, "yes")
     }
 }
 
-/// The canonical octets of the key, or `no` if the principal that is this key does not name it. So each row that answers a key tests
-/// `Principal::names` too.
 impl Answered for Key<'_> {
+    /// Answers a key by its canonical octets, or by `no` if the principal that is this key does not name it. So each row that answers a key
+    /// tests `Principal::names` too.
     fn answered(&self, alloc: Global) -> Reply {
         if Principal::Key(self.share()).names(self, Policy::Strict) {
             octets(alloc, self.as_slice())
@@ -137,37 +137,37 @@ impl Answered for Key<'_> {
     }
 }
 
-/// The 19 octets of its text.
 impl Answered for Date {
+    /// Answers a date by the 19 octets of its text, such as `2024-01-01_00:00:00`.
     fn answered(&self, alloc: Global) -> Reply {
         octets(alloc, self.as_slice())
     }
 }
 
-/// The number of entries of an access list.
 impl Answered for Vec<Entry<'_>> {
+    /// Answers an access list by the number of its entries.
     fn answered(&self, alloc: Global) -> Reply {
         shown(alloc, &self.len())
     }
 }
 
-/// The number of items of a sequence.
 impl Answered for Vec<SeqItem<'_>> {
+    /// Answers a sequence by the number of its items.
     fn answered(&self, alloc: Global) -> Reply {
         shown(alloc, &self.len())
     }
 }
 
-/// An authorization in canonical form.
 impl Answered for Five<'_> {
+    /// Answers an authorization by its canonical form, `(five ..)`.
     fn answered(&self, alloc: Global) -> Reply {
         answer(alloc, self.write(alloc))
     }
 }
 
-/// The name that is defined, a space, and the rest as an authorization in canonical form. Its issuer is the key that defines the name. A
-/// definition has no tag and no delegation, so they are `(*)` and false.
 impl Answered for Four<'_> {
+    /// Answers a name's definition by the name, a space, and the rest as an authorization in canonical form. The issuer of this authorization
+    /// is the key that defines the name. A definition has no tag and no delegation, so they are `(*)` and false.
     fn answered(&self, alloc: Global) -> Reply {
         let subject = self.subject.clone()?;
         let five = Five {
@@ -183,8 +183,8 @@ impl Answered for Four<'_> {
     }
 }
 
-/// The tuple that two tuples become, or the cause if they do not join.
 impl<T: Answered> Answered for Joined<T> {
+    /// Answers the join of two tuples by the tuple that they become, or by the cause if they do not join.
     fn answered(&self, alloc: Global) -> Reply {
         match self {
             Joined::Done(tuple) => tuple.answered(alloc),
@@ -193,8 +193,8 @@ impl<T: Answered> Answered for Joined<T> {
     }
 }
 
-/// The authorization that the chain becomes, or the number, from 1, of the step that stops it, and the cause.
 impl Answered for Fold<'_> {
+    /// Answers the join of a chain by the authorization that it becomes, or by the number, from 1, of the step that stops it, and the cause.
     fn answered(&self, alloc: Global) -> Reply {
         match self {
             Fold::Done(five) => five.answered(alloc),
@@ -203,8 +203,9 @@ impl Answered for Fold<'_> {
     }
 }
 
-/// The authorization that the entry becomes, or the number, from 1, of the item whose certificate does not join, and the cause.
 impl Answered for EntryFold<'_> {
+    /// Answers what an entry becomes with all certificates by the authorization, or by the number, from 1, of the item whose certificate does
+    /// not join, and the cause.
     fn answered(&self, alloc: Global) -> Reply {
         match self {
             EntryFold::Done(five) => five.answered(alloc),
@@ -213,9 +214,9 @@ impl Answered for EntryFold<'_> {
     }
 }
 
-/// How many certificates are verified, if all are. Otherwise the number, from 1, of the first item whose certificate fails a test, and
-/// this test.
 impl Answered for Evidence<'_> {
+    /// Answers the evidence of a sequence by the number of its certificates if all pass their tests. Otherwise by the number, from 1, of the
+    /// first item whose certificate fails a test, and this test.
     fn answered(&self, alloc: Global) -> Reply {
         match self {
             Evidence::Verified(steps) => shown(alloc, &steps.len()),
@@ -224,23 +225,23 @@ impl Answered for Evidence<'_> {
     }
 }
 
-/// The decision, as `Debug` writes it.
 impl Answered for Decision {
+    /// Answers a decision as `Debug` writes it: `Yes(1)` if entry 1 grants the request, or `No`.
     fn answered(&self, alloc: Global) -> Reply {
         shown(alloc, self)
     }
 }
 
-/// Both decisions, as `Debug` writes them.
 impl Answered for (Decision, Decision) {
+    /// Answers two decisions as `Debug` writes them, such as `(Yes(1), No)`.
     fn answered(&self, alloc: Global) -> Reply {
         shown(alloc, self)
     }
 }
 
-/// The reasons of all entries, as `Debug` writes them. Or the number, from 1, of the first item whose certificate fails a test, and this
-/// test.
 impl Answered for Explanation {
+    /// Answers an explanation by the reasons of all entries, as `Debug` writes them. If a certificate fails a test, by the number, from 1, of
+    /// the first such item, and this test.
     fn answered(&self, alloc: Global) -> Reply {
         match self {
             Explanation::Entries(reasons) => shown(alloc, reasons),
@@ -249,8 +250,9 @@ impl Answered for Explanation {
     }
 }
 
-/// A line for each entry. Or the number, from 1, of the first item whose certificate fails a test, and this test.
 impl Answered for Reduction<'_> {
+    /// Answers a reduction by a line for each entry. If a certificate fails a test, by the number, from 1, of the first such item, and this
+    /// test.
     fn answered(&self, alloc: Global) -> Reply {
         match self {
             Reduction::Entries(folds) => lines_of(alloc, folds),

@@ -1,4 +1,4 @@
-//! The calls for cases.
+//! The calls for cases. A call is done for a row of a test table: the call's name, and its arguments, the texts.
 
 use crate::answers::{Called, Reply, answer, call_on};
 use crate::guards;
@@ -8,7 +8,8 @@ use spki_case::Case;
 use spki_decision::{decide, explain, judge, reduce_case};
 use std::alloc::Global;
 
-/// Does the call with this name, of this module or of one to which it passes the name on. Returns its answer. None if there is no such call.
+/// Does the library call that `name` names, such as `Case::read`, with the texts of a row of a test table as its arguments, and returns its answer.
+/// A name that this module does not have is passed on to the next module. None if no module has it.
 pub(crate) fn call(alloc: Global, name: &str, texts: &[Vec<u8>]) -> Option<Reply> {
     match name {
         "Case::read" | "judge" | "decide" | "explain" | "reduce_case" => {
@@ -19,8 +20,8 @@ pub(crate) fn call(alloc: Global, name: &str, texts: &[Vec<u8>]) -> Option<Reply
 }
 
 impl<'x> Called<'x> for Case<'_> {
-    /// Does the call with this name on the case, which was read from the first of `texts`. The second is the verifier, for the calls of the
-    /// `_` arm: `judge`, `decide`, `explain` and `reduce_case`.
+    /// Does the call with this name on the case, which was read from the first of `texts`. The second names the verifier (`RowVerifier::read`),
+    /// for the calls of the `_` arm: `judge`, `decide`, `explain` and `reduce_case`.
     fn call(&self, alloc: Global, name: &str, texts: &'x [Vec<u8>]) -> Reply {
         match name {
             "Case::read" => counted(alloc, self),
@@ -39,8 +40,8 @@ fn two_numbers(alloc: Global, one: usize, other: usize) -> Reply {
     Ok(format!(in alloc; "{one} {other}")?.into_bytes())
 }
 
-/// What a call on a case asks for. It is matched in place of the call's name: the proof of each comparison of a name goes through all parts of
-/// the case that is at hand.
+/// What a call on a case asks for. It is matched in place of the call's name, since comparing names is slow to prove where a case is in scope: the
+/// proof of each comparison goes through all parts of the case.
 #[derive(Clone, Copy)]
 enum Wanted {
     /// Which certificates are verified.
@@ -64,6 +65,7 @@ fn wanted_by(name: &str) -> Wanted {
 }
 
 impl CalledBy for Case<'_> {
+    /// Does the call with this name, by this verifier, on a case.
     fn call_by(&self, alloc: Global, name: &str, verifier: &RowVerifier) -> Reply {
         match wanted_by(name) {
             Wanted::Evidence => judged(alloc, self, verifier),
@@ -74,7 +76,7 @@ impl CalledBy for Case<'_> {
     }
 }
 
-/// The answer of `judge` on a case's sequence.
+/// The answer of `judge` on a case's sequence, by this verifier.
 fn judged(alloc: Global, case: &Case, verifier: &RowVerifier) -> Reply {
     answer(alloc, judge(alloc, &case.sequence, case.policy, verifier))
 }

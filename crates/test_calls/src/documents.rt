@@ -1,4 +1,5 @@
 //! The calls for documents: their nodes, and what is read of a node.
+//! A call is done for a row of a test table: the call's name, and its arguments, the texts.
 
 ghost use Rattle.std.specs.Prelude.{IsSome};
 ghost use Rattle.sexpr_core.specs.Value.{node};
@@ -13,7 +14,8 @@ use spki_cert::{read_acl, read_date, read_key, read_sequence};
 use spki_tag::{Ground, Tag};
 use std::alloc::{AllocError, Global};
 
-/// Does the call with this name, of this module or of one to which it passes the name on. Returns its answer. None if there is no such call.
+/// Does the library call that `name` names, such as `Doc::open`, with the texts of a row of a test table as its arguments, and returns its answer.
+/// A name that this module does not have is passed on to the next module. None if no module has it.
 pub(crate) fn call(alloc: Global, name: &str, texts: &[Vec<u8>]) -> Option<Reply> {
     match name {
         "Doc::open"
@@ -43,15 +45,16 @@ impl<'x> Called<'x> for Doc<'_> {
     }
 }
 
-/// A line with the root's number, one for each node from the root on, and one for the first number that is no node, of which all is None.
-/// `most` is the number of octets of the text, which is at least the number of nodes.
+/// A line with the number of the document's root, then a line for each number from 0 on, up to and with the first that is no node: all fields
+/// of its line are None. `most` is the number of octets of the text, which is at least the number of nodes.
 fn nodes(alloc: Global, document: &Doc, most: usize) -> Reply {
     let mut out = format!(in alloc; "root {}\n", document.root().0)?.into_bytes();
     push_nodes(alloc, &mut out, document, most)?;
     Ok(out)
 }
 
-/// Appends the lines of the numbers from 0 on, up to and with the first that is no node, and to `most` at most. Err if memory ran out.
+/// Appends a line for each number of a node from 0 on, up to and with the first number that is no node, but at most up to `most`. Err if memory
+/// ran out.
 fn push_nodes(
     alloc: Global,
     out: &mut Vec<u8>,
@@ -81,8 +84,8 @@ fn push_node(
     Ok(out.push(b'\n')?)
 }
 
-/// Appends the offset from 0 at which node `n` begins, how many members it has, and the node numbers of the first three of them. Each is an
-/// Option, as `Debug` writes it.
+/// Appends the offset, from 0, at which node `n` begins, how many members it has, and the node numbers of its first three members. Each is an
+/// Option, as `Debug` writes it: None if there is no such node or member.
 fn push_numbers(
     alloc: Global,
     out: &mut Vec<u8>,

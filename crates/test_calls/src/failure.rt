@@ -1,4 +1,4 @@
-//! Why a call has no result.
+//! Why a library call that is done for a row of a test table has no result.
 
 use crate::answers::{Reply, octets};
 use arrayvec::ArrayString;
@@ -51,66 +51,77 @@ impl Failure {
 }
 
 impl From<FormFault> for Failure {
+    /// The answer `Form(..)` with the fault of a text's form, or `Memory` if memory ran out.
     fn from(fault: FormFault) -> Failure {
         Failure::fault("Form", &fault, matches!(fault, FormFault::Memory))
     }
 }
 
 impl From<TagFault> for Failure {
+    /// The answer `Tag(..)` with the fault of a tag or a request, or `Memory` if memory ran out.
     fn from(fault: TagFault) -> Failure {
         Failure::fault("Tag", &fault, matches!(fault, TagFault::Memory))
     }
 }
 
 impl From<MeetFault> for Failure {
+    /// The answer `Meet(..)` with the reason why two tags were not intersected, or `Memory` if memory ran out.
     fn from(fault: MeetFault) -> Failure {
         Failure::fault("Meet", &fault, matches!(fault, MeetFault::Memory))
     }
 }
 
 impl From<CertFault> for Failure {
+    /// The answer `Cert(..)` with the fault of an access list or a sequence, with the number of its entry or item, or `Memory` if memory ran out.
     fn from(fault: CertFault) -> Failure {
         Failure::fault("Cert", &fault, matches!(fault.kind, CertFaultKind::Memory))
     }
 }
 
 impl From<CertFaultKind> for Failure {
+    /// The answer `Kind(..)` with the fault of a key, a hash, a date or another single value, or `Memory` if memory ran out.
     fn from(fault: CertFaultKind) -> Failure {
         Failure::fault("Kind", &fault, matches!(fault, CertFaultKind::Memory))
     }
 }
 
 impl From<ReduceFault> for Failure {
+    /// The answer `Reduce(..)` with the reason why tuples were not joined, or `Memory` if memory ran out.
     fn from(fault: ReduceFault) -> Failure {
         Failure::fault("Reduce", &fault, matches!(fault, ReduceFault::Memory))
     }
 }
 
 impl From<CaseFault> for Failure {
+    /// The answer `Case(..)` with the reason why a text is no case, or `Memory` if memory ran out.
     fn from(fault: CaseFault) -> Failure {
         Failure::fault("Case", &fault, matches!(fault, CaseFault::Memory))
     }
 }
 
 impl From<RowsFault> for Failure {
+    /// The answer `Rows(..)` with the reason why a text is no accepted list, or `Memory` if memory ran out.
     fn from(fault: RowsFault) -> Failure {
         Failure::fault("Rows", &fault, matches!(fault, RowsFault::Memory))
     }
 }
 
 impl From<GuardFault> for Failure {
+    /// The answer `Decision(..)` with the reason why a case or a question was not answered, or `Memory` if memory ran out.
     fn from(fault: GuardFault) -> Failure {
         Failure::fault("Decision", &fault, matches!(fault, GuardFault::Memory))
     }
 }
 
 impl From<AclFault> for Failure {
+    /// The answer `Acl(..)` with the reason why a text is no access list, or `Memory` if memory ran out.
     fn from(fault: AclFault) -> Failure {
         Failure::fault("Acl", &fault, matches!(fault, AclFault::Memory))
     }
 }
 
 impl From<AskFault> for Failure {
+    /// The answer `Ask(..)` with the reason why a question is refused, or `Memory` if memory ran out.
     fn from(fault: AskFault) -> Failure {
         Failure::fault("Ask", &fault, matches!(fault, AskFault::Memory))
     }
@@ -131,7 +142,7 @@ impl<T: Drop> From<AllocFailed<T>> for Failure {
 }
 
 impl From<FromHexError> for Failure {
-    /// `Unknown` for malformed hexadecimal digits, and `Memory` if memory ran out.
+    /// `Unknown` for texts that are not hexadecimal digits, and `Memory` if memory ran out.
     fn from(fault: FromHexError) -> Failure {
         match fault {
             FromHexError::OutOfMemory => Failure::Memory,

@@ -1,4 +1,5 @@
 //! The calls for forms of S-expressions that take octets or a tree.
+//! A call is done for a row of a test table: the call's name, and its arguments, the texts.
 
 use crate::answers::{Called, Reply, answer, call_on, octets};
 use crate::documents;
@@ -8,7 +9,8 @@ use sexpr_core::{Sexp, decode, unwrap_braces, wrap};
 use sexpr_text::{CanonicalText, Form, convert, print_advanced, read_advanced, read_any};
 use std::alloc::Global;
 
-/// Does the call with this name, of this module or of one to which it passes the name on. Returns its answer. None if there is no such call.
+/// Does the library call that `name` names, such as `decode`, with the texts of a row of a test table as its arguments, and returns its answer.
+/// A name that this module does not have is passed on to the next module. None if no module has it.
 pub(crate) fn call(alloc: Global, name: &str, texts: &[Vec<u8>]) -> Option<Reply> {
     let text = at(texts, 0);
     match name {
@@ -21,7 +23,7 @@ pub(crate) fn call(alloc: Global, name: &str, texts: &[Vec<u8>]) -> Option<Reply
     }
 }
 
-/// As `call`, for the calls that take octets and not a tree.
+/// Does what `call` does, for the calls that take octets and not a tree.
 fn call_on_octets(alloc: Global, name: &str, texts: &[Vec<u8>]) -> Option<Reply> {
     let text = at(texts, 0);
     match name {
@@ -72,13 +74,13 @@ fn canonical(alloc: Global, text: &[u8]) -> Reply {
     octets_of(alloc, &read)
 }
 
-/// The same octets by `CanonicalText::made`, from the canonical form that `convert` makes of the text.
+/// The canonical octets of a text in any of the three forms, as `CanonicalText::made` keeps what `convert` makes of the text.
 fn made(alloc: Global, text: &[u8]) -> Reply {
     let made = CanonicalText::made(convert(alloc, Form::Canonical, text)?);
     octets_of(alloc, &made)
 }
 
-/// The octets that `canonical` answers, after `CanonicalText::into_owned` of what it reads.
+/// The canonical octets of a text in any of the three forms, as `CanonicalText::into_owned` keeps what `CanonicalText::read` reads.
 fn owned(alloc: Global, text: &[u8]) -> Reply {
     let owned = CanonicalText::read(alloc, text)?.into_owned(alloc)?;
     octets_of(alloc, &owned)

@@ -14,7 +14,8 @@ use spki_service::{
 };
 use std::alloc::{AllocError, Global};
 
-/// Does the call with this name, of this module or of one to which it passes the name on. Returns its answer. None if there is no such call.
+/// Does the library call that `name` names, such as `Guard::read`, with the texts of a row of a test table as its arguments, and returns its answer.
+/// A name that this module does not have is passed on to the next module. None if no module has it.
 pub(crate) fn call(alloc: Global, name: &str, texts: &[Vec<u8>]) -> Option<Reply> {
     match name {
         "Limits::new" => Some(new_limits(alloc, texts)),
@@ -28,8 +29,8 @@ fn is_of_guard(name: &str) -> bool {
     matches!(name, "Guard::read" | "Guard::ask" | "Guard::texts") || wanted_by(name).is_some()
 }
 
-/// The name of the limits that the six texts are, as `name_of` says it: octets, certificates, strings, nodes, work and answer, in this
-/// order. `none` if `Limits::new` refuses them.
+/// Makes limits of six numbers, one text for each: octets, certificates, strings, nodes, work and answer, in this order. Answers which limits
+/// they are, as `name_of` names them, or `none` if `Limits::new` refuses them.
 fn new_limits(alloc: Global, texts: &[Vec<u8>]) -> Reply {
     let limits = Limits::new(
         number(at(texts, 0)),
@@ -56,8 +57,9 @@ fn name_of(limits: &Limits) -> &'static str {
     "others"
 }
 
-/// The limits with these octets and nodes, each in digits. Any other text is the greatest limit, and a greater number is lowered to it, so
-/// None does not occur. Certificates and strings have no limit. The word `usual` for the octets means the default limits.
+/// The limits with these numbers of octets and nodes, in decimal digits. Any other text stands for the greatest limit, and a greater number is
+/// lowered to it, so None does not occur. Certificates and strings have no limit; work and the answer have the default ones. The word `usual` in
+/// place of the octets means that all limits are the default ones.
 fn limits(octets: &[u8], nodes: &[u8]) -> Option<Limits> {
     if octets == b"usual".as_slice() {
         return Some(Limits::default());
@@ -66,8 +68,8 @@ fn limits(octets: &[u8], nodes: &[u8]) -> Option<Limits> {
     Limits::new(octets, usize::MAX, usize::MAX, nodes, 2_000_000, 1_048_576)
 }
 
-/// The guard of the first four texts: the access list, its policy (`strict`, or else open), and the most octets and nodes. If `limits` had
-/// none, the fault would be `Memory`, for which a row has no answer.
+/// Reads the guard of the first four texts: the access list, its policy (`strict`; any other word is open), and the most octets and nodes. Err
+/// if the list is refused. `limits` is never None; `Memory` stands there since a row has no answer for it.
 pub fn guard(alloc: Global, texts: &[Vec<u8>]) -> Result<Guard, AclFault> {
     let policy = match word_of(at(texts, 1)) {
         "strict" => Policy::Strict,
@@ -89,10 +91,10 @@ pub fn question(texts: &[Vec<u8>]) -> Question<'_> {
     }
 }
 
-/// What the guard of the first four texts answers. For `Guard::read` this is the number of entries, and for `Guard::ask` what `ask_words`
-/// returns. The `_` arm is `Guard::texts` and each call of `PreparedQuestion`: the next four texts are the question, and after it is a
-/// verifier or marks.
 impl<'x> Called<'x> for Guard {
+    /// Does the call with this name on the guard, which was read from the first four of `texts`. `Guard::read` answers the number of entries,
+    /// and `Guard::ask` what `ask_words` returns. The `_` arm is `Guard::texts` and each call of `PreparedQuestion`: the next four texts are
+    /// the question, and after it is a verifier or marks.
     fn call(&self, alloc: Global, name: &str, texts: &'x [Vec<u8>]) -> Reply {
         match name {
             "Guard::read" => shown(alloc, &self.entries()),
@@ -108,8 +110,8 @@ impl<'x> Called<'x> for Guard {
     }
 }
 
-/// The decision on a question whose moment is seconds since 1970-01-01 UTC and whose request is strings. The texts are the key, the
-/// seconds, and the strings. The question has no certificates, so `decide_by` needs no marks.
+/// The decision on a question whose moment is seconds since 1970-01-01 UTC and whose request is strings. `texts` are the key, the seconds in
+/// digits, and the strings. The question has no certificates, so `decide_by` needs no marks.
 fn ask_words(alloc: Global, guard: &Guard, texts: &[Vec<u8>]) -> Reply {
     let words = words_of(alloc, behind(texts, 2))?;
     let question = with_words(texts, &words);
@@ -125,7 +127,7 @@ fn words_of<'a>(alloc: Global, texts: &'a [Vec<u8>]) -> Result<Vec<&'a [u8]>, Al
     Ok(words)
 }
 
-/// The question of `ask_words`, with the strings that were taken from its texts.
+/// The question of `ask_words`: the key is the first text, the seconds are the second, and the request is `words`, the texts after them.
 fn with_words<'a>(texts: &'a [Vec<u8>], words: &'a [&'a [u8]]) -> Question<'a> {
     Question {
         sequence: b"(8:sequence)",
@@ -140,14 +142,14 @@ fn seconds(text: &[u8]) -> i64 {
     word_of(text).parse().unwrap_or(0)
 }
 
-/// The answer of a call on a question to a guard. The first of `by` is the verifier, or the marks.
+/// The answer of the call with this name on a question to a guard. The first of `by` says which signatures are valid: a verifier, or marks.
 fn ask(alloc: Global, name: &str, guard: &Guard, question: &Question, by: &[Vec<u8>]) -> Reply {
     let texts = guard.texts(alloc, question)?;
     of_texts(alloc, name, guard, texts, by)
 }
 
-/// The answer of a call on the texts of a question. The first of `by` is the verifier, or the marks. It is read as marks in either case,
-/// since a call by a verifier ignores them.
+/// The answer of the call with this name on the canonical texts of a question, `read` for `Guard::texts`. The first of `by` is a verifier or
+/// marks. It is read as marks in either case, since a call by a verifier ignores the marks.
 fn of_texts(alloc: Global, name: &str, guard: &Guard, texts: Texts, by: &[Vec<u8>]) -> Reply {
     let reply = match name {
         "Guard::texts" => word(alloc, "read"),
@@ -157,8 +159,8 @@ fn of_texts(alloc: Global, name: &str, guard: &Guard, texts: Texts, by: &[Vec<u8
     reply
 }
 
-/// A question that was read for the guard. Its signatures are marked as valid at the places, from 0, at which `marks` has the octet `1`.
-/// Places without a signature are ignored. Err is the fault if the question is refused.
+/// Reads a question for the guard from its texts. Its signatures are marked as valid at the places, from 0, at which `marks` has the octet
+/// `1`. Places without a signature are ignored. Err is the fault if the question is refused.
 fn marked<'a>(
     alloc: Global,
     guard: &'a Guard,
@@ -170,7 +172,7 @@ fn marked<'a>(
     Ok(asked)
 }
 
-/// Marks a question for `marked`.
+/// Marks the signatures of a question as valid at the places, from 0, at which `marks` has the octet `1`.
 fn mark_all(asked: &mut PreparedQuestion, marks: &[u8]) {
     for (place, octet) in marks.iter().enumerate() {
         if *octet == b'1' {
@@ -179,8 +181,8 @@ fn mark_all(asked: &mut PreparedQuestion, marks: &[u8]) {
     }
 }
 
-/// What a call on a question asks for. The functions below match it, and not the name of the call: a name is compared where no question is at
-/// hand, since the proof of each comparison goes through all that is.
+/// What a call on a question asks for. The functions below match it, and not the name of the call: names are compared where no question is in
+/// scope, since the proof of each comparison goes through all parts of each value in scope.
 #[derive(Clone, Copy)]
 enum Wanted {
     /// Its decision.
@@ -221,8 +223,9 @@ fn is_by_verifier(name: &str) -> bool {
     )
 }
 
-/// The calls on a question. Four are by a verifier, which is the first of `texts`, and the others by the question's marks.
 impl<'x> Called<'x> for PreparedQuestion<'_> {
+    /// Does the call with this name on a question that was read. Four calls are by a verifier, which is the first of `texts`, and the others
+    /// by the question's marks.
     fn call(&self, alloc: Global, name: &str, texts: &'x [Vec<u8>]) -> Reply {
         if is_by_verifier(name) {
             with_verifier(alloc, name, self, at(texts, 0))
@@ -232,8 +235,8 @@ impl<'x> Called<'x> for PreparedQuestion<'_> {
     }
 }
 
-/// The calls of `is_by_verifier`. The `_` arm is `PreparedQuestion::reduce`.
 impl CalledBy for PreparedQuestion<'_> {
+    /// Does a call by this verifier, one of `is_by_verifier`, on a question that was read. The `_` arm is `PreparedQuestion::reduce`.
     fn call_by(&self, alloc: Global, name: &str, verifier: &RowVerifier) -> Reply {
         match wanted_by(name) {
             Some(Wanted::Decision) => answer(alloc, self.decide(alloc, verifier)),
@@ -244,7 +247,8 @@ impl CalledBy for PreparedQuestion<'_> {
     }
 }
 
-/// Answers what is wanted of a question by its marks, which say for each of its signatures whether it is valid. `is_possible` ignores them.
+/// Does the call that asks for `wanted` on a question, by its marks, which say for each of its signatures whether it is valid. `is_possible`
+/// ignores them.
 fn with_marks(alloc: Global, wanted: Option<Wanted>, asked: &PreparedQuestion) -> Reply {
     match wanted {
         Some(Wanted::Decision) => answer(alloc, asked.decide_by(alloc)),

@@ -21,8 +21,9 @@ mod windows;
 use crate::answers::Reply;
 use std::alloc::Global;
 
-/// Does the call with this name, and returns its answer. None if this crate does not have it. Each module passes a name that it does not
-/// have on to the next one, in the order `forms`, `documents`, `tags`, `windows`, `tuples`, `cases`, `guards`, `owned_questions`.
+/// Does the library call that `name` names, such as `Tag::meet`, with the texts of a row of a test table as its arguments, and returns its answer.
+/// None if this crate does not have the call. Each module passes a name that it does not have on to the next one, in the order `forms`,
+/// `documents`, `tags`, `windows`, `tuples`, `cases`, `guards`, `owned_questions`.
 pub fn call(alloc: Global, name: &str, texts: &[Vec<u8>]) -> Option<Reply> {
     forms::call(alloc, name, texts)
 }

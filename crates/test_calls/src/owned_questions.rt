@@ -9,7 +9,8 @@ use spki_decision::Grant;
 use spki_service::{OwnedQuestion, SharedGuard};
 use std::alloc::Global;
 
-/// The answer of the call with this name. None if there is no such call: this is the last module that is asked for a name.
+/// Does the library call that `name` names, such as `OwnedQuestion::signed`, with the texts of a row of a test table as its arguments, and
+/// returns its answer. None if there is no such call: this is the last module that is asked for a name.
 pub(crate) fn call(alloc: Global, name: &str, texts: &[Vec<u8>]) -> Option<Reply> {
     match name {
         "OwnedQuestion::signed" | "OwnedQuestion::decide_by" | "OwnedQuestion::is_possible" => {
@@ -19,13 +20,13 @@ pub(crate) fn call(alloc: Global, name: &str, texts: &[Vec<u8>]) -> Option<Reply
     }
 }
 
-/// The guard of the first four texts, as the first of its owners: an opened question is another one.
+/// The guard that is read from the first four texts (`guards::guard`), with its first owner. Each question that is opened for it becomes another.
 pub fn shared(alloc: Global, texts: &[Vec<u8>]) -> Result<SharedGuard, Failure> {
     Ok(SharedGuard::new(alloc, guard(alloc, texts)?)?)
 }
 
-/// The question of the four texts after those of the guard, opened for it and marked by the ninth text. The guard's first owner is freed
-/// before the question is returned, so the question must keep the guard alive.
+/// Opens the question that the fifth to eighth texts are for the guard that the first four are, and marks it by the ninth. The guard's first
+/// owner is freed before the question is returned, so the row also tests that the question keeps the guard alive.
 fn opened(alloc: Global, texts: &[Vec<u8>]) -> Result<OwnedQuestion, Failure> {
     let shared = shared(alloc, texts)?;
     let opened = OwnedQuestion::open(alloc, &shared, &question(behind(texts, 4)));
@@ -70,7 +71,7 @@ fn signed(alloc: Global, opened: &OwnedQuestion) -> Reply {
     Ok(out)
 }
 
-/// The decision of `decide_by`, or `two decisions` if the grant of `grant_by` says another one.
+/// The decision of `decide_by`, or the words `two decisions` if `grant_by` grants something else, which would be a fault of the library.
 fn decide(alloc: Global, opened: &OwnedQuestion) -> Reply {
     let decision = opened.decide_by();
     if Grant::decision(opened.grant_by()) != decision {

@@ -1,4 +1,4 @@
-//! The calls for tags and requests.
+//! The calls for tags and requests. A call is done for a row of a test table: the call's name, and its arguments, the texts.
 
 use crate::answers::{Called, Reply, answer, call_on};
 use crate::texts::{at, number, read};
@@ -6,7 +6,8 @@ use crate::windows;
 use spki_tag::{Ground, Index, Tag, merged};
 use std::alloc::{AllocError, Global};
 
-/// Does the call with this name, of this module or of one to which it passes the name on. Returns its answer. None if there is no such call.
+/// Does the library call that `name` names, such as `Tag::meet`, with the texts of a row of a test table as its arguments, and returns its answer.
+/// A name that this module does not have is passed on to the next module. None if no module has it.
 pub(crate) fn call(alloc: Global, name: &str, texts: &[Vec<u8>]) -> Option<Reply> {
     match name {
         "Tag::clone"
@@ -34,7 +35,7 @@ impl<'x> Called<'x> for Tag {
     }
 }
 
-/// Whether a tag contains the request that the text is.
+/// Whether a tag contains the request that the text is in canonical form: `yes` or `no`.
 fn holds(alloc: Global, tag: &Tag, text: &[u8]) -> Reply {
     let request: Ground = read(alloc, text)?;
     let is_held = tag.holds(&request);
@@ -51,7 +52,7 @@ fn node_cost(alloc: Global, tag: &Tag) -> Reply {
     answer(alloc, costs)
 }
 
-/// Does the call with this name on the tag and the tag that the second text is. The third text is the most nodes.
+/// Does the call with this name on the tag and the tag that the second text is. The third text is the limit for `Tag::meet_within`.
 fn with_other(alloc: Global, name: &str, tag: &Tag, texts: &[Vec<u8>]) -> Reply {
     let other: Tag = read(alloc, at(texts, 1))?;
     let reply = of_both(alloc, name, tag, &other, at(texts, 2));
@@ -81,14 +82,14 @@ fn places(alloc: Global, set: &Tag, tag: &Tag) -> Reply {
     answer(alloc, places)
 }
 
-/// Merges two increasing lists of numbers below 256, each given as octets.
+/// Merges two increasing lists of numbers below 256 by `spki_tag::merged`. Each list is given as octets, one for each number.
 fn merge(alloc: Global, some: &[u8], others: &[u8]) -> Reply {
     let some = numbers(alloc, some)?;
     let others = numbers(alloc, others)?;
     answer(alloc, merged(alloc, &some, &others))
 }
 
-/// The octets as numbers.
+/// The octets as numbers, one for each octet. Err if memory ran out.
 fn numbers(alloc: Global, octets: &[u8]) -> Result<Vec<usize>, AllocError> {
     let mut numbers = Vec::new(alloc);
     for octet in octets {

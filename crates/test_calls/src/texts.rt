@@ -1,4 +1,4 @@
-//! The texts of a row, and the values that they are read as.
+//! The texts of a row of a test table, which are the arguments of its call, and the values that they are read as.
 
 ghost use Rattle.std.specs.Prelude.{◌<◌};
 
@@ -48,43 +48,43 @@ pub fn read<'a, T: OfNode<'a> + Drop>(alloc: Global, text: &'a [u8]) -> Result<T
     T::of_node(alloc, &document.top())
 }
 
-/// A tag.
 impl<'a> OfNode<'a> for Tag {
+    /// Reads a tag. Err is the fault of the tag, or `Memory`.
     fn of_node(alloc: Global, node: &Node<'_, 'a>) -> Result<Tag, Failure> {
         Ok(Tag::of(alloc, node)?)
     }
 }
 
-/// A request.
 impl<'a> OfNode<'a> for Ground {
+    /// Reads a request. Err is the fault of the request, or `Memory`.
     fn of_node(alloc: Global, node: &Node<'_, 'a>) -> Result<Ground, Failure> {
         Ok(Ground::of(alloc, node)?)
     }
 }
 
-/// A date.
 impl<'a> OfNode<'a> for Date {
+    /// Reads a date. Err is the fault if the node is no date.
     fn of_node(_: Global, node: &Node<'_, 'a>) -> Result<Date, Failure> {
         Ok(date_of(node)?)
     }
 }
 
-/// A key.
 impl<'a> OfNode<'a> for Key<'a> {
+    /// Reads a public key. Err is the fault if the node is no key.
     fn of_node(_: Global, node: &Node<'_, 'a>) -> Result<Key<'a>, Failure> {
         Ok(key_of(node)?)
     }
 }
 
-/// An entry of an access list.
 impl<'a> OfNode<'a> for Entry<'a> {
+    /// Reads an entry of an access list. Err is the fault of the entry, or `Memory`.
     fn of_node(alloc: Global, node: &Node<'_, 'a>) -> Result<Entry<'a>, Failure> {
         Ok(entry_of(alloc, node)?)
     }
 }
 
-/// The entries of an access list.
 impl<'a> OfNode<'a> for Vec<Entry<'a>> {
+    /// Reads the entries of an access list. Err is the fault of the list, with the number of its entry, or `Memory`.
     fn of_node(alloc: Global, node: &Node<'_, 'a>) -> Result<Vec<Entry<'a>>, Failure> {
         Ok(acl_of(alloc, node)?)
     }
@@ -111,8 +111,8 @@ pub fn all<'a, T: OfTexts<'a> + Drop>(
     Ok(values)
 }
 
-/// A key, of one text.
 impl<'a> OfTexts<'a> for Key<'a> {
+    /// Reads a public key from the first text. Err is the fault of the text or of the key.
     fn of_texts(alloc: Global, texts: &'a [Vec<u8>]) -> Result<Key<'a>, Failure> {
         read(alloc, at(texts, 0))
     }

@@ -10,8 +10,8 @@ use spki_reduce::{Five, Four, Issuer, Step, Work, fold_chain, fold_owned};
 use spki_tag::Ground;
 use std::alloc::Global;
 
-/// Does the call with this name, of this module or of one to which it passes the name on. Returns its answer. None if there is no such
-/// call.
+/// Does the library call that `name` names, such as `Five::then`, with the texts of a row of a test table as its arguments, and returns its answer.
+/// A name that this module does not have is passed on to the next module. None if no module has it.
 ///
 /// A call that joins two tuples is done on the second tuple, and reads the first one itself, from the first three texts.
 pub(crate) fn call(alloc: Global, name: &str, texts: &[Vec<u8>]) -> Option<Reply> {
@@ -64,8 +64,8 @@ fn four<'a>(alloc: Global, texts: &'a [Vec<u8>]) -> Result<Four<'a>, Failure> {
     Ok(four)
 }
 
-/// The tuple that three texts are: an authorization if the second is empty, otherwise a definition of this name.
 impl<'a> OfTexts<'a> for Step<'a> {
+    /// Reads the tuple that three texts are: an authorization if the second is empty, otherwise a definition of the name that it is.
     fn of_texts(alloc: Global, texts: &'a [Vec<u8>]) -> Result<Step<'a>, Failure> {
         if at(texts, 1).is_empty() {
             five(alloc, texts).map(Step::Auth)
@@ -94,37 +94,38 @@ fn joined<N, T: Joins<N> + Drop>(alloc: Global, first: Result<T, Failure>, next:
     }
 }
 
-/// By `Five::then`.
 impl<'x> Joins<Five<'x>> for Five<'x> {
+    /// Joins an authorization with the next one by `Five::then`.
     fn join(&self, alloc: Global, next: &Five<'x>) -> Reply {
         answer(alloc, self.then(alloc, next, Policy::Open))
     }
 }
 
-/// By `Five::resolve`: the first name of the authorization's subject is resolved.
 impl<'x> Joins<Four<'x>> for Five<'x> {
+    /// Joins an authorization with a definition by `Five::resolve`: the first name of the authorization's subject is resolved.
     fn join(&self, alloc: Global, next: &Four<'x>) -> Reply {
         answer(alloc, self.resolve(alloc, next, Policy::Open))
     }
 }
 
-/// By `Four::then`: the first name of the definition's subject is resolved.
 impl<'x> Joins<Four<'x>> for Four<'x> {
+    /// Joins a definition with the next one by `Four::then`: the first name of this definition's subject is resolved.
     fn join(&self, alloc: Global, next: &Four<'x>) -> Reply {
         answer(alloc, self.then(alloc, next, Policy::Open))
     }
 }
 
-/// By `fold_chain`.
 impl<'x> Joins<Vec<Step<'x>>> for Five<'x> {
+    /// Joins an authorization with all tuples after it by `fold_chain`.
     fn join(&self, alloc: Global, next: &Vec<Step<'x>>) -> Reply {
         answer(alloc, fold_chain(alloc, self, next, Policy::Open))
     }
 }
 
-/// The authorization is the first tuple of the row for `Five::write` and for `Five::missing_grant`, the `_` arm. `texts` are those after
-/// it. For `Five::then` it is the second tuple, with which the first is joined, and `texts` are all.
 impl<'x> Called<'x> for Five<'x> {
+    /// Does the call with this name on the authorization. It is the first tuple of the row for `Five::write` and for `Five::missing_grant`,
+    /// the `_` arm; then `texts` are those after it. For `Five::then` it is the second tuple, with which the first is joined, and `texts` are
+    /// all texts of the row.
     fn call(&self, alloc: Global, name: &str, texts: &'x [Vec<u8>]) -> Reply {
         match name {
             "Five::write" => self.answered(alloc),
@@ -153,9 +154,9 @@ fn missing_at(alloc: Global, five: &Five, holder: &Key, request: &Ground, moment
     )
 }
 
-/// The definition is the row's second tuple, and `texts` are all. Each call joins the first tuple with it. The `_` arm is
-/// `Five::into_resolve`.
 impl<'x> Called<'x> for Four<'x> {
+    /// Does the call with this name on the definition, which is the row's second tuple: each call joins the first tuple with it. `texts` are
+    /// all texts of the row. The `_` arm is `Five::into_resolve`.
     fn call(&self, alloc: Global, name: &str, texts: &'x [Vec<u8>]) -> Reply {
         match name {
             "Four::then" => joined(alloc, four(alloc, texts), self),
@@ -165,13 +166,13 @@ impl<'x> Called<'x> for Four<'x> {
     }
 }
 
-/// The authorization that the first three texts are, with the first name of its subject resolved by the call that consumes it.
+/// The authorization that the first three texts are, with the first name of its subject resolved by `Five::into_resolve`.
 fn into_resolve<'x>(alloc: Global, texts: &'x [Vec<u8>], definition: &Four<'x>) -> Reply {
     let first = five(alloc, texts)?;
     answer(alloc, first.into_resolve(definition, Policy::Open))
 }
 
-/// The bound on work that a text is, in digits. None, which is no bound, for an empty text.
+/// The bound on work, in decimal digits, in units of `Work`. None, which is no bound, for an empty text.
 fn bound(text: &[u8]) -> Option<usize> {
     match text.len() {
         0 => None,
@@ -179,8 +180,9 @@ fn bound(text: &[u8]) -> Option<usize> {
     }
 }
 
-/// The tuples after the first, with which the first is folded. `texts` are all. The `_` arm is `fold_owned`.
 impl<'x> Called<'x> for Vec<Step<'x>> {
+    /// Folds the first tuple of the row with these tuples, which are all after it, by the call with this name. `texts` are all texts of the
+    /// row. The `_` arm is `fold_owned`.
     fn call(&self, alloc: Global, name: &str, texts: &'x [Vec<u8>]) -> Reply {
         match name {
             "fold_chain" => joined(alloc, five(alloc, texts), self),
@@ -189,8 +191,8 @@ impl<'x> Called<'x> for Vec<Step<'x>> {
     }
 }
 
-/// The fold by the call that consumes the authorization. Before the tuples are two texts: the most nodes, at most 1,000,000, and the bound on
-/// work, or an empty text for none.
+/// The answer of `fold_owned`, which consumes the first authorization. The first two texts are its limits: the most nodes, lowered to 1,000,000,
+/// and the bound on work, empty for none. After them are the texts of the first tuple. `steps` are the other tuples.
 fn owned_chain<'x>(alloc: Global, steps: &[Step<'x>], texts: &'x [Vec<u8>]) -> Reply {
     let first = five(alloc, behind(texts, 2))?;
     let most = number(at(texts, 0)).min(1_000_000);

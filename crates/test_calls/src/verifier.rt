@@ -1,4 +1,4 @@
-//! The verifier of a row.
+//! The verifier of signatures that a row of a test table names. A row is the name of a library call, and its arguments, the texts.
 
 ghost use Rattle.std.specs.Prelude.{◌↔◌, ◌⊎◌, IsTrue, IfOk};
 ghost use Rattle.spki_case.specs.View.{verified_by};

@@ -1,4 +1,5 @@
 //! The calls for windows, and for keys that a principal names.
+//! A call is done for a row of a test table: the call's name, and its arguments, the texts.
 
 use crate::answers::{Reply, answer, shown, word};
 use crate::failure::Failure;
@@ -7,7 +8,8 @@ use crate::tuples;
 use spki_cert::{Date, HashAlg, Key, Octets, Principal, Window};
 use std::alloc::Global;
 
-/// Does the call with this name, of this module or of one to which it passes the name on. Returns its answer. None if there is no such call.
+/// Does the library call that `name` names, such as `Window::meet`, with the texts of a row of a test table as its arguments, and returns its answer.
+/// A name that this module does not have is passed on to the next module. None if no module has it.
 pub(crate) fn call(alloc: Global, name: &str, texts: &[Vec<u8>]) -> Option<Reply> {
     match name {
         "Window::holds" | "Window::meet" => Some(at_moment(alloc, name, texts)),
@@ -24,7 +26,7 @@ fn limit(alloc: Global, text: &[u8]) -> Result<Option<Date>, Failure> {
     Ok(Some(read(alloc, text)?))
 }
 
-/// The window between two limits, each of which may be an empty text for none.
+/// The window from one limit until another. Each is the text of a date, or empty for no limit.
 fn window(alloc: Global, from: &[u8], until: &[u8]) -> Result<Window, Failure> {
     Ok(Window {
         not_before: limit(alloc, from)?,
@@ -63,7 +65,8 @@ const OWNER: &[u8] = b"(10:public-key(4:test1:a))";
 /// The other of the two keys.
 const OTHER_OWNER: &[u8] = b"(10:public-key(4:test1:b))";
 
-/// Whether a principal names a key, in place of `Principal::names`: as if both owners had the digest `SHARED`, and no key another one.
+/// Stands in for `Principal::names`, which says whether a principal names a key: as if the keys `OWNER` and `OTHER_OWNER` both had the digest
+/// `SHARED`, and a hash with any other digest named no key.
 fn is_owner(principal: &Principal, key: &Key) -> bool {
     match principal {
         Principal::Key(own) => own.same(key),
@@ -74,8 +77,8 @@ fn is_owner(principal: &Principal, key: &Key) -> bool {
     }
 }
 
-/// The place, from 0, of the first key of the texts that has the digest `SHARED`. None if there is none. As two keys have this digest, rows
-/// show that the library's call takes the first of several.
+/// The place, from 0, of the first key of the texts that has the digest `SHARED` by `is_owner`, found by the library's `first_named`. None if
+/// there is none. Since two keys have this digest, rows show that the library takes the first of several.
 fn first_named(alloc: Global, texts: &[Vec<u8>]) -> Reply {
     let keys = keys(alloc, texts)?;
     let hash = Principal::Hash {

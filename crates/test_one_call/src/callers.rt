@@ -26,7 +26,8 @@ use test_calls::answers::{Reply, answer, octets, shown, word};
 use test_calls::failure::Failure;
 use test_calls::texts::{at, behind, keys, number, read};
 
-/// Does the call with this name. Returns its answer. None if there is no such call: this is the last module that is asked for a name.
+/// Does the call of `test_callers` that `name` names, such as `first_member`, with the texts of a row of a test table as its arguments, and
+/// returns its answer. None if there is no such call: this is the last module that is asked for a name.
 pub(crate) fn call(alloc: Global, name: &str, texts: &[Vec<u8>]) -> Option<Reply> {
     let (one, other) = (at(texts, 0), at(texts, 1));
     match name {
@@ -62,7 +63,7 @@ fn whole(alloc: Global, text: &[u8], most: usize) -> Reply {
     }
 }
 
-/// The tag of a text, intersected with the tag of another text.
+/// The intersection, by `narrowed` of `test_callers`, of the tag that `text` is and the one that `given` is, both in canonical form.
 fn narrow(alloc: Global, text: &[u8], given: &[u8]) -> Reply {
     let own: Tag = read(alloc, text)?;
     let reply = narrow_by(alloc, &own, given);
@@ -70,7 +71,7 @@ fn narrow(alloc: Global, text: &[u8], given: &[u8]) -> Reply {
     reply
 }
 
-/// The intersection of a tag with the one that a text is.
+/// The intersection, by `narrowed` of `test_callers`, of a tag and the one that `given` is.
 fn narrow_by(alloc: Global, own: &Tag, given: &[u8]) -> Reply {
     let document = Doc::open(alloc, given)?;
     of_narrowed(alloc, narrowed(alloc, own, &document.top()))
@@ -138,13 +139,13 @@ fn decide(alloc: Global, texts: &[Vec<u8>]) -> Reply {
     reply
 }
 
-/// The case of the first five texts of `decide`.
+/// The case of five texts: its access list, its sequence, its key, its request and its moment.
 fn made<'a>(alloc: Global, texts: &'a [Vec<u8>]) -> Result<Case<'a>, Failure> {
     let document = Doc::open(alloc, at(texts, 1))?;
     of_parts(alloc, &document.top(), texts)
 }
 
-/// The case of the first five texts of `decide`, with `shown`, the node of the second text, as its sequence.
+/// The case of the five texts of `made`. `shown` is the node of the second text, which is the sequence.
 fn of_parts<'a>(
     alloc: Global,
     shown: &Node<'_, 'a>,

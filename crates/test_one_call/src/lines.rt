@@ -12,7 +12,8 @@ use test_calls::guards::{guard, question};
 use test_calls::owned_questions::{mark_all, shared};
 use test_calls::texts::{at, behind, word_of};
 
-/// Does the call with this name, of this module or of one to which it passes the name on. Returns its answer. None if there is no such call.
+/// Does the library call that `name` names, such as `intersect`, with the texts of a row of a test table as its arguments, and returns its answer.
+/// A name that this module does not have is passed on to the next module. None if no module has it.
 pub(crate) fn call(alloc: Global, name: &str, texts: &[Vec<u8>]) -> Option<Reply> {
     let (one, other) = (at(texts, 0), at(texts, 1));
     match name {

@@ -20,7 +20,8 @@ use std::process::ExitCode;
 use test_calls::answers::Reply;
 use test_calls::failure::Failure;
 
-/// Does the call with this name, of `test_calls` or of this crate. Returns its answer. None if there is no such call.
+/// Does the library call that `name` names, such as `Tag::meet`, with these texts as its arguments, and returns its answer. None if neither
+/// `test_calls` nor this crate has the call.
 fn call(alloc: Global, name: &str, texts: &[Vec<u8>]) -> Option<Reply> {
     match test_calls::call(alloc, name, texts) {
         None => lines::call(alloc, name, texts),
@@ -37,7 +38,7 @@ fn said(alloc: Global, name: &str, texts: &[Vec<u8>]) -> Reply {
     }
 }
 
-/// The texts of hexadecimal digits, with a space between each two texts.
+/// Decodes texts that are written as hexadecimal digits, with a space between each two. Err if the digits are malformed, or memory ran out.
 fn texts_of(alloc: Global, digits: &str) -> Result<Vec<Vec<u8>>, Failure> {
     let mut texts = Vec::new(alloc);
     for word in digits.split(' ') {
@@ -46,7 +47,8 @@ fn texts_of(alloc: Global, digits: &str) -> Result<Vec<Vec<u8>>, Failure> {
     Ok(texts)
 }
 
-/// What is answered to a row: the name of a call alone, or the name and its texts. Err as for `said`, or if the digits are malformed.
+/// The answer to `line`, a row of the input: the name of a call alone, or the name and its texts. Err as for `said`, or if the digits are
+/// malformed.
 fn reply_to(alloc: Global, line: &str) -> Reply {
     match line.split_once(' ') {
         None => said(alloc, line, &[]),
@@ -54,7 +56,7 @@ fn reply_to(alloc: Global, line: &str) -> Reply {
     }
 }
 
-/// The line that answers a row.
+/// The line that answers a row, without a line feed: its answer as hexadecimal digits. Err as for `reply_to`.
 fn line_for(alloc: Global, line: &str) -> Result<String, Failure> {
     let answer = reply_to(alloc, line)?;
     Ok(hex::encode(alloc, answer.as_slice())?)

@@ -16,7 +16,8 @@ use test_calls::answers::{Reply, joined};
 use test_calls::failure::Failure;
 use test_calls::texts::{at, behind, number, word_of};
 
-/// Does the call with this name, of this module or of one to which it passes the name on. Returns its answer. None if there is no such call.
+/// Does the library call that `name` names, such as `run`, with the texts of a row of a test table as its arguments, and returns its answer.
+/// A name that this module does not have is passed on to the next module. None if no module has it.
 pub(crate) fn call(alloc: Global, name: &str, texts: &[Vec<u8>]) -> Option<Reply> {
     match name {
         "run" => Some(run(alloc, texts)),
@@ -180,7 +181,8 @@ fn run(alloc: Global, texts: &[Vec<u8>]) -> Reply {
     written(alloc, counts.as_bytes(), &writer.into_inner().taken)
 }
 
-/// The counts of a run and what was written. Err if that is `refused Memory`.
+/// `counts`, the text with the counts of a run, and after it `taken`, what was written. Err if that is `refused Memory`: then the row has no
+/// answer.
 fn written(alloc: Global, counts: &[u8], taken: &[u8]) -> Reply {
     if taken == b"refused Memory\n".as_slice() {
         return Err(Failure::Memory);
