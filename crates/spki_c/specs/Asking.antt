@@ -47,7 +47,7 @@ IsMomentBy text [] (moments.Seconds n) = ⊥
 IsMomentBy text (first ∷ others) (moments.Text octets) = ⊥
 IsMomentBy text (first ∷ others) (moments.Seconds n) = n ≡ first
 
--- The question has these parts.
+-- The question has these texts as its parts; its request is the text or the strings, and its moment the text or the seconds.
 pub record IsQuestionBy (parts : Parts) (words : List (List ℕ)) (seconds : List ℤ) (q : Question) : Type 0 where
   pub sequence_is : q.sequence.now ≡ parts.sequence.octets
   pub key_is : q.key.now ≡ parts.key.octets
@@ -84,11 +84,11 @@ abbrev pub octets_in : Option (Bor (List ℕ)) → Option (List ℕ)
 octets_in None = None
 octets_in (Some octets) = Some octets.now
 
--- if the text is that of a value, these are the octets of this string, or there are none
+-- if the text is that of a value, these are the octets of the value if it is one string, and None otherwise
 abbrev pub IsStringOf : List ℕ → Option (Bor (List ℕ)) → Type 0
 IsStringOf text found = (v : Value) → IsWithinLimits v → text ≡ canon v → octets_in found ≡ octets_of v
 
--- the octets of a value that is one string, or that there are none
+-- the octets and the flag `is_string` that C reads: those of a string, or no octets and false
 abbrev pub AreOctets : Option (List ℕ) → List ℕ → Bool → Type 0
 AreOctets (Some octets) found is_string = (found ≡ octets) × (is_string ≡ true)
 AreOctets None found is_string = (found ≡ []) × (is_string ≡ false)

@@ -3,7 +3,7 @@ use Rattle.std.specs.Prelude.{◌≡◌, ◌<◌, ◌≤◌, ℕ, Bool, true, fa
 use Rattle.spki_service.specs.{GuardQuestions.{HasMark}, declared.owned_question.OwnedQuestion.{OwnedQuestion}}
 use Rattle.spki_c.specs.declared.handle_value.HandleValue.{HandleValue, TheVariants.{Guard, Question}}
 
--- it is a question
+-- the value that C holds is a question
 abbrev pub IsQuestion : HandleValue → Type 0
 IsQuestion (Guard held) = ⊥
 IsQuestion (Question opened) = Unit {0}
@@ -20,7 +20,7 @@ abbrev pub HandsBack : HandleValue → ℕ → Option HandleValue → ℕ → Ty
 HandsBack old place back status =
     (new : HandleValue) × (said : Bool) × (back ≡ Some new) × IsMarkedBy old place new said × (status ≡ (if said then 6 else 5))
 
--- What is of the kind that is freed is not returned, and what is of the other kind is.
+-- A value of the kind that is to be freed is not returned, and a value of the other kind is.
 abbrev pub IsClosed : Bool → HandleValue → Option HandleValue → Type 0
 IsClosed true (Question opened) back = back ≡ None
 IsClosed true (Guard held) back = back ≡ Some (Guard held)

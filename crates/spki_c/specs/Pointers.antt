@@ -12,9 +12,7 @@ use denote.Builtin.{u8}
 
 -- ---- what is owned of a value that a call borrows
 
--- What is owned of a value that a call borrows. `R` is the type of the value.
-
--- The value is borrowed for a lifetime, and a share of the token of that lifetime is owned. So the lifetime lasts as
+-- The value, of the type `R`, is borrowed for a lifetime, and a share of the token of that lifetime is owned. So the lifetime lasts as
 -- long as the call.
 abbrev pub lent_for : (R : RattleType) → Ptr → R.Denot → Lft × Share → Fml
 lent_for R p x s = fsep (flft s.0 s.1) (lent_at R p x s.0)
@@ -24,12 +22,11 @@ held_lent R p x = fex (Lft × Share) (lent_for R p x)
 
 -- ---- what a handle owns
 
--- What a handle owns. `R` is the type of the value.
-
+-- the allocator by which it is freed
 abbrev pub heap : Global
 heap = record { memory = record { seal = tt } }
 
--- A value on the heap, with the right to free it; nothing if the handle has no value.
+-- A value of the type `R` on the heap, with the right to free it; nothing if the handle has no value.
 abbrev pub held_owns : (R : RattleType) → Ptr → Option R.Denot → Fml
 held_owns R p None = ftrue
 held_owns R p (Some x) = box_owns (ghosts.dealloc_token heap) R p x

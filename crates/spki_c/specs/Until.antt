@@ -9,7 +9,7 @@ abbrev pub number_until : Option (List ℕ) → ℤ
 number_until None = pos 9_223_372_036_854_775_807
 number_until (Some date) = last_second date
 
--- the same of what is granted; if nothing is, the lowest number
+-- the same for the limit of a grant; without a grant the lowest number
 abbrev pub number_of : Option Grant → ℤ
 number_of None = negsuc 9_223_372_036_854_775_807
 number_of (Some grant) = number_until grant.until

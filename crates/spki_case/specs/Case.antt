@@ -37,7 +37,7 @@ pub record Row : Type 0 where
 -- The access list's entries, the signatures that are accepted, the items of the sequence, and the question. The question is
 -- whether the key may do the request at the moment, under the policy. If two tags are intersected, the product of their
 -- nodes is at most `most_nodes`. The work of the entries that are folded is together at most `most_work`. An entry is not counted there
--- if its chain is small: if the product of the nodes of its tag and of all certificates' tags is at most `uncounted`, among others.
+-- if its chain is small by the limit `uncounted`: `is_spared` of `spki_decision` says when.
 pub record Case : Type 0 where
   pub entries : List Entry
   pub rows : List Row
@@ -50,11 +50,11 @@ pub record Case : Type 0 where
   pub most_work : ℕ
   pub uncounted : ℕ
 
--- whether a row is of this key, message and value
+-- whether a row has this key, this value and the digest of this message
 abbrev pub is_row_of : List ℕ → List ℕ → List ℕ → Row → Bool
 is_row_of key message value row = bytes_eq row.key key && is_digest Sha256 row.digest message && bytes_eq row.value value
 
--- whether some row is of this key, message and value
+-- whether some row has this key, this value and the digest of this message
 abbrev pub accepts : List Row → List ℕ → List ℕ → List ℕ → Bool
 accepts rows key message value = list_any (is_row_of key message value) rows
 
@@ -62,9 +62,7 @@ accepts rows key message value = list_any (is_row_of key message value) rows
 abbrev pub accepted_by : Case → Verified
 accepted_by c key message value = IsTrue (accepts c.rows key message value)
 
--- ---- the contents of a sequence: keys, and certificates with their signatures
-
--- ---- keys
+-- ---- the keys in a sequence
 
 -- the keys among the items, in order
 abbrev pub keys_of : List SeqItem → List (List ℕ)
@@ -75,7 +73,7 @@ keys_of (Auth cert ∷ items) = keys_of items
 keys_of (Name cert ∷ items) = keys_of items
 keys_of (Signature s ∷ items) = keys_of items
 
--- ---- certificates
+-- ---- the certificates in a sequence, with their signatures
 
 -- an authorization certificate, or a name certificate (RFC 2693, sections 6.1 and 6.2)
 pub data Certificate : Type 0 where
@@ -105,7 +103,7 @@ pub record Shown : Type 0 where
   pub certificate : Certificate
   pub signature : Option signature.Signature
 
--- the certificates among the items, in order; the first item has this number
+-- the certificates among the items, in order; the number is that of the first item
 abbrev pub certificates_from : ℕ → List SeqItem → List Shown
 certificates_from n [] = []
 certificates_from n (Key octets ∷ items) = certificates_from (suc n) items

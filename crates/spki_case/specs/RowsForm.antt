@@ -16,7 +16,7 @@ pub record RowsOf (v : Value) (rows : List Row) : Type 0 where
   pub written : v ≡ accepted_value members
   pub read : AllZip RowOf members rows
 
--- the statement of rows: one of them is of this key, message and value
+-- what rows state, as a verifier: one of them has this key, this value and the digest of this message
 abbrev pub stated_by : List Row → Verified
 stated_by rows key message value = IsTrue (accepts rows key message value)
 

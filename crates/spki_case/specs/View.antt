@@ -13,7 +13,7 @@ use Rattle.spki_case.specs.declared.parts.TakenPart.{TakenPart}
 abbrev pub rows_of : AcceptedTable → List Row
 rows_of table = map row_of table.rows.items
 
--- what an accepted list states: some row is of this key, message and value
+-- what an accepted list states, as a verifier: some row has this key, this value and the digest of this message
 abbrev pub verified_by : AcceptedTable → Verified
 verified_by table key message value = IsTrue (accepts (rows_of table) key message value)
 

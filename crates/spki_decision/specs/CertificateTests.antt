@@ -86,8 +86,8 @@ FailsAt policy verified items item stop = FailsIn policy (keys_of items) verifie
 
 -- ---- the signatures that a verifier is asked about
 
--- The signatures that a verifier is asked about for a sequence (RFC 2693, section 6). They are those of the
--- certificates that pass the other three tests, up to the first certificate that fails one of them.
+-- For a sequence they are those of the certificates that pass the other three tests, up to the first certificate that fails one of them
+-- (RFC 2693, section 6).
 
 -- A signature that a verifier is asked about. It has the number of the certificate's item, its issuer's key, the
 -- certificate's canonical octets, and the canonical octets of the signature's value.
@@ -108,7 +108,7 @@ abbrev pub asked_of : Policy → List (List ℕ) → Shown → Option Signed
 asked_of policy keys shown =
     option_and_then (λ holder. option_and_then (asked_with policy shown holder) shown.signature) (issuer_key policy keys (issuer_of shown.certificate))
 
--- one element before others, if it exists; otherwise no elements at all
+-- an optional element before others; if it is None, no elements at all
 abbrev pub before_all : {A : Type 0} → Option A → List A → List A
 before_all None others = []
 before_all (Some a) others = a ∷ others

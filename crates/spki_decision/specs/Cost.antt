@@ -5,16 +5,16 @@ use Rattle.spki_tag.specs.{Tag.{tags}, Cost.{weight_all}}
 use Rattle.spki_reduce.specs.{Reduction.{Tuple, five, four, tags_of, entry_tuple}, Chain.{AreTicksOfSteps, TakesFirstSteps}}
 use Rattle.spki_decision.specs.{Spared.{is_spared}, declared.reduction.EntryFold.{EntryFold, TheVariants.{Done, Stopped}}}
 
--- one for the tuple, and its tags
+-- the weight of testing a tuple's tags and windows: one for the tuple, and that of its tags
 abbrev pub content_weight : Tuple → ℕ
 content_weight t = 1 + weight_all (tags (tags_of t))
 
--- two for the tuple, and its subject
+-- the weight of a step to its key: two for the tuple, and that of its subject
 abbrev pub path_weight : Tuple → ℕ
 path_weight (five t) = 2 + (names_weight t.names + principal_weight t.principal)
 path_weight (four t) = 2 + (names_weight t.names + principal_weight t.principal)
 
--- the same of several tuples
+-- the first of these weights for several tuples
 abbrev pub contents_weight : List Tuple → ℕ
 contents_weight [] = 0
 contents_weight (t ∷ ts) = content_weight t + contents_weight ts
@@ -42,7 +42,7 @@ TakesOfEntry before after policy uncounted tuples e =
     ((is_spared uncounted tuples e.tag ≡ true) × (after ≡ before))
     ⊎ ((is_spared uncounted tuples e.tag ≡ false) × TakesFirstSteps before after policy (five (entry_tuple e)) tuples)
 
--- at least one for each step of a chain that goes through, and one for a chain that stops
+-- the ticks from `old` to `new` are at least one for each step of a chain that goes through, or one for a chain that stops
 abbrev pub CountsSteps : ℕ → ℕ → ℕ → EntryFold → Type 0
 CountsSteps old new steps (Done f) = old + steps ≤ new
 CountsSteps old new steps (Stopped item cause) = old < new

@@ -78,9 +78,7 @@ abbrev pub Agrees : Explanation → Decision → Type 0
 Agrees (Evidence item stop) d = d ≡ No
 Agrees (Entries reasons) d = (n : ℕ) → (d ≡ Yes n) ↔ IsFirstGrant reasons.items n
 
--- ---- sinks that take what the entries of an access list become
-
--- ---- a vector keeps them
+-- ---- a vector as a sink: it keeps what the entries become
 
 abbrev pub TakesFolds : Vec EntryFold Global → List EntryFold → Vec EntryFold Global → Type 0
 TakesFolds old folds new = new.items ≡ old.items ++ folds
@@ -88,14 +86,14 @@ TakesFolds old folds new = new.items ≡ old.items ++ folds
 pub no_folds : (v : Vec EntryFold Global) → TakesFolds v [] v
 no_folds v = sym (append-nil v.items)
 
--- ---- only the reasons are kept
+-- ---- a sink that keeps only the reasons of the entries
 
 -- the reason of every entry that becomes this with all certificates
 abbrev pub IsReasonFor : Case → EntryFold → Reason → Type 0
 IsReasonFor c fold reason =
     (es : List Entry) (tuples : List Tuple) (e : Entry) → IsEntryFold (with_entries c es) tuples e fold → IsReason (with_entries c es) tuples e reason
 
--- Behind the reasons that there were is now one for each of these, in order.
+-- The sink has the reasons that it had before, and behind them one for each of these folds, in order.
 abbrev pub TakesReasons : ReasonSink → List EntryFold → ReasonSink → Type 0
 TakesReasons start folds sink =
     (sink.case ≡ start.case) × (added : List Reason) × (sink.reasons.items ≡ start.reasons.items ++ added)

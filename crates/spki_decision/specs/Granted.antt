@@ -18,11 +18,11 @@ use Rattle.spki_decision.specs.{Spared.{is_spared}, CertificateTests.{AreShown, 
 abbrev pub Supported : Case → List Tuple → Entry → Type 0
 Supported c tuples e = IsSupported c.policy (five (entry_tuple e)) tuples c.key c.request c.moment
 
--- no entry before a place does
+-- no entry before a place supports it
 abbrev pub NoneBefore : Case → List Tuple → ℕ → Type 0
 NoneBefore c tuples place = (k : ℕ) (e : Entry) → k < place → slice_get c.entries k ≡ Some e → ¬ Supported c tuples e
 
--- entry number n, from 1, is the first that does
+-- entry number n, from 1, is the first that supports it
 pub record IsFirstSupported (c : Case) (tuples : List Tuple) (n : ℕ) : Type 0 where
   pub place : ℕ
   pub numbered : n ≡ suc place
@@ -44,17 +44,17 @@ IsCharge policy uncounted tuples e n =
     ((is_spared uncounted tuples e.tag ≡ true) × (n ≡ 0))
     ⊎ ((is_spared uncounted tuples e.tag ≡ false) × IsWork policy (five (entry_tuple e)) tuples n)
 
--- What it takes is more than may still be done.
+-- What the entry takes is more than may still be done.
 abbrev pub IsOvercharged : Policy → ℕ → List Tuple → Entry → Option ℕ → Type 0
 IsOvercharged policy uncounted tuples e left =
     (is_spared uncounted tuples e.tag ≡ false) × IsOverworked left policy (five (entry_tuple e)) tuples
 
--- the sum of what is said of each entry
+-- n is the sum of the numbers that the statement `Is` gives for each entry
 abbrev pub IsSumOf : (Entry → ℕ → Type 0) → List Entry → ℕ → Type 0
 IsSumOf Is [] n = n ≡ 0
 IsSumOf Is (e ∷ es) n = (here : ℕ) × (behind : ℕ) × Is e here × IsSumOf Is es behind × (n ≡ here + behind)
 
--- the work of so many entries, each with all certificates
+-- the work of a number of first entries, each with all certificates
 abbrev pub IsEntryWork : Case → List Tuple → ℕ → ℕ → Type 0
 IsEntryWork c tuples count n = IsSumOf (IsCharge c.policy c.uncounted tuples) (take count c.entries) n
 
@@ -82,11 +82,11 @@ abbrev pub SmallBefore : Case → List Tuple → ℕ → Type 0
 SmallBefore c tuples place =
     (k : ℕ) (e : Entry) → k < place → slice_get c.entries k ≡ Some e → ¬ TooLargeAt c.most_nodes c.policy (five (entry_tuple e)) tuples
 
--- no entry has one
+-- no entry has a chain that is too large at a step
 abbrev pub AllSmall : Case → List Tuple → Type 0
 AllSmall c tuples = SmallBefore c tuples (length c.entries)
 
--- No entry up to the one that a decision names has one, or no entry at all. Their work is within the limit.
+-- No entry up to the one that a decision names has a chain that is too large, or none at all if it names none. Their work is within the limit.
 abbrev pub SmallUpTo : Case → List Tuple → Decision → Type 0
 SmallUpTo c tuples (Yes n) = SmallBefore c tuples n × IsWithinWork c tuples n
 SmallUpTo c tuples No = AllSmall c tuples × IsWithinWork c tuples (length c.entries)
@@ -237,7 +237,7 @@ IsSameReduction (Evidence item stop) (Entries folds) = ⊥
 IsSameReduction (Entries folds) (Evidence item stop) = ⊥
 IsSameReduction (Entries folds) (Entries others) = folds.items ≡ others.items
 
--- the limit at which a window begins is a date, like that of every value
+-- the limit at which the window of what an entry becomes begins is a date
 abbrev pub IsDated : EntryFold → Type 0
 IsDated (Done f) = IsLimit f.window.not_before
 IsDated (Stopped item cause) = Unit {0}
@@ -246,7 +246,7 @@ abbrev pub AreDated : Reduction → Type 0
 AreDated (Evidence item stop) = Unit {0}
 AreDated (Entries folds) = AllByRecursion IsDated folds.items
 
--- the limit at which it ends is a date too
+-- the limit at which the window of what an entry becomes ends is a date
 abbrev pub EndsAtDate : EntryFold → Type 0
 EndsAtDate (Done f) = IsLimit f.window.not_after
 EndsAtDate (Stopped item cause) = Unit {0}

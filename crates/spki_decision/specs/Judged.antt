@@ -41,7 +41,7 @@ IsOther (Auth cert) = ⊥
 IsOther (Name cert) = ⊥
 IsOther _ = Unit {0}
 
--- (do ..)
+-- whether an item is an operation, (do ..)
 abbrev pub is_operation : SeqItem → Bool
 is_operation (DoHash alg) = true
 is_operation _ = false

@@ -13,8 +13,8 @@ use Rattle.spki_tag.specs.Tag.{contains, Tag, tags, some_nests_set}
 
 -- ---- the entries that a question is about
 
--- The entries of an access list that a question is about (RFC 2693, section 6.3). Their subject's principal names the
--- key of the first issuer, or the client's key if no certificate is shown.
+-- They are those of the access list whose subject's principal names the key of the first issuer, or the client's key if no certificate is
+-- shown (RFC 2693, section 6.3).
 
 abbrev pub key_of : Issuer → Option (List ℕ)
 key_of own = None
@@ -74,9 +74,8 @@ IsSameAnswer kept (Err fault) (Err other) = fault ≡ other
 
 -- ---- which entries grant a request
 
--- Which entries grant a request with certificates, by three tests that do not touch each other: the subjects lead
--- from the entry to the client's key, each tag contains the request, and the moment is within each window (RFC 2693,
--- sections 6.3 and 6.4).
+-- An entry grants it with the certificates exactly if three independent tests pass: the subjects lead from the entry to the client's key, each
+-- tag contains the request, and the moment is within each window (RFC 2693, sections 6.3 and 6.4).
 
 -- Tuples lead from an authorization to a key: joined after it, from the left, they make it an authorization for this key. Their tags and
 -- windows may be any.
@@ -85,13 +84,13 @@ pub record Leads (policy : Policy) (tuples : List Tuple) (holder : List ℕ) (fi
   pub derived : Derives policy (from_left (five first) tuples) (five root)
   pub is_for : IsFor policy root holder
 
--- a subject is as required
+-- A subject is as required. It is the principal with the names `path` after it, and `delegation` is whether it may delegate.
 pub record Meets (policy : Policy) (required : RequiredSubject) (principal : Principal) (path : List (List ℕ)) (delegation : Bool) : Type 0 where
   pub named : IsTrue (names policy principal required.key)
   pub names_are : path ≡ required.names
   pub allowed : required.delegation ≡ true → delegation ≡ true
 
--- the same of an authorization's subject; if nothing is required, no subject is
+-- the same of an authorization's subject; if there is no required subject, no subject is as required
 abbrev pub IsMetBy : Policy → Option RequiredSubject → FiveTuple → Type 0
 IsMetBy policy None t = ⊥
 IsMetBy policy (Some required) t = Meets policy required t.principal t.names t.delegation
@@ -106,7 +105,8 @@ pub record Becomes (policy : Policy) (tuple : Tuple) (required : RequiredSubject
   pub joined : Joins policy (five first) tuple (five next)
   pub met : IsMetBy policy (Some required) next
 
--- That is so for exactly the authorizations whose subject is as required before it.
+-- `earlier` is required before a tuple if `required` is required after it: the tuple makes an authorization one whose subject is as `required`
+-- says exactly if the authorization's own subject is as `earlier` says.
 abbrev pub IsRequiredBefore : Policy → Tuple → RequiredSubject → Option RequiredSubject → Type 0
 IsRequiredBefore policy tuple required earlier = (t : FiveTuple) → Becomes policy tuple required t ↔ IsMetBy policy earlier t
 
@@ -116,20 +116,17 @@ abbrev pub IsChainRequirement : Case → List Tuple → ChainRequirement → Typ
 IsChainRequirement c tuples requirement = (e : Entry) → Supported c tuples e
     ↔ (IsMetBy c.policy requirement.required (entry_tuple e) × (contains e.tag c.request ≡ true) × (within c.moment e.window ≡ true))
 
--- ---- when no step is too large
+-- ---- when the numbers of nodes of the certificates' tags show that no step is too large for an entry (RFC 2693, section 6.3.1)
 
--- When the numbers of nodes of the certificates' tags show that no step is too large for an entry (RFC 2693, section
--- 6.3.1).
-
--- No tag of the tuples has a set. They have so many nodes together, and the largest of them so many.
+-- No tag of the tuples has a set. `plain` has the number of nodes of all of them together, and of the largest.
 pub record ArePlain (tuples : List Tuple) (plain : PlainNodes) : Type 0 where
   pub no_set : some_nests_set (tags (all_tags tuples)) ≡ false
   pub all_nodes : plain.all ≡ nodes_together tuples
   pub most_nodes : plain.largest ≡ most_of_one tuples
   pub few : (plain.all ≤ 1000000) × (plain.largest ≤ 1000000)
 
--- `product`, if there is one, is the product of the nodes of the tuples' tags; it is over 1,000,000 if there is none. `plain`, if there is
--- one, is what their nodes are without sets; there is none if some tag has a set, or all have over 1,000,000 nodes together.
+-- `product` is the product of the nodes of the tuples' tags, or None if that is over 1,000,000. `plain` has the numbers of nodes of tags without
+-- sets. It is None if some tag has a set, or all have over 1,000,000 nodes together.
 pub record AreSizes (tuples : List Tuple) (sizes : Sizes) : Type 0 where
   pub counted : MatchOption sizes.product (1000000 < nodes_product (all_tags tuples))
       (λ n. (n ≡ nodes_product (all_tags tuples)) × (n ≤ 1000000))

@@ -9,12 +9,12 @@ abbrev pub nodes_in : Tuple → ℕ
 nodes_in (five t) = nodes_all (tags t.tags)
 nodes_in (four t) = 1
 
--- those of all tuples together
+-- the nodes of all tuples' tags together
 abbrev pub nodes_together : List Tuple → ℕ
 nodes_together [] = 0
 nodes_together (t ∷ ts) = nodes_in t + nodes_together ts
 
--- those of the largest, at least 1
+-- the nodes of the largest tuple's tags, at least 1
 abbrev pub most_of_one : List Tuple → ℕ
 most_of_one [] = 1
 most_of_one (t ∷ ts) = max (nodes_product (tags_of t)) (most_of_one ts)

@@ -12,15 +12,11 @@ use Rattle.spki_decision.specs.declared.{decision.Decision.{Decision}, grant.Gra
 use Rattle.spki_decision.specs.declared.{reduction.EntryFold.{EntryFold}, fault.GuardFault.TheVariants.{TooLarge}}
 use Rattle.spki_service.specs.declared.question.AskFault.TheVariants as faults
 
--- ---- answers to questions
+-- ---- the case of a question that is read
 
--- What is answered to a question that is asked of a guard, where a service marks the signatures that it has verified
--- (RFC 2693, section 6).
-
--- ---- what is read
-
--- The question's parts together have no more octets than the guard's limit, and the case is theirs, under the guard's policy and
--- limits of nodes and work, which all entries count for. It has no entries of its own, and no more certificates and strings of the request than the guard's limits.
+-- The question's parts together have no more octets than the guard's limit, and the case is theirs, under the guard's policy and limits of
+-- nodes and work. All entries count as work. The case has no entries of its own, and no more certificates, and strings of the request, than
+-- the guard's limits.
 pub record ReadsQuestion (held : GuardModel) (q : Question) (c : Case) : Type 0 where
   pub short : asked_octets q ≤ held.octets
   pub is : IsAskedCase q c
@@ -31,11 +27,11 @@ pub record ReadsQuestion (held : GuardModel) (q : Question) (c : Case) : Type 0 
   pub few : certificates_in c.items ≤ held.certificates
   pub few_strings : HasFewStrings held.words q
 
--- the case beside the guard's entries and its limit of the octets of an answer, with these marks
+-- the question that was read: this case, with the guard's entries, its limit of the octets of an answer, and these marks
 abbrev pub beside : GuardModel → Case → List Bool → PreparedModel
 beside held c marks = record { texts = held.texts; case = c; answer = held.answer; marks = marks }
 
--- ---- what is written of it
+-- ---- the lines that are written as its answer
 
 -- These are the line or lines of what is answered of the case with the guard's entries, by the marks. Those of an explanation or a
 -- reduction are within the guard's limit. The windows that a reduction writes begin and end at dates.
@@ -65,15 +61,15 @@ pub record ReducesLong (a : PreparedModel) : Type 0 where
   pub report : ReportsReduced failure folds verdict lines
   pub long : a.answer < length lines
 
--- Tags are too large for an answer, or its lines are; for a decision none are.
+-- An answer is too large: its tags are, or its lines together. No decision is.
 abbrev pub IsTooLargeFor : Query → PreparedModel → Type 0
 IsTooLargeFor Decide a = ⊥
 IsTooLargeFor Explain a = ExplainsMarked a (Err TooLarge) ⊎ ExplainsLong a
 IsTooLargeFor Reduce a = ReducesMarked a (Err TooLarge) ⊎ ReducesLong a
 
--- ---- answers
+-- ---- the answer to a question, and its refusal
 
--- Tags or lines are too large for an answer, and the line says so.
+-- The answer is too large, and its line is `refused TooLarge`.
 pub record SaysTooLarge (query : Query) (a : PreparedModel) (verdict : Verdict) (output : List ℕ) : Type 0 where
   pub large : IsTooLargeFor query a
   pub verdict_is : verdict ≡ Refused
@@ -94,7 +90,7 @@ abbrev pub IsUnreadFor : GuardModel → Question → AskFault → Type 0
 IsUnreadFor held q fault =
     ((fault ≡ faults.TooLong) × (held.octets < asked_octets q)) ⊎ ((asked_octets q ≤ held.octets) × IsRefused held.certificates held.words q fault)
 
--- The question is refused, and the line says why.
+-- The question is refused, and the line is that of its refusal.
 pub record RefusesQuestion (held : GuardModel) (q : Question) (verdict : Verdict) (output : List ℕ) : Type 0 where
   pub fault : AskFault
   pub refused : IsUnreadFor held q fault

@@ -33,7 +33,7 @@ use Rattle.spki_guard.specs.declared.refusals.Refusal.TheVariants as refusals
 
 -- ---- lines
 
--- The lines that are written: words with one space between two of them, and a line feed. Numbers are decimal.
+-- A line is words with one space between two of them, and a line feed. Numbers are decimal.
 
 abbrev pub line : List (List ℕ) → List ℕ
 line [] = 10 ∷ []
@@ -79,11 +79,11 @@ no_entries = line (codes "no" ∷ codes "entries" ∷ [])
 abbrev pub entry_line : ℕ → List (List ℕ) → List ℕ
 entry_line n words = line (codes "entry" ∷ decimal n ∷ words)
 
--- its chain stops at the certificate of this item
+-- the line for entry n whose chain stops at the certificate of this item
 abbrev pub stopped_line : ℕ → ℕ → Cause → List ℕ
 stopped_line n item cause = entry_line n (codes "item" ∷ decimal item ∷ cause_name cause ∷ [])
 
--- why it grants the request or does not
+-- the line that says why entry n grants the request or does not
 abbrev pub reason_line : ℕ → Reason → List ℕ
 reason_line n reason.Grants = entry_line n (codes "grants" ∷ [])
 reason_line n reason.NotTheKey = entry_line n (codes "NotTheKey" ∷ [])
@@ -108,11 +108,11 @@ refused_large = refused (codes "TooLarge" ∷ [])
 abbrev pub refused_part : List ℕ → List ℕ → List ℕ
 refused_part part kind = refused (part ∷ kind ∷ [])
 
--- and in an entry, a row or an item of that part, counted from 1; 0 is the part itself
+-- a fault in an entry, a row or an item of a part, counted from 1; 0 is the part itself
 abbrev pub refused_item : List ℕ → ℕ → List ℕ → List ℕ
 refused_item part n kind = refused (part ∷ decimal n ∷ kind ∷ [])
 
--- and in the tag of that entry or item
+-- a fault in the tag of an entry or item
 abbrev pub refused_tag : List ℕ → ℕ → List ℕ → List ℕ
 refused_tag part n kind = refused (part ∷ decimal n ∷ codes "Tag" ∷ kind ∷ [])
 
@@ -240,7 +240,7 @@ refused_line refusals.Memory = refused_memory
 
 -- ---- what is written for a case's reduction and explanation
 
--- yes if some entry does, otherwise no
+-- the verdict: Done if some entry becomes an authorization or grants the request, otherwise No
 abbrev pub verdict_of : Bool → Verdict
 verdict_of true = Done
 verdict_of false = No

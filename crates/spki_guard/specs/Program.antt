@@ -19,9 +19,7 @@ exit_code (Answered verdict.Refused) = 2
 exit_code ReadFault = 3
 exit_code WriteFault = 3
 
--- ---- the program: the result for the words of a command line, for what is read and for what is written
-
--- ---- the command
+-- ---- the command that the words of a command line ask for
 
 -- The result for the words: the subcommand that `clap` finds in them, or a fault that it finds. The program's name and the
 -- word of a command give that command, unless memory ran out.
@@ -41,11 +39,11 @@ pub record AreUnreadWords (kind : ErrorKind) (fault : WordsFault) : Type 0 where
   pub no_text : kind ≡ InvalidData → IsNoText fault
   pub other : kind ≢ InvalidData → fault ≡ words.Memory
 
--- the result if an error takes the place of the words
+-- what is asked if the words could not be read from the system: a fault, and no command
 abbrev pub IsUnasked : ErrorKind → Result Command WordsFault → Type 0
 IsUnasked kind asked = MatchResult asked (λ _. ⊥) (AreUnreadWords kind)
 
--- ---- messages
+-- ---- messages, and streams that are not used
 
 -- The writer accepted all the octets and a flush, or failed after a beginning of them and no flush succeeded. Its counts were reset before the
 -- first call.
@@ -79,7 +77,7 @@ IsRefused contents lines old new before after (words.Refused text) = IsSilent co
 IsRefused contents lines old new before after (words.Help text) = IsSilent contents old new × IsSaid lines before after (string_bytes text)
 IsRefused contents lines old new before after words.Memory = IsSaid contents old new refused_memory × IsSilent lines before after
 
--- ---- runs
+-- ---- the run of a command, and of the whole program
 
 -- A command was run, from what was read to what was written, with this status. These are the promises of `run`.
 pub record IsCommandRun {R W : Type 0} (remaining : R → Option (List ℕ)) (contents : W → Option (List ℕ)) (command : Command)

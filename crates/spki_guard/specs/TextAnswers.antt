@@ -24,9 +24,7 @@ use Rattle.spki_decision.specs.declared.decision.Decision.TheVariants as decisio
 use Rattle.spki_decision.specs.declared.fault.GuardFault.TheVariants as guard
 use Rattle.spki_case.specs.declared.rows.RowsFault.TheVariants as rows_faults
 
--- ---- the answer to a text that was read to its end
-
--- ---- decisions
+-- ---- decisions, reductions and explanations of a case
 
 -- the line of a decision
 abbrev pub IsLineOf : Decision → Verdict → List ℕ → Type 0
@@ -89,7 +87,7 @@ pub record WritesMeet (text : List ℕ) (verdict : Verdict) (output : List ℕ) 
   pub verdict_is : verdict ≡ Done
   pub line : output ≡ adv (tag_value tag) ++ 10 ∷ []
 
--- ---- all commands
+-- ---- the answer of each command to a value
 
 -- the form in which a command needs a value
 abbrev pub form_of : Command → Form
@@ -130,15 +128,15 @@ RefusesValue command v (refusals.Decision fault) = IsUndecided command (canon v)
 RefusesValue command v refusals.Memory = Unit {0}
 RefusesValue command v other = ⊥
 
--- ---- texts
+-- ---- the answer to a text that was read to its end, and its refusal
 
--- The text spells or braces a value within the limits, and this is the answer to it.
+-- The text, in any of the three forms, is that of a value within the limits, and this is the answer to it.
 pub record AnswersRead (command : Command) (text : List ℕ) (verdict : Verdict) (output : List ℕ) : Type 0 where
   pub value : Value
   pub read : IsTextWithin text value
   pub answer : AnswersValue command value verdict output
 
--- The text spells or braces a value within the limits, and the value is refused for this.
+-- The text, in any of the three forms, is that of a value within the limits, and the value is refused for this.
 pub record RefusesRead (command : Command) (text : List ℕ) (refusal : Refusal) : Type 0 where
   pub value : Value
   pub read : IsTextWithin text value
@@ -178,19 +176,17 @@ printed_octets None = refused_memory
 abbrev pub written_by : Printed → List ℕ
 written_by printed = printed_octets printed.octets
 
--- ---- the answer by a separate accepted list
+-- ---- a case and a separate accepted list that are read
 
--- The answer to a case by a separate accepted list. The case's accepted list is not used.
+-- The case is decided by the separate list. Its own accepted list is not used.
 
--- ---- what is read
-
--- The text spells or braces a value within the limits, and its canonical form is the text of the case.
+-- The text, in any of the three forms, is that of a value within the limits, and its canonical form is the text of the case.
 pub record ReadsCase (text : List ℕ) (c : Case) : Type 0 where
   pub value : Value
   pub read : IsTextWithin text value
   pub is_case : IsCaseText (canon value) c
 
--- The text spells or braces a value within the limits, and its canonical form is the text of an accepted list of these rows.
+-- The text, in any of the three forms, is that of a value within the limits, whose canonical form is the text of an accepted list of these rows.
 pub record ReadsRows (rows_text : List ℕ) (rows : List Row) : Type 0 where
   pub value : Value
   pub read : IsTextWithin rows_text value
@@ -202,7 +198,7 @@ pub record BehindCase (text : List ℕ) (said : Case → Type 0) : Type 0 where
   pub text_is : ReadsCase text case_read
   pub is : said case_read
 
--- ---- decisions
+-- ---- decisions by the separate list
 
 -- The text is that of an accepted list, and the line is that of the case's decision with this list as the verifier. No entry
 -- up to the one that is named, or no entry at all, has a chain that is too large.
@@ -225,22 +221,22 @@ pub record IsUndecidedBy (c : Case) (rows_text : List ℕ) (fault : GuardFault) 
 abbrev pub DecidesApart : List ℕ → List ℕ → Verdict → List ℕ → Type 0
 DecidesApart text rows_text verdict output = BehindCase text (λ c. DecidesBy c rows_text verdict output)
 
--- ---- refusals
+-- ---- refusals of one of the two texts, or of the decision
 
--- The text spells or braces a value within the limits, its canonical form is the text of no case, and this is its fault.
+-- The text, in any of the three forms, is that of a value within the limits. Its canonical form is the text of no case, and this is its fault.
 pub record LacksCase (text : List ℕ) (fault : CaseFault) : Type 0 where
   pub value : Value
   pub read : IsTextWithin text value
   pub refused : TextRefused (canon value) fault
 
--- The text spells and braces no value within the limits, and this is its fault.
+-- The text, in any of the three forms, is that of no value within the limits, and this is its fault.
 pub record RefusesRowsForm (rows_text : List ℕ) (fault : RowsFault) : Type 0 where
   pub form : FormFault
   pub named : fault ≡ rows_faults.Form form
   pub refused : RefusesForm rows_text form
 
--- The text spells or braces a value within the limits, its canonical form is the text of no accepted list, and
--- this is its fault.
+-- The text, in any of the three forms, is that of a value within the limits. Its canonical form is the text of no accepted list, and this is its
+-- fault.
 pub record LacksRows (rows_text : List ℕ) (fault : RowsFault) : Type 0 where
   pub value : Value
   pub read : IsTextWithin rows_text value
@@ -276,9 +272,7 @@ pub record RefusesTexts (text rows_text : List ℕ) (verdict : Verdict) (output 
 abbrev pub IsAnswerApart : List ℕ → List ℕ → Verdict → List ℕ → Type 0
 IsAnswerApart text rows_text verdict output = DecidesApart text rows_text verdict output ⊎ RefusesTexts text rows_text verdict output
 
--- ---- how a run ends, and its output
-
--- ---- replies
+-- ---- the reply to what a reader returns
 
 -- The text was read to its end, and this is the answer to it. `known` is what the reader had, if it exposes that.
 pub record AnswersAtEnd (command : Command) (known : Option (List ℕ)) (ended : Bool) (verdict : Verdict) (output : List ℕ) : Type 0 where
@@ -306,7 +300,7 @@ abbrev pub IsReply : Command → Option (List ℕ) → Option (List ℕ) → Boo
 IsReply command known left ended verdict output =
     AnswersAtEnd command known ended verdict output ⊎ (RefusesLong known left verdict output ⊎ RefusesForMemory verdict output)
 
--- ---- writing
+-- ---- how the output is written, and when a stream is faulty
 
 -- Some call failed, or the number of calls reached this limit.
 abbrev pub IsFaulty : {T : Type 0} → Metered T → ℕ → Type 0

@@ -15,7 +15,7 @@ use Rattle.spki_reduce.specs.Joining.{Stops, TooLargeFor, ReducesToFive, JoinBut
 abbrev pub tuples_of : List Step → List Tuple
 tuples_of steps = map step_tuple steps
 
--- the tags, or the windows, of all tuples
+-- the tags of all tuples, and below the windows of all
 abbrev pub all_tags : List Tuple → List Tag
 all_tags tuples = flat_map tags_of tuples
 
@@ -95,17 +95,17 @@ MatchFold (Stopped step cause) P Q = Q step cause
 
 -- ---- the work of a chain
 
--- The work of folding a chain: for each step that is reached, its cost. It covers what the step compares and copies: nodes and
--- octets of tags, and names of subjects (RFC 2693, sections 6.3.1 and 6.4).
+-- The work of folding a chain is the sum of the costs of the steps that are reached. A cost covers what the step compares and copies: nodes
+-- and octets of tags, and names of subjects (RFC 2693, sections 6.3.1 and 6.4).
 
--- What it costs to intersect a tag with each of these: for each node of the tag 32, since what is left of it is looked for and kept apart,
--- and what a node costs that is intersected with the other.
+-- What it costs to intersect a tag with each of these other tags. Each node of the tag costs 32, since what is left of it is looked for and
+-- kept apart, and the `node_cost` of the other tag: the cost of intersecting one node with it.
 unfoldable pub meet_costs : Tag → List Tag → ℕ
 meet_costs tag [] = 0
 meet_costs tag (other ∷ others) = nodes tag * (32 + node_cost other) + meet_costs tag others
 
--- The cost of a step: of joining an authorization with this tag, and with these names in its subject, with a tuple. The names of the
--- next subject are copied. A definition has no tag; it puts its subject's names before those that are left.
+-- The cost of a step: of joining a tuple to an authorization that has this tag, and these names in its subject. The names of the tuple's
+-- subject are copied. A definition has no tag; it puts its subject's names before those that are left of the authorization's.
 unfoldable pub step_cost : Tag → List (List ℕ) → Tuple → ℕ
 step_cost tag path (five right) = meet_costs tag right.tags + length right.names
 step_cost tag path (four right) = 1 + length path + length right.names
@@ -136,7 +136,7 @@ IsCost policy first others place n =
     × (n ≡ step_cost (met (all_tags (first ∷ take place others))) at.root.names at.tuple))
     ⊎ ((ReachedAt policy first others place → ⊥) × (n ≡ 0))
 
--- the work of so many steps of a chain: the sum of their costs
+-- the work of a number of first steps of a chain, which is the fourth argument: the sum of their costs
 abbrev pub IsWorkOf : Policy → Tuple → List Tuple → ℕ → ℕ → Type 0
 IsWorkOf policy first others zero n = n ≡ 0
 IsWorkOf policy first others (suc place) n =
@@ -152,19 +152,19 @@ IsWork policy first others n = IsWorkOf policy first others (length others) n
 abbrev pub left_of : Work → Option ℕ
 left_of work = work.left
 
--- work is taken from what may still be done
+-- the third argument is the work that is taken: the first is what could still be done before, the second after; None if there is no bound
 abbrev pub Takes : Option ℕ → Option ℕ → ℕ → Type 0
 Takes None None n = Unit {0}
 Takes None (Some new) n = ⊥
 Takes (Some old) None n = ⊥
 Takes (Some old) (Some new) n = new + n ≡ old
 
--- a number as it is counted: None if it is 2^64 or more
+-- a number as a `usize` counts it: None if it is 2^64 or more
 abbrev pub IsNumber : Option ℕ → ℕ → Type 0
 IsNumber None n = 2 ^ 64 ≤ n
 IsNumber (Some counted) n = counted ≡ n
 
--- it is more than may still be done
+-- the work n is more than may still be done, which is the first argument
 abbrev pub IsOver : Option ℕ → ℕ → Type 0
 IsOver None n = ⊥
 IsOver (Some left) n = left < n
@@ -195,8 +195,8 @@ IsCostOf policy left tag right n =
 
 -- ---- ticks
 
--- The ticks of a chain, from the number before it to that after it: at most four for each unit of the work of some of its steps, which
--- is what was taken if there is a limit, and one.
+-- The ticks of folding a chain, from `old` before it to `new` after it: at most four for each unit of the work of some first steps, and one
+-- more. This work is what was taken of the work that could be done, if it had a bound.
 pub record AreTicksOfSteps (before after : Option ℕ) (old new : ℕ) (policy : Policy) (first : Tuple) (others : List Tuple) : Type 0 where
   pub steps : ℕ
   pub within : steps ≤ length others

@@ -35,7 +35,7 @@ Undelegated policy left right NoValidity =
     Issues policy left right × (left.delegation ≡ true) × NoMoment (left.windows ++ right.windows)
 Undelegated policy left right NoTag = JoinButForTags policy left right × NoRequest (left.tags ++ right.tags)
 
--- Why a definition does not resolve a subject of a tuple with these windows.
+-- Why a definition does not resolve the first name of a subject, which is a principal and names, of a tuple with these windows.
 abbrev pub Unresolved : Policy → Principal → List (List ℕ) → List Window → FourTuple → Cause → Type 0
 Unresolved policy principal path windows right NotIssuer = ⊥
 Unresolved policy principal path windows right NotTheName = ¬ Begins policy principal path right
@@ -51,10 +51,9 @@ Stops policy (five left) (four right) cause = Unresolved policy left.principal l
 Stops policy (four left) (four right) cause = Unresolved policy left.principal left.names left.windows right cause
 Stops policy (four left) (five right) cause = ⊥
 
--- ---- roots as the code stores them
+-- ---- roots of derivations as the code stores them
 
--- Roots of derivations as the code stores them: with one tag and one window instead of the lists of what is
--- intersected (RFC 2693, sections 6.3.1 and 6.3.2).
+-- They have one tag and one window instead of the lists of what is intersected (RFC 2693, sections 6.3.1 and 6.3.2).
 
 -- An authorization of the code is a root in reduced form. Issuer, subject and delegation are the same. Its tag contains
 -- exactly the requests that every tag of the root contains, and its window exactly the moments within every window of the

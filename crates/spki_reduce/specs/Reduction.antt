@@ -49,10 +49,9 @@ abbrev pub windows_of : Tuple → List Window
 windows_of (five t) = t.windows
 windows_of (four t) = t.windows
 
--- ---- the rules by which two tuples become one
+-- ---- the rules by which two tuples become one (RFC 2693, sections 6.3 and 6.4)
 
--- The rules by which two tuples become one (RFC 2693, sections 6.3 and 6.4). Which keys a principal names depends on
--- the policy.
+-- In all of them the policy says which hashes name keys.
 
 -- An authorization is for a key: its subject is a principal without names, which names the key.
 pub record IsFor (policy : Policy) (given : FiveTuple) (holder : List ℕ) : Type 0 where

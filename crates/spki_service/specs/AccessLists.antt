@@ -19,8 +19,7 @@ use Rattle.spki_service.specs.declared.list_fault.AclFault.TheVariants as faults
 
 -- ---- what a guard contains
 
--- What a guard contains: the entries of an access list, each as its canonical text (RFC 2693, section 3.4; RFC 9804,
--- section 6.2).
+-- It has the entries of an access list, each as its canonical text (RFC 2693, section 3.4; RFC 9804, section 6.2).
 
 -- The text is the canonical text of a value that is read as the entry.
 pub record IsEntryText (text : List ℕ) (e : Entry) : Type 0 where
@@ -111,7 +110,7 @@ is_by None (Hash alg digest) = false
 is_by (Some alg) (Key own) = false
 is_by (Some alg) (Hash by digest) = is_same by alg
 
--- whether a principal is the one of a kind with these octets
+-- whether a principal is of a kind and has these octets
 abbrev pub is_principal : Kind → List ℕ → Principal → Bool
 is_principal kind octets p = is_by kind p && bytes_eq octets (octets_of p)
 
@@ -123,14 +122,14 @@ row_octets principals row = slice_index_or principals (row.number - 1) []
 abbrev pub tail_of : List ℕ → ℕ
 tail_of octets = if ltb (length octets) 8 then 0 else from_le_bytes w64 (drop (length octets - 8) octets)
 
--- what rows are sorted by, and how
+-- what rows are sorted by: the tail of the principal's octets, then all its octets; and the order of these pairs
 abbrev pub row_key : List (List ℕ) → Row → ℕ × List ℕ
 row_key principals row = (row.tail, row_octets principals row)
 
 abbrev pub key_order : ℕ × List ℕ → ℕ × List ℕ → Ordering
 key_order x y = ordering_then (nat_cmp x.0 y.0) (slice_cmp nat_cmp x.1 y.1)
 
--- Rows in order.
+-- The rows are in this order, and each has the tail of its principal's octets.
 pub record IsInOrder (principals : List (List ℕ)) (rows : List Row) : Type 0 where
   pub tails : AllByRecursion (λ row. row.tail ≡ tail_of (row_octets principals row)) rows
   pub ascend : IsSortedByKey (row_key principals) key_order rows

@@ -33,14 +33,14 @@ use Rattle.spki_decision.specs.declared.reduction.Reduction.TheVariants as reduc
 
 -- The text of each part is read as CanonicalTexts of `sexpr_text` says.
 
--- the text of a moment, or its seconds
+-- the canonical text of a moment that was given as a text, or the seconds of one that was given in seconds
 abbrev pub IsMomentText : of_question.Moment → MomentText → Type 0
 IsMomentText (moments.Text text) (of_moment.Text part) = IsReadAs (IsTextWithin text.now) (RefusesForm text.now) part
 IsMomentText (moments.Text text) (of_moment.Seconds seconds) = ⊥
 IsMomentText (moments.Seconds seconds) (of_moment.Text part) = ⊥
 IsMomentText (moments.Seconds seconds) (of_moment.Seconds same) = same ≡ seconds
 
--- The texts are those of the question's parts, which have so many octets together.
+-- The texts are those of the question's parts. `octets` is how many octets the parts have together.
 pub record IsTextsOf (q : Question) (texts : Texts) : Type 0 where
   pub sequence : IsReadAs (IsTextWithin q.sequence.now) (RefusesForm q.sequence.now) texts.sequence
   pub key : IsReadAs (IsTextWithin q.key.now) (RefusesForm q.key.now) texts.key
@@ -101,8 +101,7 @@ HasDate (of_moment.Seconds seconds) date = IsDateAt seconds date
 
 -- ---- questions and answers
 
--- Questions that are put to a guard, and its answers: those for the case of the guard's entries and the question's
--- parts (RFC 2693, section 6).
+-- A guard's answer to a question is that for the case of the guard's entries and the question's parts (RFC 2693, section 6).
 
 -- A question that was read. It has the canonical texts of the guard's entries, the case of the question's parts, which has no entries
 -- of its own, the guard's limit of the octets of an answer, and its marks.
@@ -162,8 +161,8 @@ pub record IsUnmarked (signed : List Signed) (marks : List Bool) (one : Signed) 
   pub not_marked : ¬ IsMarked marks place
   pub before : (other : ℕ) → other < place → IsMarked marks other
 
--- What a question says by its marks. If each listed signature has a mark at its place, this is what it says if all are valid. Otherwise
--- the first one without a mark stops it.
+-- What is true of a question by its marks: `whole`, the statement for valid signatures, if each listed signature has a mark at its place;
+-- otherwise `stopped` of the first one without a mark.
 abbrev pub ByMarks : PreparedModel → (whole : Type 0) → (stopped : Signed → Type 0) → Type 0
 ByMarks a whole stopped =
     (AllMarked (asked a.case) a.marks × whole)
@@ -173,7 +172,7 @@ ByMarks a whole stopped =
 abbrev pub DecidesMarked : PreparedModel → Decision → Type 0
 DecidesMarked a d = ByMarks a (Decides every a d) (λ one. d ≡ No)
 
--- what is granted by the marks
+-- what is granted if exactly the marked signatures are valid
 abbrev pub GrantsMarked : PreparedModel → Option Grant → Type 0
 GrantsMarked a grant = DecidesMarked a (decision_of grant) × OfCase a (λ c. HoldsUntil c grant)
 
@@ -187,14 +186,14 @@ pub record IsPossible (a : PreparedModel) (yes : Bool) : Type 0 where
   pub decides : Decides every a decision
   pub answer : IsTrue yes ↔ IsYes decision
 
--- Whether the question is granted by the marks.
+-- Whether the question is granted if exactly the marked signatures are valid.
 pub record IsGranted (a : PreparedModel) (yes : Bool) : Type 0 where
   pub decision : Decision
   pub decides : DecidesMarked a decision
   pub answer : IsTrue yes ↔ IsYes decision
 
--- An answer by the marks. If each listed signature has a mark, it is that of a verifier that accepts all. Otherwise it is `stopped` of the
--- first one without a mark. Nothing is claimed if memory ran out.
+-- The answer if exactly the marked signatures are valid. If each listed signature has a mark, it is the answer by a verifier that accepts all.
+-- Otherwise it is `stopped` of the first one without a mark. Nothing is claimed if memory ran out.
 abbrev pub AnswersMarked : {A : Type 0} → (Case → Verified → Result A GuardFault → Type 0) → (Signed → A) → PreparedModel → Result A GuardFault → Type 0
 AnswersMarked IsAnswer stopped a (Ok answer) = ByMarks a (OfCase a (λ c. IsAnswer c every (Ok answer))) (λ one. answer ≡ stopped one)
 AnswersMarked IsAnswer stopped a (Err TooLarge) = ByMarks a (OfCase a (λ c. IsAnswer c every (Err TooLarge))) (λ one. ⊥)
@@ -236,8 +235,8 @@ pub record IsConditionalGrant (held : GuardModel) (texts : Texts) (signed : List
 
 -- ---- questions that own what they need
 
--- The question is opened for the guard: its texts are kept, and together they have no more octets than the guard's limit. So are the
--- signatures that a verifier is asked about, each with room for its mark, and what is granted if all of them are valid.
+-- The question is opened for the guard. The opened question has its texts, which together have no more octets than the guard's limit, the
+-- signatures that a verifier is asked about, a place for the mark of each, and what is granted if all of them are valid.
 pub record IsOpened (held : GuardModel) (q : Question) (o : OwnedQuestion) : Type 0 where
   pub guard_is : o.guard ≡ held
   pub texts : IsTextsOf q o.texts
@@ -266,7 +265,7 @@ AreReduced a verified (Some failure) folds = (folds ≡ []) × OfCase a (λ c. I
 AreReduced a verified None folds =
     OfCase a (λ c. AreFolds c verified folds) × AllByRecursion IsDated folds × AllByRecursion EndsAtDate folds
 
--- the same by the marks
+-- the same if exactly the marked signatures are valid
 abbrev pub AreReducedMarked : PreparedModel → Option Failure → List EntryFold → Type 0
 AreReducedMarked a failure folds =
     ByMarks a (AreReduced a every failure folds)

@@ -63,7 +63,7 @@ pub record IsDateAt (seconds : ℤ) (octets : List ℕ) : Type 0 where
   pub counted : seconds ≡ days_from_civil (pos year) month day *ℤ pos 86400 +ℤ pos (hour * 3600 + minute * 60 + second)
   pub written : octets ≡ date_octets year month day hour minute second
 
--- They are negative, as of a clock that failed, or after 9999-12-31 23:59:59.
+-- The seconds are negative, as of a clock that failed, or after 9999-12-31 23:59:59.
 abbrev pub IsAtNoDate : ℤ → Type 0
 IsAtNoDate seconds = (seconds <ℤ pos 0) ⊎ (pos 253_402_300_799 <ℤ seconds)
 
@@ -71,7 +71,7 @@ IsAtNoDate seconds = (seconds <ℤ pos 0) ⊎ (pos 253_402_300_799 <ℤ seconds)
 abbrev pub number_at : List ℕ → ℕ → ℕ
 number_at octets i = 10 * (slice_index octets i - char "0") + (slice_index octets (i + 1) - char "0")
 
--- they are digits, and their number is at most a bound
+-- the octets at i and i + 1 are digits, and their number is at most a bound
 abbrev pub IsNumberUpto : List ℕ → ℕ → ℕ → Type 0
 IsNumberUpto octets i high =
     (char "0" ≤ slice_index octets i) × (slice_index octets i ≤ char "9")
@@ -91,11 +91,9 @@ last_second octets =
     let long = days_in_month year month in
     days_from_civil year month (min day long) *ℤ pos 86400 +ℤ pos (if nat_lt long day then 86399 else clock_at octets 11)
 
--- ---- the parts of a question, and why a question is refused
+-- ---- the value of a request that is given as strings
 
--- ---- requests as strings
-
--- one string, or the list of the strings
+-- the value of strings: the string itself if there is one alone, otherwise the list of them
 abbrev pub words_value : List (List ℕ) → Value
 words_value [] = group []
 words_value (w ∷ []) = plain w
@@ -157,7 +155,7 @@ pub record IsNoDateFor (kind : CertFaultKind) (v : Value) : Type 0 where
 
 -- ---- refusals of a question
 
--- the parts that can be read
+-- the sequence can be read; below the same of the key, and of the request
 abbrev pub ReadsSequence : Question → Type 0
 ReadsSequence q = (items : List SeqItem) × Reads (IsTextWithin q.sequence.now) (λ v. SeqOf v items)
 
@@ -167,7 +165,7 @@ ReadsKey q = (key : List ℕ) × Reads (IsTextWithin q.key.now) (λ v. KeyOf v k
 abbrev pub ReadsRequest : Question → Type 0
 ReadsRequest q = (g : Request) × Reads (IsWanted q.request) (λ v. RequestOf v g)
 
--- those before a part can be read
+-- the parts before this one can be read
 abbrev pub ReadsBefore : Question → Part → Type 0
 ReadsBefore q parts.Sequence = Unit {0}
 ReadsBefore q parts.Key = ReadsSequence q
@@ -200,7 +198,7 @@ IsNotAsked q (faults.Request fault) = ReadsBefore q parts.Request × Reads (IsWa
 IsNotAsked q (faults.Moment kind) = ReadsBefore q parts.Moment × IsAskedAtNone q.moment kind
 IsNotAsked q _ = ⊥
 
--- ---- length
+-- ---- the octets of a question
 
 -- strings count as the canonical form of their value
 abbrev pub wanted_octets : wanted.RequestInput → ℕ
@@ -216,9 +214,7 @@ moment_octets (moments.Seconds seconds) = 22
 abbrev pub asked_octets : Question → ℕ
 asked_octets q = length q.sequence.now + (length q.key.now + (wanted_octets q.request + moment_octets q.moment))
 
--- ---- how many certificates and strings a question has
-
--- ---- certificates
+-- ---- how many certificates a question has
 
 -- 1 for a certificate, of either kind, and 0 for another item
 abbrev pub certificate_count : SeqItem → ℕ
@@ -231,7 +227,7 @@ abbrev pub certificates_in : List SeqItem → ℕ
 certificates_in [] = 0
 certificates_in (item ∷ items) = certificate_count item + certificates_in items
 
--- ---- strings
+-- ---- how many strings a request has
 
 abbrev mutual
   -- how many strings a value has
@@ -251,7 +247,7 @@ TellsStrings most has_more v = IsTrue has_more ↔ (most < strings_in v)
 abbrev pub HasFewStrings : ℕ → Question → Type 0
 HasFewStrings most q = Reads (IsWanted q.request) (λ v. strings_in v ≤ most)
 
--- ---- refusals
+-- ---- refusals for too many certificates or strings, and all refusals
 
 -- The question is read, and has more certificates.
 pub record HasManyCertificates (most : ℕ) (q : Question) : Type 0 where

@@ -4,9 +4,7 @@ use Rattle.std.proofs.Common.{◌≡◌, ℕ, ◌≤◌, true, List, [], ◌++�
 use Rattle.sexpr_text.specs.{declared.sinks.Counter.{Counter}, Sinks.{count_of}}
 use Rattle.spki_guard.specs.declared.capped_sink.CappedSink.{CappedSink}
 
--- ---- what a sink has taken that keeps at most so many octets
-
--- ---- the parts of a sink
+-- ---- the parts of a sink that keeps at most so many octets, and what it takes
 
 -- the reference to the vector, and its octets
 abbrev pub lender_of : CappedSink → GName
@@ -18,11 +16,11 @@ kept_by s = s.octets.now.items
 abbrev pub counter_of : CappedSink → Counter
 counter_of s = s.counter
 
--- so many octets are kept
+-- the most octets that are kept
 abbrev pub most_of : CappedSink → ℕ
 most_of s = s.most
 
--- memory ran out for some octets
+-- memory ran out when octets were appended
 abbrev pub has_failed : CappedSink → Bool
 has_failed s = s.failed
 
@@ -30,7 +28,8 @@ has_failed s = s.failed
 abbrev pub is_over : CappedSink → Bool
 is_over s = nat_lt (most_of s) (count_of (counter_of s))
 
--- Octets are counted, and kept unless memory ran out, as long as they are so many. Of more octets, so many and one are counted at least.
+-- The sink takes these octets: it counts them, and keeps them if all together are at most its limit and memory does not run out. If they are
+-- more, the count is over the limit, but need not be exact.
 pub record CappedTakes (old : CappedSink) (octets : List ℕ) (new : CappedSink) : Type 0 where
   pub same_lender : lender_of new ≡ lender_of old
   pub same_most : most_of new ≡ most_of old
@@ -41,7 +40,7 @@ pub record CappedTakes (old : CappedSink) (octets : List ℕ) (new : CappedSink)
   pub kept : count_of (counter_of new) ≤ most_of new → has_failed new ≡ false
       → (has_failed old ≡ false) × (kept_by new ≡ kept_by old ++ octets)
 
--- ---- what a sink takes that keeps at most so many octets, one call after another
+-- ---- what it takes in several calls
 
 pub capped_takes_nothing : (s : CappedSink) → CappedTakes s [] s
 capped_takes_nothing s = record {

@@ -5,9 +5,7 @@ use Rattle.std.specs.{Prelude.{◌⊎◌, ◌<◌, ◌≤◌, max, false}, Borro
 use Rattle.metered_io.specs.{declared.meters.Metered.{Metered}, MeteredCalls.{asks_of, faults_of, flushed_of, earlier_of, Takes, SendsFront, inner_of}}
 use Rattle.spki_guard.specs.declared.pages.PageSink.{PageSink}
 
--- ---- what is written page by page
-
--- ---- the parts of a sink
+-- ---- the parts of a sink that writes page by page
 
 -- the reference to the writer, and the writer
 abbrev pub lender_of : {W : Type 0} → PageSink W → GName
@@ -16,11 +14,11 @@ lender_of s = s.writer.ghost_name
 abbrev pub writer_of : {W : Type 0} → PageSink W → Metered W
 writer_of s = s.writer.now
 
--- the octets that wait
+-- the octets that are in the page, and not yet written
 abbrev pub page_of : {W : Type 0} → PageSink W → List ℕ
 page_of s = s.page.items
 
--- the writer's count of calls stops here
+-- the most calls of the writer
 abbrev pub most_of : {W : Type 0} → PageSink W → ℕ
 most_of s = s.most
 
@@ -28,7 +26,7 @@ most_of s = s.most
 abbrev pub has_failed : {W : Type 0} → PageSink W → Bool
 has_failed s = s.failed
 
--- ---- what is written
+-- ---- what it writes, and keeps in its page
 
 -- a write failed before, and nothing was written since, or the writer failed after a beginning of these octets
 abbrev pub IsCutAfter : {W : Type 0} → (W → Option (List ℕ)) → Bool → Metered W → Metered W → List ℕ → ℕ → Type 0
@@ -44,7 +42,7 @@ pub record IsPassedOn {W : Type 0} (contents : W → Option (List ℕ)) (old new
   pub whole : after ≡ false → (before ≡ false) × (faults_of new ≡ faults_of old) × Takes contents old new octets
   pub cut : after ≡ true → IsCutAfter contents before old new octets most
 
--- What was written and what waits are what waited before and these octets, or a write failed after a beginning of them.
+-- What was written now, and what is in the page then, are together the page before and these octets; or a write failed after a beginning of them.
 pub record PageTakes {W : Type 0} (contents : W → Option (List ℕ)) (old : PageSink W) (octets : List ℕ) (new : PageSink W) : Type 0 where
   pub same_lender : lender_of new ≡ lender_of old
   pub same_most : most_of new ≡ most_of old
@@ -56,7 +54,7 @@ pub record PageTakes {W : Type 0} (contents : W → Option (List ℕ)) (old : Pa
   pub cut : has_failed new ≡ true
       → IsCutAfter contents (has_failed old) (writer_of old) (writer_of new) (page_of old ++ octets) (most_of old)
 
--- ---- what is written page by page in several calls
+-- ---- what it takes in several calls
 
 pub none_appended : (known : Option (List ℕ)) → Appends known known []
 none_appended None = tt

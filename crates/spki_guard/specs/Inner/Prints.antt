@@ -30,7 +30,7 @@ pub record IsUnused (p : FoldPrinter) : Type 0 where
   pub none_done : p.some_done ≡ false
   pub none_put : p.count ≡ 0
 
--- All lines of these folds are kept, and there is room for what is left of so many octets. Or they are more.
+-- The printer has the lines of these folds, and `room` for the rest of `most` octets; or the lines have more than `most` octets.
 pub record HasPrinted (most : ℕ) (folds : List EntryFold) (p : FoldPrinter) : Type 0 where
   pub lines : List ℕ
   pub are : AreFoldLines 1 folds lines
@@ -87,13 +87,13 @@ Prints No printed = printed ≡ no_line
 Prints (Done output) printed = PrintsOutput output printed
 Prints (Refused refusal) printed = printed ≡ refused_line refusal
 
--- of the verdict and the octets that are printed this is said
+-- the statement `IsOne` is true of the answer's verdict and of the octets that are printed for it
 abbrev pub PrintsAs : (Verdict → List ℕ → Type 0) → Answer → Type 0
 PrintsAs IsOne answer = (printed : List ℕ) → Prints answer printed → IsOne (answer_verdict answer) printed
 
 -- ---- answers within a number of octets
 
--- the lines of chains are more
+-- the lines of these folds have more octets than `most`
 abbrev pub AreLongFolds : List EntryFold → ℕ → Type 0
 AreLongFolds folds most = (verdict : Verdict) × (lines : List ℕ) × ReportsFolds folds verdict lines × (most < length lines)
 
@@ -110,13 +110,13 @@ pub record IsShortText (text : List ℕ) (read : Result (List ℕ) FormFault) : 
   pub short : length text ≤ 1048576
   pub is : IsReadAs (IsTextWithin text) (RefusesForm text) read
 
--- the canonical text of a case, or a text's value in the form that a command needs that is not for a case
+-- what is read for a command on a case: the text's canonical form; for any other command: the text's value in the form that it needs
 abbrev pub IsSourceOf : Command → List ℕ → Source → Type 0
 IsSourceOf command text (source.Case own read) = (command ≡ command_of own) × IsShortText text read
 IsSourceOf command text (source.Converted octets) =
     (IsOnCase command → ⊥) × (v : Value) × IsTextWithin text v × (octets.items ≡ written (form_of command) v)
 
--- what a refusal means for the text of a case: for each command on a case, and with each accepted list that stands apart
+-- what a refusal means for the text of a case: each command on a case refuses it so, and so does the decision by any separate accepted list
 abbrev pub RefusesCase : List ℕ → Refusal → Type 0
 RefusesCase text refusal =
     ((command : Command) → IsOnCase command → RefusesAnswer command text refusal) × ((rows : List ℕ) → RefusesApart text rows refusal)
@@ -131,7 +131,7 @@ IsTextRead known left ended (Err refusal) =
 
 -- ---- sending
 
--- Some octets with a verdict, of which this is said, were written, or a beginning of them. The writer's counts were not reset.
+-- Some octets for which `IsOne` is true, with their verdict, were written, or a beginning of them. The writer's counts were not reset.
 pub record Sends {W : Type 0} (contents : W → Option (List ℕ)) (IsOne : Verdict → List ℕ → Type 0) (old new : Metered W) (status : Status) : Type 0 where
   pub verdict : Verdict
   pub output : List ℕ
