@@ -1,4 +1,4 @@
--- What a text owns says how many octets are lent.
+-- By what a text owns, its octets lie in one block, and are fewer than 2^63.
 use Rattle.std.proofs.Common.{◌≡◌, ℕ, ◌<◌, ◌≤◌, ◌^◌, List, length, Bool, true, false, refl, sym, subst, arith, ◌∙◌}
 use Rattle.spki_c.specs.Pointers.{if_low, lent_count, IsCounted, lent_there, text_owns}
 use lib.Dec.{T, ltb, ltb→lt, lit<}
@@ -10,7 +10,7 @@ pub pointer_typed : (p : Ptr) → T (has_ty ty_ptr (ptr_val p)) × WT (ptr_val p
 pointer_typed (block_ptr b o) = (tt, tt)
 pointer_typed null_ptr = (tt, record { fits = lit< tt })
 
--- octets lie in a block
+-- octets that are lent lie in one block of memory
 pub in_block : (p : Ptr) (n k : ℕ) (xs : List ℕ) → IsCounted p n xs → k ≡ length xs → 0 < k → InBlock p
 in_block (block_ptr b o) n k xs is e some = tt
 in_block null_ptr n k xs is e some = absurd (let no = is.1 in omega (arith, e, some, no))

@@ -1,4 +1,4 @@
--- A number is that of one command.
+-- A number is that of one command at most.
 use Rattle.std.{proofs.Common.{◌≡◌, List, [], ◌∷◌, Some, refl, sym, ap, ◌∙◌, rules}, specs.Prelude.{slice_get}}
 use Rattle.spki_words.specs.declared.commands.Command.{Command, TheVariants.{Canonical, Advanced, Transport, Intersect, Reduce, Check, Explain}}
 use Rattle.spki_c.specs.Results.{number_of}

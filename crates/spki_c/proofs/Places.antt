@@ -8,7 +8,8 @@ use Rattle.spki_c.specs.Strings.{parts, IsMember, octets_at, if_there, StandsIn,
 
 -- ---- the members of a list stand in its canonical text, one behind another
 
--- What is left of a list: so many octets of its text, and this number of members, are gone through, and this number is left to go.
+-- The state of the loop of `member_of`, which looks for the member with this number: `begins` is the offset of the next member, `left` how many
+-- members come before the one that is looked for, and `rest` the members from the next one on.
 pub record Left (v : Value) (begins left number : ℕ) (rest : List Value) : Type 0 where
   pub before : List Value
   pub is : v ≡ group (before ++ rest)
@@ -87,7 +88,7 @@ lies_short text w at l =
     let b : length (w ++ l.behind) ≡ length w + length l.behind = length-append w l.behind in
     let c = l.begins in omega (arith, a, b, c)
 
--- the bound of a next offset
+-- the next offset is within the text
 pub left_short : (v : Value) (begins left number : ℕ) (m : Value) (rest : List Value) → Left v begins left number (m ∷ rest)
     → begins + length (canon m) ≤ length (canon v)
 left_short v begins left number m rest l =

@@ -11,7 +11,7 @@ next_of [] k d low = absurd (omega (arith, low))
 next_of (t ∷ ts) zero d low = (t, ts, refl, refl)
 next_of (t ∷ ts) (suc k) d low = next_of ts k d (omega (arith, low))
 
--- while a place is left, so is a text, and the place is that of the first
+-- if a place is left, a text is left, and the place is that of the first such text
 pub next_at : (left all : List Text) (places : List TextPlace) (k : ℕ) (d : TextPlace) → left ≡ drop k all → places ≡ map place_of all → k < length places
     → IsNext left places k d
 next_at left all places k d e p =

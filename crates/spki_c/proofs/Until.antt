@@ -1,4 +1,4 @@
--- A status of a yes is that of a grant.
+-- If the status is yes, there is a grant.
 use Rattle.std.proofs.{Common.{◌≡◌, ℕ, List, length, Bool, Option, Some, None, ℤ, inl, inr, refl, sym, ◌∙◌, subst, arith}, lemmas.Bool.{cases_lt}}
 use Rattle.spki_decision.specs.declared.grant.Grant.{Grant}
 use Rattle.spki_service.specs.{AccessLists.{GuardModel}, declared.{owned_question.OwnedQuestion.{OwnedQuestion}, question.Question.{Question}}}
@@ -7,14 +7,14 @@ use Rattle.spki_guard.specs.declared.queries.Query.{Query, TheVariants.{Decide, 
 use Rattle.spki_guard.specs.HeldQuestions.{HasGrant, IsGrantFor}
 use Rattle.spki_c.specs.{Guards.{status_for}, Results.{IsHanded}, Until.{number_of, IsHeldUntil}}
 
--- a yes that is handed over is that of the answer
+-- if the status that is returned is yes, that of the answer is
 answered_yes : (old new : List ℕ) (needed status given : ℕ) (output : List ℕ) → IsHanded old new needed status given output → status ≡ 9 → given ≡ 9
 answered_yes old new needed status given output handed nine = elim (cases_lt (length old) (length output)) [
   | inl long ↦ absurd (omega (arith, nine, (handed.too_small long).status_is))
   | inr fits ↦ sym (handed.fits fits).status_is ∙ nine
 ]
 
--- only a decision that is done has this status
+-- only a decision whose verdict is Done has the status yes
 decided_yes : (query : Query) (verdict : Verdict) → status_for query verdict ≡ 9 → (query ≡ Decide) × (verdict ≡ Done)
 decided_yes Decide Done e = (refl, refl)
 decided_yes Decide No e = absurd (omega (arith, e))

@@ -23,19 +23,19 @@ abbrev others : List Value → List Value
 others [] = []
 others (x ∷ xs) = xs
 
--- what stands behind a part
+-- the members behind a part
 pub after : (vs : List Value) (word : List ℕ) (p : TakenPart) (y : Value) (ys : List Value) → IsPart vs word p → vs ≡ y ∷ ys → p.rest ≡ ys
 after vs word p y ys part e = ap others (sym part.parts ∙ e)
 
--- what stands in it
+-- the members of a part behind its head
 pub inside : (vs : List Value) (word : List ℕ) (p : TakenPart) (inner ys : List Value) → IsPart vs word p → vs ≡ headed word inner ∷ ys → p.members ≡ inner
 inside vs word p inner ys part e = search (rules, behind_head)
 
--- a part and what stands behind it
+-- the members are a part and the members behind it
 pub joined : (vs : List Value) (word : List ℕ) (p : TakenPart) (inner ys : List Value) → IsPart vs word p → p.members ≡ inner → p.rest ≡ ys → vs ≡ headed word inner ∷ ys
 joined vs word p inner ys part m r = part.parts ∙ rw (part.written, m, r) refl
 
--- the parts behind a head are those of the value
+-- the parts that are read from the members behind the head are those of the value
 pub lifted : (v : Value) (ms : List Value) (r : Option Parts) → v ≡ headed (codes "case") ms
     → MatchOption r ((p : spec.Parts) → ms ≢ part_values p) (λ p. (parts : spec.Parts) × ArePartsOf ms p parts)
     → MatchOption r ((p : spec.Parts) → v ≢ case_value p) (λ p. (parts : spec.Parts) × (v ≡ case_value parts) × ArePartsOf (part_values parts) p parts)
@@ -44,7 +44,7 @@ lifted v ms (Some p) e h = search rules
 
 -- ---- the policy
 
--- one member that is not headed policy
+-- one member that is no list with the head `policy` states no policy
 pub no_policy : (ms : List Value) (v : Value) → ms ≡ v ∷ [] → ((rest : List Value) → v ≢ headed (codes "policy") rest)
     → (policy : Policy) → ms ≢ policy_values policy
 no_policy ms v e unlike Open h = let k : v ∷ [] ≡ [] = sym e ∙ h in cc
@@ -52,7 +52,7 @@ no_policy ms v e unlike Strict h =
     let k : v ∷ [] ≡ headed (codes "policy") (plain (codes "strict") ∷ []) ∷ [] = sym e ∙ h in
     unlike (plain (codes "strict") ∷ []) (ap (first_or v) k)
 
--- one that is, and names another policy
+-- one list with the head `policy` that has anything but the word `strict` behind it states no policy
 pub other_policy : (ms : List Value) (v : Value) (inner : List Value) → ms ≡ v ∷ [] → v ≡ headed (codes "policy") inner
     → inner ≢ plain (codes "strict") ∷ [] → (policy : Policy) → ms ≢ policy_values policy
 other_policy ms v inner e w unlike Open h = let k : v ∷ [] ≡ [] = sym e ∙ h in cc

@@ -1,4 +1,4 @@
--- What is found by a digest: in a map where one more comes behind others, and by halves in rows in order.
+-- What is found by a digest: in a map to which one more value was added, and by a binary search in sorted rows.
 use Rattle.std.proofs.Common.{◌≡◌, ℕ, Ordering, Bool, true, false, cond, List, ◌⊎◌, inl, inr, Vec, Option, Some, None, refl, sym, ap, subst, ◌∙◌, rules, ◌<◌, ◌≤◌, ◌&&◌, ◌||◌, [], ◌∷◌, map, length, Result, Ok, Err, ⊎_elim, bytes_eq, arith}
 use Rattle.std.proofs.lemmas.Bool.{cases_Bool, cond-true, cond-false, cases_lt}
 use Rattle.std.proofs.lemmas.Cmp.{eq_by_cmp_equiv, nat_list_cmp_total, nat_list_eq_equiv, on_total, then_total}
@@ -12,9 +12,9 @@ use Rattle.spki_case.specs.{Lookups.{at_digest, SortedRow, AreSorted, compared, 
 use Rattle.sha2.specs.Sha256.{sha256}
 use Rattle.spki_case.specs.declared.table.Row as code_row
 
--- ---- what is kept by a digest, where one more comes behind others
+-- ---- a map by digests to which one more value is added
 
--- by their octets
+-- the order of vectors by their octets
 abbrev by_octets : Vec ℕ Global → Vec ℕ Global → Ordering
 by_octets x y = slice_cmp nat_cmp x.items y.items
 
@@ -48,13 +48,13 @@ pub inserted : {X : Type 0} (own : Vec ℕ Global) (key : X) (old new : BTreeMap
     → at_digest new digest ≡ cond (bytes_eq own.items digest) (Some key) (at_digest old digest)
 inserted own key old new h = written own.items key old new h
 
--- ---- one behind others, where f says which of them has a digest
+-- ---- the first value with a digest, if one more comes behind others; f gives the first of the others
 
 option_or-none : {X : Type 0} (o : Option X) → option_or o None ≡ o
 option_or-none None = refl
 option_or-none (Some x) = refl
 
--- none of them has its digest
+-- none of the others has the digest of the new one
 pub first_added : {X : Type 0} (f : List ℕ → Option X) (own : List ℕ) (key : X) (digest : List ℕ) → is_some (f own) ≡ false
     → cond (bytes_eq own digest) (Some key) (f digest) ≡ option_or (f digest) (cond (bytes_eq own digest) (Some key) None)
 first_added {X = X} f own key digest h = by (f digest) refl (cases_Bool (bytes_eq own digest))
@@ -68,9 +68,7 @@ first_added {X = X} f own key digest h = by (f digest) refl (cases_Bool (bytes_e
         absurd cc
     by o e (inr n) = rw n (sym (option_or-none (f digest)))
 
--- ---- what a search by halves finds in rows in order
-
--- ---- searches
+-- ---- what a binary search finds
 
 is_found : {X : Type 0} {R : X → X → Ordering} → IsTotalOrder R → (xs : List X) (q : X) (r : Result ℕ ℕ) → IsSorted R xs
     → IsSearchInRange r (length xs) → IsBinarySearchResult (λ y. R y q) xs r → is_ok r ≡ list_any (λ y. is_eq (R y q)) xs
@@ -86,7 +84,7 @@ list_any-mapped : {A B : Type 0} (p : A → Bool) (q : B → Bool) (f : A → B)
 list_any-mapped p q f e [] = refl
 list_any-mapped p q f e (x ∷ xs) = rw (e x) (ap (λ b. q (f x) || b) (list_any-mapped p q f e xs))
 
--- ---- rows
+-- ---- what it finds in the sorted rows of an accepted list
 
 -- a row of this digest, value and key
 is_equal : (message : List ℕ) (x y : SortedRow) → sha256 message ≡ y.0.now → is_eq (compared x y) ≡ is_row_of y.2.now message y.1.now (sorted_row x)

@@ -26,9 +26,7 @@ pub lacks : (v : Value) (p : Parts) (inside : Type 0) (named outer : CaseFault) 
 lacks v p inside named outer e (inl h) r other = absurd (other h.1)
 lacks v p inside named outer e (inr h) r other = lacking v p named outer e h.1 (r h.0)
 
--- ---- a value is one case
-
--- ---- rows
+-- ---- a value is read as one row, and a list of values as one list of rows
 
 pub row-one : (v : Value) (r s : Row) → RowOf v r → RowOf v s → r ≡ s
 row-one v r s read other = search (rules, behind_head, key-one, hash-one)
@@ -40,7 +38,7 @@ rows-one (v ∷ vs) [] ss read other = absurd read
 rows-one (v ∷ vs) (r ∷ rs) (s ∷ ss) read other = search (rules, row-one, rows-one vs rs ss read.1 other.1)
 rows-one vs rs ss read other = absurd other
 
--- ---- the parts of a case
+-- ---- a value is read as one case
 
 only : (word : List ℕ) (v w : Value) → headed word (v ∷ []) ≡ headed word (w ∷ []) → v ≡ w
 only word v w e = let f : v ∷ [] ≡ w ∷ [] = behind_head word (v ∷ []) (w ∷ []) e in cc
@@ -113,7 +111,7 @@ some-one e f = cc
 at-zero : {a b : CertFault} → a.item ≡ 0 → b.item ≡ 0 → a.kind ≡ b.kind → a ≡ b
 at-zero e f g = λ i. record { item = (e ∙ sym f) i; kind = g i }
 
--- of two parts that are refused the earlier has a reading in what is said of the later
+-- a case has one refused part: the refusal of a later part says that all earlier ones are read
 one-part : (p : Parts) (f g : CaseFault) → PartRefused p f → PartRefused p g → f ≡ g
 one-part p (faults.Acl x) (faults.Acl y) a b = ap faults.Acl (some-one a.named b.named)
 one-part p (faults.Accepted x) (faults.Accepted y) a b = ap faults.Accepted (some-one a.named b.named)
@@ -149,9 +147,7 @@ one-rows_fault v f g (inr a) (inr b) =
     let one : a.lacking ≡ b.lacking = some-one (ap rows_fault (sym same) ∙ a.first) b.first in
     a.named ∙ ap rows_faults.Row one ∙ sym b.named
 
--- ---- a text that is a case's, or an accepted list's, is refused by no fault
-
--- ---- forms
+-- ---- a text that is read has no fault of its form
 
 too_long : (v : Value) → IsWithinLimits v → ¬ Refused (canon v) TooLong
 too_long v within long = let short = within.short in omega arith
@@ -163,7 +159,7 @@ well_formed text v Short within written found refused = no_refusal text Short v 
 well_formed text v Memory within written found refused = found refl
 well_formed text v form within written found refused = no_refusal text form v tt refused within written
 
--- ---- cases
+-- ---- a text that is read as a case is not refused as one
 
 no_part : (p : Parts) (c : Case) (v : Value) (fault : CaseFault) (read : CaseOf v c) → SameParts p read.parts → ¬ PartRefused p fault
 no_part p c v (faults.Acl fault) read same refused =
@@ -184,7 +180,7 @@ case_unrefused text c fault read (inl bad) = well_formed text read.value bad.for
 case_unrefused text c fault read (inr other) =
     no_fault other.value c fault (subst (λ (v : Value). CaseOf v c) (one_text text read.value other.value read.written other.written) read.is) other.is
 
--- ---- accepted lists
+-- ---- a text that is read as an accepted list is not refused as one
 
 no_row : (v : Value) (rows : List Row) (fault : RowsFault) → RowsOf v rows → ¬ NoRows v fault
 no_row v rows fault read (inl misbuilt) = misbuilt.none read.members read.written

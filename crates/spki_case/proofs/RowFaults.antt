@@ -15,17 +15,13 @@ use Rattle.spki_case.proofs.OneCase.{parts-one}
 use Rattle.spki_cert.specs.declared.fault.CertFaultKind.TheVariants as kinds
 use Rattle.spki_case.specs.declared.rows.RowsFault.TheVariants as faults
 
--- ---- the fault that is named of a row, along the way of its reading
-
--- ---- rows
+-- ---- the order in which the parts of a row are looked at
 
 pub row-looks : IsTriple (codes "by") row_fault key_fault sha256_fault
 unfolding row_fault
 row-looks = record { looked = λ v. refl }
 
--- ---- a value has no fault as a row, and the parts of a case have none, exactly where they are such
-
--- ---- hashes
+-- ---- a value has no fault as a hash by SHA-256 exactly if it is one
 
 digest-of : (v : Value) (alg : HashAlg) (digest : List ℕ) → HashOf v alg digest → begins_sha256 (behind_head v) ≡ true → Reads (λ w d. HashOf w Sha256 d) v
 digest-of v Sha256 digest read e = (digest, read)
@@ -35,7 +31,7 @@ pub sha256-none : (v : Value) → (sha256_fault v ≡ None) ↔ Reads (λ w d. H
 unfolding sha256_fault
 sha256-none v = (λ e. search (rules, none-found, unless-none, hash-none, digest-of), λ some. search (rules, hash-none, behind-group))
 
--- ---- rows
+-- ---- values have no fault as rows exactly if they are rows
 
 row-read : (v : Value) → row_fault v ≡ None → Reads RowOf v
 row-read v e =
@@ -76,7 +72,7 @@ rows-first vs fault e =
     let first = each-first row_fault RowOf row-none fault 1 vs e in
     search (rules, row-refused)
 
--- ---- the parts of a case
+-- ---- values have no fault as the parts of a case exactly if they are such
 
 abbrev AreFaultless : Parts → Type 0
 AreFaultless p =

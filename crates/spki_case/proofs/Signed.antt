@@ -6,7 +6,7 @@ use Rattle.spki_cert.specs.{declared.certificate.SeqItem.{SeqItem, TheVariants.{
 use Rattle.spki_cert.specs.Structures.{ItemOf, waits_behind, waits_after, IsInPlace, AreInPlace, SeqOf}
 use Rattle.spki_case.specs.Case.{signature_in, certificates_from, are_signed}
 
--- where a certificate waits, what is neither do nor signature is not in place
+-- behind a certificate, an item that is neither an operation nor a signature is not in its place
 stray : (v : Value) → is_headed (codes "do") v ≡ false → is_headed (codes "signature") v ≡ false → IsInPlace true v → ⊥
 stray v d s (inl h) = let clash : false ≡ true = sym d ∙ h in cc
 stray v d s (inr h) = let clash : false ≡ true = sym s ∙ h in cc
@@ -14,7 +14,7 @@ stray v d s (inr h) = let clash : false ≡ true = sym s ∙ h in cc
 late : (v : Value) → is_headed (codes "signature") v ≡ true → IsInPlace false v → ⊥
 late v s h = let clash : true ≡ false = sym s ∙ h in cc
 
--- a certificate that waits gets its signature
+-- a certificate is followed by its signature
 pub signature_comes : (vs : List Value) (is : List SeqItem) → AllZip ItemOf vs is → AreInPlace true vs → waits_after true vs ≡ false
     → IsSome (signature_in is)
 signature_comes [] [] zip placed end = absurd cc

@@ -18,7 +18,7 @@ use Rattle.spki_cert.specs.declared.certificate.SeqItem.TheVariants as items
 
 -- ---- lists
 
--- what stands in one of two zipped lists has another in its place
+-- of two lists that are related place by place, an element of the first has a related one at its place in the second
 zipped_at : {A B : Type 0} (R : A → B → Type 0) (xs : List A) (ys : List B) (place : ℕ) (x : A) → AllZip R xs ys → slice_get xs place ≡ Some x
     → (y : B) × (slice_get ys place ≡ Some y) × R x y
 zipped_at R [] ys place x zip stands = absurd (none-some x stands)
@@ -40,7 +40,7 @@ stood_first : (n : ℕ) (item : SeqItem) (sequence : List SeqItem) (x : Certific
 stood_first n item sequence (auth cert) is = rw is (ap (λ (m : ℕ). Some (shown_at m (auth cert) sequence)) (omega arith))
 stood_first n item sequence (name cert) is = rw is (ap (λ (m : ℕ). Some (shown_at m (name cert) sequence)) (omega arith))
 
--- one item more in front, and how many certificates it is
+-- how many certificates an item is, 1 or 0; below the same with one more item in front
 abbrev count : SeqItem → ℕ
 count (items.Auth cert) = 1
 count (items.Name cert) = 1
@@ -160,7 +160,7 @@ signed_by_issuer c verified n place x g stands =
 
 -- ---- no amplification
 
--- what passes a test in all tuples passes it in each
+-- if all parts of all tuples pass a test, so do those of each tuple
 each_part : {A : Type 0} (parts : Tuple → List A) (test : A → Bool) (ts : List Tuple) (place : ℕ) (t : Tuple)
     → list_all test (flat_map parts ts) ≡ true → slice_get ts place ≡ Some t → list_all test (parts t) ≡ true
 each_part parts test [] place t all stands = absurd (none-some t stands)
@@ -174,7 +174,7 @@ each_part parts test (u ∷ ts) place t all stands =
     by (suc p) there both later = later p there both.1
 
 module _ (policy : Policy) (holder : List ℕ) where
-  -- what a step leaves of delegation
+  -- if the authorization after a step may be delegated, the one before it may be
   left_over : (t m : FiveTuple) (x : Tuple) → Joins policy (five t) x (five m) → m.delegation ≡ true → t.delegation ≡ true
   left_over t m (five x) j e = j.allowed
   left_over t m (four x) j e = sym (ap (λ (r : FiveTuple). r.delegation) j.result_is) ∙ e
@@ -191,7 +191,7 @@ module _ (policy : Policy) (holder : List ℕ) where
       let g = (leads_first policy holder t x ts).0 leads in
       left_over t g.0 x g.1 (delegated_before ts g.0 g.2 place u stands)
 
-  -- and so may one of the tuples
+  -- an authorization among the tuples that comes before another one may be delegated too
   pub delegated_between : (ts : List Tuple) (t : FiveTuple) → Leads policy ts holder t → (place later : ℕ) (u v : FiveTuple) → place < later
       → slice_get ts place ≡ Some (five u) → slice_get ts later ≡ Some (five v) → u.delegation ≡ true
   delegated_between [] t leads place later u v less here there = absurd (none-some (five u) here)
@@ -204,7 +204,7 @@ module _ (policy : Policy) (holder : List ℕ) where
       let g = (leads_first policy holder t x ts).0 leads in
       delegated_between ts g.0 g.2 place later u v (omega (arith, less)) here there
 
-  -- tuples lead to the issuer of each authorization from before it
+  -- the tuples before an authorization lead to the key of its issuer
   led_to : (ts : List Tuple) (t : FiveTuple) → Leads policy ts holder t → (place : ℕ) (u : FiveTuple) → slice_get ts place ≡ Some (five u)
       → (k : List ℕ) × (u.issuer ≡ key k) × Leads policy (take place ts) k t
   led_to [] t leads place u stands = absurd (none-some (five u) stands)
@@ -217,7 +217,7 @@ module _ (policy : Policy) (holder : List ℕ) where
       let later = led_to ts g.0 g.2 place u stands in
       (later.0, later.1, (leads_first policy later.0 t x (take place ts)).1 (g.0, g.1, later.2))
 
--- what passes a test in all tuples passes it in the first of them
+-- if all parts of all tuples pass a test, so do those of the first tuples
 front_part : {A : Type 0} (parts : Tuple → List A) (test : A → Bool) (ts : List Tuple) (n : ℕ) → list_all test (flat_map parts ts) ≡ true
     → list_all test (flat_map parts (take n ts)) ≡ true
 front_part parts test ts n all =
@@ -251,21 +251,21 @@ held_throughout c tuples e s =
       delegates = λ place later t u less here there. delegated_between c.policy c.key tuples (entry_tuple e) p.leads place later t u less here there;
     }
 
--- ---- the same of items
+-- ---- no amplification, for the items of a sequence
 
--- what all of one are passes for it
+-- if all elements of a list of one pass a test, this one does
 alone : {A : Type 0} (test : A → Bool) (x : A) → list_all test (x ∷ []) ≡ true → test x ≡ true
 alone test x all = (and_parts (test x) true all).0
 
 module _ (c : Case) (verified : Verified) (tuples : List Tuple) (shown : AreShown c.policy verified c.items tuples) where
-  -- the tuple of a certificate
+  -- the tuple at the place of a certificate among the certificates is that of this certificate
   tuple_at : (p number : ℕ) (x : Certificate) (behind : List SeqItem) → slice_get (certificates c.items) p ≡ Some (shown_at number x behind)
       → (holder : List ℕ) × (slice_get tuples p ≡ Some (tuple_of holder x))
   tuple_at p number x behind stands =
       let at = zipped_at (PassesTestsAs c.policy (keys_of c.items) verified) (certificates c.items) tuples p (shown_at number x behind) shown stands in
       (at.2.holder, at.1 ∙ ap Some at.2.tuple_is)
 
-  -- that of an item
+  -- each item that is a certificate has a tuple
   tuple_of_item : (place : ℕ) (x : Certificate) → slice_get c.items place ≡ Some (item_of x)
       → (p : ℕ) × (holder : List ℕ) × (slice_get tuples p ≡ Some (tuple_of holder x))
   tuple_of_item place x stands =

@@ -76,21 +76,19 @@ module _ (policy : Policy) (keys : List (List ℕ)) (verified : Verified) where
   zip_at (b ∷ before) s after (t ∷ ts) a = zip_at before s after ts a.1
   zip_at before s after ts a = search
 
--- where a certificate fails no list of tuples is shown
+-- if a certificate fails a test, no tuples are those of certificates that all pass
 pub none_shown : (policy : Policy) (verified : Verified) (items : List SeqItem) (item : ℕ) (stop : Stop) (ts : List Tuple)
     → FailsAt policy verified items item stop → AreShown policy verified items ts → ⊥
 none_shown policy verified items item stop ts f a = search (rules, zip_at, never_both)
 
--- ---- certificates that pass their tests, one more at a time, up to one that doesn't
-
--- ---- lists
+-- ---- a test that all elements of a list pass
 
 pub each_at : {A : Type 0} (p : A → Bool) (xs : List A) (i : ℕ) (d : A) → list_all p xs ≡ true → i < length xs → p (get_or xs i d) ≡ true
 each_at p [] i d h k = absurd (omega arith)
 each_at p (x ∷ xs) zero d h k = (and_parts (p x) (list_all p xs) h).0
 each_at p (x ∷ xs) (suc i) d h k = each_at p xs i d (and_parts (p x) (list_all p xs) h).1 (omega arith)
 
--- ---- one of those that are kept
+-- ---- a certificate in the vector that `certificates_of` returns
 
 module _ {A B : Type 0} (f : A → B) (kept : List A) (i : ℕ) (within : i < length kept) (one : A) (here : one ≡ get_or kept i one) where
   pub at_place : get_or (map f kept) i (f one) ≡ f one
@@ -111,7 +109,7 @@ module _ {A B : Type 0} (f : A → B) (kept : List A) (i : ℕ) (within : i < le
   pub parted : map f kept ≡ take i (map f kept) ++ f one ∷ drop (i + 1) (map f kept)
   parted = sym (take-append-drop i (map f kept)) ∙ ap (λ rest. take i (map f kept) ++ rest) rest_of
 
-  -- what each passes, this one passes
+  -- a test that all of them pass, this one passes
   pub passes_here : (p : B → Bool) → list_all p (map f kept) ≡ true → p (f one) ≡ true
   passes_here p all = rw at_place at (each_at p (map f kept) i (f one) all below)
 
@@ -179,12 +177,10 @@ module _ (verified : Verified) where
 pub granted_openly : (c : Case) (verified : Verified) (n : ℕ) → Granted n (strict c) verified → Granted n (opened c) verified
 granted_openly c verified n g = search (rules, shown_openly, supported_openly)
 
--- ---- what entries support is what is granted, where the certificates that are shown are known
-
--- ---- one entry more
+-- ---- what holds of the entries before a place, and of the entry there
 
 module _ (c : Case) (tuples : List Tuple) (place : ℕ) (e : Entry) (stands : slice_get c.entries place ≡ Some e) where
-  -- what is so of the entries before it, and of this one
+  -- what holds of all entries before a place and of the entry there holds of all up to it
   with_this : (P : Entry → Type 0) → P e → ((k : ℕ) (f : Entry) → k < place → slice_get c.entries k ≡ Some f → P f)
       → (k : ℕ) (f : Entry) → k < place + 1 → slice_get c.entries k ≡ Some f → P f
   with_this P this before = search (rules, slice_get, below_more, same_Some)
@@ -193,7 +189,7 @@ module _ (c : Case) (tuples : List Tuple) (place : ℕ) (e : Entry) (stands : sl
       → NoneBefore c tuples (place + 1)
   not_yet grants not if_supported before = with_this (λ f. ¬ Supported c tuples f) (λ s. never grants not (if_supported s)) before
 
-  -- nor is the chain of one more too large
+  -- no chain is too large of the entries up to this one
   pub small_yet : ¬ TooLargeAt c.most_nodes c.policy (five (entry_tuple e)) tuples → SmallBefore c tuples place → SmallBefore c tuples (place + 1)
   small_yet small before = with_this (λ f. ¬ TooLargeAt c.most_nodes c.policy (five (entry_tuple f)) tuples) small before
 
@@ -210,7 +206,7 @@ either : (c : Case) (tuples : List Tuple) (place : ℕ) (e : Entry)
 either c tuples place e (inl h) = inl (is_large c tuples e h)
 either c tuples place e (inr h) = inr h
 
--- ---- grants
+-- ---- what entries support with the certificates' tuples is what is granted
 
 module _ (c : Case) (verified : Verified) (tuples : List Tuple) (shown : AreShown c.policy verified c.items tuples) where
   pub granted : (place : ℕ) (e : Entry) → slice_get c.entries place ≡ Some e → Supported c tuples e → Granted (suc place) c verified

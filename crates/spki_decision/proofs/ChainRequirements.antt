@@ -54,7 +54,7 @@ module _ (policy : Policy) where
   no_definition a (five x) b j = j
   no_definition a (four x) b j = j
 
-  -- an authorization after a tuple, and what is derived from it
+  -- a tuple makes an authorization another one, of which the statement is true
   abbrev pub Goes : Tuple → FiveTuple → (FiveTuple → Type 0) → Type 0
   Goes x t P = (m : FiveTuple) × Joins policy (five t) x (five m) × P m
 
@@ -95,7 +95,7 @@ module _ (policy : Policy) where
     pub leads_first : (t : FiveTuple) (x : Tuple) (ts : List Tuple) → Leads policy (x ∷ ts) holder t ↔ Goes x t (Leads policy ts holder)
     leads_first t x ts = search (rules, first_step, step_first)
 
-    -- tuples that lead to the key lead to it from behind the first of them
+    -- if tuples lead to the key, those behind the first ones lead to it from some authorization
     pub leads_behind : (before after : List Tuple) (t : FiveTuple) → Leads policy (before ++ after) holder t
         → (m : FiveTuple) × Leads policy after holder m
     leads_behind [] after t l = (t, l)
@@ -136,7 +136,7 @@ module _ (policy : Policy) (required : RequiredSubject) where
 -- ---- one step more
 
 module _ (policy : Policy) (holder : List ℕ) where
-  -- without steps: the key itself
+  -- without tuples the required subject is the key itself, which need not be allowed to delegate
   pub required_alone : (required : RequiredSubject) → required.key ≡ holder → required.names ≡ [] → required.delegation ≡ false
       → IsRequiredBy policy [] holder (Some required)
   required_alone required key_is names_are delegation t = search (rules, leads_alone, never)
@@ -152,7 +152,7 @@ module _ (policy : Policy) (holder : List ℕ) where
         (leads_first policy holder t x ts).1 (b.next, b.joined, (so_far b.next).1 b.met),
   )
 
-  -- if nothing leads to the key from behind some tuples, nothing does from before them
+  -- if the later tuples lead to the key from no authorization, all tuples together lead to it from none
   pub none_before : (before after : List Tuple) → IsRequiredBy policy after holder None → IsRequiredBy policy (before ++ after) holder None
   none_before before after none t = (
     λ l. let m = leads_behind policy holder before after t l in (none m.0).0 m.1,
@@ -178,7 +178,7 @@ begins_more names front rest n x e begun first =
     begun ∙ ap (λ ns. take n front ++ ns) first ∙ sym (append_assoc (take n front) (x ∷ []) (drop 1 rest))
     ∙ ap (λ ns. ns ++ drop 1 rest) (sym (front_more front n x e))
 
--- they do not begin with those in front if the next is another
+-- names do not begin with those in front if they differ at the next place
 pub begins_not : (names front rest : List (List ℕ)) (n : ℕ) (x : List ℕ) → slice_get front n ≡ Some x → names ≡ take n front ++ rest
     → rest ≢ x ∷ drop 1 rest → (others : List (List ℕ)) → names ≢ front ++ others
 begins_not names front rest n x e begun not others whole =
@@ -190,7 +190,7 @@ begins_not names front rest n x e begun not others whole =
     (sym begun ∙ whole ∙ ap (λ ns. ns ++ others) parted ∙ append_assoc (take n front) (x ∷ drop (suc n) front) others) in
     not (behind ∙ ap (λ ns. x ∷ drop 1 ns) (sym behind))
 
--- the steps that are done, and what is required before them
+-- the subject that is required before the steps that the loop has done, which are the last ones
 pub record IsRequiredFrom (policy : Policy) (steps rest : List Step) (holder : List ℕ) (required : Option RequiredSubject) : Type 0 where
   pub done : List Step
   pub parted : steps ≡ rest ++ done
@@ -217,7 +217,7 @@ pub whole_from : (policy : Policy) (steps rest : List Step) (holder : List ℕ) 
     → IsRequiredFrom policy steps rest holder required → IsRequiredBy policy (tuples_of steps) holder required
 whole_from policy steps rest holder required none from = search rules
 
--- before the first step that is done
+-- at the start, when no step is done
 pub begin_from : (policy : Policy) (steps : List Step) (holder : List ℕ) (required : RequiredSubject) → required.key ≡ holder → required.names ≡ []
     → required.delegation ≡ false → IsRequiredFrom policy steps (take (length steps - 0) steps) holder (Some required)
 begin_from policy steps holder required key_is names_are delegation = search (rules, append-nil, take_all, required_alone)
@@ -227,7 +227,7 @@ pub last_of : (steps : List Step) (n i : ℕ) (step : Step) → n < length steps
     → take (length steps - n) steps ≡ take (length steps - (n + 1)) steps ++ step ∷ []
 last_of steps n i step below place here = search (rules, take_more)
 
--- ---- an entry is supported exactly if three tests pass that do not touch each other
+-- ---- an entry is supported exactly if three independent tests pass
 
 module _ (c : Case) (tuples : List Tuple) (e : Entry) where
   abbrev first : Tuple
@@ -273,7 +273,7 @@ module _ (c : Case) (tuples : List Tuple) where
 
 -- ---- one step more
 
--- what all steps have passes a test exactly if what each has does
+-- all parts of all steps pass a test exactly if those of each step do
 by_steps : {B : Type 0} (p : B → Bool) (parts : Tuple → List B) (steps : List Step)
     → list_all p (flat_map parts (tuples_of steps)) ≡ list_all (λ s. list_all p (parts (step_tuple s))) steps
 by_steps p parts [] = refl
@@ -294,18 +294,18 @@ module _ (steps : List Step) (i : ℕ) (step : Step) (below : i < length steps) 
     each_passes all = ap passes_all here ∙ each_at passes_all steps i step (sym (by_steps p parts steps) ∙ all) below
 
   module _ (c : Case) where
-    -- the steps up to one contain what is asked if it does and those before it do
+    -- the steps up to one contain the request and the moment if this step and those before it do
     pub contain_more : AllContain c (tuples_of (take i steps))
         → (in_each c.request (tags_of (step_tuple step)) ≡ true) × (within_each c.moment (windows_of (step_tuple step)) ≡ true)
         → AllContain c (tuples_of (take (i + 1) steps))
     contain_more so_far this = search (rules, more_pass)
 
-    -- all steps contain it only if each does
+    -- if all steps contain the request and the moment, each does
     pub contain_each : AllContain c (tuples_of steps)
         → (in_each c.request (tags_of (step_tuple step)) ≡ true) × (within_each c.moment (windows_of (step_tuple step)) ≡ true)
     contain_each all = search (rules, each_passes)
 
-  -- the steps up to one have its tags after those of the steps before it
+  -- the tuples of the steps up to one are those of the steps before it, and then its own; below the same of tags
   pub more_tuples : tuples_of (take (i + 1) steps) ≡ tuples_of (take i steps) ++ step_tuple step ∷ []
   more_tuples = ap tuples_of (rw (← here) at (take_more steps i step below)) ∙ map-append step_tuple (take i steps) (step ∷ [])
 
@@ -313,7 +313,7 @@ module _ (steps : List Step) (i : ℕ) (step : Step) (below : i < length steps) 
   more_tags = ap all_tags more_tuples ∙ flat_map-append tags_of (tuples_of (take i steps)) (step_tuple step ∷ [])
       ∙ ap (λ ts. all_tags (tuples_of (take i steps)) ++ ts) (append-nil (tags_of (step_tuple step)))
 
-  -- and its windows after theirs
+  -- the same of windows
   pub more_windows : all_windows (tuples_of (take (i + 1) steps)) ≡ all_windows (tuples_of (take i steps)) ++ windows_of (step_tuple step)
   more_windows = ap all_windows more_tuples ∙ flat_map-append windows_of (tuples_of (take i steps)) (step_tuple step ∷ [])
       ∙ ap (λ ws. all_windows (tuples_of (take i steps)) ++ ws) (append-nil (windows_of (step_tuple step)))

@@ -23,7 +23,7 @@ module _ (Is : Entry → ℕ → Type 0) where
   sum_more [] e n m h k = (m, 0, k, refl, omega (arith, h))
   sum_more (f ∷ es) e n m h k = (h.0, h.1 + m, h.2, sum_more es e h.1 m h.3 k, omega (arith, h.4))
 
-  -- the sums of the front and of what is behind it
+  -- a sum is that of the first entries and that of the others
   pub sum_parts : (es fs : List Entry) (n : ℕ) → IsSumOf Is (es ++ fs) n
       → (a : ℕ) × (b : ℕ) × IsSumOf Is es a × IsSumOf Is fs b × (n ≡ a + b)
   sum_parts [] fs n h = (0, n, refl, h, omega arith)
@@ -32,7 +32,7 @@ module _ (Is : Entry → ℕ → Type 0) where
       (h.0 + a, b, (h.0, a, h.2, front, refl), back, omega (arith, whole, h.4))
 
   module _ (Out : Entry → Type 0) where
-    -- entries that count for nothing may be put back
+    -- the sum of the entries that are kept is that of all, if those that are left out count as 0
     pub sum_whole : ((e : Entry) → Out e → Is e 0) → (n : ℕ) (es : List Entry) (ks : List (ℕ × Entry)) (a : ℕ) → AreKept Out n es ks
         → IsSumOf Is (map second ks) a → IsSumOf Is es a
     sum_whole nothing n [] [] a kept h = h
@@ -120,12 +120,12 @@ none_joined_by : (policy : Policy) (uncounted : ℕ) (tuples : List Tuple) (e : 
 none_joined_by policy uncounted tuples e before now true is = inl (is, refl, no_steps None now policy (five (entry_tuple e)) tuples)
 none_joined_by policy uncounted tuples e before now false is = inr (is, no_steps before now policy (five (entry_tuple e)) tuples)
 
--- if nothing is joined, nothing is counted
+-- if nothing is joined, no tick is counted
 pub none_joined : (policy : Policy) (uncounted : ℕ) (tuples : List Tuple) (e : Entry) (before : Option ℕ) (now : ℕ)
     → AreTicksOfEntry before before now now policy uncounted tuples e
 none_joined policy uncounted tuples e before now = none_joined_by policy uncounted tuples e before now (is_spared uncounted tuples e.tag) refl
 
--- what is taken where there is no bound
+-- if the work has no bound, the ticks are those of a chain without a bound
 pub unbounded : (before after : Option ℕ) (old new : ℕ) (policy : Policy) (first : Tuple) (tuples : List Tuple) → before ≡ None
     → AreTicksOfSteps before after old new policy first tuples → AreTicksOfSteps None None old new policy first tuples
 unbounded None None old new policy first tuples same h = h
@@ -140,7 +140,7 @@ within_limit limit None n h = absurd h
 within_limit limit (Some left) n h = omega (arith, h)
 
 module _ (c : Case) (tuples : List Tuple) where
-  -- the charge of an entry
+  -- what an entry takes of the work that may be done, by its tuples and the case's limit `uncounted`
   abbrev pub IsHere : Entry → ℕ → Type 0
   IsHere = IsCharge c.policy c.uncounted tuples
 
@@ -156,7 +156,7 @@ module _ (c : Case) (tuples : List Tuple) where
       let few = steps_charge c.policy c.uncounted tuples e spent.steps spent.here back.0 spent.counted spent.within spent.here_is back.2 in
       omega (arith, same, few, sum, back.4, all.within, spent.over)
 
-  -- So many entries took their work, and so much may still be done.
+  -- The first `place` entries took their work, and `left` may still be done.
   pub record Spent (place : ℕ) (left : Option ℕ) : Type 0 where
     pub work : ℕ
     pub is : IsEntryWork c tuples place work

@@ -31,11 +31,11 @@ module _ (most : ℕ) (tag : Tag) (tuples : List Tuple) where
         let over = rw (is, ← counted) at (large most policy (five (entry_tuple e)) tuples l) in omega (arith, over, small);
   }
 
-  -- what the tag and those of the first tuples leave
+  -- the intersection of the tag and the tags of the first tuples
   abbrev pub met_so_far : ℕ → Tag
   met_so_far place = met (tag ∷ all_tags (take place tuples))
 
-  -- each of the first tuples is small with what stands before it
+  -- the tags of each of the first tuples and the intersection before it have a small product of nodes
   abbrev pub AreSmallBefore : ℕ → Type 0
   AreSmallBefore count =
       (place : ℕ) (tuple : Tuple) → place < count → slice_get tuples place ≡ Some tuple → IsSmallWith most (met_so_far place) tuple
@@ -124,7 +124,7 @@ large_product most tag tuples few large =
     mul-le-mul_right (nodes_product (all_tags tuples)) (nodes-some tag) in
     lt-leb (nodes tag * nodes_product (all_tags tuples)) most (omega (arith, few, large, some))
 
--- nor are tags plain, if one has a set, or if they have so many nodes together
+-- tags are not plain if one has a set, or if all together have over 1,000,000 nodes
 pub not_plain : (most : ℕ) (tag : Tag) (tuples : List Tuple) → most ≤ 1000000
     → (some_nests_set (tags (all_tags tuples)) ≡ true) ⊎ (1000000 < nodes_together tuples) → is_plain most tuples tag ≡ false
 not_plain most tag tuples few (inl set) =
@@ -201,7 +201,7 @@ pub no_steps : (steps : List Step) → tuples_of steps ≡ [] → steps ≡ []
 no_steps [] e = refl
 no_steps (s ∷ steps) e = absurd cc
 
--- an entry is refused: its chain is too large, or the work with it is
+-- if joining an entry is refused, its chain is too large, or the work up to it is over the limit
 pub refused_here : (c : Case) (tuples : List Tuple) (place : ℕ) (e : Entry) (here : slice_get c.entries place ≡ Some e) (left : Option ℕ)
     → Spent c tuples place left
     → TooLargeAt c.most_nodes c.policy (five (entry_tuple e)) tuples ⊎ IsOvercharged c.policy c.uncounted tuples e left
@@ -211,7 +211,7 @@ refused_here c tuples place e here left before (inr h) = inr (overspent c tuples
 
 -- ---- evidence
 
--- what the evidence of items says, where it is that of items that are the same
+-- what the evidence of a sequence says, if the sequence that was read is the same
 module _ (policy : Policy) (verified : Verified) (items read : List SeqItem) (e : Evidence) (same : read ≡ items)
     (judged : IsEvidence policy verified read e) where
   pub all_stand : (steps : Vec Step Global) → e ≡ evidence.Verified steps → AreShown policy verified items (tuples_of steps.items)
@@ -225,7 +225,7 @@ pub as_many : (policy : Policy) (verified : Verified) (items : List SeqItem) (st
     → AreShown policy verified items (tuples_of steps) → length steps ≡ length (certificates items)
 as_many policy verified items steps shown = search (rules, AllZip-long, length-map)
 
--- where a certificate fails none are shown
+-- a certificate that fails a test is a failure of the case: there are no tuples of certificates that all pass
 pub failure : (c : Case) (verified : Verified) (item : ℕ) (stop : Stop) → FailsAt c.policy verified c.items item stop
     → IsFailure c verified item stop
 failure c verified item stop h =
@@ -250,7 +250,7 @@ pub stands : (c : Case) (items : List Entry) (place : ℕ) (e : Entry) → items
     → slice_get c.entries place ≡ Some e
 stands c items place e same below read = rw same at (slice_get-get_or items place e below ∙ ap Some (sym read))
 
--- so many entries are folded, and the limits of their windows are dates
+-- the first `place` entries became these folds, and the limits of their windows are dates
 pub record ArePut (place : ℕ) (folds : List EntryFold) : Type 0 where
   pub count : length folds ≡ place
   pub dated : AllByRecursion IsDated folds

@@ -149,7 +149,7 @@ module _ (verified : Verified) where
         let subject = joined_subject d.0 d.1 (entry_tuple g.entry) certified s.root d.2 d.3 d.4 in
         other_name s.root.principal subject s.grants.named
 
-    -- what is to be done may stand before the signature
+    -- an operation may stand between a certificate and its signature
     passed : certificates (Auth certificate ∷ DoHash Sha1 ∷ Signature signed ∷ [])
         ≡ record { item = 1; certificate = auth certificate; signature = Some signed } ∷ []
     passed = refl

@@ -26,7 +26,7 @@ module _ (c : Case) (tuples : List Tuple) (e : Entry) where
       → HasMet (five (entry_tuple e)) tuples f → IsMissingGrant c.policy folds.root c.key c.request c.moment (Some missing) → LacksFirst c tuples e missing
   missing_grant f missing folds met h = search rules
 
-  -- how the last tests end is the reason
+  -- the result of the three last tests is the reason of the entry
   pub reasoned : (f : Five) (missing : Option MissingGrant) (folds : FoldsTo c.policy (five (entry_tuple e)) tuples f)
       → HasMet (five (entry_tuple e)) tuples f → IsMissingGrant c.policy folds.root c.key c.request c.moment missing → (IsNone missing ↔ Supported c tuples e)
       → IsReason c tuples e (reason_of missing)
@@ -40,7 +40,7 @@ module _ (c : Case) (tuples : List Tuple) (e : Entry) where
   lacking root missing.TagLacks h g = never (in_each c.request root.tags) h.1 g.asked
   lacking root missing.WindowLacks h g = never (within_each c.moment root.windows) h.2 g.timely
 
-  -- what lacks something isn't supported: every derivation has the root that lacks it
+  -- an entry whose root lacks something is not supported: every derivation has this root
   unsupported_by : (missing : MissingGrant) → LacksFirst c tuples e missing → Supported c tuples e → ⊥
   unsupported_by missing h s = grind (arith, one_root, from_left-leaves, lacking)
 
@@ -125,7 +125,7 @@ pub reasons_for : (c : Case) (es : List Entry) (verified : Verified) (folds : Li
 reasons_for c es verified folds reasons is h k =
     are_reasons (with_entries c es) verified h.tuples reasons is h.shown (each_reason c es h.tuples es folds reasons h.each k) h.within_limit h.worked
 
--- ---- decisions
+-- ---- decisions and explanations agree
 
 module _ (c : Case) (verified : Verified) (reasons : List Reason) (h : AreReasons c verified reasons) (n : ℕ) where
   named_first : IsDecision c verified (Yes n) → IsFirstGrant reasons n
@@ -154,11 +154,9 @@ module _ (c : Case) (verified : Verified) where
   agrees (Evidence item stop) decision h d = failed decision item stop h d
   agrees (Entries reasons) decision h d = agree reasons.items decision h d
 
--- ---- a case has one explanation
+-- ---- a case has one first certificate that fails
 
--- ---- the first certificate that fails
-
--- what is the first of a list without a property is one
+-- a list has one first element without a property
 module _ {A : Type 0} (P : A → Type 0) where
   first_without : (xs us ys vs : List A) (x y : A) → xs ++ x ∷ us ≡ ys ++ y ∷ vs → AllByRecursion P xs → AllByRecursion P ys
       → (P x → ⊥) → (P y → ⊥) → x ≡ y
@@ -223,7 +221,7 @@ module _ (c : Case) (tuples : List Tuple) (tagged : AreTagged tuples) (e : Entry
       let certificates_are : h.certificate ≡ k.certificate = cc in
       (h.item_is ∙ ap (λ s. s.item) certificates_are ∙ sym k.item_is, both.1)
 
-  -- where both are Grants or neither is
+  -- two reasons of an entry are equal if both are Grants or neither is
   one_reason : (a b : Reason) → IsParted c tuples e a → IsParted c tuples e b → (a ≡ Grants → b ≡ Grants) → (b ≡ Grants → a ≡ Grants) → a ≡ b
   one_reason a b (inl h) k there back = h ∙ sym (there h)
   one_reason a b (inr h) (inl k) there back = back k ∙ sym k

@@ -28,7 +28,7 @@ module _ (c : Case) (verified : Verified) where
       → Granted (suc place) c verified
   from_left_granted place entry tuples stands shown s = search (rules, granted, from_left-leaves)
 
-  -- where nothing is shown, the entry's own tuple grants or doesn't
+  -- without certificates an entry grants exactly if its own tuple does
   pub granted_alone : (n : ℕ) → AreShown c.policy verified c.items [] → (g : Granted n c verified)
       → Grants c.policy (entry_tuple g.entry) c.key c.request c.moment
   granted_alone n shown g =
@@ -58,7 +58,7 @@ supported_named c (t ∷ others) e s =
     let begun = first_step c.policy (entry_tuple e) t others (five from.root) from.derived in
     joined c.policy c.key e t others begun.0 begun.1
 
--- nor is one left out whose chain is too large at a step: its principal names the key of the first step, which joins
+-- an entry whose chain is too large at a step is not left out: its principal names the key of the first step, which joins it
 module _ (most : ℕ) (policy : Policy) (asker : List ℕ) (e : Entry) where
   issuing : (root right : FiveTuple) (others : List Tuple) → Issues policy root right → root ≡ entry_tuple e
       → IsOf policy e (first_key asker (five right ∷ others))
@@ -101,16 +101,14 @@ module _ (most : ℕ) (policy : Policy) (asker : List ℕ) (e : Entry) where
   large_named [] large = absurd (none-some large.tuple large.stands)
   large_named (t ∷ others) large = large_from t large.tuple others large.place large.root large.stands large.before.derived large.too_large
 
--- nor one that reaches a step
+-- an entry whose chain reaches a step is not left out
 pub reached_named : (policy : Policy) (asker : List ℕ) (e : Entry) (tuples : List Tuple) (place : ℕ)
     → ReachedAt policy (five (entry_tuple e)) tuples place → IsOf policy e (first_key asker tuples)
 reached_named policy asker e [] place at = absurd (none-some at.tuple at.stands)
 reached_named policy asker e (t ∷ others) place at =
     reached_from 0 policy asker e t at.tuple others place at.root at.stands at.before.derived at.joins
 
--- ---- the decision of a part of an access list is that of the list, if only entries are missing that are left out
-
--- ---- places
+-- ---- places in a part of a list
 
 second_at : (ks : List (ℕ × Entry)) (p n : ℕ) (e : Entry) → slice_get ks p ≡ Some (n, e) → slice_get (map second ks) p ≡ Some e
 second_at ks p n e stands = rw (slice_get-map, stands)
@@ -120,7 +118,7 @@ from_second [] p e stands = absurd (none-some e stands)
 from_second (k ∷ ks) zero e stands = (k.0, ap (λ (f : Entry). Some (k.0, f)) (same_Some k.1 e stands))
 from_second (k ∷ ks) (suc p) e stands = from_second ks p e stands
 
--- a place behind the next
+-- an entry with its number; `next` says that n + (place + 1) and (n + 1) + place are the same number
 abbrev numbered : ℕ → Entry → ℕ × Entry
 numbered n e = (n, e)
 
@@ -131,7 +129,7 @@ first_number : (n : ℕ) (f e : Entry) (k : ℕ × Entry) → k ≡ (n, f) → (
 first_number n f e k is more stands = ap (λ (j : ℕ × Entry). j.0) (sym is ∙ same_Some k (n + more, e) stands)
 
 module _ (Out : Entry → Type 0) where
-  -- the number of what is kept is that of its place in the list
+  -- the number of an entry that is kept is that of its place in the list
   pub listed : (n : ℕ) (es : List Entry) (ks : List (ℕ × Entry)) (p m : ℕ) (e : Entry) → AreKept Out n es ks → slice_get ks p ≡ Some (m, e)
       → (place : ℕ) × (m ≡ n + place) × (slice_get es place ≡ Some e)
   listed n es [] p m e kept stands = absurd (none-some (m, e) stands)
@@ -194,7 +192,7 @@ module _ (Out : Entry → Type 0) where
   kept_front n (f ∷ es) (k ∷ ks) (suc p) (suc place) e (inr here) stands =
       inr (here.0, kept_front (suc n) es ks p place e here.1 (stands ∙ next n place e))
 
-  -- and with the entry there
+  -- the same part with the entry at the place
   pub kept_through : (n : ℕ) (es : List Entry) (ks : List (ℕ × Entry)) (p place : ℕ) (e : Entry) → AreKept Out n es ks
       → slice_get ks p ≡ Some (n + place, e) → AreKept Out n (take (suc place) es) (take (suc p) ks)
   kept_through n es [] p place e kept stands = absurd (none-some (n + place, e) stands)
@@ -210,7 +208,7 @@ module _ (Out : Entry → Type 0) where
   kept_through n (f ∷ es) (k ∷ ks) (suc p) (suc place) e (inr here) stands =
       inr (here.0, kept_through (suc n) es ks p place e here.1 (stands ∙ next n place e))
 
--- ---- decisions
+-- ---- the decision of the part is that of the list
 
 module _ (c : Case) (verified : Verified) (kept : List (ℕ × Entry)) (are_kept : IsKept c verified kept) where
   -- what is granted of the list is granted of the part
@@ -223,11 +221,11 @@ module _ (c : Case) (verified : Verified) (kept : List (ℕ × Entry)) (are_kept
       let stands = p.1 ∙ ap (λ (m : ℕ). Some (m, g.entry)) number in
       search (rules, second_at)
 
-  -- and the other way round
+  -- what is granted of the part is granted of the list
   kept_granted : (p n : ℕ) (e : Entry) → slice_get kept p ≡ Some (n, e) → Granted (suc p) (kept_case c kept) verified → Granted n c verified
   kept_granted p n e stands g = search (rules, slice_get, same_Some, second_at, listed)
 
-  -- an earlier number stands at an earlier place
+  -- an entry with a number that is not greater is not at a later place of the part
   earlier : (tuples : List Tuple) → AreShown c.policy verified c.items tuples → (p q n m : ℕ) (e f : Entry)
       → slice_get kept p ≡ Some (n, e) → slice_get kept q ≡ Some (m, f) → m ≤ n → q ≤ p
   earlier tuples shown p q n m e f at_p at_q less = search (rules, growing)

@@ -29,14 +29,14 @@ module _ (policy : Policy) (keys : List (List ℕ)) where
       → asked_of policy keys s ≡ Some (record { item = s.item; key = holder; message = octets_of s.certificate; value = a.signature.value })
   stands_asked verified s holder a = rw (a.issued, a.signed, a.digest, a.signer) refl
 
-  -- of a certificate that fails one of the first three tests nothing is asked
+  -- a verifier is not asked about a certificate that fails one of the first three tests
   pub not_asked : (s : Shown) (stop : Stop) → FailsBy policy keys every s stop → asked_of policy keys s ≡ None
   not_asked s KeyNotShown f = rw f refl
   not_asked s DigestDiffers f = rw (f.2, f.3, f.4) refl
   not_asked s SignerDiffers f = rw (f.2, f.3, f.4, f.5) refl
   not_asked s NotAccepted f = absurd (f.6 tt)
 
-  -- what is asked of a certificate that passes the first three tests
+  -- the signature that a verifier is asked about is that of a certificate which passes the first three tests
   pub asks : (s : Shown) (t : Signed) → asked_of policy keys s ≡ Some t → PassesAs policy keys s t
   asks s t e =
       option_and_then_some (λ holder. option_and_then (asked_with policy s holder) s.signature) (issuer_key policy keys (issuer_of s.certificate)) t e
@@ -104,7 +104,7 @@ module _ (policy : Policy) (keys : List (List ℕ)) (one other : Verified) where
       let later = all_before before s after stop here.1 standing.1 f in
       (((standing.0.0, here.0), later.0), later.1)
 
--- the certificate that fails is the same one
+-- by both verifiers the same certificate fails the same test
 pub still_failing : (policy : Policy) (items : List SeqItem) (one other : Verified)
     → AgreeOn one other (asked_in policy (keys_of items) (certificates items)) → (item : ℕ) (stop : Stop)
     → FailsAt policy one items item stop → FailsAt policy other items item stop
@@ -117,7 +117,7 @@ module _ (policy : Policy) (keys : List (List ℕ)) (verified : Verified) where
   accepted_here t others zero s first later stands = subst (λ (u : Signed). IsAccepted verified u) (same_Some t s stands) first
   accepted_here t others (suc place) s first later stands = later place stands
 
-  -- where every certificate passes its tests, each signature that is asked of is accepted
+  -- if every certificate passes its tests, the verifier accepts each signature that it is asked about
   accepted_at : (shown : List Shown) (ts : List Tuple) (place : ℕ) (s : Signed) → AllZip (PassesTestsAs policy keys verified) shown ts
       → slice_get (asked_in policy keys shown) place ≡ Some s → IsAccepted verified s
   accepted_at [] ts place s a stands = absurd (none-some s stands)
@@ -128,7 +128,7 @@ module _ (policy : Policy) (keys : List (List ℕ)) (verified : Verified) where
 
 -- ---- cases
 
--- where one that is asked of isn't accepted no certificate's tuples are shown
+-- if the verifier does not accept a signature that it is asked about, `decide` answers no
 pub no_by : (c : Case) (verified : Verified) (place : ℕ) (s : Signed) (x : Result Decision GuardFault) → slice_get (asked c) place ≡ Some s
     → ¬ IsAccepted verified s → IsDecided c verified x → x ≡ Ok No
 no_by c verified place s (Ok (Yes n)) stands refused d =
@@ -138,7 +138,7 @@ no_by c verified place s (Err TooLarge) stands refused d =
     absurd (refused (accepted_at c.policy (keys_of c.items) verified (certificates c.items) d.tuples place s d.shown stands))
 no_by c verified place s (Err Memory) stands refused d = absurd d
 
--- nor is any entry granted then
+-- if it does not accept one, the decision is no
 pub none_by : (c : Case) (verified : Verified) (place : ℕ) (s : Signed) (d : Decision) → slice_get (asked c) place ≡ Some s
     → ¬ IsAccepted verified s → IsDecision c verified d → d ≡ No
 none_by c verified place s (Yes n) stands refused d =
@@ -189,9 +189,7 @@ module _ (c : Case) (one other : Verified) (agree : AgreeOn one other (asked c))
   reduced_by (Err TooLarge) a = some_large_by a
   reduced_by (Err Memory) a = absurd a
 
--- ---- what a verifier's answers make of the evidence of a sequence
-
--- ---- each is accepted
+-- ---- the evidence of a sequence if each listed signature is accepted
 
 pub agrees : (verified : Verified) (signatures : List Signed) → AllByRecursion (IsAccepted verified) signatures → AgreeOn every verified signatures
 agrees verified [] accepted = tt
@@ -204,7 +202,7 @@ module _ (policy : Policy) (verified : Verified) (items : List SeqItem) where
   all_accepted (evidence.Fails item stop) accepted h =
       still_failing policy items every verified (agrees verified (asked_in policy (keys_of items) (certificates items)) accepted) item stop h
 
--- ---- one is refused
+-- ---- the evidence if one of them is refused
 
 module _ (policy : Policy) (keys : List (List ℕ)) (verified : Verified) where
   refused : (s : Shown) (t : Signed) → PassesAs policy keys s t → ¬ IsAccepted verified t → FailsBy policy keys verified s NotAccepted
@@ -266,7 +264,7 @@ pub not_accepted : (policy : Policy) (verified : Verified) (items : List SeqItem
 not_accepted policy verified items signed place same r =
     refused_in policy (keys_of items) verified (certificates items) r.before r.refused r.after (sym same ∙ r.parts) r.accepted r.not_accepted
 
--- ---- one after the other
+-- ---- one listed signature more that the verifier is asked about
 
 module _ (verified : Verified) (signed : List Signed) (place : ℕ) (within : place < length signed) (one : Signed)
     (here : one ≡ get_or signed place one) (before : AllByRecursion (IsAccepted verified) (take place signed)) where
@@ -299,7 +297,7 @@ module _ (verified : Verified) (kept : List examined.Signed) (i : ℕ) (within :
   refused_here = refused_at verified (map signed_of kept) i (below signed_of kept i within one here) (signed_of one)
       (sym (at_place signed_of kept i within one here)) before
 
--- ---- by places
+-- ---- the signature at the place of the first refused one
 
 module _ (verified : Verified) (kept : List examined.Signed) (place : ℕ) (r : RefusedAt verified (map signed_of kept) place) where
   pub refused_within : place < length kept

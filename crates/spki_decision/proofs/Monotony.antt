@@ -59,7 +59,7 @@ module _ (c : Case) (verified : Verified) (more : List Entry) where
     supported = g.supported;
   }
 
-  -- a granted entry is one of the first
+  -- an entry that is granted by the shorter list is one of its entries
   among : (n : ℕ) → Granted n c verified → n ≤ length c.entries
   among n g = let below = slice_get_within c.entries g.place g.entry g.stands in let number = g.numbered in omega arith
 
@@ -75,7 +75,7 @@ module _ (c : Case) (verified : Verified) (more : List Entry) where
     | inr few ↦ absurd (none n (granted_already n few d.granted))
   ]
 
-  -- the first entries have the same work
+  -- the entries of the shorter list have the same work in the longer one
   same_work : (tuples : List Tuple) (count work : ℕ) → count ≤ length c.entries → IsEntryWork c tuples count work → IsEntryWork longer tuples count work
   same_work tuples count work few is =
       subst (λ (xs : List Entry). IsSumOf (IsCharge c.policy c.uncounted tuples) xs work) (sym (front_of c.entries more count few)) is
@@ -231,7 +231,7 @@ module _ (policy : Policy) (holder : List ℕ) where
       let s = stepped t u g.0 x y l zip.0 g.1 in
       (leads_first policy holder u y wide).1 (s.0, s.1, leads_wider narrow wide g.0 s.0 zip.1 s.2 g.2)
 
--- what all narrower tuples pass, all wider ones pass
+-- a test that all narrower tuples pass, all wider ones pass, if each wider one passes what its narrower one does
 module _ {A : Type 0} (parts : Tuple → List A) (test : A → Bool)
     (wider : (x y : Tuple) → IsNarrower x y → list_all test (parts x) ≡ true → list_all test (parts y) ≡ true) where
   all_wider : (narrow wide : List Tuple) → AllZip IsNarrower narrow wide → list_all test (flat_map parts narrow) ≡ true
@@ -259,7 +259,7 @@ moments_wider moment is (four x) (four y) n e = n.moments moment is e
 moments_wider moment is (five x) (four y) n e = absurd n
 moments_wider moment is (four x) (five y) n e = absurd n
 
--- what holds of one, holds of it as a list
+-- if an element passes a test, all elements of the list of it alone do
 one : {A : Type 0} (test : A → Bool) (x : A) → test x ≡ true → list_all test (x ∷ []) ≡ true
 one test x e = and_from (test x) true e refl
 
@@ -300,7 +300,7 @@ module _ (c : Case) (moment : List ℕ) where
       let p = passes c tuples e s in
       supports (at_moment c moment) tuples e (record { leads = p.leads; asked = p.asked; timely = (here, all) })
 
-  -- behind the first item
+  -- the certificates behind the first item are timely too
   timely_behind : (item : SeqItem) (sequence : List SeqItem) → AreTimely moment (item ∷ sequence) → AreTimely moment sequence
   timely_behind item sequence a = record {
     windows = λ place cert stands. a.windows (suc place) cert stands;
@@ -403,9 +403,9 @@ themselves : (ts : List Tuple) → AllZip IsNarrower ts ts
 themselves [] = tt
 themselves (t ∷ ts) = (itself t, themselves ts)
 
--- what is granted of a case that is no wider
+-- what a narrower case grants, a wider one grants
 module _ (verified : Verified) (narrow wide : Case) (is : IsNarrowerCase verified narrow wide) where
-  -- the same question
+  -- the two cases ask the same question, so what one supports the other does
   supported_same : (tuples : List Tuple) (e : Entry) → Supported narrow tuples e → Supported wide tuples e
   supported_same tuples e s = rw (is.key, is.request, is.moment, is.policy) at s
 

@@ -18,9 +18,9 @@ use Rattle.spki_reduce.proofs.{Uniqueness.{five_one, one_fold}, Through.{AreTagg
 use Rattle.spki_decision.specs.declared.explanation.Explanation.TheVariants as explanation
 use Rattle.spki_decision.specs.declared.reduction.Reduction.TheVariants as reduction
 
--- ---- a decision that passes no refusal over, and a refusal: a case has at most one of them
+-- ---- a case has a decision that skips no refusal, or is refused, but not both
 
--- where so many entries are small and within their work, none of them is too large or over it
+-- if the first `count` entries have small chains, and their work is within the limit, none of them is too large or over the limit
 pub unlike : (c : Case) (tuples : List Tuple) (count : ℕ) → SmallBefore c tuples count → IsWithinWork c tuples count → (place : ℕ) (e : Entry)
     → place < count → slice_get c.entries place ≡ Some e → IsLarge c tuples e ⊎ IsOverspent c tuples place e → ⊥
 unlike c tuples count small worked place e below stands (inl h) = small place e below stands h.at
@@ -76,9 +76,7 @@ one_reduction c verified (Evidence item stop) (Entries folds) d l h k = h.none_s
 one_reduction c verified (Entries folds) (Evidence item stop) d l h k = k.none_shown h.tuples h.shown
 one_reduction c verified (Entries folds) (Entries others) d l h k = one_answer c verified folds.items others.items d l h k
 
--- ---- a text has one decision, one explanation and one reduction, or is refused as too large
-
--- ---- cases
+-- ---- one answer of each kind to a case
 
 module _ (c : Case) (verified : Verified) where
   least_one : (n m : ℕ) → IsFirstGranted n c verified → IsFirstGranted m c verified → n ≡ m
@@ -97,7 +95,7 @@ module _ (c : Case) (verified : Verified) where
   decided_one (Err TooLarge) (Err TooLarge) a b = refl
   decided_one x y a b = search
 
-  -- what is decided is the decision, or the refusal
+  -- the answer of `decide` is the decision, or the refusal TooLarge
   pub decided_or_large : (x : Result Decision GuardFault) (d : Decision) → IsDecided c verified x → IsDecision c verified d
       → (x ≡ Ok d) ⊎ (x ≡ Err TooLarge)
   decided_or_large (Ok x) d a b = inl (ap Ok (decision_one x d a.0 b))
@@ -110,7 +108,7 @@ module _ (c : Case) (verified : Verified) where
   apart tuples small worked (inr h) =
       unlike c tuples (length c.entries) small worked h.place h.entry (slice_get_within c.entries h.place h.entry h.stands) h.stands (inr h.spent)
 
-  -- where no chain is too large, and the work is within its limit, none is refused
+  -- if no chain is too large, and the work is within its limit, the case is not refused as too large
   all_small : (tuples : List Tuple) → AreShown c.policy verified c.items tuples → AllSmall c tuples → IsWithinWork c tuples (length c.entries)
       → SomeTooLarge c verified → ⊥
   all_small tuples shown small worked some =
@@ -144,9 +142,9 @@ module _ (c : Case) (verified : Verified) where
   reduced_one (Err TooLarge) (Err TooLarge) a b = refl
   reduced_one x y a b = search
 
--- ---- texts
+-- ---- one answer of each kind to a text
 
--- what is answered of one case, of two that a text is
+-- answers to two cases are the same if both cases are read from one text
 module _ {A : Type 0} (Answered : Case → Verified → A → Type 0) (IsSame : A → A → Type 0)
     (one : (c : Case) (verified : Verified) (x y : A) → Answered c verified x → Answered c verified y → IsSame x y) where
   pub of_text : (verified : Verified) (text : List ℕ) (c d : Case) (x y : A) → IsCaseText text c → IsCaseText text d
@@ -154,7 +152,7 @@ module _ {A : Type 0} (Answered : Case → Verified → A → Type 0) (IsSame : 
   of_text verified text c d x y read other a b =
       one c verified x y a (subst (λ (e : Case). Answered e verified y) (sym (text-one text c d read other)) b)
 
-  -- by the list that the case itself has
+  -- the same, if the verifier is the accepted list of each case
   pub own_of_text : (text : List ℕ) (c d : Case) (x y : A) → IsCaseText text c → IsCaseText text d
       → Answered c (accepted_by c) x → Answered d (accepted_by d) y → IsSame x y
   own_of_text text c d x y read other a b =

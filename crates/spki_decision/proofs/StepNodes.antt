@@ -36,7 +36,7 @@ unspared tuples tag =
     let sets = not (nests_set tag) && not (some_nests_set (tags (all_tags tuples))) in
     or_from (has_small_product 0 tuples tag) (is_plain 0 tuples tag) small (ap (λ (b : Bool). sets && b) over ∙ and_false sets)
 
--- steps up to one, and those behind it
+-- the nodes of the steps up to one, of this one, and of those behind it
 module _ (steps : List Step) (i : ℕ) (step : Step) (below : i < length steps) (here : step ≡ get_or steps i step) where
   abbrev behind : List Tuple
   behind = tuples_of (drop (i + 1) steps)

@@ -36,7 +36,7 @@ end_of_either (x ∷ xs) ys limit (suc place, w, there, is) = elim (end_of_eithe
   | inr e ↦ inr e
 ]
 
--- what has the same ends has the same least one
+-- windows that have the same not-afters have the same least one
 least_same : (xs ys : List Window) → ((limit : List ℕ) → IsEndOf xs limit → IsEndOf ys limit) → ((limit : List ℕ) → IsEndOf ys limit → IsEndOf xs limit)
     → (p : Option (List ℕ)) → IsLeastEnd xs p → IsLeastEnd ys p
 least_same xs ys there back None none = λ other e. none other (back other e)
@@ -52,7 +52,7 @@ its_end w other (zero, v, there, is) = ap (λ (x : Window). x.not_after) (same_S
 its_end w other (suc place, v, there, is) = absurd (none-some v there)
 
 module _ (windows : List Window) (w : Window) where
-  -- one that does not end
+  -- a window without a not-after
   pub least_endless : w.not_after ≡ None → (limit : Option (List ℕ)) → IsLeastEnd windows limit → IsLeastEnd (windows ++ w ∷ []) limit
   least_endless is =
       least_same windows (windows ++ w ∷ []) (end_front windows (w ∷ []))
@@ -67,7 +67,7 @@ module _ (windows : List Window) (w : Window) where
     before_others None none first other f = absurd (none other f)
     before_others (Some limit) least first other f = upto-then end limit other first (least.1 other f)
 
-    -- one that ends first
+    -- a window that ends no later than the others
     pub least_here : (limit : Option (List ℕ)) → IsLeastEnd windows limit → is_until limit end ≡ true → IsLeastEnd (windows ++ w ∷ []) (Some end)
     least_here limit least first = (
       end_behind windows (w ∷ []) end (zero, w, refl, is),
@@ -77,7 +77,7 @@ module _ (windows : List Window) (w : Window) where
       ],
     )
 
-    -- one that ends later
+    -- a window that ends later
     pub least_before : (limit : Option (List ℕ)) → IsLeastEnd windows limit → is_until limit end ≡ false → IsLeastEnd (windows ++ w ∷ []) limit
     least_before None none late = let clash : true ≡ false = late in cc
     least_before (Some limit) least late = (
@@ -88,7 +88,7 @@ module _ (windows : List Window) (w : Window) where
       ],
     )
 
-  -- before the others
+  -- the same least not-after, with the window put before the others
   least_first : (limit : Option (List ℕ)) → IsLeastEnd (windows ++ w ∷ []) limit → IsLeastEnd (w ∷ windows) limit
   least_first =
       least_same (windows ++ w ∷ []) (w ∷ windows)
@@ -139,7 +139,7 @@ pub windows_are : (policy : Policy) (verified : Verified) (sequence : List SeqIt
     → all_windows ts ≡ windows_in sequence
 windows_are policy verified sequence ts shown = windows_from policy (keys_of sequence) verified 1 sequence ts shown
 
--- ---- till then
+-- ---- until when a grant holds
 
 module _ (now moment : List ℕ) (windows : List Window) (until : Option (List ℕ)) (least : IsLeastEnd windows until) where
   still_from : (limit : Option (List ℕ)) → upto now moment ≡ true → is_from limit now ≡ true → is_from limit moment ≡ true
@@ -163,7 +163,7 @@ module _ (now moment : List ℕ) (windows : List Window) (until : Option (List �
       and_from (is_from w.not_before moment) (is_until w.not_after moment) (still_from w.not_before later both.0)
       (still_until w place w.not_after there refl before)
 
--- what is so of each window at its place, is so of all
+-- if a later moment is within each window that the first is within, it is within all
 each_then : (now moment : List ℕ) (ws : List Window)
     → ((w : Window) (place : ℕ) → slice_get ws place ≡ Some w → within now w ≡ true → within moment w ≡ true)
     → within_each now ws ≡ true → within_each moment ws ≡ true

@@ -21,14 +21,14 @@ use Rattle.spki_guard.specs.declared.queries.Query.TheVariants as query
 
 -- ---- the two operands of an intersection
 
--- the two behind a head are those of the value
+-- the two values behind the head `intersect` are A and B of `(intersect A B)`
 pub lifted : (v : Value) (ms : List Value) (r : Option Operands) → v ≡ headed (codes "intersect") ms
     → MatchOption r ((a b : Value) → ms ≢ a ∷ b ∷ []) (λ p. ms ≡ p.first ∷ p.second ∷ [])
     → MatchOption r ((a b : Value) → v ≢ intersect_value a b) (λ p. v ≡ intersect_value p.first p.second)
 lifted v ms None e h = λ a b k. h a b (behind_head (codes "intersect") ms (a ∷ b ∷ []) (sym e ∙ k))
 lifted v ms (Some p) e h = e ∙ ap (headed (codes "intersect")) h
 
--- the first isn't a tag
+-- A is no tag
 pub first_refused : (v a b : Value) (fault : TagFault) (outer : IntersectFault) → v ≡ intersect_value a b
     → IsNoTag fault a → IsNamed fault (tag_fault a)
     → IsOuter (fault ≡ tag_faults.Memory) intersect.Memory (intersect.First fault) outer → outer ≢ intersect.Memory
@@ -36,7 +36,7 @@ pub first_refused : (v a b : Value) (fault : TagFault) (outer : IntersectFault) 
 first_refused v a b fault outer e none named (inl (inside, is)) found = absurd (found is)
 first_refused v a b fault outer e none named (inr (known, is)) found = search (rules, named-sure, tag_fault)
 
--- the first is one, and the second isn't
+-- A is a tag, and B is none
 pub second_refused : (v a b : Value) (t : Tag) (fault : TagFault) (outer : IntersectFault) → v ≡ intersect_value a b
     → ReadsAs a t → IsNoTag fault b → IsNamed fault (tag_fault b)
     → IsOuter (fault ≡ tag_faults.Memory) intersect.Memory (intersect.Second fault) outer → outer ≢ intersect.Memory
@@ -65,11 +65,11 @@ err_lifted (Err x) P Q h f = f x h
 -- ---- what is read of a canonical text
 
 module _ (text : List ℕ) (said : Value → Type 0) where
-  -- The text spells or braces a value, and its canonical form is that of a value for which the statement is true.
+  -- The text, in any of the three forms, is that of a value within the limits for which the statement is true.
   abbrev Says : Type 0
   Says = (v : Value) × IsTextWithin text v × IsTextOf said (canon v)
 
-  -- of the node of its document, which has this value
+  -- a statement that is true of the value of its document's node is true of the text
   pub says : (read : Result (List ℕ) FormFault) (v w : Value) → IsReadAs (IsTextWithin text) (RefusesForm text) read → read ≡ Ok (canon v)
       → w ≡ v → said w → Says
   says (Ok octets) v w (u, meant, within, written) e same is =
@@ -105,7 +105,7 @@ on_case command query.Reduce e = subst IsOnCase (sym e) tt
 on_case command query.Decide e = subst IsOnCase (sym e) tt
 on_case command query.Explain e = subst IsOnCase (sym e) tt
 
--- ---- with an accepted list that stands apart
+-- ---- the same for a case with a separate accepted list
 
 pub apart_answered : (text rows : List ℕ) (c : Case) (r : Result Answer Refusal) → ReadsCase text c
     → IfOk r (PrintsAs (DecidesBy c rows)) → IfOk r (PrintsAs (DecidesApart text rows))

@@ -29,7 +29,7 @@ pub reads : (held : GuardModel) (q : Question) (c : Case) → ¬ (held.octets < 
 reads held q c within is policy nodes work counted few few_strings =
     record { short = omega (arith, within); is = is; policy = policy; nodes = nodes; work = work; counted = counted; few = few; few_strings = few_strings }
 
--- the same for one that was opened
+-- the same for a question that was opened
 pub opened_reads : (held : GuardModel) (q : Question) (o : OwnedQuestion) (a : PreparedModel) → IsOpened held q o → IsReadFrom held o.texts a
     → ReadsQuestion held q a.case
 opened_reads held q o a opened read = search (rules, reads)
@@ -47,7 +47,7 @@ answered query held q marks a x read texts most same (inl h) =
     })
 answered query held q marks a x read texts most same (inr h) = inr (inr h)
 
--- a question that isn't read, and the line that says why
+-- a question that is refused, and the line that says why
 pub unread : (held : GuardModel) (q : Question) (fault : AskFault) (verdict : Verdict) (output : List ℕ) → ¬ (held.octets < asked_octets q)
     → (fault ≢ faults.Memory → fault ≢ faults.TooLong → IsRefused held.certificates held.words q fault) → fault ≢ faults.TooLong → verdict ≡ Refused
     → (output ≡ refused_question fault) ⊎ (output ≡ refused_memory) → IsUnreadQuestion held q verdict output

@@ -64,7 +64,7 @@ met_or_not v t intersect.TooLarge m n =
     absurd (omega (arith, product, small, large))
 met_or_not v t fault m n = n
 
--- two tags are too large together, or something else is wrong
+-- a value with two tags that are too large together is refused for nothing else
 pub large_one : (v : Value) (fault : IntersectFault) → AreTooLarge v → ValueNotMet v fault → fault ≡ intersect.TooLarge
 large_one v intersect.Shape m n = absurd (n m.first m.second m.written)
 large_one v (intersect.First fault) m n = search (rules, operands)
@@ -214,7 +214,7 @@ answered command text x output (refusals.Question fault) a r = absurd r
 answered command text x output refusals.Memory a r = refl
 answered command text x output refusal a r = by_value command text x output refusal a r.value r.read r.refused
 
--- ---- refusals as too large
+-- ---- what is refused as TooLarge is refused for nothing else
 
 none_large : (command : Command) (c : Case) → command ≡ Intersect → HasTooLarge command c (accepted_by c) → ⊥
 none_large command c is large = subst (λ (k : Command). HasTooLarge k c (accepted_by c)) is large
@@ -222,7 +222,7 @@ none_large command c is large = subst (λ (k : Command). HasTooLarge k c (accept
 no_case : (command : Command) → command ≡ Intersect → IsOnCase command → ⊥
 no_case command is on = subst IsOnCase is on
 
--- the value of a refusal that is said of one
+-- a value that is refused as too large by its case is refused for nothing else
 large_value : (command : Command) (v : Value) (fault : GuardFault) (refusal : Refusal) → RefusesValue command v (refusals.Decision fault)
     → RefusesValue command v refusal → refusal ≢ refusals.Memory → refusal ≡ refusals.Decision TooLarge
 large_value command v fault (refusals.Intersect other) a r found = absurd (none_large command a.case_read r.0 a.large)
@@ -241,7 +241,7 @@ product_value command v refusal a r found = absurd r
 
 module _ (command : Command) (text : List ℕ) (Said : Value → Refusal → Type 0) (one : Refusal)
     (large : (v : Value) (refusal : Refusal) → Said v one → RefusesValue command v refusal → refusal ≢ refusals.Memory → refusal ≡ one) where
-  -- what is refused so is refused so only
+  -- a text that is refused by its value for `one` is refused for nothing else, unless memory ran out
   only : (v : Value) → IsTextWithin text v → Said v one → (refusal : Refusal) → RefusesAnswer command text refusal
       → refusal ≢ refusals.Memory → refusal ≡ one
   only v read a (refusals.Form fault) r found = absurd (r.none v read)

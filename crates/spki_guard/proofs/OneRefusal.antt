@@ -23,9 +23,7 @@ use Rattle.spki_guard.specs.declared.refusals.Refusal.TheVariants as refusals
 use Rattle.spki_guard.specs.declared.intersection.IntersectFault.TheVariants as intersect
 use Rattle.spki_case.specs.declared.rows.RowsFault.TheVariants as rows_faults
 
--- ---- a text has one refusal of a command, unless memory ran out
-
--- ---- the canonical form of a value that was read
+-- ---- the refusal of the canonical form of a value that was read
 
 no_front : (v : Value) → Front IsShallowText (canon v) → ⊥
 no_front v f =
@@ -43,7 +41,7 @@ no_trailing v at h s =
     let p = canon_one s.value v (drop at (canon v)) [] e in
     omega (arith, ap length p.1, length-drop at (canon v))
 
--- it is refused for nothing but its length
+-- it is refused for nothing but its length, unless memory ran out
 pub long_only : (v : Value) (fault : FormFault) → IsShallow v → fault ≢ Memory → Refused (canon v) fault → fault ≡ TooLong
 long_only v TooLong h found r = refl
 long_only v TooDeep h found r = absurd (shallow_text (canon v) v h refl r)
@@ -101,7 +99,7 @@ on_case Check c large = tt
 on_case Explain c large = tt
 on_case command c large = large
 
--- an intersection is on no case
+-- the command `intersect` is not one for a case
 off_case : (command : Command) → command ≡ Intersect → IsOnCase command → ⊥
 off_case command e on = subst IsOnCase e on
 
@@ -119,7 +117,7 @@ text_case_one v fault other h (inr m) (inr n) =
     one-fault n.value fault other
     (subst (λ (w : Value). ValueRefused w fault) (one_text (canon v) m.value n.value m.written n.written) m.is) n.is
 
--- ---- a value
+-- ---- the refusal of a value, and of a text, by a command
 
 module _ (command : Command) (v : Value) (h : IsShallow v) where
   value_one : (refusal other : Refusal) → RefusesValue command v refusal → RefusesValue command v other
@@ -143,7 +141,7 @@ module _ (command : Command) (v : Value) (h : IsShallow v) where
   value_one (refusals.Decision e) refusals.Memory r s found known = absurd (known refl)
   value_one refusal other r s found known = absurd s
 
--- of what a refusal is said: the form of the text, or a value
+-- a refusal is about the form of the text, or about its value
 data IsSaid (command : Command) (text : List ℕ) (refusal : Refusal) : Type 0 where
   of_form : (fault : FormFault) → refusal ≡ refusals.Form fault → RefusesForm text fault → IsSaid command text refusal
   of_value : RefusesRead command text refusal → IsSaid command text refusal
@@ -172,11 +170,9 @@ refusal_one command text refusal other r s found known =
         (subst (λ (v : Value). RefusesValue command v refusal) (text_one text a.value b.value a.read b.read) a.refused)
         b.refused found known
 
--- ---- what answers to one case and one accepted list that stands apart have in common
+-- ---- one case and one separate accepted list are read from two texts
 
--- ---- what is read
-
--- the texts of one case, at one value
+-- a text that is read as a case has the case's canonical text, by its one value
 case_there : (text : List ℕ) (c : Case) (w : Value) → ReadsCase text c → IsTextWithin text w → IsCaseText (canon w) c
 case_there text c w read other = subst (λ (v : Value). IsCaseText (canon v) c) (text_one text read.value w read.read other) read.is_case
 
@@ -231,13 +227,13 @@ only_memory text rows verdict output (refusals.Rows fault) a b = absurd (no_blam
 only_memory text rows verdict output refusals.Memory a b = refl
 only_memory text rows verdict output other a b = absurd b
 
--- what no case is refused for
+-- a text that is no case has one fault
 cases_one : (text : List ℕ) (f g : CaseFault) → LacksCase text f → LacksCase text g → f ≡ g
 cases_one text f g a b =
     let there = subst (λ (v : Value). TextRefused (canon v) f) (text_one text a.value b.value a.read b.read) a.refused in
     text_case_one b.value f g (shallow text b.value b.read) there b.refused
 
--- what no accepted list is refused for
+-- a value that is no accepted list has one fault
 text_rows_one : (v : Value) (f g : RowsFault) → IsShallow v → RowsTextRefused (canon v) f → RowsTextRefused (canon v) g → f ≡ g
 text_rows_one v f g h (inl m) (inl n) =
     m.is ∙ ap rows_faults.Form (long_only v m.form h m.found m.refused ∙ sym (long_only v n.form h n.found n.refused)) ∙ sym n.is
@@ -255,7 +251,7 @@ rows_one text f g (inr a) (inr b) =
     let there = subst (λ (v : Value). RowsTextRefused (canon v) f) (text_one text a.value b.value a.read b.read) a.refused in
     text_rows_one b.value f g (shallow text b.value b.read) there b.refused
 
--- two refusals are one
+-- two refusals of the same case and list are equal, unless memory ran out
 pub one_refused : (text rows : List ℕ) (refusal other : Refusal) → RefusesApart text rows refusal → RefusesApart text rows other
     → refusal ≢ refusals.Memory → other ≢ refusals.Memory → refusal ≡ other
 one_refused text rows refusals.Memory other a b k l = absurd (k refl)

@@ -35,7 +35,7 @@ module _ {A : Type 0} (octets : A → List ℕ) where
       append_assoc first ((32 ∷ octets word) ++ flat_map (λ w. 32 ∷ octets w) words) (10 ∷ [])
       ∙ ap (λ s. first ++ 32 ∷ s) (spaced (octets word) words)
 
-  -- and of one word more
+  -- the same with one word more
   pub spaced_more : (words : List A) (k : ℕ) (d : A) → k < length words
       → (flat_map (λ w. 32 ∷ octets w) (take k words) ++ 32 ∷ []) ++ octets (get_or words k d)
       ≡ flat_map (λ w. 32 ∷ octets w) (take (k + 1) words)
@@ -44,7 +44,7 @@ module _ {A : Type 0} (octets : A → List ℕ) where
       ∙ flat_map_more (λ w. 32 ∷ octets w) [] (take k words) (get_or words k d)
       ∙ ap (flat_map (λ w. 32 ∷ octets w)) (sym (take_more words k d lt))
 
--- ---- lines one behind another
+-- ---- lines that are printed one behind another
 
 module _ {A : Type 0} (one : ℕ → A → List ℕ) (all : ℕ → List A → List ℕ) (none : (n : ℕ) → all n [] ≡ [])
     (more : (n : ℕ) (x : A) (xs : List A) → all n (x ∷ xs) ≡ one n x ++ all (suc n) xs) where
@@ -97,7 +97,7 @@ chains_reported : (folds : List EntryFold) (lines : List ℕ) → 0 < length fol
 chains_reported [] lines some h = absurd (omega (arith, some))
 chains_reported (f ∷ fs) lines some h = (refl, h)
 
--- the same of a verdict and octets that are these
+-- the same for a verdict and an output that are equal to these
 pub reported_as : (folds : List EntryFold) (lines output : List ℕ) (verdict : Verdict) → 0 < length folds → AreFoldLines 1 folds lines
     → verdict ≡ verdict_of (some_done folds) → output ≡ lines → ReportsFolds folds verdict output
 reported_as folds lines output verdict some h e f = rw (e, f) (chains_reported folds lines some h)
@@ -110,7 +110,7 @@ lines_more folds k fold lines line lt at are is =
     subst (λ fs. AreFoldLines 1 fs (lines ++ line)) whole
     (lines_after 1 (take k folds) fold lines line are (subst (λ m. IsFoldLine m fold line) count is))
 
--- ---- one text of the lines
+-- ---- an answer is printed as one text only
 
 fold_once : (n : ℕ) (fold : EntryFold) (a b : List ℕ) → IsFoldLine n fold a → IsFoldLine n fold b → a ≡ b
 fold_once n (folded.Done f) a b (v, written, e) (w, also, d) = e ∙ ap (λ (u : Value). entry_line n (adv u ∷ [])) (written_one f v w written also) ∙ sym d
@@ -139,7 +139,7 @@ prints_once answer.No a b e d = e ∙ sym d
 prints_once (answer.Done output) a b e d = output_once output a b e d
 prints_once (answer.Refused refusal) a b e d = e ∙ sym d
 
--- so their number is one
+-- so an answer has one number of octets
 pub counted_once : (one : Answer) (octets : List ℕ) (more : ℕ) (sum : Option ℕ) → Prints one octets → IfSome sum (λ n. n ≡ length octets + more)
     → IfSome sum (λ n. (others : List ℕ) → Prints one others → n ≡ length others + more)
 counted_once one octets more None printed e = tt

@@ -14,9 +14,9 @@ use Rattle.metered_io.proofs.Sent.{SendsFront-all}
 use Rattle.spki_guard.specs.declared.answers.Answer.TheVariants as answer
 use Rattle.spki_guard.specs.declared.refusals.Refusal.TheVariants as refusals
 
--- ---- what a reply tells
+-- ---- what a reply says of the reader
 
--- the text came to its end, unless this is a refusal
+-- the reader came to its end, unless the reply is a refusal
 pub ended_unless_refused : (command : Command) (known left : Option (List ℕ)) (ended : Bool) (verdict : Verdict) (output : List ℕ)
     → IsReply command known left ended verdict output → ¬ (verdict ≡ Refused) → IsTrue ended
 ended_unless_refused command known left ended verdict output (inl reply) other = reply.at_end
@@ -26,24 +26,24 @@ ended_unless_refused command known left ended verdict output (inr (inr reply)) o
 -- ---- answers, from what is printed, and from refusals
 
 module _ (IsOne : Verdict → List ℕ → Type 0) where
-  -- what is printed of an answer, where the line may also say that memory ran out
+  -- what is true of an answer is true of its octets, also if they say instead that memory ran out
   pub printed_is : ((v : Verdict) (o : List ℕ) → RefusesForMemory v o → IsOne v o) → (one : Answer) → PrintsAs IsOne one
       → (v : Verdict) (o : List ℕ) → ((v ≡ answer_verdict one) × Prints one o) ⊎ RefusesForMemory v o → IsOne v o
   printed_is memory one is v o (inl h) = subst (λ x. IsOne x o) (sym h.0) (is o h.1)
   printed_is memory one is v o (inr h) = memory v o h
 
--- of a decision, or that memory ran out
+-- the same, with the refusal for memory apart
 pub printed_as : (IsOne : Verdict → List ℕ → Type 0) (one : Answer) → PrintsAs IsOne one → (v : Verdict) (o : List ℕ)
     → ((v ≡ answer_verdict one) × Prints one o) ⊎ RefusesForMemory v o → IsOne v o ⊎ RefusesForMemory v o
 printed_as IsOne one is =
     printed_is (λ v o. IsOne v o ⊎ RefusesForMemory v o) (λ v o h. inr h) one (λ o h. inl (is o h))
 
 module _ (command : Command) (text : List ℕ) where
-  -- of a refusal it is the line
+  -- the answer of a refusal is its line
   pub refusal_answers : (refusal : Refusal) → RefusesAnswer command text refusal → PrintsAs (IsAnswer command text) (answer.Refused refusal)
   refusal_answers refusal refused printed line = inr (record { refusal = refusal; refused = refused; verdict_is = refl; line = line })
 
-  -- of an answer to a text
+  -- the printed answer to a text
   pub printed_answers : (one : Answer) → PrintsAs (IsAnswer command text) one → (v : Verdict) (o : List ℕ)
       → ((v ≡ answer_verdict one) × Prints one o) ⊎ RefusesForMemory v o → IsAnswer command text v o
   printed_answers =
@@ -51,7 +51,7 @@ module _ (command : Command) (text : List ℕ) where
       (λ v o h. inr (record { refusal = refusals.Memory; refused = tt; verdict_is = h.verdict_is; line = h.line }))
 
 module _ (text rows : List ℕ) where
-  -- the same with separate rows
+  -- the same for a case with a separate accepted list
   pub refusal_apart : (refusal : Refusal) → RefusesApart text rows refusal → PrintsAs (IsAnswerApart text rows) (answer.Refused refusal)
   refusal_apart refusal refused printed line = inr (record { refusal = refusal; refused = refused; verdict_is = refl; line = line })
 
@@ -61,13 +61,13 @@ module _ (text rows : List ℕ) where
       printed_is (IsAnswerApart text rows)
       (λ v o h. inr (record { refusal = refusals.Memory; refused = tt; verdict_is = h.verdict_is; line = h.line }))
 
--- the text is too long, or memory ran out
+-- the answer to a text that is too long: its line says so, or that memory ran out
 pub printed_long : (one : Answer) (v : Verdict) (o : List ℕ) → one ≡ answer.Refused (refusals.Form TooLong)
     → ((v ≡ answer_verdict one) × Prints one o) ⊎ RefusesForMemory v o → RefusesAsLong v o
 printed_long one v o e (inl h) = let is = rw e at h in record { verdict_is = is.0; line = inl is.1 }
 printed_long one v o e (inr h) = record { verdict_is = h.verdict_is; line = inr h.line }
 
--- the reply if a text was not read
+-- the reply if no text was read
 pub unread_reply : (command : Command) (known left : Option (List ℕ)) (ended : Bool) (refusal : Refusal)
     → RefusesLong known left Refused (refused_line refusal) ⊎ (refusal ≡ refusals.Memory) → (v : Verdict) (o : List ℕ)
     → ((v ≡ Refused) × (o ≡ refused_line refusal)) ⊎ RefusesForMemory v o → IsReply command known left ended v o
@@ -80,7 +80,7 @@ unread_reply command known left ended refusal (inr memory) v o (inl h) =
 -- ---- what is sent, and the status that it has
 
 module _ {W : Type 0} (contents : W → Option (List ℕ)) where
-  -- what is said of what is sent may be weaker
+  -- if P implies Q, and what is sent has P, it has Q
   pub sends_also : (P Q : Verdict → List ℕ → Type 0) (old new : Metered W) (status : Status) → ((v : Verdict) (o : List ℕ) → P v o → Q v o)
       → Sends contents P old new status → Sends contents Q old new status
   sends_also P Q old new status f h = record {
@@ -162,13 +162,13 @@ module _ {W : Type 0} (contents : W → Option (List ℕ)) where
   cut_at_flush (Err e) failed old mid new octets most ok taken kept fault =
       inr (ok, [], SendsFront-all mid taken kept, faulty_at_flush mid new most fault)
 
-  -- a writer that failed was called so often, or failed a call
+  -- a writer that failed reached its greatest number of calls, or failed a call
   faulty_end : (old new : Metered W) (octets : List ℕ) → asks_of old ≡ 0 → asks_of new ≤ max (asks_of old) (length octets + 2097152)
       → (0 < faults_of new) ⊎ (length octets + 2097152 ≤ asks_of new) → IsFaulty new (length octets + 2097152)
   faulty_end old new octets unasked asks (inl h) = inl h
   faulty_end old new octets unasked asks (inr h) = inr (omega (arith, unasked, asks, h))
 
-  -- what went out of the last page, behind what went out before
+  -- what was written of the last page comes behind what was written before
   last_front : (a b c : Metered W) (first page octets rest : List ℕ) → Takes contents a b first → first ++ page ≡ octets
       → SendsFront contents b c page rest → SendsFront contents a c octets rest
   last_front a b c first page octets rest f e g = record {
@@ -202,7 +202,7 @@ module _ {W : Type 0} (contents : W → Option (List ℕ)) where
         (last_front old (writer_of t) end sent (page_of t) octets rest (subst (λ w. Takes contents w (writer_of t) sent) from first) joined front)
         (subst (λ n. (0 < faults_of end) ⊎ (n ≤ asks_of end)) (taken.same_most ∙ most_is ∙ limit) faulty)
 
-  -- the same of the writer behind the sink
+  -- the same for the writer of the sink
   pub cut_pages : (s t : PageSink W) (old end final : Metered W) (octets : List ℕ) (most : ℕ) → writer_of s ≡ old
       → page_of s ≡ [] → has_failed s ≡ false → asks_of old ≡ 0 → most_of s ≡ most → most ≡ length octets + 2097152
       → PageTakes contents s octets t → asks_of end ≤ max (asks_of (writer_of t)) (most_of t) → final ≡ end

@@ -30,7 +30,7 @@ never b e f = both_ways b e f
 
 -- ---- a tuple that does not join
 
--- a cause that is not a matter of what tags or windows leave
+-- a cause that does not depend on the intersections of tags or windows
 abbrev pub IsMisfit : Cause → Type 0
 IsMisfit NotIssuer = Unit {0}
 IsMisfit NotTheName = Unit {0}
@@ -77,7 +77,7 @@ module _ (policy : Policy) (first : Tuple) where
         ∙ sym (flat_map-append parts_of (first ∷ take h.place others) (h.tuple ∷ []))
         ∙ ap (λ ts. flat_map parts_of (first ∷ ts)) (sym (up_to others step cause h))
 
-    -- what fails of the tuples up to a step fails of all
+    -- if not all parts of the tuples up to a step pass a test, not all parts of all tuples do
     lacking : (test : A → Bool) (others : List Tuple) (step : ℕ) → list_all test (flat_map parts_of (first ∷ take step others)) ≡ false
         → (tree : Tree) (root : Tuple) → Derives policy tree root → leaves tree ≡ first ∷ others → list_all test (parts_of root) ≡ true → ⊥
     lacking test others step fails tree root d e holds =
@@ -198,7 +198,7 @@ module _
       ∙ flat_map-append tags_of before (step_tuple step ∷ [])
       ∙ ap (λ ts. all_tags before ++ ts) (append-nil (tags_of (step_tuple step)))
 
-  -- what the tag so far and those of the step leave is what all tags up to the step leave
+  -- the intersection of the tag so far and the tags of the step is that of all tags up to the step
   pub met_here :
       met (f.tag ∷ tags_of (step_tuple step)) ≡ met (all_tags (first ∷ take (place + 1) (tuples_of steps)))
   met_here =

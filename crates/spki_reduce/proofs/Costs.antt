@@ -32,7 +32,7 @@ pub resolution_is : (tag : Tag) (path : List (List ℕ)) (definition : Four)
 unfolding step_cost
 resolution_is tag path definition = omega arith
 
--- a sum that is counted is the number, or over what is counted
+-- a sum in a `usize` is the number, or None if the number is 2^64 or more
 pub number_is : (r : Option ℕ) (n m : ℕ) → SomeIff r (n < 2 ^ 64) n → n ≡ m → IsNumber r m
 number_is None n m h e = omega (arith, h, e)
 number_is (Some x) n m h e = h.1 ∙ e
@@ -43,7 +43,7 @@ pub costs_nothing : (policy : Policy) (f : Five) (step other : Step) → step �
 costs_nothing policy f step other e none =
     inr (subst (λ (s : Step). Reaches policy (five_tuple f) (step_tuple s) → ⊥) (sym e) none, refl)
 
--- where there is no window, nothing joins
+-- if `joined_window` returns no window, the two do not join
 pub unjoined : (r : Result Window Cause) (Q R : Cause → Type 0) (J : Type 0) → is_ok r ≡ false
     → IfErr r (λ cause. Q cause × R cause × (J → ⊥)) → J → ⊥
 unjoined (Ok window) Q R J e h = absurd cc
@@ -79,7 +79,7 @@ next_ticks cost names n old met count new within few is counted = omega arith
 pub next_grows : (old met count new names : ℕ) → old < met → new ≡ met + count → count ≡ names → old + names < new
 next_grows old met count new names some is counted = omega arith
 
--- and to resolve its first name by a definition
+-- what it costs to resolve an authorization's first name by a definition
 pub resolved-cost : (policy : Policy) (f : Five) (definition : Four) (n : ℕ) → Reaches policy (five_tuple f) (four (four_tuple definition))
     → IsCostOf policy (five_tuple f) f.tag (four (four_tuple definition)) n
     → n ≡ 1 + length f.subject.names + length definition.subject.names

@@ -8,9 +8,7 @@ use Rattle.spki_cert.specs.Naming.{names}
 use Rattle.spki_tag.specs.Request.{Request}
 use Rattle.spki_reduce.specs.Reduction.{FiveTuple, FourTuple, Tuple, five, four, Begins, Delegate, Resolve, Link, Joins, delegated, resolved, linked, Tree, leaf, join, leaves, Derives, extended, from_left, Supports, tags_of, windows_of, own, key}
 
--- ---- a derivation may be bracketed from the left, and its leaves determine its root
-
--- ---- lists
+-- ---- lists that are equal in parts
 
 head : (x y : Tuple) (xs ys : List Tuple) → x ∷ xs ≡ y ∷ ys → x ≡ y
 head x y xs ys e = cc
@@ -34,7 +32,7 @@ extended-leaves tree (t ∷ ts) = extended-leaves (join tree (leaf t)) ts ∙ ap
 pub from_left-leaves : (first : Tuple) (rest : List Tuple) → leaves (from_left first rest) ≡ first ∷ rest
 from_left-leaves first rest = extended-leaves (leaf first) rest
 
--- one tuple more
+-- the tree that joins the tuples from the left, with one tuple more at the end
 pub from_left-more : (first last : Tuple) (rest : List Tuple) → from_left first (rest ++ last ∷ []) ≡ join (from_left first rest) (leaf last)
 from_left-more first last rest = extended-append (leaf first) rest (last ∷ [])
 
@@ -131,7 +129,7 @@ module _ (policy : Policy) where
       → Supports policy (from_left first rest) holder request moment
   supported tree holder request moment first rest s e = search (rules, bracketed)
 
-  -- ---- one root
+  -- ---- derivations from the same leaves have one root
 
   same_resolve : (a : FiveTuple) (b : FourTuple) (r s : FiveTuple) → Resolve policy a b r → Resolve policy a b s → r ≡ s
   same_resolve a b r s h k = search rules
@@ -155,7 +153,7 @@ module _ (policy : Policy) where
       let right = bracketed other s _ _ f (sym e ∙ leaves-is tree) in
       same_tree (from_left (first_of tree) (others tree)) r s left right
 
-  -- ---- fronts
+  -- ---- the front of a derivation's leaves has a derivation too
 
   extended_from : (tree : Tree) (ts : List Tuple) (root : Tuple) → Derives policy (extended tree ts) root
       → (begun : Tuple) × Derives policy tree begun
@@ -193,7 +191,7 @@ module _ (policy : Policy) where
   all_windows (leaf t) root d = ap windows_of d ∙ sym (append-nil (windows_of t))
   all_windows (join left right) root d = search (rules, all_windows left d.0 d.2, all_windows right d.1 d.3, joined_windows, flat_map-append)
 
--- ---- a name's definition between two authorizations
+-- ---- tuples that have a derivation from the left, and none in the other bracketing
 
 -- the subject is the empty name of the empty key, the name is defined as this key, and the key authorizes
 abbrev entry : FiveTuple
@@ -208,7 +206,7 @@ certificate = record { issuer = key []; principal = Key []; names = []; delegati
 abbrev middle : FiveTuple
 middle = resolved entry definition []
 
--- a definition takes no authorization
+-- a definition does not join an authorization after it
 refused : (policy : Policy) (a b r : Tuple) → a ≡ four definition → b ≡ five certificate → Joins policy a b r → ⊥
 refused policy a b r e f h = rw (e, f) at h
 

@@ -146,7 +146,7 @@ delegation request moment = record {
 delegation-stops : Stops Open (five (delegated root_entry first_cert)) (five second_cert) NoDelegation
 delegation-stops = (record { holder = kb; issued = refl; is_for = record { whole = refl; named = refl } }, refl)
 
--- what cannot be delegated is not
+-- an authorization that may not be delegated joins no authorization after it
 undelegated : (left right result : FiveTuple) → Delegate Open left right result → left.delegation ≡ false → ⊥
 undelegated left right result h e = let k : true ≡ false = sym h.allowed ∙ e in cc
 

@@ -15,9 +15,7 @@ use Rattle.spki_reduce.specs.Joining.{JoinButForTags, Stops, IsHandedOn, Becomes
 use Rattle.spki_reduce.specs.Chain.{Reaches, ResolvesTimely, FoldsTo}
 use Rattle.spki_reduce.proofs.Derivations.{from_left-more, from_left-leaves, one_root}
 
--- ---- what joins of the code are in the model
-
--- ---- two of each
+-- ---- two windows, and results that are joined or stopped
 
 pub both : (a b : Bool) → (a && b) ≡ (a && (b && true))
 both a b = sym (ap (λ x. a && x) (and-true b))
@@ -33,12 +31,12 @@ pub along : {T : Type 0} (joined : Joined T) (P P' : T → Type 0) (Q Q' : Cause
 along (Done f) P P' Q Q' h p q = p f h
 along (Stopped cause) P P' Q Q' h p q = q cause h
 
--- what would be refused did not come to an answer
+-- if P implies that a call returns Err, and it returned Ok, P is false
 pub unrefused : {T E : Type 0} (r : Result T E) (e : E) (P : Type 0) → (P → r ≡ Err e) → IfOk r (λ _. P → ⊥)
 unrefused (Ok x) e P h = λ p. absurd (let clash = h p in cc)
 unrefused (Err x) e P h = tt
 
--- ---- authorizations
+-- ---- joins of two authorizations by the code, in the model
 
 module _
     (policy : Policy) (left right : Five) (window : Window) (issues : Issues policy (five_tuple left) (five_tuple right))
@@ -58,7 +56,7 @@ module _
       → Stops policy (five (five_tuple left)) (five (five_tuple right)) cause
   stops_by_tags tag exact cause h = search (rules, joins_but_for_tags, both)
 
--- ---- names
+-- ---- joins with definitions by the code, in the model
 
 pub resolves_timely : (policy : Policy) (left : Five) (right : Four) (rest : List (List ℕ))
     → IsTrue (names policy left.subject.principal right.key) × (left.subject.names ≡ right.name ∷ rest)
@@ -94,9 +92,7 @@ module _
       timely = overlapping left.window right.window overlap;
     }
 
--- ---- one more tuple joins a chain as it joins what the chain became
-
--- ---- tags and windows, one for several
+-- ---- one tag or window in place of several
 
 pub nodes_product-append : (xs ys : List Tag) → nodes_product (xs ++ ys) ≡ nodes_product xs * nodes_product ys
 nodes_product-append [] ys = omega arith
@@ -139,7 +135,7 @@ module _ (window : Window) (windows more : List Window) (same : (t : List ℕ) �
   none_more : NoMoment (window ∷ more) → NoMoment (windows ++ more)
   none_more h t = sym (within_more t) ∙ h t
 
--- ---- a root, and what it reduces to
+-- ---- one more tuple joins a root as it joins what the root reduces to
 
 module _ (policy : Policy) (root : FiveTuple) (f : Five) (reduced : ReducesToFive root f) where
   pub is_for : (holder : List ℕ) → IsFor policy (five_tuple f) holder → IsFor policy root holder
@@ -235,7 +231,7 @@ module _ (policy : Policy) (root : FiveTuple) (f : Five) (reduced : ReducesToFiv
   too_large_back most (five right) h large = (reaches_back (five right) h.0, large)
   too_large_back most (four right) h large = h
 
--- what two tuples become is from the left issuer
+-- the authorization that two tuples become has the issuer of the left one
 pub same_issuer : (policy : Policy) (f g : Five) (right : Tuple) → BecomesFive policy (five (five_tuple f)) right g
     → issuer_of g.issuer ≡ issuer_of f.issuer
 same_issuer policy f g (five right) h = h.reduced.issuer ∙ ap (λ (t : FiveTuple). t.issuer) h.joined.result_is

@@ -15,7 +15,7 @@ use Rattle.spki_reduce.proofs.Chains.{IsMisfit, up_to, windows_so_far, underivab
 
 -- ---- tags
 
--- nothing stays nothing, whatever it is met with
+-- the intersection of (* set) and any tag is (* set)
 still_nothing : (tag : Tag) → meet (set none) tag ≡ set none
 still_nothing (range ordering low up) = refl
 still_nothing tag = refl
@@ -115,7 +115,7 @@ within_front (x ∷ xs) k zero y below e = absurd (omega arith)
 within_front (x ∷ xs) zero (suc n) y below e = e
 within_front (x ∷ xs) (suc k) (suc n) y below e = within_front xs k n y (omega arith) e
 
--- a place in a list with one more is in the list, or is that one's
+-- an element of a list with one more at the end is in the list, or it is that one
 at_end : (xs : List Tuple) (x y : Tuple) (k : ℕ) → slice_get (xs ++ x ∷ []) k ≡ Some y
     → ((slice_get xs k ≡ Some y) × (take k (xs ++ x ∷ []) ≡ take k xs)) ⊎ ((y ≡ x) × (take k (xs ++ x ∷ []) ≡ xs))
 at_end [] x y zero e = inr (cc, refl)
@@ -124,7 +124,7 @@ at_end (z ∷ xs) x y zero e = inl (e, refl)
 at_end (z ∷ xs) x y (suc k) e = search (rules, at_end xs x y k e)
 
 module _ (most : ℕ) (policy : Policy) (first : Tuple) where
-  -- the same step of another chain that begins so
+  -- a step that is too large in a chain is too large in another chain that begins with the same tuples
   moved : (ones others : List Tuple) (h : TooLargeAt most policy first ones) → slice_get others h.place ≡ Some h.tuple
       → take h.place ones ≡ take h.place others → TooLargeAt most policy first others
   moved ones others h stands same = search rules
@@ -188,7 +188,7 @@ module _ (policy : Policy) (root : FiveTuple) where
   one_cause tuple a b h k = absurd (search (rules, both_ways, some_or_none, h, k))
 
 module _ (policy : Policy) (first : Tuple) (others : List Tuple) (tagged : AreTagged others) where
-  -- the later of two stops would be behind the earlier one
+  -- of two stops the later one would come behind a step that has stopped the chain
   not_before : (s t : ℕ) (a b : Cause) → StopsAt policy first others s a → (k : StopsAt policy first others t b)
       → s ≤ k.place → ⊥
   not_before s t a b h k behind = unstopped policy first others tagged k.place k.root k.before s behind a h
@@ -217,7 +217,7 @@ module _ (policy : Policy) (first : Tuple) (others : List Tuple) (tagged : AreTa
         one_cause policy h.root h.tuple a b h.stopped stopped,
       )
 
-  -- a chain that stops becomes nothing
+  -- a chain that stops does not become an authorization
   pub becomes_nothing : (s : ℕ) (a : Cause) → StopsAt policy first others s a → (f : Five) → FoldsTo policy first others f
       → HasMet first others f → ⊥
   becomes_nothing s a h f folds has_met =

@@ -15,9 +15,7 @@ use Rattle.spki_reduce.proofs.Derivations.{one_root}
 use Rattle.spki_tag.specs.Tag.{is_date}
 use Rattle.spki_cert.specs.declared.principal.Principal.TheVariants as principal
 
--- ---- authorizations with one tuple are one, and are written as one value
-
--- ---- tuples
+-- ---- authorizations with the same tuple are equal
 
 issuer_one : (i j : Issuer) → issuer_of i ≡ issuer_of j → i ≡ j
 issuer_one Own Own e = refl
@@ -27,9 +25,9 @@ issuer_one i j e = absurd cc
 pub five_one : (f g : Five) → five_tuple f ≡ five_tuple g → f ≡ g
 five_one f g e = search (rules, issuer_one)
 
--- ---- values
+-- ---- an authorization is written as one value
 
--- one value has a canonical text
+-- a canonical text is that of one value only
 value_one : (octets : List ℕ) (v w : Value) → octets ≡ canon v → octets ≡ canon w → v ≡ w
 value_one octets v w a b = (canon_one v w [] [] (ap (λ (text : List ℕ). text ++ []) (sym a ∙ b))).0
 
@@ -54,9 +52,7 @@ written_one f v w a b =
     ∙ (λ i. five_value ((issuer i ++ headed (codes "subject") (subject i ∷ []) ∷ []) ++ delegation_values f.propagate) f.tag (in_valid (window_limits f.window)))
     ∙ sym b.written
 
--- ---- windows of the same moments are one, and so is what a chain becomes
-
--- ---- moments
+-- ---- the order of moments
 
 tied : (o : Ordering) → is_le o ≡ true → is_le (ordering_reverse o) ≡ true → o ≡ Equal
 tied Equal h k = refl
@@ -76,12 +72,12 @@ until-empty : (q : Option (List ℕ)) → is_until q [] ≡ true
 until-empty (Some (octet ∷ octets)) = refl
 until-empty q = refl
 
--- above a string stands another
+-- no string is the greatest: with one octet more it is above
 beyond : (s : List ℕ) → upto (s ++ 0 ∷ []) s ≡ false
 beyond [] = refl
 beyond (octet ∷ octets) = search (rules, beyond octets)
 
--- ---- windows
+-- ---- windows with the same moments are equal
 
 abbrev inside : Option (List ℕ) → Option (List ℕ) → List ℕ → Bool
 inside p q t = is_from p t && is_until q t
@@ -102,18 +98,18 @@ module _ (p q r u : Option (List ℕ)) (same : (t : List ℕ) → inside p q t �
   first_in : (a : List ℕ) → p ≡ Some a → is_from r a ≡ true
   first_in a e = search (rules, and_parts, moved, upto-self, until-then)
 
-  -- and so is the last one
+  -- the last moment is in the other window too
   last_in : (c : List ℕ) → q ≡ Some c → is_until u c ≡ true
   last_in c e = search (rules, and_parts, moved, from-then, upto-self)
 
-  -- what begins nowhere has the empty string
+  -- a window without a first moment contains the empty string, which a window that begins at a date does not
   begins_nowhere : (b : List ℕ) → p ≡ None → r ≡ Some b → is_date b ≡ true → ⊥
   begins_nowhere b e f d =
       let at : is_from r [] ≡ true = (moved [] (subst (λ o. is_from o [] ≡ true) (sym e) refl) (until-empty q)).0 in
       let clash : true ≡ false = sym (subst (λ o. is_from o [] ≡ true) f at) ∙ dated b d in
       cc
 
-  -- what ends nowhere has a string above every other
+  -- a window without a last moment contains a string above any last moment
   ends_nowhere : (d : List ℕ) → q ≡ None → u ≡ Some d → ⊥
   ends_nowhere d e f =
       let at = and_parts (is_from p t) (is_until q t) here in
@@ -154,7 +150,7 @@ one_window v w d e same t here =
     let last = one_last v.not_before v.not_after w.not_before w.not_after same t here in
     λ i. record { not_before = first i; not_after = last i }
 
--- ---- chains
+-- ---- what a chain becomes
 
 pub one_fold : (policy : Policy) (first : Tuple) (others : List Tuple) (f g : Five) → others ≢ [] → IsLimit f.window.not_before
     → IsLimit g.window.not_before → FoldsTo policy first others f → HasMet first others f → FoldsTo policy first others g

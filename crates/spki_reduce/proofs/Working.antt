@@ -42,7 +42,7 @@ module _
       → IsCostOf policy (five_tuple f) f.tag (step_tuple step) n → IsWorkOf policy first (tuples_of steps) (place + 1) (so_far + n)
   work_here so_far n before h = search (rules, cost_here, add-one)
 
--- what is taken twice is taken at once
+-- work that is taken in two parts is their sum, taken at once
 pub taken : (a b c : Option ℕ) (n m : ℕ) → Takes a b n → Takes b c m → Takes a c (n + m)
 taken None None None n m h k = tt
 taken None (Some b) c n m h k = absurd h
@@ -50,7 +50,7 @@ taken (Some a) None c n m h k = absurd h
 taken (Some a) (Some b) (Some c) n m h k = omega (arith, h, k)
 taken a b c n m h k = absurd k
 
--- what is over what is left is over what there was, with what was taken
+-- if m is over the work that is left after n was taken, n + m is over the work that there was
 pub over : (a b : Option ℕ) (n m : ℕ) → Takes a b n → IsOver b m → IsOver a (n + m)
 over None (Some b) n m h k = absurd h
 over (Some a) (Some b) n m h k = omega (arith, h, k)
@@ -130,7 +130,7 @@ module _ (policy : Policy) (first : Tuple) (others : List Tuple) where
     | inr before ↦ omega (arith, grows few many n k.0 before h k.2, k.4)
   ]
 
--- what could be taken is not over what there was
+-- work that was taken is not over the work that there was
 pub within : (a b : Option ℕ) (n : ℕ) → Takes a b n → IsOver a n → ⊥
 within None b n h k = k
 within (Some a) None n h k = h

@@ -33,7 +33,7 @@ decided_marked_one a es x y are =
 
 -- ---- a question that was read has one answer
 
--- an answer of a verifier that accepts all is that by the marks, if each place has one
+-- the answer by a verifier that accepts all is that by the marks, if each listed signature has a mark
 pub marked_whole : {A : Type 0} (Answered : Case → Verified → Result A GuardFault → Type 0) (stopped : Signed → A) (a : PreparedModel)
     (x : Result A GuardFault) → AllMarked (asked a.case) a.marks → Answers (λ c answer. Answered c every answer) a x
     → AnswersMarked Answered stopped a x
@@ -41,7 +41,7 @@ marked_whole Answered stopped a (Ok x) all h = inl (all, h)
 marked_whole Answered stopped a (Err TooLarge) all h = inl (all, h)
 marked_whole Answered stopped a (Err Memory) all h = tt
 
--- what is answered of one case, of a question's case with the guard's entries
+-- answers to a question are the same if those to its case, with the guard's entries, are
 module _ {A : Type 0} (Answered : Case → Verified → Result A GuardFault → Type 0)
     (IsSame : Result A GuardFault → Result A GuardFault → Type 0)
     (one : (c : Case) (verified : Verified) (x y : Result A GuardFault) → Answered c verified x → Answered c verified y → IsSame x y) where
@@ -73,7 +73,7 @@ module _ {A : Type 0} (Answered : Case → Verified → Result A GuardFault → 
     marked_one (Err TooLarge) (Err TooLarge) found known h k =
         by_both a _ _ _ _ (λ m n. one (with_entries a.case es) every (Err TooLarge) (Err TooLarge) (m es are) (n es are)) (λ s e f. absurd e) h k
 
--- ---- what a verifier's answers make of a question that was examined
+-- ---- the answers to a question by a verifier, from those by the examination of its certificates
 
 module _ (a : PreparedModel) (verified : Verified) where
   -- ---- each signature is accepted
@@ -96,7 +96,7 @@ module _ (a : PreparedModel) (verified : Verified) where
     reduced_all (Err Memory) h = tt
     reduced_all r h = λ es are. reduced_by (with_entries a.case es) every verified agree r (h es are)
 
-  -- ---- one is refused
+  -- ---- one signature is refused
 
   module _ (item : ℕ) (stop : Stop) (fails : FailsAt a.case.policy verified a.case.items item stop) where
     pub decided_failed : Decides verified a No
@@ -121,7 +121,7 @@ module _ (a : PreparedModel) (verified : Verified) where
     pub reduced_none : (item : ℕ) → item ≡ r.refused.item → Answers (λ c x. IsReduced c verified x) a (Ok (reduction.Evidence item NotAccepted))
     reduced_none item same = λ es are. (failed item NotAccepted (fails item same) es are, tt)
 
--- ---- marks that tell what a verifier accepts
+-- ---- if exactly the signatures that a verifier accepts have a mark
 
 module _ (verified : Verified) (a : PreparedModel) (tell : MarksTell verified (asked a.case) a.marks) where
   pub decided_told : (d : Decision) → DecidesMarked a d → Decides verified a d
@@ -141,9 +141,9 @@ pub folded_marked : (a : PreparedModel) → AllMarked (asked a.case) a.marks →
 folded_marked a all takes (Ok failure) (folds, taken, h) = (folds, taken, inl (all, h))
 folded_marked a all takes (Err fault) h = tt
 
--- ---- the same question, as its fields are
+-- ---- the first refused signature of a question, by the fields that it has
 
--- a refusal among the signatures that a question asks for, and the item of the signature
+-- the first refused one among equal lists of signatures is the same, and so is its item
 pub refused_there : (V : List Signed → Verified) (kept items : List examined.Signed) (all : List Signed) (place : ℕ) (one : examined.Signed)
     → RefusedAt (V (map signed_of items)) (map signed_of items) place → items ≡ kept → map signed_of kept ≡ all → one ≡ get_or kept place one
     → (r : RefusedAt (V all) all place) × (one.item ≡ r.refused.item)
@@ -152,7 +152,7 @@ refused_there V kept items all place one r same are here =
     ap (λ s. s.item) here ∙ ap (λ xs. (get_or xs place one).item) (sym same) ∙ refused_item (V (map signed_of items)) items place r one in
     subst (λ (xs : List Signed). (r : RefusedAt (V xs) xs place) × (one.item ≡ r.refused.item)) (ap (map signed_of) same ∙ are) (r, item_is)
 
--- ---- every signature is accepted
+-- ---- the decision by the entries that the index finds, if every signature is accepted
 
 module _ (a : PreparedModel) (tuples : List Tuple) (shown : AreShown a.case.policy every a.case.items tuples) where
   is_kept : (es : List Entry) (kept : List (ℕ × Entry)) → AreKept (IsLeftOut (with_entries a.case es) tuples) 1 es kept
@@ -179,7 +179,7 @@ module _ (a : PreparedModel) (tuples : List Tuple) (shown : AreShown a.case.poli
 -- ---- what the entries of texts become, one text after another
 
 module _ (texts : List (List ℕ)) (c : Case) (tuples : List Tuple) where
-  -- so many texts are read, and this is what their entries become; so much work may still be done
+  -- the first `place` texts are read, `folds` is what their entries become, and `left` is the work that may still be done
   abbrev pub TextsTo : ℕ → Option ℕ → List EntryFold → Type 0
   TextsTo place left folds = (es : List Entry) → AreEntries texts es → FoldedTo (with_entries c es) tuples place left folds
 
@@ -211,7 +211,7 @@ pub some_yes : (grant : Option Grant) (said : Bool) → said ≡ is_some grant �
 some_yes None said e = (λ h. let clash : false ≡ true = sym e ∙ h in cc, λ yes. absurd yes)
 some_yes (Some grant) said e = (λ h. tt, λ yes. e)
 
--- ---- till when a yes by marks holds
+-- ---- until when a yes by marks holds
 
 module _ (a : PreparedModel) (es : List Entry) (moment : List ℕ) (grant : Grant) (d : Decision) (are : AreEntries a.texts es) where
   held_marked_by : DecidesMarked a (Yes grant.entry) → OfCase a (λ c. HoldsUntil c (Some grant)) → upto a.case.moment moment ≡ true
@@ -226,7 +226,7 @@ pub held_marked : (a : PreparedModel) (es : List Entry) (moment : List ℕ) (gra
     → DecidesMarked (asked_at a moment) d → (m : ℕ) × (d ≡ Yes m) × (m ≤ grant.entry)
 held_marked a es moment grant d are grants = held_marked_by a es moment grant d are grants.0 grants.1
 
--- the same in seconds
+-- the same for moments in seconds
 pub held_marked_seconds : (a : PreparedModel) (es : List Entry) (now later : ℤ) (moment : List ℕ) (grant : Grant) (d : Decision)
     → AreEntries a.texts es → GrantsMarked a (Some grant) → IsLimit grant.until → IsDateAt now a.case.moment → IsDateAt later moment
     → now ≤ℤ later → IfSome grant.until (λ (end : List ℕ). later ≤ℤ last_second end) → DecidesMarked (asked_at a moment) d

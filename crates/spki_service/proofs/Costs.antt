@@ -1,4 +1,4 @@
--- The octets of entries that are found, by their numbers and by the test, and the weights of what is read from them; the ticks of all entries.
+-- The octets of the entries that the index finds, the weights of what is read from them, and the ticks of reading all entries.
 use Rattle.std.proofs.Common.{◌≡◌, ℕ, zero, suc, ◌+◌, ◌*◌, ◌-◌, ◌<◌, ◌≤◌, Bool, true, false, cond, List, [], ◌∷◌, Option, Some, None, map, length, take, drop, get_or, add-one, refl, ap, subst, take_all, arith}
 use Rattle.std.proofs.lemmas.List.Sums.{sum_by_more, sum_by_more_le, sum_by-take-le}
 use Rattle.spki_cert.{specs.{declared.{entry.Entry.{Entry}, principal.Policy.{Policy}}, Cost.{entry_weight}}, proofs.Costs.{entry_ge, sequence_ge}}
@@ -11,7 +11,7 @@ use Rattle.spki_decision.specs.{declared.reduction.EntryFold.{EntryFold, TheVari
 use Rattle.spki_decision.specs.{declared.{grant.Grant.{Grant}, decision.Decision.TheVariants.{No}}, Until.{decision_of}}
 use Rattle.spki_decision.proofs.{Charges.{within_limit}, Costs.{asked_ge, shown_and_asked_ge, ticks_taken}}
 
--- ---- by their numbers
+-- ---- the octets of the entries with some numbers
 
 octets_from : (texts : List (List ℕ)) (numbers : List ℕ) (i : ℕ) → i < length numbers
     → octets_at texts (drop i numbers) ≡ length (get_or texts (get_or numbers i 0 - 1) []) + octets_at texts (drop (suc i) numbers)
@@ -19,7 +19,7 @@ octets_from texts [] i below = absurd (omega (arith, below))
 octets_from texts (n ∷ numbers) zero below = refl
 octets_from texts (n ∷ numbers) (suc i) below = octets_from texts numbers i (omega (arith, below))
 
--- the first of those that are not examined
+-- the octets of the entries that the loop has not examined are those of the first of them and of the others
 pub octets_first : (texts : List (List ℕ)) (numbers : List ℕ) (i : ℕ) → i < length numbers
     → octets_at texts (drop i numbers) ≡ length (get_or texts (get_or numbers i 0 - 1) []) + octets_at texts (drop (i + 1) numbers)
 octets_first texts numbers i below = rw (add-one i) (octets_from texts numbers i below)
@@ -38,7 +38,7 @@ module _ (texts : List (List ℕ)) (es : List Entry) (numbers : List ℕ) (i : �
       let found = entry_there texts es (get_or numbers i 0 - 1) are (omega (arith, low, high)) in
       (found.0, found.2)
 
-  -- the text of an entry has an octet
+  -- the text of an entry has at least one octet
   pub text_long : 0 < length text
   text_long = omega (arith, text_weight text there.0 there.1)
 
@@ -46,7 +46,7 @@ module _ (texts : List (List ℕ)) (es : List Entry) (numbers : List ℕ) (i : �
   pub entry_light : (e : Entry) → ((f : Entry) → IsEntryText text f → e ≡ f) → entry_weight e < length text
   entry_light e found = omega (arith, text_weight text there.0 there.1, ap entry_weight (found there.0 there.1))
 
--- ---- by the test
+-- ---- the octets of the entries that pass a test
 
 one_at : (all : List (List ℕ)) (n : ℕ) (text : List ℕ) (texts : List (List ℕ)) → drop n all ≡ text ∷ texts
     → (get_or all n [] ≡ text) × (drop (suc n) all ≡ texts)
@@ -84,13 +84,13 @@ module _ (a : PreparedModel) (shown found : ℕ) (has : HasOctets a shown found)
   pub asked_octets : length (asked a.case) ≤ 4 * shown
   asked_octets = omega (arith, asked_ge a.case, sequence_ge has.value a.case.items has.sequence, has.long)
 
-  -- the tuples, the signatures and the entries that are found
+  -- what reading the tuples, the signatures and the entries that are found costs is within the bound
   pub found_cost : (tuples : List Tuple) (es : List Entry) → AreShown a.case.policy every a.case.items tuples → AreEntries a.texts es
       → tuples_weight tuples + length (asked a.case) + 2 * found_octets a.case tuples a.texts es ≤ 4 * shown + 2 * found
   found_cost tuples es shows are =
       omega (arith, shown_and_asked_ge a.case every tuples shows, sequence_ge has.value a.case.items has.sequence, has.long, has.entries tuples es shows are)
 
--- a no grants nothing
+-- a decision that is no has no grant
 pub no_grant : (grant : Option Grant) → decision_of grant ≡ No → grant ≡ None
 no_grant None same = refl
 no_grant (Some grant) same = absurd cc
@@ -119,7 +119,7 @@ module _ (most : ℕ) (texts : List (List ℕ)) (old : ℕ) where
 
   module _ (place : ℕ) (below : place < length texts) (left : Option ℕ) (now : ℕ) (before : TicksTo place left now) (read : ℕ)
       (reads : read ≡ now + 1 + length (get_or texts place [])) where
-    -- an entry more is read
+    -- the ticks after one entry more is read
     pub read_within : read ≤ old + 4 * most + all_octets texts + 2 * length texts
     read_within =
         omega (
@@ -131,7 +131,7 @@ module _ (most : ℕ) (texts : List (List ℕ)) (old : ℕ) where
           sum_by_more_le length texts place [] below,
         )
 
-    -- and joined
+    -- the ticks after it is joined with the certificates
     pub one_joined : (after : Option ℕ) (new : ℕ) (policy : Policy) (uncounted : ℕ) (tuples : List Tuple) (e : Entry) → uncounted ≡ 0
         → AreTicksOfEntry left after read new policy uncounted tuples e → TicksTo (place + 1) after new
     one_joined after new policy uncounted tuples e counted h =
@@ -147,7 +147,7 @@ counts : (old new steps : ℕ) (fold : EntryFold) → CountsSteps old new steps 
 counts old new steps (Done f) h = omega (arith, h)
 counts old new steps (Stopped item cause) h = omega (arith, h)
 
--- each octet is counted
+-- at least one tick is counted for each octet of the entries so far, and for each entry
 pub one_read : (texts : List (List ℕ)) (place old now read new steps : ℕ) (fold : EntryFold) → place < length texts
     → old + all_octets (take place texts) + place ≤ now → read ≡ now + 1 + length (get_or texts place []) → CountsSteps read new steps fold
     → old + all_octets (take (place + 1) texts) + (place + 1) ≤ new

@@ -33,7 +33,7 @@ counted_nanos : (seconds : ℤ) (octets : List ℕ) (d : IsDateAt seconds octets
     → civil_nanos (moment_of seconds octets d) ≡ seconds *ℤ pos 1_000_000_000
 counted_nanos seconds octets d = omega (arith, signed_arith, civil_nanos-parts (moment_of seconds octets d), d.counted)
 
--- ---- seconds that are those of no date
+-- ---- seconds without a date
 
 -- 0000-01-01
 first_date : Date
@@ -48,20 +48,20 @@ first_year : first_date.year ≡ pos 0
 unfolding first_date
 first_year = refl
 
--- and those of no date are not those of one
+-- seconds without a date are not those of a date
 pub no_date : (seconds : ℤ) (octets : List ℕ) → IsAtNoDate seconds → ¬ IsDateAt seconds octets
 no_date seconds octets (inl early) d = absurd (omega (arith, signed_arith, early, d.since))
 no_date seconds octets (inr late) d =
     let range = civil_nanos_range (moment_of seconds octets d) in
     omega (arith, signed_arith, counted_nanos seconds octets d, late, range.1)
 
--- ---- seconds that are those of a date
+-- ---- seconds with a date
 
 not_negative : (z : ℤ) → pos 0 ≤ℤ z → z ≡ pos (unsigned_abs z)
 not_negative (pos n) h = refl
 not_negative (negsuc n) h = absurd (omega (arith, signed_arith, h))
 
--- seconds that are not negative are of no year before 0
+-- seconds that are not negative are in no year before 0
 pub late_year : (seconds : ℤ) (dt : DateTime) → civil_nanos dt ≡ seconds *ℤ pos 1_000_000_000 → pos 0 ≤ℤ seconds → pos 0 ≤ℤ dt.date.year
 late_year seconds dt e since =
     by_lt_z dt.date.year (pos 0)
@@ -116,14 +116,14 @@ is_some_date seconds octets d =
     rw d.written
     (date_true d.year d.month d.day d.hour d.minute d.second year d.civil.1.0 d.civil.1.1 d.civil.2.0 day d.hours d.minutes d.whole)
 
--- so it is read as one
+-- so the octets are read as this date
 pub dated : (seconds : ℤ) (octets : List ℕ) (r : Option (List ℕ)) → IsDateAt seconds octets
     → MatchOption r (is_date octets ≡ false) (λ date. (date ≡ octets) × (is_date date ≡ true))
     → MatchOption r (IsAtNoDate seconds) (λ date. IsDateAt seconds date)
 dated seconds octets None d h = absurd (true≢false (sym (is_some_date seconds octets d) ∙ h))
 dated seconds octets (Some date) d h = subst (IsDateAt seconds) (sym h.0) d
 
--- ---- one date
+-- ---- seconds have one date at most
 
 pub one_date : (seconds : ℤ) (date other : List ℕ) → IsDateAt seconds date → IsDateAt seconds other → date ≡ other
 one_date seconds date other d f =

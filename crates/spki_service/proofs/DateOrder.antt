@@ -6,9 +6,9 @@ use Rattle.std.specs.Ordering.{nat_cmp, is_le, ordering_then}
 use Rattle.spki_cert.specs.Time.{upto}
 use Rattle.spki_service.{specs.Questions.{number_at, IsNumberUpto}, proofs.DateSeconds.{HasNumbers}}
 
--- ---- lists in the order of numbers
+-- ---- lists of octets that are ordered as numbers are
 
--- the first list is not after the second exactly if its number is not above that of the second
+-- the list xs is not after ys exactly if m, the number of xs, is not above n, that of ys
 pub record IsInOrder (xs ys : List ℕ) (m n : ℕ) : Type 0 where
   pub before : upto xs ys ≡ true → m ≤ n
   pub after : upto xs ys ≡ false → n < m
@@ -35,7 +35,7 @@ module _ (x y : ℕ) (xs ys : List ℕ) (m n : ℕ) where
       let rest = sym (by_first Equal x y xs ys (sym (nat_cmp_is x y Equal same))) in
       record { before = λ e. o.before (rest ∙ e); after = λ e. o.after (rest ∙ e) }
 
--- ---- a number of two digits, and a number below w behind it
+-- ---- a number of two digits, and after it a number below w
 
 front_decides : (p q w m n : ℕ) → p < q → m < w → p * w + m < q * w + n
 front_decides p q w m n h k = let next : p + 1 ≤ q = omega arith in omega (arith, mul-le-mul_right w next)
@@ -76,7 +76,7 @@ ahead xs i h =
     drop_more xs i 0 (omega arith)
     ∙ ap (λ (t : List ℕ). get_or xs i 0 ∷ t) (drop_more xs (i + 1) 0 h ∙ ap (λ (j : ℕ). get_or xs (i + 1) 0 ∷ drop j xs) next)
 
--- ---- the numbers of a date from a place on, as one number
+-- ---- the numbers that a date has from some place on, packed into one
 
 abbrev second_number : List ℕ → ℕ
 second_number octets = number_at octets 17 * 1 + 0
@@ -124,7 +124,7 @@ module _ (octets : List ℕ) (has : HasNumbers octets) where
   year_fits : year_number octets < 1_000_000_000_000
   year_fits = fits 2 99 10_000_000_000 (month_number octets) has.year.upto (omega arith) month_fits
 
--- ---- dates in the order of their numbers
+-- ---- dates are ordered as these numbers are
 
 module _ (xs ys : List ℕ) (a : HasNumbers xs) (b : HasNumbers ys) where
   abbrev IsOrderedFrom : ℕ → ℕ → ℕ → Type 0

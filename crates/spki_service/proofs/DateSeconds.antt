@@ -37,7 +37,7 @@ number_behind octets i low high h =
     let next : 11 + i + 1 ≡ 11 + (i + 1) = omega arith in
     rw (next, ← get_or-drop 11 octets i 0, ← get_or-drop 11 octets (i + 1) 0) h
 
--- the parts of a test that has several
+-- each part of a test of nine parts is true if the test is; below the same of six parts
 module _ (a b c d e f g h i : Bool) where
   all_parts : (a && b && c && d && e && f && g && h && i) ≡ true
       → (a ≡ true) × (b ≡ true) × (c ≡ true) × (d ≡ true) × (e ≡ true) × (f ≡ true) × (g ≡ true) × (h ≡ true) × (i ≡ true)
@@ -89,7 +89,7 @@ last_is date octets y month day d clock number seconds same year_is month_is day
     let clock_too = clock_is day (days_in_month y month) d clock (clock_at octets 11) d_is clock_of in
     rw (seconds_is, number_is, clock_too, d_is, day_is, month_is, year_is, same) refl
 
--- ---- of the date of some seconds
+-- ---- the last second of the date of some seconds is these seconds
 
 pub number_back : (n : ℕ) → n < 100 → 10 * ((48 + n / 10) - 48) + ((48 + n % 10) - 48) ≡ n
 number_back n h = omega arith

@@ -20,12 +20,12 @@ empty-merge (x ∷ xs) ys empty = absurd (omega (arith, empty))
 
 -- ---- the numbers of the entries that pass a test
 
--- none passes
+-- if no entry passes the test, there are no numbers
 pub numbers_none : (n : ℕ) (es : List Entry) → numbers_from n (λ e. false) es ≡ []
 numbers_none n [] = refl
 numbers_none n (e ∷ es) = numbers_none (suc n) es
 
--- ---- two tests that never both hold
+-- ---- the numbers by two tests that no entry passes both of
 
 begun : (b : Bool) (k n : ℕ) (e : Entry) (ks : List (ℕ × Entry)) → k < n → StartsAbove k (map first ks)
     → StartsAbove k (map first (cond b ((n, e) ∷ ks) ks))
@@ -48,7 +48,7 @@ step n e false true ps qs rs apart from_p from_q later =
     merge-right n (map first ps) (map first qs) from_p ∙ ap (λ l. n ∷ l) later
 step n e false false ps qs rs apart from_p from_q later = later
 
--- their numbers in one list are those of the entries that pass one of them
+-- the numbers by both tests, merged, are those of the entries that pass one of the tests
 pub numbers_merged : (n : ℕ) (p q : Entry → Bool) (es : List Entry) → ((e : Entry) → (p e && q e) ≡ false)
     → merge (numbers_from n p es) (numbers_from n q es) ≡ numbers_from n (λ e. p e || q e) es
 numbers_merged n p q [] apart = refl
@@ -70,7 +70,7 @@ module _ (policy : Policy) (key : List ℕ) where
   abbrev two : Principal → Bool
   two p = one p || is_admitted policy Sha256 key p
 
-  -- ---- no principal is of two kinds
+  -- ---- no principal is both the key and a hash of it, or a hash by two algorithms
 
   apart_1 : (p : Principal) → (is_principal None key p && is_admitted policy Sha1 key p) ≡ false
   apart_1 (Key own) = simp and-false
@@ -84,13 +84,13 @@ module _ (policy : Policy) (key : List ℕ) where
   apart_3 (Hash Sha1 digest) = simp and-false
   apart_3 _ = simp (and-false, or-false)
 
-  -- and one that names the key is of one of them
+  -- a principal that names the key is the key itself or its hash by one of the algorithms
   named : (p : Principal) → (two p || is_admitted policy Sha512 key p) ≡ names policy p key
   named (Key own) = simp (and-false, or-false, nat_list_eq_equiv.symm key own)
   named (Hash Sha512 digest) = simp and-false
   named _ = simp (and-false, or-false)
 
-  -- ---- their numbers
+  -- ---- the numbers of the entries whose principal names the key
 
   abbrev own_numbers : List Entry → List ℕ
   own_numbers es = numbers_from 1 (λ e. is_principal None key e.subject.principal) es
@@ -102,7 +102,7 @@ module _ (policy : Policy) (key : List ℕ) where
       ≡ numbers_from 1 (λ e. names policy e.subject.principal key) es
   merged_named es = search (rules, numbers_merged, apart_1, apart_2, apart_3, named)
 
-  -- ---- what is looked up
+  -- ---- what the index finds for the key
 
   abbrev pub admitted_at : EntryIndex → HashAlg → List ℕ
   admitted_at index alg = cond (admits policy alg) (numbers_with index.principals (digest_of alg key) (rows_by index (Some alg))) []

@@ -13,9 +13,9 @@ use Rattle.spki_service.proofs.{SelectedEntries.{held}, OneAsking.{text_one, of_
 use Rattle.spki_cert.specs.declared.fault.CertFaultKind.TheVariants as kinds
 use Rattle.spki_service.specs.declared.list_fault.AclFault.TheVariants as faults
 
--- ---- how an access list is made ready
+-- ---- what a guard has of an access list that is read
 
--- a fault other than of memory is named
+-- any fault except Memory is named
 pub named_fault : (v : Value) (fault : CertFault) (outer : AclFault)
     → IsOuter (fault.kind ≡ kinds.Memory) faults.Memory (faults.Acl fault) outer
     → (fault.kind ≢ kinds.Memory → IsNoAcl fault v)
@@ -23,7 +23,7 @@ pub named_fault : (v : Value) (fault : CertFault) (outer : AclFault)
 named_fault v fault outer (inl memory) refused found = absurd (found memory.1)
 named_fault v fault outer (inr named) refused found = (fault, named.1, refused named.0)
 
--- the texts of the entries that are read are held
+-- the texts of the list's members are those of the entries that are read
 pub texts_held : (v : Value) (es : List Entry) (texts : List (List ℕ)) (a : AclOf v es) → texts ≡ map canon a.entries
     → AreEntries texts es
 texts_held v es texts a same = subst (λ xs. AreEntries xs es) (sym same) (held a.entries es a.each)
@@ -42,7 +42,7 @@ pub holds_list : (text : List ℕ) (v : Value) (texts : List (List ℕ)) → IsT
 holds_list text v texts meant short h =
     record { value = v; spelled = meant; short = short; holds = h }
 
--- a text that is read, and the document that is opened for it
+-- a text, what it is read as, and the document that is opened for it
 module _ (text : List ℕ) (read : Result (List ℕ) FormFault) (v w : Value) (is : IsReadAs (IsTextWithin text) (RefusesForm text) read)
     (opened : read ≡ Ok (canon v)) (same : w ≡ v) where
   meant : (r : Result (List ℕ) FormFault) → IsReadAs (IsTextWithin text) (RefusesForm text) r → r ≡ Ok (canon v)
@@ -61,9 +61,7 @@ module _ (text : List ℕ) (read : Result (List ℕ) FormFault) (v w : Value) (i
       → IfErr r (λ fault. fault ≢ faults.Memory → IsNoAccessList text fault)
   list_refused r = let m = meant read is opened in IfErr-weaker r _ _ (λ fault h found. search (rules, m.0, m.1))
 
--- ---- a text is read as one access list or has one fault
-
--- ---- one list
+-- ---- a text is read as one access list at most
 
 values_one : (v w : Value) (es fs : List Entry) (r : AclOf v es) (s : AclOf w fs) → v ≡ w → r.entries ≡ s.entries
 values_one v w es fs r s same =
@@ -78,7 +76,7 @@ list-one text a b m n =
     let entries = values_one m.value n.value m.holds.entries n.holds.entries m.holds.is n.holds.is same in
     m.holds.texts_are ∙ ap (map canon) entries ∙ sym n.holds.texts_are
 
--- ---- one fault
+-- ---- a text has one fault at most
 
 module _ (text : List ℕ) where
   pub list_fault-one : (f g : AclFault) → IsNoAccessList text f → IsNoAccessList text g → f ≡ g
@@ -92,7 +90,7 @@ module _ (text : List ℕ) where
   list_fault-one (faults.Acl e) faults.Memory m n = absurd n
   list_fault-one faults.Memory g m n = absurd m
 
-  -- ---- never both
+  -- ---- a text is never read and refused
 
   pub list_unrefused : (texts : List (List ℕ)) (fault : AclFault) → HoldsList text texts → ¬ IsNoAccessList text fault
   list_unrefused texts (faults.Form fault) m lacks =

@@ -15,7 +15,7 @@ pub all_at : (P : Signed → Type 0) (signed : List Signed) → ((place : ℕ) (
 all_at P [] h = tt
 all_at P (s ∷ signed) h = (h 0 s refl, all_at P signed (λ place r stands. h (suc place) r stands))
 
--- the first signature that is not accepted, by its place
+-- the first signature that is not accepted is at this place, if all before it are accepted
 pub refused_place : (verified : Verified) (signed : List Signed) (place : ℕ) (one : Signed) → slice_get signed place ≡ Some one
     → ((other : ℕ) (s : Signed) → other < place → slice_get signed other ≡ Some s → IsAccepted verified s) → ¬ IsAccepted verified one
     → RefusedAt verified signed place
@@ -57,7 +57,7 @@ module _ (signed : List Signed) (marks : List Bool) where
       let same : u.place ≡ v.place = omega (arith, not_before, not_behind) in
       let there : Some one ≡ Some other = sym u.stands ∙ ap (slice_get signed) same ∙ v.stands in cc
 
--- two statements by the same marks are of the same kind
+-- of two statements by the same marks, both are about valid signatures, or both about the first one without a mark
 pub by_both : {R : Type 0} (a : PreparedModel) (W V : Type 0) (S T : Signed → Type 0) → (W → V → R) → ((one : Signed) → S one → T one → R)
     → ByMarks a W S → ByMarks a V T → R
 by_both a W V S T whole stopped (inl (all, w)) (inl (also, v)) = whole w v

@@ -32,7 +32,7 @@ refuses_one text Memory f a b = absurd (a.found refl)
 refuses_one text e Memory a b = absurd (b.found refl)
 refuses_one text e f a b = one_of_any text e f tt tt a.refused b.refused
 
--- ---- parts of which each means one value
+-- ---- parts that have one value at most
 
 -- A part means at most one value, and none if its form is refused, which it is in one way.
 pub record MeansOne (means : Value → Type 0) (refuses : FormFault → Type 0) : Type 0 where
@@ -47,7 +47,7 @@ pub of_wanted : (m : wanted.RequestInput) → MeansOne (IsWanted m) (RefusesWant
 of_wanted (requests.Text text) = of_text text.now
 of_wanted (requests.Words words) = record { single = λ v w a b. a ∙ sym b; none = λ fault v r. absurd r; one = λ e f a b. absurd a }
 
--- two sayings of the value that a part means
+-- two statements are true of one value
 pub record Both (P Q : Value → Type 0) : Type 0 where
   pub value : Value
   pub one : P value
@@ -90,7 +90,7 @@ module _ {means : Value → Type 0} {refuses : FormFault → Type 0} (laws : Mea
   lacks_one same f g (inr (x, is, m)) (inr (y, at, n)) =
       let b = both laws m n in is ∙ ap named (same x y b.value b.one b.other) ∙ sym at
 
--- what a moment lacks
+-- a fault of a moment
 abbrev pub MomentLacks : of_question.Moment → AskFault → Type 0
 MomentLacks m fault =
     ((form : FormFault) × (fault ≡ faults.Form parts.Moment form) × LacksFormOfMoment m form)
@@ -142,7 +142,7 @@ part_one q parts.Moment = moment_one q.moment
 
 -- ---- one fault of a question
 
--- a fault of a part, and those before it are read
+-- the fault is that of a part, and the parts before it are read
 record LacksFirst (q : Question) (fault : AskFault) : Type 0 where
   part : Part
   before : ReadsBefore q part
@@ -157,7 +157,7 @@ first_of q (faults.Request inner) n = record { part = parts.Request; before = n.
 first_of q (faults.Moment kind) n = record { part = parts.Moment; before = n.0; lacks = inr (kind, refl, n.1) }
 first_of q _ n = absurd n
 
--- of two parts the earlier is read where the later is the first that isn't
+-- two faults of a question are equal: if their parts differed, the earlier one would be read
 ordered : (q : Question) (f g : AskFault) (p r : Part) → ReadsBefore q p → ReadsBefore q r → LacksPart q p f → LacksPart q r g → f ≡ g
 ordered q f g parts.Sequence parts.Sequence a b m n = part_one q parts.Sequence f g m n
 ordered q f g parts.Key parts.Key a b m n = part_one q parts.Key f g m n

@@ -88,7 +88,7 @@ module _ (q : Question) (texts : Texts) (t : IsTextsOf q texts) where
     | inr k ↦ subst (IsNotAsked q) (sym k.1) (before, k.2)
   ]
 
--- a fault that is lifted as it is
+-- an error that is passed on unchanged has the same meaning
 pub lifted : {T : Type 0} (q : Question) (inner : AskFault) (r : Result T AskFault) → IsErrAnd r (λ fault. fault ≡ inner)
     → (inner ≢ faults.Memory → IsNotAsked q inner) → IfErr r (λ fault. fault ≢ faults.Memory → IsNotAsked q fault)
 lifted q inner (Ok x) is f = absurd is
@@ -96,7 +96,7 @@ lifted q inner (Err fault) is f = λ found. subst (IsNotAsked q) (sym is) (f (su
 
 -- ---- how many strings a question has
 
--- of a list that begins with a member
+-- the strings of the first member of a list are at most those of the list
 pub first_weight : (all left further : List Value) (first : Value) → weights (values left) ≤ weights (values all) → left ≡ first ∷ further
     → weight first ≤ weights (values all)
 first_weight all left further first within parts = search (rules, weights)
@@ -105,7 +105,7 @@ pub rest_weight : (all left further : List Value) (first : Value) → weights (v
     → weights (values further) ≤ weights (values all)
 rest_weight all left further first within parts = search (rules, weights)
 
--- ---- of the text of a request
+-- ---- how many strings the text of a request has
 
 module _ (q : Question) (texts : Texts) (t : IsTextsOf q texts) (c : Case) (a : IsAskedCase q c) (most : ℕ) (has_more : Bool) where
   few : (v : Value) → TellsStrings most has_more v → has_more ≡ false → strings_in v ≤ most
@@ -132,9 +132,7 @@ uncounted q texts c certificates words inner (Err fault) t a is n = λ found.
     let lacks = form_named (IsWanted q.request) (RefusesWanted q.request) parts.Request texts.request inner t.request named in
     absurd (form_unread (of_wanted q.request) lacks.0 lacks.2 a.request)
 
--- ---- the canonical text of strings, and its length
-
--- ---- one string
+-- ---- the length of one string's canonical text
 
 pub digit_length : (n : ℕ) → n < 10 → 1 ≡ length (decimal n)
 digit_length n low = sym (ap length (decimal_digit n low))
@@ -150,7 +148,7 @@ digits_length n digits high e =
 pub verbatim_length : (octets : List ℕ) → length (verbatim octets) ≡ length octets + length (decimal (length octets)) + 1
 verbatim_length octets = search (rules, verbatim_is, length-append)
 
--- ---- more
+-- ---- the canonical text of several strings
 
 -- the value of one string behind a reference
 abbrev pub word_value : Bor (List ℕ) → Value
@@ -179,7 +177,7 @@ pub words_written : (ws : List (Bor (List ℕ))) (k : ℕ) (all new : List ℕ) 
     → all ≡ (40 ∷ []) ++ octets_of k ws → new ≡ all ++ 41 ∷ [] → new ≡ canon (words_value (words_now ws))
 words_written ws k all new other le e f = search (rules, take_all, many_words)
 
--- ---- lengths
+-- ---- the length of the canonical text of several strings
 
 pub length_more : (ws : List (Bor (List ℕ))) (k : ℕ) (d : Bor (List ℕ)) → k < length ws
     → length (octets_of (k + 1) ws) ≡ length (octets_of k ws) + length (verbatim (get_or ws k d).now)
@@ -197,12 +195,12 @@ length_most ws k =
     ∙ length-append (octets_of k ws) (canons (values (map word_value (drop k ws)))) in
     omega arith
 
--- with both parentheses
+-- the same with the two parentheses
 pub words_length : (ws : List (Bor (List ℕ))) → (length ws ≡ 1 → ⊥)
     → length (canon (words_value (words_now ws))) ≡ length (canons (values (map word_value ws))) + 2
 words_length ws other = search (rules, many_words, length-append)
 
--- ---- what is left of a room
+-- ---- how many octets are left of those that may still come
 
 pub none_left : (r : Option ℕ) (room octets : ℕ) → r ≡ None → room < octets → MatchOption r (room < octets) (λ left. left + octets ≡ room)
 none_left r room octets is h = rw is h
@@ -224,7 +222,7 @@ module _ (ws : List (Bor (List ℕ))) (k left room : ℕ) (e : left + (length (o
   pub all_less : (length ws ≡ 1 → ⊥) → length ws ≤ k → left + length (canon (words_value (words_now ws))) ≡ room
   all_less other le = search (rules, take_all, words_length)
 
--- ---- the depth of strings
+-- ---- lists of strings are not too deep
 
 flat : (xs : List (List ℕ)) → depths (values (map plain xs)) ≡ 0
 flat [] = refl
@@ -234,7 +232,7 @@ pub words_shallow : (xs : List (List ℕ)) → IsShallow (words_value xs)
 words_shallow (w ∷ x ∷ ws) = rw (flat ws) (omega arith)
 words_shallow _ = omega arith
 
--- ---- the request that was made of strings
+-- ---- the canonical text that was made of a request's strings is read as it
 
 module _ (words : List (List ℕ)) (octets : List ℕ) (r : Result (List ℕ) FormFault) (written : octets ≡ canon (words_value words))
     (short : length octets ≤ 1048576 → r ≡ Ok octets) (long : 1048576 < length octets → r ≡ Err form.TooLong) where

@@ -1,4 +1,4 @@
--- A question that was asked again as a case is decided alike.
+-- A question that an auditor composes as a case is decided by `check` as it was by its marks.
 use Rattle.std.proofs.Common.{◌≡◌, ℕ, suc, List, [], ◌∷◌, Bool, true, false, Some, slice_get, refl, sym, subst, Ok}
 use Rattle.std.proofs.lemmas.Map.Keys.{any_passes_from_place}
 use Rattle.std.specs.List.{list_any}

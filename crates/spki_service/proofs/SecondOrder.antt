@@ -10,12 +10,12 @@ use Rattle.spki_service.proofs.{DateLaws.{is_some_date}, DateSeconds.{has_number
 use Rattle.spki_service.proofs.DateOrder.{IsInOrder, Numbers, HasRange, numbers_of, packed, dates_in_order, range_of}
 use Rattle.spki_service.specs.Questions.{date_octets, IsDateAt, last_second}
 
--- ---- the last second of numbers
+-- ---- the last second of a date, by the numbers in it
 
 abbrev long : Numbers → ℕ
 long n = days_in_month (pos n.year) n.month
 
--- the last second of the day that is named
+-- the seconds from the start of the day to the time of day in these numbers; a second 60 counts as 59
 abbrev clock : Numbers → ℕ
 clock n = n.hour * 3600 + n.minute * 60 + min n.second 59
 
@@ -47,7 +47,7 @@ clock_late n h = grind (arith, nat_tests)
 clock_same : (n : Numbers) → n.day ≤ long n → last_clock n ≡ clock n
 clock_same n h = grind (arith, nat_tests)
 
--- ---- clocks
+-- ---- times of day are ordered as their seconds are
 
 module _ (h i s hour minute second : ℕ) (few : i < 60) (whole : s < 60) (also : minute < 60) (most : second ≤ 60) where
   clock_before : h * 10_000 + (i * 100 + s) ≤ hour * 10_000 + (minute * 100 + second)
@@ -68,7 +68,7 @@ module _ (h i s hour minute second : ℕ) (few : i < 60) (whole : s < 60) (also 
         | inr (inr gt) ↦ omega arith
       ]
 
--- ---- numbers in order
+-- ---- dates are ordered as their last seconds are
 
 module _ (n o : Numbers) (range : HasRange n) where
   later_year : n.year < o.year → packed n < packed o
@@ -143,7 +143,7 @@ module _ (n o : Numbers) (a : HasRange n) (b : HasRange o) (has_day : n.day ≤ 
         | inr (inr same) ↦ same_day_after (same_year n.year o.year same.0) same.1 (epoch_day_same own other same.0 same.1 same.2) same.2 lt
       ]
 
--- ---- of the date of some seconds
+-- ---- the same, if one of the dates is that of some seconds
 
 abbrev numbers_at : (seconds : ℤ) (date : List ℕ) → IsDateAt seconds date → Numbers
 numbers_at seconds date is =

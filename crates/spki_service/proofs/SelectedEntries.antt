@@ -14,9 +14,7 @@ use Rattle.spki_decision.specs.{CertificateTests.{with_entries}, Until.{decision
 use Rattle.spki_decision.proofs.KeptEntries.{listed}
 use Rattle.spki_reduce.specs.Reduction.{Tuple}
 
--- ---- entries that pass a test, as they are found by their numbers and read from their texts
-
--- ---- texts are of one list
+-- ---- texts are those of one list of entries
 
 text_one : (text : List ℕ) (e f : Entry) → IsEntryText text e → IsEntryText text f → e ≡ f
 text_one text e f one other =
@@ -32,9 +30,9 @@ held [] [] each = tt
 held (v ∷ vs) (e ∷ es) each = (record { value = v; written = refl; is = each.0 }, held vs es each.1)
 held vs es each = search
 
--- ---- numbers
+-- ---- the numbers of the entries that pass a test
 
--- an entry has a number in a list whose first has number n
+-- an entry has this number in the list, whose first entry has the number n
 abbrev pub Counted : ℕ → List Entry → ℕ × Entry → Type 0
 Counted n es k = (place : ℕ) × (k.0 ≡ n + place) × (slice_get es place ≡ Some k.1)
 
@@ -57,7 +55,7 @@ are_numbers : (es : List Entry) (long : ℕ) (ks : List (ℕ × Entry)) → leng
 are_numbers es long [] same all = tt
 are_numbers es long (k ∷ ks) same all = search (rules, slice_get_within, are_numbers es long ks same all.1)
 
--- ---- what is picked
+-- ---- the entries that are picked by these numbers are those that pass the test
 
 same_place : (es : List Entry) (n : ℕ) (e f : Entry) → HasNumber es n e → Counted 1 es (n, f) → e ≡ f
 same_place es n e f has is = search (rules, some-one, slice_get)
@@ -84,7 +82,7 @@ pub are_kept : (p : Entry → Bool) (es : List Entry) (n : ℕ) → AreKept (λ 
 are_kept p [] n = tt
 are_kept p (e ∷ es) n = step p n e es (kept_from (suc n) p es) (p e) refl (are_kept p es (suc n))
 
--- more may be missing
+-- entries that may be missing by one condition may be missing by a weaker one
 pub kept_weaker : (Out Other : Entry → Type 0) → ((e : Entry) → Out e → Other e) → (n : ℕ) (es : List Entry) (ks : List (ℕ × Entry))
     → AreKept Out n es ks → AreKept Other n es ks
 kept_weaker Out Other also n [] [] kept = tt
@@ -93,7 +91,7 @@ kept_weaker Out Other also n (e ∷ es) [] kept = (also e kept.0, kept_weaker Ou
 kept_weaker Out Other also n (e ∷ es) (k ∷ ks) (inl out) = inl (also e out.0, kept_weaker Out Other also (suc n) es (k ∷ ks) out.1)
 kept_weaker Out Other also n (e ∷ es) (k ∷ ks) (inr here) = inr (here.0, kept_weaker Out Other also (suc n) es ks here.1)
 
--- ---- what stands where a number is
+-- ---- the entry at the place of its number
 
 pair_at : (ks : List (ℕ × Entry)) (k m : ℕ) → slice_get (map first ks) k ≡ Some m → (e : Entry) × (slice_get ks k ≡ Some (m, e))
 pair_at [] k m stands = absurd (none-some m stands)
@@ -147,7 +145,7 @@ module _ (c : Case) (es : List Entry) (tuples : List Tuple) where
     partly_by (Ok g) (part, named, at) = named_partly part (decision_of g) named at
     partly_by (Err fault) h = tt
 
--- ---- what is found
+-- ---- the decision by the entries that the index finds
 
 module _ (c : Case) (es : List Entry) (tuples : List Tuple) where
   pub numbers_found : (policy : Policy) (key : Option (List ℕ)) (numbers : List ℕ) → policy ≡ c.policy → key ≡ first_key c.key tuples
@@ -167,9 +165,7 @@ module _ (c : Case) (es : List Entry) (tuples : List Tuple) where
       let test = is_of c.policy (first_key c.key tuples) in
       rw (e ∙ are) (are_numbers es long (kept_from 1 test es) same (counted test 1 es))
 
--- ---- texts and the entries that they are, place by place
-
--- ---- one place
+-- ---- the text and the entry at one place
 
 pub entry_there : (texts : List (List ℕ)) (es : List Entry) (i : ℕ) → AreEntries texts es
     → i < length texts → (e : Entry) × (slice_get es i ≡ Some e) × IsEntryText (get_or texts i []) e
@@ -183,7 +179,7 @@ as_many [] [] are = refl
 as_many (t ∷ texts) (e ∷ es) are = ap suc (as_many texts es are.1)
 as_many texts es are = search
 
--- ---- picked by their numbers
+-- ---- the texts and the entries with the same numbers
 
 pub number_at : (long : ℕ) (numbers : List ℕ) (i d : ℕ) → AreNumbers long numbers → i < length numbers
     → (0 < get_or numbers i d) × (get_or numbers i d ≤ long)
@@ -198,7 +194,7 @@ picked_at es (n ∷ numbers) [] i are below = absurd are
 picked_at es (n ∷ numbers) (p ∷ picked) zero are below = (p, refl, are.0)
 picked_at es (n ∷ numbers) (p ∷ picked) (suc i) are below = picked_at es numbers picked i are.1 (omega (arith, below))
 
--- an entry that is read by its number is the one that is picked
+-- an entry that is read from the text with its number is the one that is picked
 pub picked_there : (texts : List (List ℕ)) (es picked : List Entry) (numbers : List ℕ) (i : ℕ) (e : Entry)
     → AreEntries texts es → AreNumbers (length texts) numbers → ArePicked es numbers picked → i < length numbers
     → ((f : Entry) → IsEntryText (get_or texts (get_or numbers i 0 - 1) []) f → e ≡ f) → slice_get picked i ≡ Some e
@@ -209,7 +205,7 @@ picked_there texts es picked numbers i e are within picks below found =
     let same : place ≡ get_or numbers i 0 - 1 = omega (arith, numbered) in
     there ∙ sym stands ∙ ap (slice_get es) same ∙ here ∙ ap Some (sym (found f is))
 
--- and the one with this number
+-- an entry that is read from the text at a place is the one with its number
 pub read_there : (texts : List (List ℕ)) (es : List Entry) (numbers : List ℕ) (i place : ℕ) (e read : Entry) → AreEntries texts es
     → AreNumbers (length texts) numbers → i < length numbers
     → ((f : Entry) → IsEntryText (get_or texts (get_or numbers i 0 - 1) []) f → read ≡ f) → get_or numbers i 0 ≡ suc place
@@ -233,7 +229,7 @@ picks es (n ∷ numbers) are =
     let (picked, rest) = picks es numbers are.1 in
     (e ∷ picked, ((n - 1, omega (arith, low), there), rest))
 
--- ---- behind a version
+-- ---- the texts of entries that come after the version of a list
 
 pub behind : (version entries : List Value) (all last : List (List ℕ)) (count : ℕ) → IsVersion version → length entries ≡ count
     → all ≡ map canon (version ++ entries) → (length all ≡ count → last ≡ all) → (length all ≡ 1 + count → last ≡ drop 1 all)

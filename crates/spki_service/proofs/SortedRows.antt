@@ -1,4 +1,4 @@
--- Rows of an index: those of the entries of a kind, what sorting leaves of them, and those that are found by halves.
+-- Rows of an index: those of the entries of a kind, their order after sorting, and those that binary searches find.
 use Rattle.std.proofs.Common.{◌≡◌, ℕ, List, [], ◌∷◌, length, refl, sym, arith, suc, ◌+◌, ◌-◌, ◌<◌, ◌≤◌, Bool, true, false, cond, not, ◌&&◌, ◌⊎◌, inl, inr, map, take, drop, ◌++◌, get_or, ap, ◌∙◌, Some, slice_get, bytes_eq, zero, ltb, leb, true≢false, get_or-drop, length-drop}
 use Rattle.std.proofs.lemmas.{Grind.{common_steps}, Bool.{cases_Bool}, Cmp.{nat_list_cmp_total, nat_list_eq_equiv, on_total, then_total}}
 use Rattle.std.proofs.lemmas.List.{Elements.{All-from_recursion, recursion_from_All}, Sorted.{All-permutation, searchable_from_sorted, ranks_by}}
@@ -60,7 +60,7 @@ to_end xs a = grind (arith, common_steps)
 total : IsTotalOrder key_order
 total = then_total (on_total (λ k. k.0) nat_cmp_total) (on_total (λ k. k.1) nat_list_cmp_total)
 
--- keys whose octets are the same or not, where tails are those of the octets
+-- two pairs of a tail and octets compare as equal exactly if the octets are equal, if the tails are those of the octets
 same_order : (x y : ℕ × List ℕ) → x.0 ≡ tail_of x.1 → y.0 ≡ tail_of y.1 → is_eq (key_order x y) ≡ bytes_eq x.1 y.1
 same_order x y tail other = sym (tied_then (nat_cmp x.0 y.0) (slice_cmp nat_cmp x.1 y.1)) ∙ by (cases_Bool (bytes_eq x.1 y.1))
   where
@@ -104,7 +104,7 @@ module _ (principals : List (List ℕ)) where
       tied (key x) (key y) (key_order (key x) (key y)) (key_order (key y) (key x)) refl refl
       ∙ same_order (key x) (key y) tail other ∙ ap (λ o. bytes_eq o (row_octets principals y)) same
 
-  -- some row has the octets, or none
+  -- either some row has these octets, or no row has
   some_row : (octets : List ℕ) (rows : List Row) → AllByRecursion IsTailed rows
       → ((x : Row) × IsTailed x × (row_octets principals x ≡ octets)) ⊎ AllByRecursion (λ row. has octets row ≡ false) rows
   some_row octets [] tails = inr tt
@@ -126,7 +126,7 @@ module _ (principals : List (List ℕ)) where
     sorted_tails : AllByRecursion IsTailed ys
     sorted_tails = shuffled IsTailed xs ys same tails
 
-    -- leaves the rows with some octets in their order
+    -- sorting keeps the order of the rows with the same octets
     kept : (octets : List ℕ) → filter (has octets) ys ≡ filter (has octets) xs
     kept octets = by (some_row octets xs tails)
       where
@@ -143,9 +143,9 @@ module _ (principals : List (List ℕ)) where
     pub kept_numbers : (octets : List ℕ) → numbers_with principals octets ys ≡ numbers_with principals octets xs
     kept_numbers octets = ap (map row_number) (kept octets)
 
-  -- ---- search by halves
+  -- ---- binary searches
 
-  -- for the rows with some octets: how each row compares with them
+  -- how each row compares with the octets that are searched for
   module _ (octets : List ℕ) where
     abbrev pub sought : ℕ × List ℕ
     sought = (tail_of octets, octets)
@@ -204,7 +204,7 @@ module _ (principals : List (List ℕ)) where
 
 -- ---- the rows of the entries of a kind
 
--- the octets of the entries' principals, where the first has number n
+-- `principals` has the octets of each entry's principal at its number; the first entry has the number n
 abbrev AreAt : List (List ℕ) → ℕ → List Entry → Type 0
 AreAt principals n es =
     (k : ℕ) (e : Entry) → slice_get es k ≡ Some e → (number : ℕ) → number ≡ n + k → get_or principals (number - 1) [] ≡ octets_of e.subject.principal
@@ -255,7 +255,7 @@ pub all_octets-owners : (es : List Entry) → map octets_of (owners_of es) ≡ a
 all_octets-owners [] = refl
 all_octets-owners (e ∷ es) = ap (λ (l : List (List ℕ)). octets_of e.subject.principal ∷ l) (all_octets-owners es)
 
--- one entry more
+-- the rows of one entry more
 behind : (b c : Bool) (row more : Row) (rows longer : List Row) → longer ≡ cond c (rows ++ more ∷ []) rows
     → cond b (row ∷ longer) longer ≡ cond c (cond b (row ∷ rows) rows ++ more ∷ []) (cond b (row ∷ rows) rows)
 behind true true row more rows longer e = ap (λ l. row ∷ l) e

@@ -17,6 +17,6 @@ loop-row-preserved c =
     ∙ rw (c.loop-row.invariant, one) (sym (map-append sorted_row old (y ∷ [])))
     ∙ ap (map sorted_row) (sym c.in_ok-push.ensures.items)
 
--- the sort moves them
+-- sorting moves the rows, and changes none
 pub returns : goal.returns
 returns c = search (rules, take_all, list_any-IsPermutation, IsPermutation-map)

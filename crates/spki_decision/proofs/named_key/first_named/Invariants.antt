@@ -2,7 +2,7 @@ use Rattle.std.proofs.Common.{◌≡◌, ℕ, ◌<◌, List, Some, slice_get, fa
 use Rattle.spki_decision.specs.Judged.{Says}
 use Rattle.spki_decision.proofs.named_key.first_named.Given as goal
 
--- of no key so far it says so
+-- `names` returned true for no key so far
 abbrev pub invariant-loop-place : goal.invariant-loop-place
 invariant-loop-place g l =
     (k : ℕ) (key : List ℕ) → k < l.place → slice_get l.keys k ≡ Some key → Says g.F.Fn l.names l.principal key false

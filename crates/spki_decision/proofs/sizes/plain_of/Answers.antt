@@ -30,7 +30,7 @@ loop-step-preserved c =
       few = (omega arith, omega (arith, c.max.ensures, c.nodes_in-nodes.ensures.few, c.loop-step.invariant.few.1));
     }
 
--- a set, or too many nodes, in the steps so far are in all
+-- a set, or too many nodes, in the steps so far is one in all steps
 pub returns-then-nests_set : goal.returns-then-nests_set
 returns-then-nests_set c =
     inl (sets-front c.args.steps.now c.loop-step.step-index c.step-item.result c.loop-step-test.true c.step-item.is

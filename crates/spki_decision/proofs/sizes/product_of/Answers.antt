@@ -20,7 +20,7 @@ loop-step-preserved c =
       omega arith,
     )
 
--- a product of the steps so far that is over the limit is that of a part
+-- if the product of the steps so far is over the limit, that of all steps is, since no factor is 0
 pub returns-then-product-gt-MOST_NODES : goal.returns-then-product-gt-MOST_NODES
 returns-then-product-gt-MOST_NODES c =
     let steps = c.args.steps.now in

@@ -1,4 +1,4 @@
--- The steps so far became what is kept.
+-- The first authorization and the steps so far became the authorization `folded`.
 use Rattle.std.proofs.Common.{◌≡◌, ℕ, ◌+◌, ◌*◌, ◌≤◌, take}
 use Rattle.spki_reduce.specs.{Reduction.{five, five_tuple, issuer_of}, Chain.{tuples_of, FoldsTo, HasMet, TooLargeAt, left_of, Takes, IsWorkOf}}
 use Rattle.spki_reduce.proofs.chain.fold_owned_counted.Given as goal

@@ -2,7 +2,7 @@ use Rattle.std.proofs.Common.{◌≡◌, ◌∷◌, false, true}
 use Rattle.spki_reduce.specs.{Chain.{tuples_of, SupportsNothing}, Reduction.{five, five_tuple}}
 use Rattle.test_callers.proofs.chains.grants.Goals as goal
 
--- a chain that stops supports nothing, in no bracketing
+-- a chain that stops supports nothing, in any bracketing
 pub returns-in-Stopped-clause-exact : goal.returns-in-Stopped-clause-exact
 returns-in-Stopped-clause-exact c =
     let asked = c.args.asked.now in

@@ -1,4 +1,4 @@
--- What a call may read of a value that is lent to it says the same to every thread, and so does the share of the lifetime.
+-- What a call may read of a value that is lent to it is the same for every thread, and so is the share of the lifetime.
 use base.Shift.{Keyless}
 use denote.RawPtr.{Ptr}
 use denote.Struct.Struct.{exits_of}

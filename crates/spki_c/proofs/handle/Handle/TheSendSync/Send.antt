@@ -1,4 +1,4 @@
--- A handle owns a guard or a question, and the right to free it. Both say the same to every thread.
+-- A handle owns a guard or a question, and the right to free it. Both are the same for every thread.
 use mir.Raw.{raw}
 use base.Shift.{Keyless}
 use denote.Memory.{lone}

@@ -1,4 +1,4 @@
--- `next` gives the first text of what the array owns.
+-- `next` returns the first text of those that may be read.
 use Rattle.std.proofs.{Common.{◌≡◌, ℕ, ◌<◌, ◌^◌, List, [], ◌∷◌, ◌++◌, refl, sym, ap, ◌∙◌, subst, w64}, raw_atomic.Walks.{proved_at}}
 use Rattle.spki_c.specs.declared.text.Text.{Text}
 use Rattle.spki_c.specs.contracts.{text.Text.{the_row as X, the_type}, readable.{TextPlace.{the_row as P}, Readable.{the_row as R}}}

@@ -1,4 +1,4 @@
--- `is_null` compares the pointer with null, which what the struct owns allows.
+-- `is_null` compares the pointer with null. This is allowed by what the struct owns.
 use seplogic.Ra.Ura.{Ura}
 use types.Logic.{Logic, sem}
 use base.Logic.{ent, sep}
