@@ -19,9 +19,9 @@ use std::alloc::Global;
 /// the buffer.
 ///
 /// The command `check` returns `YES` (9) or `NO` (1). Every other command returns `DONE` (6), also if no entry grants the
-/// request. All return `REFUSED` (2) for a refusal, also if memory ran out, `TOO_SMALL` (4) if the buffer is too small for the
-/// answer, and `MISUSED` (5) if no command has this number or the text is not lent whole (`Text::is_lent`). `needed` is the
-/// length of the answer in octets, and 0 with `MISUSED`. With `TOO_SMALL` and `MISUSED` the buffer is unchanged.
+/// request. All return `REFUSED` (2) for a refusal, also if memory ran out, `TOO_SMALL` (4) if the buffer is too small for the answer, and
+/// `MISUSED` (5) if no command has this number, or the text has octets at a null pointer or more than memory can have (`Text::is_lent`).
+/// `needed` is the length of the answer in octets, and 0 with `MISUSED`. With `TOO_SMALL` and `MISUSED` the buffer is unchanged.
 #[unsafe(no_mangle)]
 pub extern "C" fn spki_c_answer(
     alloc: Global,
@@ -53,9 +53,9 @@ pub extern "C" fn spki_c_answer(
 /// the answer to the front of the buffer. Both texts may be in any of the three forms. The rows in the case are read, and none
 /// of them is used.
 ///
-/// Returns `YES` (9) or `NO` (1), `REFUSED` (2) for a refusal, also if memory ran out, `TOO_SMALL` (4) if the buffer is too
-/// small for the answer, and `MISUSED` (5) if one of the texts is not lent whole (`Text::is_lent`). `needed` is the length of
-/// the answer in octets, and 0 with `MISUSED`. With `TOO_SMALL` and `MISUSED` the buffer is unchanged.
+/// Returns `YES` (9) or `NO` (1), `REFUSED` (2) for a refusal, also if memory ran out, `TOO_SMALL` (4) if the buffer is too small for the
+/// answer, and `MISUSED` (5) if one of the texts has octets at a null pointer or more than memory can have (`Text::is_lent`). `needed` is the
+/// length of the answer in octets, and 0 with `MISUSED`. With `TOO_SMALL` and `MISUSED` the buffer is unchanged.
 #[unsafe(no_mangle)]
 pub extern "C" fn spki_c_check_accepted(
     alloc: Global,
@@ -85,8 +85,9 @@ pub extern "C" fn spki_c_check_accepted(
 ///
 /// Returns `DONE` (6) if there is a string, and sets `at` to the offset of its octets in the text, and `count` to their number.
 /// Otherwise both are unchanged. Returns `NONE` (7) if the path leads to no string, `REFUSED` (2) if the text is no value in
-/// canonical form of at most 1,048,576 octets and 64 open lists, `NO_MEMORY` (8) if memory ran out, and `MISUSED` (5) if the
-/// text is not lent whole (`Text::is_lent`). For a text of more octets it returns `REFUSED`, also if memory ran out.
+/// canonical form of at most 1,048,576 octets and 64 open lists, `NO_MEMORY` (8) if memory ran out, and `MISUSED` (5) if the text has octets
+/// at a null pointer or more than memory can have (`Text::is_lent`). For a text of over 1,048,576 octets it returns `REFUSED`, also if memory
+/// ran out.
 #[unsafe(no_mangle)]
 pub extern "C" fn spki_c_string(
     alloc: Global,

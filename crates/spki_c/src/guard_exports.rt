@@ -22,9 +22,9 @@ use std::alloc::Global;
 ///
 /// Returns `DONE` (6) if the handle owns the guard. Otherwise the handle is unchanged. Returns `REFUSED` (2) if the list is
 /// refused or memory ran out: the line that says so is at the front of the buffer. Returns `TOO_SMALL` (4) if the buffer is too
-/// small for that line. Returns `MISUSED` (5) if no policy has this number (0 is strict, 1 is open: `policy_of`), a limit is too
-/// high (`limits_of`), or the list is not lent whole (`Text::is_lent`). The buffer is unchanged except with `REFUSED`. `needed`
-/// is the length of the line in octets with `REFUSED` and `TOO_SMALL`, otherwise 0.
+/// small for that line. Returns `MISUSED` (5) if no policy has this number (0 is strict, 1 is open: `policy_of`), a limit is too high
+/// (`limits_of`), or the list has octets at a null pointer or more than memory can have (`Text::is_lent`). The buffer is unchanged except
+/// with `REFUSED`. `needed` is the length of the line in octets with `REFUSED` and `TOO_SMALL`, otherwise 0.
 #[unsafe(no_mangle)]
 pub extern "C" fn spki_c_guard_open(
     alloc: Global,

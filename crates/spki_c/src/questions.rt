@@ -6,7 +6,8 @@ use crate::parts::Parts;
 use spki_guard::{Moment, Question, RequestInput};
 
 impl Parts {
-    /// Whether all texts of a question, except the strings of its request, are lent whole (`Text::is_lent`).
+    /// Whether all texts of a question, except the strings of its request, are lent whole: none has octets at a null pointer, or more than
+    /// memory can have (`Text::is_lent`).
     pub(crate) fn are_lent(&mut self) -> bool
         ensures same { self.new ≡ self.old }
         ensures lent { IsTrue result ↔ AreLent self.old [] }

@@ -65,7 +65,7 @@ pub(crate) enum Output<'o> {
 }
 
 impl<'o> Answer<'o> {
-    /// The verdict of the answer: `Done` for yes.
+    /// The verdict of the answer: `Done` for yes, `No` for no, `Refused` for a refusal, and for an output that of `Output::verdict`.
     pub(crate) fn verdict(&self) -> Verdict
         ensures { result ≡ answer_verdict self.now }
     {

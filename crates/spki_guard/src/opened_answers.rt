@@ -46,9 +46,9 @@ pub fn open_question(
     }
 }
 
-/// Answers a question that was opened for a guard, by its marks (RFC 2693, section 6). The texts that it was read from may have
-/// changed or be freed. The lines are those that `run` writes for the case of the guard's list and the question's parts. A decision
-/// reads nothing again. An explanation and a reduction read the parts again, from the texts that the question owns.
+/// Answers a question that was opened for a guard, if exactly its marked signatures are valid (RFC 2693, section 6). The texts that it was read
+/// from may have changed or be freed. The lines are those that `run` writes for the case of the guard's list and the question's parts. A
+/// decision reads nothing again. An explanation and a reduction read the parts again, from the texts that the question owns.
 ///
 /// `refused TooLarge` is an answer of `Explain` and `Reduce` alone: the product of the nodes of two tags to be intersected is over the
 /// guard's limit `nodes`, the work of all entries together over its limit `work`, or the lines together have more octets than its limit

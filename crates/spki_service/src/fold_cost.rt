@@ -58,7 +58,7 @@ impl<'a> PreparedQuestion<'a> {
 
     /// Does the work of `explain_by`: calls `explain_by_counted` with a new count of ticks (operations that contracts count). The count exists
     /// only in contracts, and is dropped afterwards. `blank` is a new ledger of the toolchain, to keep the count in; it must be that of `L`. This
-    /// is a function of its own, since only the call of a generic function can pick the type `L`. Err is `TooLarge` or `Memory`, as there.
+    /// is a function of its own, since only the call of a generic function can pick the type `L`. Err is `TooLarge` or `Memory`.
     pub(crate) fn explain_by_with_new_count<L: Ledger>(
         &self,
         alloc: Global,
@@ -102,7 +102,7 @@ impl<'a> PreparedQuestion<'a> {
 
     /// Does the work of `reduce_by`: calls `reduce_by_counted` with a new count of ticks (operations that contracts count). The count exists
     /// only in contracts, and is dropped afterwards. `blank` is a new ledger of the toolchain, to keep the count in; it must be that of `L`. This
-    /// is a function of its own, since only the call of a generic function can pick the type `L`. Err is `TooLarge` or `Memory`, as there.
+    /// is a function of its own, since only the call of a generic function can pick the type `L`. Err is `TooLarge` or `Memory`.
     pub(crate) fn reduce_by_with_new_count<L: Ledger>(
         &self,
         alloc: Global,
@@ -177,7 +177,7 @@ impl<'a> PreparedQuestion<'a> {
     /// The explanation if all listed signatures are valid, for `explain`: calls `explained_counted` with a new count of ticks (operations that
     /// contracts count). The count exists only in contracts, and is dropped afterwards. `blank` is a new ledger of the toolchain, to keep the
     /// count in; it must be that of `L`. This is a function of its own, since only the call of a generic function can pick the type `L`. Err is
-    /// `TooLarge` or `Memory`, as there.
+    /// `TooLarge` or `Memory`.
     pub(crate) fn explained_with_new_count<L: Ledger>(
         &self,
         alloc: Global,
@@ -215,7 +215,7 @@ impl<'a> PreparedQuestion<'a> {
     /// The reduction if all listed signatures are valid, for `reduce`: calls `reduced_counted` with a new count of ticks (operations that
     /// contracts count). The count exists only in contracts, and is dropped afterwards. `blank` is a new ledger of the toolchain, to keep the
     /// count in; it must be that of `L`. This is a function of its own, since only the call of a generic function can pick the type `L`. Err is
-    /// `TooLarge` or `Memory`, as there.
+    /// `TooLarge` or `Memory`.
     pub(crate) fn reduced_with_new_count<L: Ledger>(
         &self,
         alloc: Global,
@@ -260,9 +260,9 @@ impl<'a> PreparedQuestion<'a> {
     }
 }
 
-/// Puts into `sink` what each entry becomes with the certificates of the case, as `fold_texts`, and counts ticks, in contracts only. An entry is
-/// a tick, and so is each octet of its text, once. To these come the ticks of `entry_fold_counted`, which joins the entry with the certificates.
-/// What the sink does is not counted.
+/// Puts into `sink` what each entry becomes with the certificates of the case, as `fold_texts`, and counts operations in `ticks`, in contracts
+/// only. An entry is a tick, and so is each octet of its text, once. `entry_fold_counted`, which joins the entry with the certificates, adds
+/// more. What the sink does is not counted.
 ///
 /// # Errors
 ///

@@ -71,14 +71,13 @@ impl Limits {
     }
 }
 
-/// 65,536 octets of a question, 16 certificates, 64 strings of a request, 1,000,000 nodes of an intersection, 2,000,000 of work,
-/// and 1,048,576 octets of an answer. For comparison: an entry and five certificates for sets of 100 short strings take some
-/// 1,000,000 of work.
 impl Default for Limits {
     ghost is_default = { λ limits. (limits.octets ≡ 65536) × (limits.certificates ≡ 16) × (limits.words ≡ 64)
         × (limits.nodes ≡ 1000000) × (limits.work ≡ 2000000) × (limits.answer ≡ 1048576) };
 
-    /// The default limits, which the comment of this `impl` lists: for a service that needs no others.
+    /// The default limits: 65,536 octets of a question, 16 certificates, 64 strings of a request, 1,000,000 nodes of an intersection, 2,000,000
+    /// of work, and 1,048,576 octets of an answer. For comparison: an entry and five certificates for sets of 100 short strings take some
+    /// 1,000,000 of work.
     fn default() -> Limits {
         Limits {
             octets: 65_536,

@@ -72,9 +72,9 @@ impl OwnedQuestion {
         self.signed.as_slice()
     }
 
-    /// Says that the signature is valid that `signed` lists at this place, from 0, as `PreparedQuestion::mark` does. Returns false, and changes
-    /// nothing, if nothing is listed there. The place is tested before `marks` is borrowed, so it is plain that nothing changes then; `mark_at`
-    /// makes the same test again.
+    /// Marks the signature that `signed` lists at this place, from 0, as valid, as `PreparedQuestion::mark` does. Returns false, and changes
+    /// nothing, if no signature is listed there. The place is tested before `marks` is borrowed, so it is plain that nothing changes then;
+    /// `mark_at` makes the same test again.
     pub fn mark(&mut self, place: usize) -> bool
         ensures listed { IsTrue result ↔ (place < length self.old.marks.items) }
         ensures marked { IsTrue result → HasMark self.old place self.new }
@@ -86,8 +86,8 @@ impl OwnedQuestion {
         mark_at(&mut self.marks, place)
     }
 
-    /// What is granted by the marks, as by `PreparedQuestion::grant_by`: what `open` has found for valid signatures, or None if a listed
-    /// signature has no mark at its place. Nothing is read again, and nothing allocated.
+    /// What is granted if exactly the marked signatures are valid, as by `PreparedQuestion::grant_by`: what `open` has found to be granted if all
+    /// are valid, or None if a listed signature has no mark. Nothing is read again, and nothing is allocated.
     pub fn grant_by(&self) -> Option<Grant>
         ensures { IsConditionalGrant self.now.guard self.now.texts self.now.signed.items self.now.if_valid
             → (a : PreparedModel) × IsReadFrom self.now.guard self.now.texts a × (self.now.signed.items ≡ asked a.case)
@@ -99,7 +99,8 @@ impl OwnedQuestion {
         }
     }
 
-    /// Decides the question by its marks, as `PreparedQuestion::decide_by` does. Nothing is read again, and nothing allocated.
+    /// Decides the question if exactly the marked signatures are valid, as `PreparedQuestion::decide_by` does. Nothing is read again, and nothing
+    /// is allocated.
     pub fn decide_by(&self) -> Decision
         ensures { IsConditionalGrant self.now.guard self.now.texts self.now.signed.items self.now.if_valid
             → (a : PreparedModel) × IsReadFrom self.now.guard self.now.texts a × (self.now.signed.items ≡ asked a.case)
@@ -108,7 +109,7 @@ impl OwnedQuestion {
         Grant::decision(self.grant_by())
     }
 
-    /// Whether the question is granted if all listed signatures are valid, as `PreparedQuestion::is_possible` says it. True grants nothing.
+    /// Whether the question is granted if all listed signatures are valid, as `PreparedQuestion::is_possible` says it. True is not yet a yes.
     pub fn is_possible(&self) -> bool
         ensures { IsTrue result ↔ IsYes (decision_of self.now.if_valid) }
     {

@@ -34,8 +34,8 @@ impl<'a> PreparedQuestion<'a> {
         self.guard.most_answer()
     }
 
-    /// Says that the signature is valid that `signed` lists at this place, from 0. The mark is for this place alone, also if the same
-    /// signature is listed twice. It cannot be taken back. Returns false, and changes nothing, if nothing is listed there.
+    /// Marks the signature that `signed` lists at this place, from 0, as valid. The mark is for this place alone, also if the same signature is
+    /// listed twice. It cannot be removed. Returns false, and changes nothing, if no signature is listed there.
     pub fn mark(&mut self, place: usize) -> bool
         ensures listed { IsTrue result ↔ (place < length self.old.marks) }
         ensures marked { IsTrue result → IsMarkedToo self.old.marks place self.new.marks }

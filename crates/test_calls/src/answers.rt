@@ -19,7 +19,7 @@ pub trait Answered {
     fn answered(&self, alloc: Global) -> Reply;
 }
 
-/// What a call returned, as an answer. The value is dropped here.
+/// The answer to a row whose call returned this value. The value is dropped here, so that the proof of the caller does not go through its parts.
 pub fn answer<T: Answered + Drop>(alloc: Global, value: T) -> Reply {
     value.answered(alloc)
 }
@@ -44,22 +44,22 @@ pub fn call_on<'x, T: Called<'x> + Drop, E: Into<Failure>>(
     }
 }
 
-/// A word as an answer.
+/// The answer that is this word. Err if memory ran out.
 pub fn word(alloc: Global, word: &str) -> Reply {
     octets(alloc, word.as_bytes())
 }
 
-/// Octets as an answer.
+/// The answer that is a copy of these octets. Err if memory ran out.
 pub fn octets(alloc: Global, octets: &[u8]) -> Reply {
     Ok(Vec::from_slice(alloc, octets)?)
 }
 
-/// A value as an answer, as `Debug` writes it.
+/// The answer that is a value as `Debug` writes it, such as `[1, 2]`. Err if memory ran out.
 pub fn shown<T: Debug>(alloc: Global, value: &T) -> Reply {
     Ok(format!(in alloc; "{value:?}")?.into_bytes())
 }
 
-/// The octets of all parts one after another, as an answer.
+/// The answer that is the octets of all parts, one after another. Err if memory ran out.
 pub fn joined(alloc: Global, parts: &[&[u8]]) -> Reply {
     let mut out = Vec::new(alloc);
     for part in parts {
@@ -68,7 +68,7 @@ pub fn joined(alloc: Global, parts: &[&[u8]]) -> Reply {
     Ok(out)
 }
 
-/// A number and, after a space, a value as `Debug` writes it: the item or step that stops something, and the cause.
+/// The answer that is a number and, after a space, a value as `Debug` writes it: the item or step that stops a chain or fails a test, and why.
 fn numbered<T: Debug>(alloc: Global, number: usize, value: &T) -> Reply {
     Ok(format!(in alloc; "{number} {value:?}")?.into_bytes())
 }
@@ -84,49 +84,49 @@ impl<T: Answered, E: Copy + Into<Failure>> Answered for Result<T, E> {
 }
 
 impl Answered for Vec<u8> {
-    /// Answers octets by a copy of them.
+    /// Answers octets with a copy of them.
     fn answered(&self, alloc: Global) -> Reply {
         octets(alloc, self)
     }
 }
 
 impl Answered for Vec<usize> {
-    /// Answers numbers by their list as `Debug` writes it, such as `[1, 2]`.
+    /// Answers numbers with their list as `Debug` writes it, such as `[1, 2]`.
     fn answered(&self, alloc: Global) -> Reply {
         shown(alloc, self)
     }
 }
 
 impl Answered for bool {
-    /// Answers true by `yes` and false by `no`.
+    /// Answers true with `yes` and false with `no`.
     fn answered(&self, alloc: Global) -> Reply {
         word(alloc, if *self { "yes" } else { "no" })
     }
 }
 
 impl Answered for Sexp {
-    /// Answers a tree by its canonical form.
+    /// Answers a tree with its canonical form.
     fn answered(&self, alloc: Global) -> Reply {
         Ok(encode(alloc, self)?)
     }
 }
 
 impl Answered for Tag {
-    /// Answers a tag by its canonical form.
+    /// Answers a tag with its canonical form.
     fn answered(&self, alloc: Global) -> Reply {
         answer(alloc, self.write(alloc))
     }
 }
 
 impl Answered for Ground {
-    /// Answers a request by `yes`, since it was read. One that was refused is an Err, which is answered by its fault.
+    /// Answers a request with `yes`, since it was read. One that was refused is an Err, which is answered by its fault.
     fn answered(&self, alloc: Global) -> Reply {
         word(alloc, "yes")
     }
 }
 
 impl Answered for Key<'_> {
-    /// Answers a key by its canonical octets, or by `no` if the principal that is this key does not name it. So each row that answers a key
+    /// Answers a key with its canonical octets, or with `no` if the principal that is this key does not name it. So each row that answers a key
     /// tests `Principal::names` too.
     fn answered(&self, alloc: Global) -> Reply {
         if Principal::Key(self.share()).names(self, Policy::Strict) {
@@ -138,35 +138,35 @@ impl Answered for Key<'_> {
 }
 
 impl Answered for Date {
-    /// Answers a date by the 19 octets of its text, such as `2024-01-01_00:00:00`.
+    /// Answers a date with the 19 octets of its text, such as `2024-01-01_00:00:00`.
     fn answered(&self, alloc: Global) -> Reply {
         octets(alloc, self.as_slice())
     }
 }
 
 impl Answered for Vec<Entry<'_>> {
-    /// Answers an access list by the number of its entries.
+    /// Answers an access list with the number of its entries.
     fn answered(&self, alloc: Global) -> Reply {
         shown(alloc, &self.len())
     }
 }
 
 impl Answered for Vec<SeqItem<'_>> {
-    /// Answers a sequence by the number of its items.
+    /// Answers a sequence with the number of its items.
     fn answered(&self, alloc: Global) -> Reply {
         shown(alloc, &self.len())
     }
 }
 
 impl Answered for Five<'_> {
-    /// Answers an authorization by its canonical form, `(five ..)`.
+    /// Answers an authorization with its canonical form, `(five ..)`.
     fn answered(&self, alloc: Global) -> Reply {
         answer(alloc, self.write(alloc))
     }
 }
 
 impl Answered for Four<'_> {
-    /// Answers a name's definition by the name, a space, and the rest as an authorization in canonical form. The issuer of this authorization
+    /// Answers a name's definition with the name, a space, and the rest as an authorization in canonical form. The issuer of this authorization
     /// is the key that defines the name. A definition has no tag and no delegation, so they are `(*)` and false.
     fn answered(&self, alloc: Global) -> Reply {
         let subject = self.subject.clone()?;
@@ -184,7 +184,7 @@ impl Answered for Four<'_> {
 }
 
 impl<T: Answered> Answered for Joined<T> {
-    /// Answers the join of two tuples by the tuple that they become, or by the cause if they do not join.
+    /// Answers the join of two tuples with the tuple that they become, or with the cause if they do not join.
     fn answered(&self, alloc: Global) -> Reply {
         match self {
             Joined::Done(tuple) => tuple.answered(alloc),
@@ -194,7 +194,7 @@ impl<T: Answered> Answered for Joined<T> {
 }
 
 impl Answered for Fold<'_> {
-    /// Answers the join of a chain by the authorization that it becomes, or by the number, from 1, of the step that stops it, and the cause.
+    /// Answers the join of a chain with the authorization that it becomes, or with the number, from 1, of the step that stops it, and the cause.
     fn answered(&self, alloc: Global) -> Reply {
         match self {
             Fold::Done(five) => five.answered(alloc),
@@ -204,8 +204,8 @@ impl Answered for Fold<'_> {
 }
 
 impl Answered for EntryFold<'_> {
-    /// Answers what an entry becomes with all certificates by the authorization, or by the number, from 1, of the item whose certificate does
-    /// not join, and the cause.
+    /// Answers a fold (what an entry becomes with all certificates) with the authorization, or with the number, from 1, of the item whose
+    /// certificate does not join, and the cause.
     fn answered(&self, alloc: Global) -> Reply {
         match self {
             EntryFold::Done(five) => five.answered(alloc),
@@ -215,7 +215,7 @@ impl Answered for EntryFold<'_> {
 }
 
 impl Answered for Evidence<'_> {
-    /// Answers the evidence of a sequence by the number of its certificates if all pass their tests. Otherwise by the number, from 1, of the
+    /// Answers the evidence of a sequence with the number of its certificates if all pass their tests. Otherwise with the number, from 1, of the
     /// first item whose certificate fails a test, and this test.
     fn answered(&self, alloc: Global) -> Reply {
         match self {
@@ -240,7 +240,7 @@ impl Answered for (Decision, Decision) {
 }
 
 impl Answered for Explanation {
-    /// Answers an explanation by the reasons of all entries, as `Debug` writes them. If a certificate fails a test, by the number, from 1, of
+    /// Answers an explanation with the reasons of all entries, as `Debug` writes them. If a certificate fails a test, with the number, from 1, of
     /// the first such item, and this test.
     fn answered(&self, alloc: Global) -> Reply {
         match self {
@@ -251,7 +251,7 @@ impl Answered for Explanation {
 }
 
 impl Answered for Reduction<'_> {
-    /// Answers a reduction by a line for each entry. If a certificate fails a test, by the number, from 1, of the first such item, and this
+    /// Answers a reduction with a line for each entry. If a certificate fails a test, with the number, from 1, of the first such item, and this
     /// test.
     fn answered(&self, alloc: Global) -> Reply {
         match self {
@@ -270,7 +270,7 @@ fn lines_of(alloc: Global, folds: &[EntryFold]) -> Reply {
     Ok(out)
 }
 
-/// Appends the line of one entry.
+/// Appends to `out` what one entry becomes, as the answer for `EntryFold` says it, and a line feed.
 fn push_line(alloc: Global, out: &mut Vec<u8>, fold: &EntryFold) -> Result<(), Failure> {
     out.extend_from_slice(&fold.answered(alloc)?)?;
     Ok(out.push(b'\n')?)

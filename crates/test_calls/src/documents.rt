@@ -134,7 +134,7 @@ fn read(alloc: Global, name: &str, document: &Doc, n: NodeId, octets: &[u8]) -> 
     }
 }
 
-/// As `read`, for the values that have several parts.
+/// Does what `read` does, for the values that have several parts. Err is `Unknown` for any other name.
 fn read_parts(alloc: Global, name: &str, document: &Doc, n: NodeId) -> Reply
     requires { IsSome (node document.now n.0) }
 {

@@ -118,7 +118,7 @@ fn ask_words(alloc: Global, guard: &Guard, texts: &[Vec<u8>]) -> Reply {
     ask(alloc, "PreparedQuestion::decide_by", guard, &question, &[])
 }
 
-/// The texts as strings of a request.
+/// The texts as the strings of a request, each as its octets. Err if memory ran out.
 fn words_of<'a>(alloc: Global, texts: &'a [Vec<u8>]) -> Result<Vec<&'a [u8]>, AllocError> {
     let mut words = Vec::new(alloc);
     for text in texts {

@@ -26,7 +26,7 @@ pub fn behind(texts: &[Vec<u8>], place: usize) -> &[Vec<u8>] {
     }
 }
 
-/// The text as a word. An empty word if it is not UTF-8.
+/// The text as a `&str`. Empty if it is not UTF-8.
 pub fn word_of(text: &[u8]) -> &str {
     str::from_utf8(text).unwrap_or("")
 }

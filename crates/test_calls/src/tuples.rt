@@ -50,7 +50,7 @@ fn five<'a>(alloc: Global, texts: &'a [Vec<u8>]) -> Result<Five<'a>, Failure> {
     })
 }
 
-/// The name's definition that the first three texts are. The tag and the delegation of the entry are left out.
+/// The name's definition that the first three texts are: its key, the name, and an entry, of which the tag and the delegation are left out.
 fn four<'a>(alloc: Global, texts: &'a [Vec<u8>]) -> Result<Four<'a>, Failure> {
     let key = read(alloc, at(texts, 0))?;
     let entry: Entry = read(alloc, at(texts, 2))?;
@@ -82,7 +82,7 @@ fn steps<'a>(alloc: Global, texts: &'a [Vec<u8>]) -> Result<Vec<Step<'a>>, Failu
 
 /// A tuple that can be the first of a chain. `N` is what is joined with it: a tuple, or all after it.
 trait Joins<N> {
-    /// The join, as an answer.
+    /// Joins this tuple with `next`, and returns the answer: what they become, or the cause why they do not join.
     fn join(&self, alloc: Global, next: &N) -> Reply;
 }
 
@@ -145,7 +145,7 @@ fn missing(alloc: Global, five: &Five, texts: &[Vec<u8>]) -> Reply {
     reply
 }
 
-/// As `missing`, for the key `holder` and a request that were read, and the text of the moment.
+/// What `missing` returns, for the key `holder` and a request that were read, and the text of the moment.
 fn missing_at(alloc: Global, five: &Five, holder: &Key, request: &Ground, moment: &[u8]) -> Reply {
     let moment: Date = read(alloc, moment)?;
     shown(

@@ -42,7 +42,7 @@ impl Verifier for RowVerifier<'_> {
     ghost accepted = { λ verifier key message value.
         IsTrue verifier.all ⊎ verified_by verifier.listed key message value };
 
-    /// Whether the signature is listed, or all are accepted. Always Err for `broken`.
+    /// Whether the signature is listed, or all are accepted. Always Err for `broken`, as if memory ran out.
     fn accepts(
         &self,
         alloc: Global,

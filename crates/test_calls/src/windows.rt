@@ -18,7 +18,7 @@ pub(crate) fn call(alloc: Global, name: &str, texts: &[Vec<u8>]) -> Option<Reply
     }
 }
 
-/// The limit of a window that a text is, a date. Ok with None, no limit, for an empty text.
+/// The limit of a window that a text is: a date in canonical form, or no limit (Ok with None) for an empty text.
 fn limit(alloc: Global, text: &[u8]) -> Result<Option<Date>, Failure> {
     if text.is_empty() {
         return Ok(None);

@@ -174,7 +174,7 @@ fn with_revoked(alloc: Global, case: &Case, rows: &[u8], texts: &[Vec<u8>]) -> R
     answer(alloc, decide_unrevoked(alloc, case, &table, &revoked))
 }
 
-/// The question whether a key may do `(ftp host)` with a sequence, at 2026-11-23 10:00:00 UTC.
+/// The question whether a key may do `(ftp host)` with a sequence, at 2026-11-23 10:00:00 UTC, which is the number of seconds in it.
 fn posed<'a>(sequence: &'a [u8], key: &'a [u8]) -> Posed<'a> {
     Posed {
         sequence,

@@ -34,7 +34,7 @@ fn intersection(alloc: Global, text: &[u8]) -> Reply {
     }
 }
 
-/// The verdict of a printed answer, a space and its line or lines. The printed answer is freed. Err if memory ran out for it.
+/// The verdict of a printed answer, a space and its line or lines. The printed answer is freed. Err if its line says that memory ran out.
 fn line(alloc: Global, answer: Printed) -> Reply {
     let reply = verdict_and_line(alloc, &answer);
     drop(answer);

@@ -49,7 +49,7 @@ impl WithoutRoom {
         }
     }
 
-    /// What a call without room returns.
+    /// What a read or write returns that may pass on no more octets: an error, or 0 octets.
     fn answer(self) -> io::Result<usize>
         ensures { IfOk result (λ count. count ≡ 0) }
     {
