@@ -9,12 +9,12 @@ abbrev pub number_until : Option (List ℕ) → ℤ
 number_until None = pos 9_223_372_036_854_775_807
 number_until (Some date) = last_second date
 
--- the same for the limit of a grant; without a grant the lowest number
+-- the last second of a grant's limit, or the highest number if it has none; without a grant the lowest number
 abbrev pub number_of : Option Grant → ℤ
 number_of None = negsuc 9_223_372_036_854_775_807
 number_of (Some grant) = number_until grant.until
 
--- The question is read, this is granted by the marks, and the number is the last second till which that holds.
+-- The question is read, this is granted by the marks, and the number is the last second at which that holds.
 pub record IsHeldUntil (held : GuardModel) (q : Question) (marks : List Bool) (number : ℤ) : Type 0 where
   pub grant : Grant
   pub granted : HasGrant held q marks Done (Some grant)

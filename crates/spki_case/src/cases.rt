@@ -94,7 +94,7 @@ const MOST_WORK: usize = 2_300_000_000;
 impl<'a> Case<'a> {
     ghost use Rattle.spki_case.specs.View.{model};
 
-    /// Reads a case from its canonical text. Its `most_nodes` and `uncounted` are 1,000,000 (`MOST_NODES`), and its `most_work`
+    /// Reads a case from its canonical text. Of its limits `most_nodes` and `uncounted` are 1,000,000 (`MOST_NODES`), and `most_work` is
     /// 2,300,000,000 (`MOST_WORK`). A caller who has opened the text as a document takes `of`.
     ///
     /// # Errors
@@ -115,8 +115,8 @@ impl<'a> Case<'a> {
     }
 
     /// Reads a case from its node: `(case (acl ..) (accepted ..) (sequence ..) (key K) (request G) (at DATE))`, with or without
-    /// `(policy strict)` behind the moment. Its `most_nodes` and `uncounted` are `MOST_NODES`, and its `most_work` is `MOST_WORK`, as in
-    /// `read`. Its keys get the digests by which they may be compared with hashes (module `digests`); this saves time and changes no
+    /// `(policy strict)` behind the moment. Of its limits `most_nodes` and `uncounted` are `MOST_NODES`, and `most_work` is `MOST_WORK`, as
+    /// in `read`. Its keys get the digests by which they may be compared with hashes (module `digests`); this saves time and changes no
     /// answer.
     ///
     /// # Errors

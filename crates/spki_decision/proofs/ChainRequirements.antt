@@ -313,7 +313,7 @@ module _ (steps : List Step) (i : ℕ) (step : Step) (below : i < length steps) 
   more_tags = ap all_tags more_tuples ∙ flat_map-append tags_of (tuples_of (take i steps)) (step_tuple step ∷ [])
       ∙ ap (λ ts. all_tags (tuples_of (take i steps)) ++ ts) (append-nil (tags_of (step_tuple step)))
 
-  -- the same of windows
+  -- the windows of the steps up to one are those of the steps before it, and then its own
   pub more_windows : all_windows (tuples_of (take (i + 1) steps)) ≡ all_windows (tuples_of (take i steps)) ++ windows_of (step_tuple step)
   more_windows = ap all_windows more_tuples ∙ flat_map-append windows_of (tuples_of (take i steps)) (step_tuple step ∷ [])
       ∙ ap (λ ws. all_windows (tuples_of (take i steps)) ++ ws) (append-nil (windows_of (step_tuple step)))

@@ -87,7 +87,7 @@ certificates_ge (Name c ∷ items) n = omega (arith, certificates_ge items (suc 
 pub asked_ge : (c : Case) → length (asked c) ≤ items_weight c.items
 asked_ge c = omega (arith, asked_le c.policy (keys_of c.items) every (certificates c.items), certificates_ge c.items 1)
 
--- the same with the tuples of all certificates
+-- the tuples of all certificates weigh, with one for each signature that is asked about, no more than the sequence
 pub shown_and_asked_ge : (c : Case) (verified : Verified) (ts : List Tuple) → AreShown c.policy verified c.items ts
     → tuples_weight ts + length (asked c) ≤ items_weight c.items
 shown_and_asked_ge c verified ts are =

@@ -174,7 +174,7 @@ module _ (Out : Entry → Type 0) where
   growing n (g ∷ es) (k ∷ ks) (suc p) (suc q) i j e f (inr here) less at_p at_q =
       growing (suc n) es ks p q i j e f here.1 (omega (arith, less)) at_p at_q
 
-  -- the part of the front of a list, up to a place
+  -- the kept ones before the one at p are the kept ones of the entries before its own
   pub kept_front : (n : ℕ) (es : List Entry) (ks : List (ℕ × Entry)) (p place : ℕ) (e : Entry) → AreKept Out n es ks
       → slice_get ks p ≡ Some (n + place, e) → AreKept Out n (take place es) (take p ks)
   kept_front n es [] p place e kept stands = absurd (none-some (n + place, e) stands)
@@ -192,7 +192,7 @@ module _ (Out : Entry → Type 0) where
   kept_front n (f ∷ es) (k ∷ ks) (suc p) (suc place) e (inr here) stands =
       inr (here.0, kept_front (suc n) es ks p place e here.1 (stands ∙ next n place e))
 
-  -- the same part with the entry at the place
+  -- the kept ones up to and with that at p are the kept ones of the entries up to and with its own
   pub kept_through : (n : ℕ) (es : List Entry) (ks : List (ℕ × Entry)) (p place : ℕ) (e : Entry) → AreKept Out n es ks
       → slice_get ks p ≡ Some (n + place, e) → AreKept Out n (take (suc place) es) (take (suc p) ks)
   kept_through n es [] p place e kept stands = absurd (none-some (n + place, e) stands)

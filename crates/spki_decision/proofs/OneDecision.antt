@@ -152,7 +152,7 @@ module _ {A : Type 0} (Answered : Case → Verified → A → Type 0) (IsSame : 
   of_text verified text c d x y read other a b =
       one c verified x y a (subst (λ (e : Case). Answered e verified y) (sym (text-one text c d read other)) b)
 
-  -- the same, if the verifier is the accepted list of each case
+  -- answers to two cases of one text are the same, if the verifier is the accepted list of each case
   pub own_of_text : (text : List ℕ) (c d : Case) (x y : A) → IsCaseText text c → IsCaseText text d
       → Answered c (accepted_by c) x → Answered d (accepted_by d) y → IsSame x y
   own_of_text text c d x y read other a b =

@@ -105,7 +105,7 @@ IsNarrower (five narrow) (five wide) = IsNarrowerFive narrow wide
 IsNarrower (four narrow) (four wide) = IsNarrowerFour narrow wide
 IsNarrower _ _ = ⊥
 
--- the same of entries
+-- an entry, as an authorization, is no wider than another
 abbrev pub IsNarrowerEntry : Entry → Entry → Type 0
 IsNarrowerEntry narrow wide = IsNarrowerFive (entry_tuple narrow) (entry_tuple wide)
 

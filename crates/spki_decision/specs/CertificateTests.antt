@@ -80,7 +80,7 @@ pub record FailsIn
   pub place : item ≡ failing.item
   pub fails : FailsBy policy keys verified failing stop
 
--- the same of the certificates of a sequence, with its keys
+-- `FailsIn` of the certificates of a sequence, with the keys that it shows
 abbrev pub FailsAt : Policy → Verified → List SeqItem → ℕ → Stop → Type 0
 FailsAt policy verified items item stop = FailsIn policy (keys_of items) verified (certificates items) item stop
 

@@ -23,7 +23,7 @@ abbrev pub IsEvidence : Policy → Verified → List SeqItem → Evidence → Ty
 IsEvidence policy verified items (evidence.Verified steps) = AreShown policy verified items (map step_tuple steps.items)
 IsEvidence policy verified items (evidence.Fails item stop) = FailsAt policy verified items item stop
 
--- the same of certificates whose signatures are not verified: as if a verifier accepted all of these
+-- the evidence of a sequence whose signatures are not verified: as if a verifier accepted all of them
 abbrev pub IsUnverified : Policy → List SeqItem → Unverified → Type 0
 IsUnverified policy items (unverified.Passes steps) = AreShown policy every items (map step_tuple steps.items)
 IsUnverified policy items (unverified.Fails item stop) = FailsAt policy every items item stop
@@ -70,7 +70,7 @@ IsTested policy keys shown (Fails stop) = FailsBy policy keys every shown stop
 
 -- ---- the first key that a principal names, according to calls of a closure
 
--- some call of the closure, for a principal and a key, may return this answer
+-- some call of the closure `names`, for a principal and a key, may return this answer
 pub record Says
     {F : Type 0} (g : Shared F (Bor Principal × (Bor (List ℕ) × Unit {0})) Bool) (names : F) (p : Principal) (key : List ℕ) (answer : Bool)
     : Type 0 where
@@ -79,11 +79,11 @@ pub record Says
   pub shows : (principal.now ≡ p) × (other.now ≡ key)
   pub says : g.post names (principal, (other, tt)) answer
 
--- it returns false for each key
+-- the closure returns false for the principal and each key
 abbrev pub NamesNone : {F : Type 0} → Shared F (Bor Principal × (Bor (List ℕ) × Unit {0})) Bool → F → Principal → List (List ℕ) → Type 0
 NamesNone g names p keys = (k : ℕ) (key : List ℕ) → slice_get keys k ≡ Some key → Says g names p key false
 
--- it returns true for the key at this place, and false for each key before it
+-- the closure returns true for the principal and the key at this place, and false for each key before it
 pub record IsFirstNamed
     {F : Type 0} (g : Shared F (Bor Principal × (Bor (List ℕ) × Unit {0})) Bool) (names : F) (p : Principal) (keys : List (List ℕ)) (place : ℕ)
     : Type 0 where

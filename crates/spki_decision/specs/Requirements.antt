@@ -90,7 +90,7 @@ pub record Meets (policy : Policy) (required : RequiredSubject) (principal : Pri
   pub names_are : path ≡ required.names
   pub allowed : required.delegation ≡ true → delegation ≡ true
 
--- the same of an authorization's subject; if there is no required subject, no subject is as required
+-- an authorization's subject is as required; if there is no required subject, none is
 abbrev pub IsMetBy : Policy → Option RequiredSubject → FiveTuple → Type 0
 IsMetBy policy None t = ⊥
 IsMetBy policy (Some required) t = Meets policy required t.principal t.names t.delegation

@@ -49,6 +49,6 @@ EndsWith entries windows None = Unit {0}
 EndsWith entries windows (Some grant) =
     (place : ℕ) (e : Entry) → grant.entry ≡ suc place → slice_get entries place ≡ Some e → IsLeastEnd (e.window ∷ windows) grant.until
 
--- the same of a case: the windows are those of its certificates
+-- until when the yes of a case holds, by the windows of its entry and of its certificates
 abbrev pub HoldsUntil : Case → Option Grant → Type 0
 HoldsUntil c grant = EndsWith c.entries (windows_in c.items) grant

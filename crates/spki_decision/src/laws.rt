@@ -77,9 +77,9 @@ pub fn one_reduction<V: Verifier>()
         → IsReduced c (accepted_by c) x → IsReduced d (accepted_by d) y → AreSame IsSameReduction x y }
 {}
 
-/// For every verifier: a case is not refused as `TooLarge` if it has a decision, and no entry up to the one that is granted has tags or work over the
-/// limits. For a no this must hold of all entries, unless a certificate fails its tests. So the clauses of `decide` allow one answer, unless memory
-/// ran out.
+/// For every verifier: if a case has a decision, and no entry up to the one that is granted has tags or work over the limits, the case is not
+/// refused as `TooLarge`. For a no, all entries must be within the limits, unless a certificate fails its tests. So the clauses of `decide`
+/// allow one answer, unless memory ran out.
 #[tactic(auto, using(crate::proofs::OneDecision::not_both))]
 pub fn no_refusal<V: Verifier>()
     ensures { (verifier : V) (c : Case) (decision : Decision) → IsDecision c (V.accepted verifier) decision
@@ -204,7 +204,7 @@ pub fn other_moment<V: Verifier>()
 {}
 
 /// A yes holds until the least not-after of the window of its entry and of those of all certificates, definitions of names too. At each moment
-/// from that of the case till then the decision is a yes, with this number or an earlier one. After it this entry is not granted.
+/// from that of the case up to this limit the decision is a yes, with this number or an earlier one. After it this entry is not granted.
 pub fn holds_until<V: Verifier>()
     ensures yes { (verifier : V) (c : Case) (moment : List ℕ) (grant : Grant) (d : Decision) → HoldsUntil c (Some grant)
         → upto c.moment moment ≡ true → is_until grant.until moment ≡ true → IsDecision c (V.accepted verifier) (Yes grant.entry)

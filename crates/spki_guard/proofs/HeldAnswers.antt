@@ -29,7 +29,7 @@ pub reads : (held : GuardModel) (q : Question) (c : Case) → ¬ (held.octets < 
 reads held q c within is policy nodes work counted few few_strings =
     record { short = omega (arith, within); is = is; policy = policy; nodes = nodes; work = work; counted = counted; few = few; few_strings = few_strings }
 
--- the same for a question that was opened
+-- the parts of a question that was opened are within the limit, and are read
 pub opened_reads : (held : GuardModel) (q : Question) (o : OwnedQuestion) (a : PreparedModel) → IsOpened held q o → IsReadFrom held o.texts a
     → ReadsQuestion held q a.case
 opened_reads held q o a opened read = search (rules, reads)

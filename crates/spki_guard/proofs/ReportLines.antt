@@ -35,7 +35,7 @@ module _ {A : Type 0} (octets : A → List ℕ) where
       append_assoc first ((32 ∷ octets word) ++ flat_map (λ w. 32 ∷ octets w) words) (10 ∷ [])
       ∙ ap (λ s. first ++ 32 ∷ s) (spaced (octets word) words)
 
-  -- the same with one word more
+  -- what is printed of k words, and one word more
   pub spaced_more : (words : List A) (k : ℕ) (d : A) → k < length words
       → (flat_map (λ w. 32 ∷ octets w) (take k words) ++ 32 ∷ []) ++ octets (get_or words k d)
       ≡ flat_map (λ w. 32 ∷ octets w) (take (k + 1) words)
@@ -97,7 +97,7 @@ chains_reported : (folds : List EntryFold) (lines : List ℕ) → 0 < length fol
 chains_reported [] lines some h = absurd (omega (arith, some))
 chains_reported (f ∷ fs) lines some h = (refl, h)
 
--- the same for a verdict and an output that are equal to these
+-- `chains_reported` for a verdict and an output that are equal to these
 pub reported_as : (folds : List EntryFold) (lines output : List ℕ) (verdict : Verdict) → 0 < length folds → AreFoldLines 1 folds lines
     → verdict ≡ verdict_of (some_done folds) → output ≡ lines → ReportsFolds folds verdict output
 reported_as folds lines output verdict some h e f = rw (e, f) (chains_reported folds lines some h)
@@ -139,7 +139,7 @@ prints_once answer.No a b e d = e ∙ sym d
 prints_once (answer.Done output) a b e d = output_once output a b e d
 prints_once (answer.Refused refusal) a b e d = e ∙ sym d
 
--- so an answer has one number of octets
+-- an answer has one number of octets, since only one text is printed for it
 pub counted_once : (one : Answer) (octets : List ℕ) (more : ℕ) (sum : Option ℕ) → Prints one octets → IfSome sum (λ n. n ≡ length octets + more)
     → IfSome sum (λ n. (others : List ℕ) → Prints one others → n ≡ length others + more)
 counted_once one octets more None printed e = tt

@@ -32,7 +32,7 @@ module _ (IsOne : Verdict → List ℕ → Type 0) where
   printed_is memory one is v o (inl h) = subst (λ x. IsOne x o) (sym h.0) (is o h.1)
   printed_is memory one is v o (inr h) = memory v o h
 
--- the same, with the refusal for memory apart
+-- what is true of an answer is true of its octets, or they say that memory ran out
 pub printed_as : (IsOne : Verdict → List ℕ → Type 0) (one : Answer) → PrintsAs IsOne one → (v : Verdict) (o : List ℕ)
     → ((v ≡ answer_verdict one) × Prints one o) ⊎ RefusesForMemory v o → IsOne v o ⊎ RefusesForMemory v o
 printed_as IsOne one is =
@@ -51,7 +51,7 @@ module _ (command : Command) (text : List ℕ) where
       (λ v o h. inr (record { refusal = refusals.Memory; refused = tt; verdict_is = h.verdict_is; line = h.line }))
 
 module _ (text rows : List ℕ) where
-  -- the same for a case with a separate accepted list
+  -- the answer of a refusal is its line, for a case with a separate accepted list
   pub refusal_apart : (refusal : Refusal) → RefusesApart text rows refusal → PrintsAs (IsAnswerApart text rows) (answer.Refused refusal)
   refusal_apart refusal refused printed line = inr (record { refusal = refusal; refused = refused; verdict_is = refl; line = line })
 
@@ -202,7 +202,7 @@ module _ {W : Type 0} (contents : W → Option (List ℕ)) where
         (last_front old (writer_of t) end sent (page_of t) octets rest (subst (λ w. Takes contents w (writer_of t) sent) from first) joined front)
         (subst (λ n. (0 < faults_of end) ⊎ (n ≤ asks_of end)) (taken.same_most ∙ most_is ∙ limit) faulty)
 
-  -- the same for the writer of the sink
+  -- `front_written` for the writer of the sink
   pub cut_pages : (s t : PageSink W) (old end final : Metered W) (octets : List ℕ) (most : ℕ) → writer_of s ≡ old
       → page_of s ≡ [] → has_failed s ≡ false → asks_of old ≡ 0 → most_of s ≡ most → most ≡ length octets + 2097152
       → PageTakes contents s octets t → asks_of end ≤ max (asks_of (writer_of t)) (most_of t) → final ≡ end

@@ -69,7 +69,8 @@ pub record ReducesToFive (root : FiveTuple) (f : Five) : Type 0 where
   pub nodes : nodes f.tag ≤ nodes_product root.tags
   pub depth : ldepth f.tag ≤ deepest root.tags
 
--- the same for a name's definition
+-- A name's definition of the code is a root in reduced form. Key, name and subject are the same. Its window contains exactly
+-- the moments within every window of the root.
 pub record ReducesToFour (root : FourTuple) (f : Four) : Type 0 where
   pub key : f.key ≡ root.key
   pub name : f.name ≡ root.name
@@ -93,7 +94,7 @@ pub record BecomesFive (policy : Policy) (left right : Tuple) (f : Five) : Type 
   pub reduced : ReducesToFive root f
   pub timely : SomeMoment root.windows
 
--- the same for a name's definition
+-- Two tuples become a name's definition by a rule, and some moment is within all its windows.
 pub record BecomesFour (policy : Policy) (left right : Tuple) (f : Four) : Type 0 where
   pub root : FourTuple
   pub joined : Joins policy left right (four root)

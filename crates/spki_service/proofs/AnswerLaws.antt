@@ -226,7 +226,7 @@ pub held_marked : (a : PreparedModel) (es : List Entry) (moment : List ℕ) (gra
     → DecidesMarked (asked_at a moment) d → (m : ℕ) × (d ≡ Yes m) × (m ≤ grant.entry)
 held_marked a es moment grant d are grants = held_marked_by a es moment grant d are grants.0 grants.1
 
--- the same for moments in seconds
+-- `held_marked` for moments in seconds, up to the last second of the grant's date
 pub held_marked_seconds : (a : PreparedModel) (es : List Entry) (now later : ℤ) (moment : List ℕ) (grant : Grant) (d : Decision)
     → AreEntries a.texts es → GrantsMarked a (Some grant) → IsLimit grant.until → IsDateAt now a.case.moment → IsDateAt later moment
     → now ≤ℤ later → IfSome grant.until (λ (end : List ℕ). later ≤ℤ last_second end) → DecidesMarked (asked_at a moment) d

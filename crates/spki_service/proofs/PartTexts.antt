@@ -195,7 +195,7 @@ length_most ws k =
     ∙ length-append (octets_of k ws) (canons (values (map word_value (drop k ws)))) in
     omega arith
 
--- the same with the two parentheses
+-- the text of the list of strings has two octets more than the texts of the strings: its parentheses
 pub words_length : (ws : List (Bor (List ℕ))) → (length ws ≡ 1 → ⊥)
     → length (canon (words_value (words_now ws))) ≡ length (canons (values (map word_value ws))) + 2
 words_length ws other = search (rules, many_words, length-append)

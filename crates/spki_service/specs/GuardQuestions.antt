@@ -89,7 +89,7 @@ pub record NamesMoment (fault : AskFault) (v : Value) : Type 0 where
 abbrev pub NamesPart : Part → (AskFault → Value → Type 0) → Result (List ℕ) FormFault → AskFault → Type 0
 NamesPart part names text fault = NamesForm part text fault ⊎ OfText text (names fault)
 
--- the same for the text of a moment, or for its seconds
+-- what a fault means for a moment: for a text as for that of any part; seconds have no date
 abbrev pub NamesDate : MomentText → AskFault → Type 0
 NamesDate (of_moment.Text text) fault = NamesPart parts.Moment NamesMoment text fault
 NamesDate (of_moment.Seconds seconds) fault = (fault ≡ faults.Moment kinds.BadDate) × IsAtNoDate seconds
@@ -203,7 +203,7 @@ AnswersMarked IsAnswer stopped a (Err Memory) = Unit {0}
 abbrev pub ExplainsMarked : PreparedModel → Result Explanation GuardFault → Type 0
 ExplainsMarked = AnswersMarked IsExplained (λ one. explanations.Evidence one.item NotAccepted)
 
--- the same of a reduction
+-- the reduction by the marks: the certificate of the first listed signature without a mark fails
 abbrev pub ReducesMarked : PreparedModel → Result Reduction GuardFault → Type 0
 ReducesMarked = AnswersMarked IsReduced (λ one. reductions.Evidence one.item NotAccepted)
 
@@ -265,7 +265,7 @@ AreReduced a verified (Some failure) folds = (folds ≡ []) × OfCase a (λ c. I
 AreReduced a verified None folds =
     OfCase a (λ c. AreFolds c verified folds) × AllByRecursion IsDated folds × AllByRecursion EndsAtDate folds
 
--- the same if exactly the marked signatures are valid
+-- `AreReduced` if exactly the marked signatures are valid; the certificate of the first without a mark fails, and nothing is put
 abbrev pub AreReducedMarked : PreparedModel → Option Failure → List EntryFold → Type 0
 AreReducedMarked a failure folds =
     ByMarks a (AreReduced a every failure folds)

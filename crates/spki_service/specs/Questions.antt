@@ -177,7 +177,7 @@ abbrev pub LacksFormOfMoment : of_question.Moment → FormFault → Type 0
 LacksFormOfMoment (moments.Text text) fault = LacksForm (IsTextWithin text.now) (RefusesForm text.now) fault
 LacksFormOfMoment (moments.Seconds seconds) fault = ⊥
 
--- the same for any part
+-- this part of a question has no value that is read, and this is the fault of its form
 abbrev pub LacksFormAt : Question → Part → FormFault → Type 0
 LacksFormAt q parts.Sequence fault = LacksForm (IsTextWithin q.sequence.now) (RefusesForm q.sequence.now) fault
 LacksFormAt q parts.Key fault = LacksForm (IsTextWithin q.key.now) (RefusesForm q.key.now) fault

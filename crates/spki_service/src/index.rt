@@ -240,8 +240,8 @@ fn tail_of(octets: &[u8]) -> u64
     }
 }
 
-/// Compares the principal of a row with these octets, whose tail is `tail`: first the tails, then all octets. `principals` must
-/// have the octets of the principals of all entries.
+/// Compares the principal of a row with these octets: first the tails (the last eight octets as a number, see `tail_of`), then all octets.
+/// `tail` is the tail of `octets`. `principals` must have the octets of the principals of all entries.
 fn compare(principals: &TextList, row: &Row, tail: u64, octets: &[u8]) -> Ordering
     ensures { result ≡ key_order (row_key principals.now row.now) (tail, octets.now) }
 {

@@ -79,7 +79,7 @@ fn answer_all(alloc: Global, texts: &[Vec<u8>]) -> Reply {
     reply
 }
 
-/// The answers to the questions, one after another. Each has five texts.
+/// The answers to the questions, one after another. Each question is five of `texts`, as `answer_to` takes them.
 fn answers_to(alloc: Global, guard: &SharedGuard, query: Query, texts: &[Vec<u8>]) -> Reply {
     let mut out = Vec::new(alloc);
     for asked in texts.chunks(5) {
@@ -88,7 +88,7 @@ fn answers_to(alloc: Global, guard: &SharedGuard, query: Query, texts: &[Vec<u8>
     Ok(out)
 }
 
-/// The answer to one question of five texts, or the line that refuses it.
+/// The answer to one question, or the line that refuses it. The texts are its sequence, key, request, moment and marks.
 fn answer_to(alloc: Global, guard: &SharedGuard, query: Query, texts: &[Vec<u8>]) -> Reply {
     match open_question(alloc, guard, &question(texts)) {
         Err(refusal) => line(alloc, refusal),
