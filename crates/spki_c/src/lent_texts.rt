@@ -27,7 +27,7 @@ impl Text {
         count == 0 || (count <= MOST && !self.is_null())
     }
 
-    /// The octets of the text, which must be lent whole.
+    /// The octets of the text. It must be lent whole (`is_lent`). The pointer of an empty text is not used, since it may be null.
     pub(crate) fn octets(&mut self) -> &[u8]
         requires { IsLent self.old }
         ensures { result.now ≡ self.entry.now.octets }

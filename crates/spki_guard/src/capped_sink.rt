@@ -81,7 +81,7 @@ impl<'v> Sink for CappedSink<'v> {
         }
     }
 
-    /// As `put`, for one octet.
+    /// Counts one octet, and appends it if all octets so far are at most `most`, as `put` does.
     fn put_octet(&mut self, octet: u8) {
         self.put(&[octet]);
     }

@@ -30,7 +30,7 @@ pub(crate) struct FoldPrinter {
 }
 
 impl FoldPrinter {
-    /// A printer that keeps at most `most` octets.
+    /// A printer whose lines may have at most `most` octets together. It has printed nothing yet.
     pub(crate) fn new(alloc: Global, most: usize) -> FoldPrinter
         ensures unused { IsUnused result }
         ensures room { room_of result ≡ most }

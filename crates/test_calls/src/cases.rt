@@ -35,7 +35,7 @@ fn counted(alloc: Global, case: &Case) -> Reply {
     two_numbers(alloc, case.acl.len(), case.sequence.len())
 }
 
-/// Two numbers and a space between them, as an answer.
+/// The answer that is two numbers and a space between them. Err if memory ran out.
 fn two_numbers(alloc: Global, one: usize, other: usize) -> Reply {
     Ok(format!(in alloc; "{one} {other}")?.into_bytes())
 }

@@ -156,7 +156,7 @@ fn read_hash(alloc: Global, document: &Doc, n: NodeId, octets: &[u8]) -> Reply
     Ok(format!(in alloc; "{alg:?} {fits}")?.into_bytes())
 }
 
-/// The number of nodes of the tag that is read from node n, and its normal form.
+/// The answer of `Tag::read` at node n, as `counted` makes it. Err is the fault of the tag, or `Memory`.
 fn read_tag(alloc: Global, document: &Doc, n: NodeId) -> Reply
     requires { IsSome (node document.now n.0) }
 {
@@ -166,7 +166,7 @@ fn read_tag(alloc: Global, document: &Doc, n: NodeId) -> Reply
     reply
 }
 
-/// The number of nodes of a tag, and its normal form.
+/// The answer that is the number of a tag's nodes, a space, and the tag's normal form as canonical text. Err if memory ran out.
 fn counted(alloc: Global, tag: &Tag) -> Reply {
     let nodes = shown(alloc, &tag.nodes())?;
     let text = tag.answered(alloc)?;

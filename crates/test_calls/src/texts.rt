@@ -96,7 +96,7 @@ pub trait OfTexts<'a>: Sized {
     fn of_texts(alloc: Global, texts: &'a [Vec<u8>]) -> Result<Self, Failure>;
 }
 
-/// Reads all texts as values of type `T`, each from `size` texts.
+/// Reads all texts as values of type `T`, each from `size` texts. Err is the first fault, or `Memory`.
 pub fn all<'a, T: OfTexts<'a> + Drop>(
     alloc: Global,
     texts: &'a [Vec<u8>],
@@ -118,7 +118,7 @@ impl<'a> OfTexts<'a> for Key<'a> {
     }
 }
 
-/// Reads each text as a key.
+/// Reads each text, in canonical form, as a public key. Err is the first fault, or `Memory`.
 pub fn keys<'a>(alloc: Global, texts: &'a [Vec<u8>]) -> Result<Vec<Key<'a>>, Failure> {
     all(alloc, texts, 1)
 }

@@ -75,7 +75,7 @@ impl<'a> OfTexts<'a> for Step<'a> {
     }
 }
 
-/// The tuples of the texts, three texts for each.
+/// The tuples of the texts, three texts for each, as `Step::of_texts` reads them. Err is the first fault.
 fn steps<'a>(alloc: Global, texts: &'a [Vec<u8>]) -> Result<Vec<Step<'a>>, Failure> {
     all(alloc, texts, 3)
 }

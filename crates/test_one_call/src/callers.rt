@@ -44,7 +44,7 @@ pub(crate) fn call(alloc: Global, name: &str, texts: &[Vec<u8>]) -> Option<Reply
     }
 }
 
-/// The first member of the list that a text is, or `none`.
+/// The answer of `first_member`: the octets of the first member of the list that a text is, or `none`.
 fn member(alloc: Global, text: &[u8]) -> Reply {
     match first_member(alloc, text)? {
         Some(member) => octets(alloc, member),
@@ -102,7 +102,7 @@ fn granted(alloc: Global, text: &[u8], texts: &[Vec<u8>]) -> Reply {
     reply
 }
 
-/// The authorization of an entry of the owner's access list.
+/// The authorization that an entry of an access list is. Its issuer is the owner of the list.
 fn of_list<'a>(entry: Entry<'a>) -> Five<'a>
     ensures { issuer_of result.issuer ≡ own }
 {
@@ -156,7 +156,7 @@ fn of_parts<'a>(
     Ok(case_of(alloc, entries, shown, question)?)
 }
 
-/// The question of three texts: a key, a request and a moment.
+/// The question of three texts in canonical form: a key, a request and a moment. Err is the fault of one of them, or `Memory`.
 fn question<'a>(alloc: Global, texts: &'a [Vec<u8>]) -> Result<Question<'a>, Failure> {
     let (key, moment) = (read(alloc, at(texts, 0))?, read(alloc, at(texts, 2))?);
     let request = read(alloc, at(texts, 1))?;
@@ -167,7 +167,7 @@ fn question<'a>(alloc: Global, texts: &'a [Vec<u8>]) -> Result<Question<'a>, Fai
     })
 }
 
-/// The decision of a case by the accepted list `rows`, and with the keys of `texts` revoked.
+/// The decision of a case by the accepted list that `rows` is, without the signatures of the keys that `texts` are: they are revoked.
 fn with_revoked(alloc: Global, case: &Case, rows: &[u8], texts: &[Vec<u8>]) -> Reply {
     let revoked = keys(alloc, texts)?;
     let table = AcceptedTable::read(alloc, rows)?;
