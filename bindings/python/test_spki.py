@@ -48,20 +48,30 @@ WORDS = (b"ftp", b"host")
 HIGHEST = spki.Limits.highest()
 
 
-def asked(sequence=SHOWN, key=KEY, words=WORDS, moment=NOW, text=None):
+def new_question(sequence=SHOWN, key=KEY, words=WORDS, moment=NOW, text=None):
     """A question, by default one that LIST grants if the signature of PAIR is valid. A `text` of the request replaces
     the words."""
     return spki.Question(sequence, spki.ProvenKey.assume(key), words=words if text is None else None, text=text, moment=moment)
 
 
-def right(signature):
-    """A verifier for which each signature is valid."""
+def accept_all(signature):
+    """A verifier for which each signature is valid: any function of a signature that returns whether it is valid is a verifier."""
     return True
 
 
-def wrong(signature):
+def accept_none(signature):
     """A verifier for which no signature is valid."""
     return False
+
+
+def recording(calls):
+    """A verifier that appends each signature to the list `calls`, and for which each is valid."""
+    return lambda signature: calls.append(signature) is None
+
+
+def fail(signature):
+    """A verifier that fails, by an exception which nothing else raises."""
+    raise ZeroDivisionError
 
 
 class OfFalseLength(bytes):
@@ -75,18 +85,19 @@ class Verifiers(unittest.TestCase):
     def setUp(self):
         self.guard = spki.Guard(LIST)
 
+    # `LIST` grants the question if the one signature is valid: `verify` is called once, with its key, message and value.
     def test_is_given_what_is_signed(self):
         calls = []
-        self.assertEqual(self.guard.decide(asked(), lambda it: calls.append(it) is None), spki.Grant(1))
+        self.assertEqual(self.guard.decide(new_question(), recording(calls)), spki.Grant(1))
         self.assertEqual(calls, [SIGNED])
 
     # Every other answer of a verifier is a `TypeError`, also one that Python takes for true.
     def test_answers_true_or_false(self):
-        self.assertFalse(self.guard.decide(asked(), wrong))
+        self.assertFalse(self.guard.decide(new_question(), accept_none))
         for answer in (None, 1, 0, -255, 0x101, "yes", object(), [True]):
             for ask in (self.guard.decide, self.guard.explain, self.guard.reduce):
                 with self.assertRaises(TypeError):
-                    ask(asked(), lambda it: answer)
+                    ask(new_question(), lambda signature: answer)
 
     def test_that_is_a_coroutine_is_an_error(self):
         async def verify(signature):
@@ -95,7 +106,7 @@ class Verifiers(unittest.TestCase):
         with warnings.catch_warnings():
             warnings.simplefilter("ignore")
             with self.assertRaises(TypeError):
-                self.guard.decide(asked(), verify)
+                self.guard.decide(new_question(), verify)
 
     # Of three certificates the second has a wrong signature. It is item 3, since each signature is an item too.
     def test_is_not_called_behind_the_first_wrong_one(self):
@@ -105,40 +116,41 @@ class Verifiers(unittest.TestCase):
             calls.append(signature.value)
             return signature == SIGNED
 
-        question = asked(b"(sequence " + PAIR + PAIR.replace(b"sig)", b"wrong)") + PAIR + b")")
+        question = new_question(b"(sequence " + PAIR + PAIR.replace(b"sig)", b"wrong)") + PAIR + b")")
         self.assertEqual(list(self.guard.explain(question, verify).reasons()), [spki.Reason(None, 3, "NotAccepted")])
         self.assertEqual(calls, [b"3:sig", b"5:wrong"])
 
+    # An exception of a verifier is passed on to the caller.
     def test_what_it_raises_goes_on(self):
         for ask in (self.guard.decide, self.guard.explain, self.guard.reduce):
             with self.assertRaises(ZeroDivisionError):
-                ask(asked(), lambda it: 1 / 0)
+                ask(new_question(), fail)
 
     # Of 40 times PAIR the second is `NotIssuer`: the subject is b by then. With 39 times OWN in front, one PAIR is granted.
     def test_is_called_for_each_of_many(self):
         calls = []
         guard = spki.Guard(LIST, limits=HIGHEST)
-        question = asked(b"(sequence " + PAIR * 40 + b")")
-        explanation = guard.explain(question, lambda it: calls.append(it) is None)
+        question = new_question(b"(sequence " + PAIR * 40 + b")")
+        explanation = guard.explain(question, recording(calls))
         self.assertEqual(calls, [SIGNED] * 40)
         self.assertEqual(list(explanation.reasons()), [spki.Reason(1, 3, "NotIssuer")])
         calls.clear()
-        self.assertTrue(guard.decide(asked(b"(sequence " + OWN * 39 + PAIR + b")"), lambda it: calls.append(it) is None))
+        self.assertTrue(guard.decide(new_question(b"(sequence " + OWN * 39 + PAIR + b")"), recording(calls)))
         self.assertEqual((len(calls), calls[-1]), (40, SIGNED))
 
     def test_is_not_called_in_vain(self):
         """No signature is verified for a decision where none could help. An explanation says what is wrong with the certificates."""
-        for guard, question in ((self.guard, asked(b"(sequence " + PAIR * 2 + b")")), (spki.Guard(b"(acl)"), asked(FORGED))):
-            self.assertEqual(guard.decide(question, lambda it: 1 / 0), None)
+        for guard, question in ((self.guard, new_question(b"(sequence " + PAIR * 2 + b")")), (spki.Guard(b"(acl)"), new_question(FORGED))):
+            self.assertEqual(guard.decide(question, fail), None)
             with self.assertRaises(ZeroDivisionError):
-                guard.explain(question, lambda it: 1 / 0)
+                guard.explain(question, fail)
 
     # A verifier may call the same guard: no lock is held meanwhile.
     def test_may_ask_the_guard_itself(self):
         def verify(signature):
-            return bool(self.guard.decide(asked(), right))
+            return bool(self.guard.decide(new_question(), accept_all))
 
-        self.assertTrue(self.guard.decide(asked(), verify))
+        self.assertTrue(self.guard.decide(new_question(), verify))
 
 
 class Opened(unittest.TestCase):
@@ -146,16 +158,17 @@ class Opened(unittest.TestCase):
         self.guard = spki.Guard(LIST)
 
     def test_signatures(self):
-        with self.guard.ask(asked()) as opened:
+        with self.guard.ask(new_question()) as opened:
             self.assertEqual(opened.signatures(), [SIGNED])
             self.assertEqual(SIGNED.octets, b"sig")
             self.assertEqual(len(opened), 1)
-        with self.guard.ask(asked(SHOWN.replace(b" sig)", b" (sig-val x))"))) as opened:
+        with self.guard.ask(new_question(SHOWN.replace(b" sig)", b" (sig-val x))"))) as opened:
             self.assertEqual([signature.octets for signature in opened.signatures()], [None])
 
     def test_marks(self):
-        """A mark takes a place that is listed, and no number that would be one if it were cut to fewer bits. No answer takes marks."""
-        with self.guard.ask(asked()) as opened:
+        """`mark` takes only the place of a listed signature, and no number that would be a place after a cut to fewer bits. `decide`, `explain` and
+        `reduce` take no marks as an argument."""
+        with self.guard.ask(new_question()) as opened:
             self.assertTrue(opened.is_possible)
             self.assertEqual(opened.decide(), None)
             for place in (1, -1, -255, 0x101, 2 ** 64, -2 ** 64):
@@ -173,20 +186,21 @@ class Opened(unittest.TestCase):
                     ask([True])
 
     def test_mark_below_zero(self):
-        """A place below 0, which `Asked.mark` refuses, is refused by the call below it too, and not counted from an end."""
-        with spki.Guard(LIST, limits=HIGHEST).ask(asked(b"(sequence " + PAIR * 64 + b")")) as opened:
+        """The place -1, which `Asked.mark` refuses, is refused by the inner call too. It must not become the last of the 64 numbers that
+        `_small_sizes` keeps, since this question has a signature at that place."""
+        with spki.Guard(LIST, limits=HIGHEST).ask(new_question(b"(sequence " + PAIR * 64 + b")")) as opened:
             self.assertEqual(len(opened), 64)
             with self.assertRaises(RuntimeError):
                 spki._mark(opened._open_handle(), -1)
 
     def test_marks_are_of_one_question(self):
         """Two clients at once: what is marked for b grants nothing to c."""
-        good, bad = self.guard.ask(asked()), self.guard.ask(asked(FORGED, b"(public-key (test c))"))
+        good, bad = self.guard.ask(new_question()), self.guard.ask(new_question(FORGED, b"(public-key (test c))"))
         self.assertTrue(good.is_possible and bad.is_possible)
         for opened in (good, bad):
-            opened.verify(lambda it: it.value == b"3:sig")
+            opened.verify(lambda signature: signature.value == b"3:sig")
         self.assertEqual((good.decide(), bad.decide()), (spki.Grant(1), None))
-        again = self.guard.ask(asked())
+        again = self.guard.ask(new_question())
         self.assertEqual(again.decide(), None)
 
     def test_clients_in_threads(self):
@@ -195,8 +209,8 @@ class Opened(unittest.TestCase):
 
         def serve(sequence, key):
             for _ in range(200):
-                with self.guard.ask(asked(sequence, key)) as opened:
-                    opened.verify(lambda it: it.value == b"3:sig")
+                with self.guard.ask(new_question(sequence, key)) as opened:
+                    opened.verify(lambda signature: signature.value == b"3:sig")
                     granted.append((sequence is FORGED, opened.decide() is not None))
 
         clients = [(SHOWN, KEY), (FORGED, b"(public-key (test c))")]
@@ -210,7 +224,7 @@ class Opened(unittest.TestCase):
     def test_marks_are_of_one_place(self):
         """Two equal signatures are two places, and both marks are needed."""
         for place in (0, 1):
-            opened = self.guard.ask(asked(b"(sequence " + OWN + OWN + b")", b"(public-key (test a))"))
+            opened = self.guard.ask(new_question(b"(sequence " + OWN + OWN + b")", b"(public-key (test a))"))
             self.assertEqual(*opened.signatures())
             opened.mark(place)
             self.assertEqual(opened.decide(), None)
@@ -219,10 +233,10 @@ class Opened(unittest.TestCase):
 
     # The verifier accepts the first signature and fails at the second. The first is not marked, so a mark of the second grants nothing.
     def test_a_verifier_that_fails_marks_nothing(self):
-        with self.guard.ask(asked(b"(sequence " + OWN + OWN + b")", b"(public-key (test a))")) as opened:
+        with self.guard.ask(new_question(b"(sequence " + OWN + OWN + b")", b"(public-key (test a))")) as opened:
             answers = iter((True,))
             with self.assertRaises(StopIteration):
-                opened.verify(lambda it: next(answers))
+                opened.verify(lambda signature: next(answers))
             opened.mark(1)
             self.assertEqual(opened.decide(), None)
 
@@ -232,7 +246,7 @@ class Opened(unittest.TestCase):
             return signature == SIGNED
 
         async def decide():
-            with self.guard.ask(asked()) as opened:
+            with self.guard.ask(new_question()) as opened:
                 for place, is_valid in enumerate(await asyncio.gather(*map(verify, opened))):
                     if is_valid:
                         opened.mark(place)
@@ -240,8 +254,9 @@ class Opened(unittest.TestCase):
 
         self.assertTrue(asyncio.run(decide()))
 
+    # An opened question can be used after its guard is closed, and no more after it is closed itself.
     def test_outlives_its_guard(self):
-        opened = self.guard.ask(asked())
+        opened = self.guard.ask(new_question())
         self.guard.close()
         del self.guard
         opened.mark(0)
@@ -251,23 +266,24 @@ class Opened(unittest.TestCase):
             with self.assertRaises(ValueError):
                 call()
 
+    # An opened question, a no, an explanation and a reduction are false, so `if answer:` grants by a decision alone.
     def test_only_a_granted_decision_is_true(self):
-        opened = self.guard.ask(asked())
+        opened = self.guard.ask(new_question())
         no = opened.decide()
         opened.mark(0)
-        for answer in (opened, no, opened.explain(), opened.reduce(), self.guard.explain(asked(), right),
-                       self.guard.reduce(asked(), right), self.guard.explain(asked(), wrong)):
+        for answer in (opened, no, opened.explain(), opened.reduce(), self.guard.explain(new_question(), accept_all),
+                       self.guard.reduce(new_question(), accept_all), self.guard.explain(new_question(), accept_none)):
             self.assertFalse(answer, answer)
         self.assertTrue(opened.decide())
         self.assertEqual(str(opened.reduce()), "entry 1 (five (subject (public-key (test b))) (tag (*)))")
 
     def test_a_decision_that_is_required(self):
-        opened = self.guard.ask(asked())
-        for call in (lambda: self.guard.require(asked(), wrong), opened.require):
+        opened = self.guard.ask(new_question())
+        for call in (lambda: self.guard.require(new_question(), accept_none), opened.require):
             with self.assertRaises(spki.Denied):
                 call()
         opened.mark(0)
-        self.assertEqual((self.guard.require(asked(), right), opened.require()), (1, 1))
+        self.assertEqual((self.guard.require(new_question(), accept_all), opened.require()), (1, 1))
 
     def test_exceptions_are_copied(self):
         """A process may send them to another one."""
@@ -279,19 +295,19 @@ class Opened(unittest.TestCase):
         """A grant holds till the least window ends, and no second longer."""
         last, second = datetime(2026, 6, 30, 23, 59, 59, tzinfo=timezone.utc), timedelta(seconds=1)
         ending = spki.Guard(LIST.replace(b"(tag (*))", b'(tag (*)) (not-after "2026-06-30_23:59:59")'))
-        grant = ending.decide(asked(), right)
+        grant = ending.decide(new_question(), accept_all)
         self.assertEqual(grant, spki.Grant(1, last))
         for moment, holds in ((last - second, True), (last, True), (last + 0.999 * second, True), (last + second, False)):
-            self.assertEqual((grant.holds_at(moment), bool(ending.decide(asked(moment=moment), right))), (holds, holds), moment)
+            self.assertEqual((grant.holds_at(moment), bool(ending.decide(new_question(moment=moment), accept_all))), (holds, holds), moment)
         for moment in (last.replace(tzinfo=None), 0):
             with self.assertRaises(TypeError):
                 grant.holds_at(moment)
-        endless = self.guard.decide(asked(), right)
+        endless = self.guard.decide(new_question(), accept_all)
         self.assertEqual((endless.until, endless.holds_at(last + second), endless.holds_at(BEFORE)), (None, True, False))
 
     # The library is replaced by calls that return ends at the limits of `datetime`, beyond them, which become its first or last moment, and no end.
     def test_ends_that_python_does_not_have(self):
-        opened, most = self.guard.ask(asked()), datetime.max.replace(microsecond=0, tzinfo=timezone.utc)
+        opened, most = self.guard.ask(new_question()), datetime.max.replace(microsecond=0, tzinfo=timezone.utc)
         last, first = (limit.replace(tzinfo=timezone.utc) for limit in (datetime.max, datetime.min))
         for until, wanted in ((253_402_300_799, most), (253_402_300_800, last), (-1, EPOCH - timedelta(seconds=1)), (-2 ** 62, first),
                               (2 ** 63 - 1, None)):
@@ -300,26 +316,26 @@ class Opened(unittest.TestCase):
                 self.assertEqual(opened.decide(), spki.Grant(7, wanted))
 
     def test_equal_keys_are_one_object(self):
-        opened, kept = spki.Guard(LIST, limits=HIGHEST).ask(asked(b"(sequence " + PAIR * 40 + b")")), []
+        opened, kept = spki.Guard(LIST, limits=HIGHEST).ask(new_question(b"(sequence " + PAIR * 40 + b")")), []
         for listed in (opened.signatures(), list(opened)):
             self.assertEqual(({id(signature.key) for signature in listed}, len(listed)), ({id(listed[0].key)}, 40))
-        opened.verify(lambda it: kept.append(it.key) is None)
+        opened.verify(lambda signature: kept.append(signature.key) is None)
         self.assertEqual(({id(key) for key in kept}, len(kept)), ({id(kept[0])}, 40))
 
     # The signatures behind the first, or behind the first wrong one, are never copied from the library.
     def test_signatures_are_listed_one_by_one(self):
-        opened, places = spki.Guard(LIST, limits=HIGHEST).ask(asked(b"(sequence " + PAIR * 40 + b")")), []
+        opened, places = spki.Guard(LIST, limits=HIGHEST).ask(new_question(b"(sequence " + PAIR * 40 + b")")), []
         signature = _library.signature
         with mock.patch.object(_library, "signature", lambda handle, place, at: places.append(place.value) or signature(handle, place, at)):
             self.assertEqual((next(iter(opened)), places), (SIGNED, [0]))
-            opened.verify(lambda it: len(places) < 4)
+            opened.verify(lambda signature: len(places) < 4)
         self.assertEqual(places, [0, 0, 1, 2])
 
     def test_each_text_is_copied_once(self):
         """The key, the message and the value. The octets of the value are a part of it."""
-        with mock.patch.object(_library, "memory", mock.MagicMock()) as memory, self.guard.ask(asked()) as opened:
+        with mock.patch.object(_library, "memory", mock.MagicMock()) as memory, self.guard.ask(new_question()) as opened:
             memory.__getitem__.side_effect = lambda places: ctypes.string_at(places.start, places.stop - places.start)
-            for read in (opened.signatures, lambda: opened.verify(right)):
+            for read in (opened.signatures, lambda: opened.verify(accept_all)):
                 memory.__getitem__.reset_mock()
                 read()
                 self.assertEqual(memory.__getitem__.call_count, 3)
@@ -330,38 +346,40 @@ class Copies(unittest.TestCase):
 
     def setUp(self):
         self.guard = spki.Guard(LIST)
-        self.opened = self.guard.ask(asked())
+        self.opened = self.guard.ask(new_question())
 
     def test_what_is_open_is_not_copied(self):
         @dataclasses.dataclass
         class Service:
             guard: object
 
-        calls = [copy.copy, copy.deepcopy, *(lambda it, number=number: pickle.dumps(it, number) for number in range(6)),
-                 lambda it: dataclasses.asdict(Service(it)), lambda it: dataclasses.astuple(Service(it)), lambda it: copy.deepcopy([it])]
-        for it in (self.guard, self.opened, self.guard._handle, self.opened._handle):
+        calls = [copy.copy, copy.deepcopy, *(lambda original, protocol=protocol: pickle.dumps(original, protocol) for protocol in range(6)),
+                 lambda original: dataclasses.asdict(Service(original)), lambda original: dataclasses.astuple(Service(original)),
+                 lambda original: copy.deepcopy([original])]
+        for original in (self.guard, self.opened, self.guard._handle, self.opened._handle):
             for place, call in enumerate(calls):
-                with self.subTest(f"{type(it).__name__}, call {place}"), self.assertRaisesRegex(TypeError, "read the list and ask again"):
-                    call(it)
+                with self.subTest(f"{type(original).__name__}, call {place}"), self.assertRaisesRegex(TypeError, "read the list and ask again"):
+                    call(original)
         # (no copy has freed the guard, whose place in memory a new one could then take)
         other = spki.Guard(b"(acl)")
-        self.assertEqual((self.guard.decide(asked(), right), other.decide(asked(), right)), (spki.Grant(1), None))
+        self.assertEqual((self.guard.decide(new_question(), accept_all), other.decide(new_question(), accept_all)), (spki.Grant(1), None))
 
     def test_what_is_open_is_not_sent_to_a_process(self):
-        for it in (self.guard, self.opened):
-            process = multiprocessing.get_context("spawn").Process(target=print, args=(it,))
+        for original in (self.guard, self.opened):
+            process = multiprocessing.get_context("spawn").Process(target=print, args=(original,))
             with self.assertRaisesRegex(TypeError, "read the list and ask again"):
                 process.start()
 
     def test_a_question_is_copied(self):
-        for question in (asked(), asked(text=b"(ftp host)", moment=b'"2024-01-01_00:00:00"'), asked(words=[]), asked(moment=BEFORE)):
+        for question in (new_question(), new_question(text=b"(ftp host)", moment=b'"2024-01-01_00:00:00"'), new_question(words=[]),
+                         new_question(moment=BEFORE)):
             again = eval(repr(question), {**vars(spki), "datetime": datetime_module})
             for copied in (copy.copy(question), copy.deepcopy(question), pickle.loads(pickle.dumps(question)), again):
                 self.assertEqual((copied, hash(copied), repr(copied)), (question, hash(question), repr(question)))
-            self.assertNotEqual(question, asked(key=b"(public-key (test c))"))
-        self.assertTrue(self.guard.decide(copy.deepcopy(asked()), right))
-        self.assertEqual(len({asked(), asked(words=list(WORDS)), asked(moment=NOW + timedelta(seconds=1))}), 2)
-        self.assertNotEqual(asked(), None)
+            self.assertNotEqual(question, new_question(key=b"(public-key (test c))"))
+        self.assertTrue(self.guard.decide(copy.deepcopy(new_question()), accept_all))
+        self.assertEqual(len({new_question(), new_question(words=list(WORDS)), new_question(moment=NOW + timedelta(seconds=1))}), 2)
+        self.assertNotEqual(new_question(), None)
 
     # The `repr` of a guard and of an opened question, open and closed.
     def test_names(self):
@@ -376,9 +394,11 @@ class Copies(unittest.TestCase):
         """A child that was forked answers by its parent's guard and question, frees nothing of them, and opens and frees its own."""
         child = os.fork()
         if child == 0:
+            # (the child ends with 0 if all is right, 1 if not, 2 after an exception. `closed` has the handles that are freed: `__del__` calls its
+            # default argument, which is replaced)
             try:
                 closed = []
-                is_right = self.guard.decide(asked(), right) and not self.opened.decide()
+                is_right = self.guard.decide(new_question(), accept_all) and not self.opened.decide()
                 self.opened.mark(0)
                 is_right = is_right and self.opened.decide()
                 with mock.patch.object(spki._GuardHandle.__del__, "__defaults__", (closed.append,)), \
@@ -386,13 +406,13 @@ class Copies(unittest.TestCase):
                     self.guard.close()
                     self.opened.close()
                     own = spki.Guard(LIST)
-                    is_right = is_right and not closed and own.decide(asked(), right)
+                    is_right = is_right and not closed and own.decide(new_question(), accept_all)
                     own.close()
                 os._exit(0 if is_right and len(closed) == 1 else 1)
             finally:
                 os._exit(2)
         self.assertEqual(os.waitpid(child, 0)[1], 0)
-        self.assertEqual((self.guard.decide(asked(), right), self.opened.decide()), (spki.Grant(1), None))
+        self.assertEqual((self.guard.decide(new_question(), accept_all), self.opened.decide()), (spki.Grant(1), None))
 
 
 class Keys(unittest.TestCase):
@@ -402,19 +422,19 @@ class Keys(unittest.TestCase):
 
     def test_a_login_proves_its_key(self):
         seen = []
-        proven = spki.ProvenKey.by(self.LOGIN, lambda it: seen.append(it) is None)
+        proven = spki.ProvenKey.by(self.LOGIN, recording(seen))
         self.assertEqual((seen, proven.text, proven), ([self.LOGIN], self.LOGIN.key, spki.ProvenKey.assume(self.LOGIN.key)))
         with self.assertRaises(spki.NotProved):
-            spki.ProvenKey.by(self.LOGIN, wrong)
+            spki.ProvenKey.by(self.LOGIN, accept_none)
         for answer in (None, 1, "yes"):
             with self.assertRaises(TypeError):
-                spki.ProvenKey.by(self.LOGIN, lambda it: answer)
+                spki.ProvenKey.by(self.LOGIN, lambda signature: answer)
 
     def test_a_certificate_proves_no_key(self):
         """Whoever shows a certificate does not hold the key that has signed it."""
-        signature, = spki.Guard(LIST).ask(asked()).signatures()
+        signature, = spki.Guard(LIST).ask(new_question()).signatures()
         with self.assertRaises(spki.NotProved):
-            spki.ProvenKey.by(signature, right)
+            spki.ProvenKey.by(signature, accept_all)
 
     # A `ProvenKey` is made by `by` or `assume` alone, does not change, and may be copied.
     def test_there_is_no_other_way(self):
@@ -425,7 +445,7 @@ class Keys(unittest.TestCase):
         with self.assertRaises(AttributeError):
             key._text = b"(public-key (test a))"
         for copied in (copy.copy(key), copy.deepcopy(key), pickle.loads(pickle.dumps(key)), eval(repr(key), vars(spki))):
-            self.assertEqual((copied, hash(copied), asked().key), (key, hash(key), key))
+            self.assertEqual((copied, hash(copied), new_question().key), (key, hash(key), key))
         self.assertNotEqual(key, KEY)
 
     # The three parts of a `Signature` are given by name, so that none is taken for another.
@@ -450,53 +470,54 @@ class Parts(unittest.TestCase):
         for words, is_granted in [((b"cache", b"/cache/team1/a.o", b"read"), True), ((b"cache", b"/cache/team1/a.o read", b"write"), False),
                                   ((b"cache", b"/cache/team1/a.o 4:read", b"write"), False), ((b"cache", b"/cache/team1/\0)", b"read"), True),
                                   ((b"cache", b"", b"read"), False), ((b"cache",), False)]:
-            self.assertEqual(bool(guard.decide(asked(b"(sequence)", words=words), right)), is_granted, words)
-            self.assertEqual(bool(guard.decide(asked(b"(sequence)", words=list(words)), right)), is_granted, words)
+            self.assertEqual(bool(guard.decide(new_question(b"(sequence)", words=words), accept_all)), is_granted, words)
+            self.assertEqual(bool(guard.decide(new_question(b"(sequence)", words=list(words)), accept_all)), is_granted, words)
 
     def test_one_string_is_a_string(self):
         guard = spki.Guard(b"(acl (entry (public-key (test b)) (tag ftp)))")
-        self.assertTrue(guard.decide(asked(b"(sequence)", words=(b"ftp",)), right))
-        self.assertTrue(guard.decide(asked(b"(sequence)", text=b"ftp"), right))
-        self.assertFalse(guard.decide(asked(b"(sequence)", text=b"(ftp)"), right))
+        self.assertTrue(guard.decide(new_question(b"(sequence)", words=(b"ftp",)), accept_all))
+        self.assertTrue(guard.decide(new_question(b"(sequence)", text=b"ftp"), accept_all))
+        self.assertFalse(guard.decide(new_question(b"(sequence)", text=b"(ftp)"), accept_all))
 
     # The tag is a list of 40 strings. It contains each request that begins with them.
     def test_many_strings(self):
         guard = spki.Guard(b"(acl (entry (public-key (test b)) (tag (" + 40 * b"w " + b"))))", limits=HIGHEST)
         for count in (39, 40, 41, 1000, 3):
             for moment in (NOW, b'"2024-01-01_00:00:00"'):
-                self.assertEqual(bool(guard.decide(asked(b"(sequence)", words=count * [b"w"], moment=moment), right)), count >= 40, count)
+                self.assertEqual(bool(guard.decide(new_question(b"(sequence)", words=count * [b"w"], moment=moment), accept_all)), count >= 40, count)
 
     def test_moments(self):
         guard = spki.Guard(b'(acl (entry (public-key (test b)) (tag (*)) (not-before "1970-01-01_00:00:00")))')
         for moment, is_granted in [(EPOCH, True), (datetime.max.replace(tzinfo=timezone.utc), True), (b'"1970-01-01_00:00:00"', True),
                                    (b'"1969-12-31_23:59:59"', False),
                                    (datetime(1970, 1, 1, 0, 59, tzinfo=timezone(timedelta(hours=-1))), True)]:
-            self.assertEqual(bool(guard.decide(asked(b"(sequence)", moment=moment), right)), is_granted, moment)
+            self.assertEqual(bool(guard.decide(new_question(b"(sequence)", moment=moment), accept_all)), is_granted, moment)
         with self.assertRaises(TypeError):
-            asked(moment=datetime(2024, 1, 1))
+            new_question(moment=datetime(2024, 1, 1))
 
     def test_a_clock_that_failed(self):
         """A right that has ended is not granted by a time before 1970, as that of a clock that failed."""
         guard = spki.Guard(b'(acl (entry (public-key (test b)) (tag (*)) (not-after "1999-12-31_23:59:59")))')
-        self.assertTrue(guard.decide(asked(b"(sequence)", moment=EPOCH), right))
+        self.assertTrue(guard.decide(new_question(b"(sequence)", moment=EPOCH), accept_all))
         for moment in (BEFORE, datetime.min.replace(tzinfo=timezone.utc), EPOCH.astimezone(timezone(timedelta(hours=9))) - timedelta(seconds=1)):
             for ask in (guard.decide, guard.explain, guard.reduce):
                 with self.assertRaises(spki.Refused, msg=moment) as raised:
-                    ask(asked(b"(sequence)", moment=moment), right)
+                    ask(new_question(b"(sequence)", moment=moment), accept_all)
                 self.assertEqual(raised.exception.line, "refused at BadDate")
 
     def test_refusals(self):
         guard = spki.Guard(LIST)
         for question, line, fault in [
-            (asked(b"(sequence) x"), "refused sequence Trailing 11", "Trailing"), (asked(b""), "refused sequence Short", "Short"),
-            (asked(b"(sequence (do))"), "refused sequence 1 UnknownOp", "UnknownOp"), (asked(key=KEY * 2), "refused key Trailing 21", "Trailing"),
-            (asked(key=b"(public-key (test a) (uri))"), "refused key KeyUris", "KeyUris"),
-            (asked(words=()), "refused request EmptyList", "EmptyList"), (asked(text=b"()"), "refused request EmptyList", "EmptyList"),
-            (asked(moment=BEFORE), "refused at BadDate", "BadDate"), (asked(moment=b"now"), "refused at BadDate", "BadDate"),
+            (new_question(b"(sequence) x"), "refused sequence Trailing 11", "Trailing"), (new_question(b""), "refused sequence Short", "Short"),
+            (new_question(b"(sequence (do))"), "refused sequence 1 UnknownOp", "UnknownOp"),
+            (new_question(key=KEY * 2), "refused key Trailing 21", "Trailing"),
+            (new_question(key=b"(public-key (test a) (uri))"), "refused key KeyUris", "KeyUris"),
+            (new_question(words=()), "refused request EmptyList", "EmptyList"), (new_question(text=b"()"), "refused request EmptyList", "EmptyList"),
+            (new_question(moment=BEFORE), "refused at BadDate", "BadDate"), (new_question(moment=b"now"), "refused at BadDate", "BadDate"),
         ]:
             for ask in (guard.decide, guard.explain, guard.reduce):
                 with self.assertRaises(spki.Refused, msg=line) as raised:
-                    ask(question, right)
+                    ask(question, accept_all)
                 self.assertEqual((raised.exception.line, str(raised.exception), raised.exception.fault), (line, line, fault))
                 self.assertEqual(raised.exception.part, line.split()[1])
 
@@ -504,7 +525,7 @@ class Parts(unittest.TestCase):
         for given in ({"sequence": "(sequence)"}, {"key": bytearray(KEY)}, {"words": "ftp"}, {"words": b"ftp"}, {"words": ("ftp",)}, {"words": 7},
                       {"words": (bytearray(b"ftp"),)}, {"moment": 1.5}, {"moment": True}, {"moment": 1_704_067_200}, {"text": "ftp"}):
             with self.assertRaises(TypeError):
-                asked(**given)
+                new_question(**given)
         for key in (KEY, None, SIGNED, spki.ProvenKey):
             with self.assertRaises(TypeError):
                 spki.Question(SHOWN, key, words=WORDS, moment=NOW)
@@ -513,16 +534,16 @@ class Parts(unittest.TestCase):
                 with self.assertRaises(TypeError):
                     call(other)
         with self.assertRaises(TypeError):
-            spki.Guard(LIST).decide((SHOWN, KEY, WORDS, NOW), right)
+            spki.Guard(LIST).decide((SHOWN, KEY, WORDS, NOW), accept_all)
 
     # The octets of the questions have no other owner, and `garbage` would overwrite what was freed.
     def test_a_question_keeps_its_octets(self):
         guard = spki.Guard(b"(acl (entry (public-key (test b)) (tag (w w10 w11 w12 w13))))")
         questions = [spki.Question(b"(%s)" % b"sequence", spki.ProvenKey.assume(b"(public-key (%s b))" % b"test"),
-                                   words=[b"w", *(b"w%d" % it for it in range(10, 14))],
+                                   words=[b"w", *(b"w%d" % number for number in range(10, 14))],
                                    moment=NOW + timedelta(seconds=number)) for number in range(200)]
         garbage = [bytes(size % 64) for size in range(20_000)]
-        self.assertTrue(all(guard.decide(question, right) for question in questions))
+        self.assertTrue(all(guard.decide(question, accept_all) for question in questions))
         self.assertEqual(len(garbage), 20_000)
 
     def test_a_request_is_given_once(self):
@@ -533,14 +554,14 @@ class Parts(unittest.TestCase):
     def test_lengths_are_those_of_the_octets(self):
         """A subclass of bytes may say another length than it has. Nothing beyond its octets is read."""
         guard = spki.Guard(OfFalseLength(LIST))
-        self.assertTrue(guard.decide(asked(OfFalseLength(SHOWN), OfFalseLength(KEY), [OfFalseLength(it) for it in WORDS]), right))
-        self.assertTrue(guard.decide(asked(text=OfFalseLength(b"(ftp)"), moment=OfFalseLength(b'"2024-01-01_00:00:00"')), right))
+        self.assertTrue(guard.decide(new_question(OfFalseLength(SHOWN), OfFalseLength(KEY), [OfFalseLength(word) for word in WORDS]), accept_all))
+        self.assertTrue(guard.decide(new_question(text=OfFalseLength(b"(ftp)"), moment=OfFalseLength(b'"2024-01-01_00:00:00"')), accept_all))
         self.assertEqual(spki.canonical(OfFalseLength(b"(a)")), b"(1:a)")
         self.assertEqual(spki.string_at(OfFalseLength(b"3:abc")), b"abc")
 
     def test_long_forms(self):
-        """Nothing becomes longer than an octet that is printed in base64: 7 octets for 3. A text that is too long takes
-        no room by its length."""
+        """The longest form is that of an octet which is printed in base64: 1,000 times `|AA==|` with 999 spaces, two parentheses and a line feed.
+        For a text that is too long no memory of its length is allocated."""
         self.assertEqual(len(spki.advanced(b"(" + b"1:\0" * 1000 + b")")), 7002)
         with mock.patch.object(spki, "_AnswerMemory", side_effect=spki._AnswerMemory) as memory, self.assertRaises(spki.Refused) as raised:
             spki.canonical(b" " * (1 << 24))
@@ -559,20 +580,21 @@ class Guards(unittest.TestCase):
     def test_long_answers(self):
         guard = spki.Guard(b"(acl " + LIST[5:-1] * 500 + b")")
         self.assertEqual(guard.entries, 500)
-        explanation = guard.explain(asked(), right)
+        explanation = guard.explain(new_question(), accept_all)
         self.assertEqual(list(explanation.reasons()), [spki.Reason(number, None, "grants") for number in range(1, 501)])
-        self.assertEqual(guard.reduce(asked(), right).text.splitlines()[499], "entry 500 (five (subject (public-key (test b))) (tag (*)))")
+        last_line = guard.reduce(new_question(), accept_all).text.splitlines()[499]
+        self.assertEqual(last_line, "entry 500 (five (subject (public-key (test b))) (tag (*)))")
 
     def test_explanations(self):
-        self.assertEqual(list(spki.Guard(b"(acl)").explain(asked(), right).reasons()), [])
-        self.assertEqual(str(spki.Guard(b"(acl)").explain(asked(), right)), "no entries")
+        self.assertEqual(list(spki.Guard(b"(acl)").explain(new_question(), accept_all).reasons()), [])
+        self.assertEqual(str(spki.Guard(b"(acl)").explain(new_question(), accept_all)), "no entries")
 
     def test_policies(self):
         digest = hashlib.sha1(spki.canonical(KEY)).hexdigest().encode()
         by_sha1 = b"(acl (entry (hash sha1 #%s#) (tag (*))))" % digest
         for policy, is_granted in [(spki.Policy.ALLOW_SHA1, True), (spki.Policy.STRICT, False)]:
-            self.assertEqual(bool(spki.Guard(by_sha1, policy).decide(asked(b"(sequence)"), right)), is_granted)
-        self.assertFalse(spki.Guard(by_sha1).decide(asked(b"(sequence)"), right))
+            self.assertEqual(bool(spki.Guard(by_sha1, policy).decide(new_question(b"(sequence)"), accept_all)), is_granted)
+        self.assertFalse(spki.Guard(by_sha1).decide(new_question(b"(sequence)"), accept_all))
         for other in (0, 1, 2 ** 32, 2 ** 32 + 1, "strict", None, True):
             with self.assertRaises(TypeError):
                 spki.Guard(by_sha1, other)
@@ -587,29 +609,30 @@ class Guards(unittest.TestCase):
             with self.assertRaises(TypeError):
                 spki.Limits(**wrong)
         for question, limits, line in [
-                (asked(), spki.Limits(octets=64), "refused question TooLong"),
-                (asked(b"(sequence " + PAIR * 17 + b")"), spki.Limits(), "refused question TooManyCertificates"),
-                (asked(words=65 * [b"w"]), spki.Limits(), "refused question TooManyWords")]:
+                (new_question(), spki.Limits(octets=64), "refused question TooLong"),
+                (new_question(b"(sequence " + PAIR * 17 + b")"), spki.Limits(), "refused question TooManyCertificates"),
+                (new_question(words=65 * [b"w"]), spki.Limits(), "refused question TooManyWords")]:
             with self.assertRaises(spki.Refused) as raised:
-                spki.Guard(LIST, limits=limits).decide(question, right)
+                spki.Guard(LIST, limits=limits).decide(question, accept_all)
             self.assertEqual(raised.exception.line, line)
-        self.assertTrue(spki.Guard(LIST, limits=spki.Limits(octets=0, certificates=0, work=7)).decide(asked(), right))
+        self.assertTrue(spki.Guard(LIST, limits=spki.Limits(octets=0, certificates=0, work=7)).decide(new_question(), accept_all))
         for limits in (spki.Limits(nodes=1), spki.Limits(work=1), spki.Limits(answer=5)):
             # (by a tag of three nodes)
             guard = spki.Guard(LIST.replace(b"(*)", b"(ftp host)"), limits=limits)
-            self.assertTrue(guard.decide(asked(), right))
+            self.assertTrue(guard.decide(new_question(), accept_all))
             with self.assertRaises(spki.Refused) as raised:
-                guard.explain(asked(), right)
+                guard.explain(new_question(), accept_all)
             self.assertEqual((raised.exception.line, raised.exception.part), ("refused TooLarge", None))
 
     def test_closing(self):
         with spki.Guard(LIST) as guard:
-            self.assertTrue(guard.decide(asked(), right))
-            opened = guard.ask(asked())
+            self.assertTrue(guard.decide(new_question(), accept_all))
+            opened = guard.ask(new_question())
         opened.close()
-        for call in (lambda: guard.decide(asked(), right), lambda: guard.explain(asked(), right), lambda: guard.reduce(asked(), right),
-                     lambda: guard.ask(asked()), lambda: guard.entries, opened.signatures, lambda: opened.verify(right), lambda: opened.mark(0),
-                     opened.decide, opened.explain, opened.reduce, lambda: opened.is_possible):
+        for call in (lambda: guard.decide(new_question(), accept_all), lambda: guard.explain(new_question(), accept_all),
+                     lambda: guard.reduce(new_question(), accept_all), lambda: guard.ask(new_question()), lambda: guard.entries,
+                     opened.signatures, lambda: opened.verify(accept_all), lambda: opened.mark(0), opened.decide, opened.explain, opened.reduce,
+                     lambda: opened.is_possible):
             with self.assertRaises(ValueError):
                 call()
         guard.close()
@@ -618,28 +641,30 @@ class Guards(unittest.TestCase):
     # A verifier closes the guard that calls it. The decision is made all the same.
     def test_closing_while_it_is_asked(self):
         guard = spki.Guard(LIST)
-        self.assertTrue(guard.decide(asked(), lambda it: guard.close() is None))
+        self.assertTrue(guard.decide(new_question(), lambda signature: guard.close() is None))
 
     def test_closing_in_another_thread(self):
         """Beside every call a guard and a question may be closed. A call answers as before, or raises ValueError."""
-        calls = {"entries": lambda guard, opened: guard.entries == 1, "decide": lambda guard, opened: bool(guard.decide(asked(), right)),
+        calls = {"entries": lambda guard, opened: guard.entries == 1, "decide": lambda guard, opened: bool(guard.decide(new_question(), accept_all)),
                  "count": lambda guard, opened: len(opened) == 1, "signatures": lambda guard, opened: opened.signatures()[0] == SIGNED,
-                 "verify": lambda guard, opened: opened.verify(right) is None, "ask": lambda guard, opened: len(guard.ask(asked())) == 1,
+                 "verify": lambda guard, opened: opened.verify(accept_all) is None, "ask": lambda guard, opened: len(guard.ask(new_question())) == 1,
                  "mark": lambda guard, opened: opened.mark(0) is None, "is_possible": lambda guard, opened: opened.is_possible,
                  "decide by marks": lambda guard, opened: opened.mark(0) is None and opened.decide() == spki.Grant(1),
-                 "explain": lambda guard, opened: str(guard.explain(asked(), right)) == "entry 1 grants",
+                 "explain": lambda guard, opened: str(guard.explain(new_question(), accept_all)) == "entry 1 grants",
                  "explain by marks": lambda guard, opened: opened.mark(0) is None and str(opened.explain()) == "entry 1 grants",
-                 "reduce": lambda guard, opened: str(guard.reduce(asked(), right)).startswith("entry 1 "),
+                 "reduce": lambda guard, opened: str(guard.reduce(new_question(), accept_all)).startswith("entry 1 "),
                  "reduce by marks": lambda guard, opened: opened.mark(0) is None and str(opened.reduce()).startswith("entry 1 ")}
         for name, call in calls.items():
             for _ in range(200):
                 guard = spki.Guard(LIST)
-                opened, begins, wrong = guard.ask(asked()), threading.Barrier(2), []
+                opened, begins, wrong = guard.ask(new_question()), threading.Barrier(2), []
 
+                # (the defaults are the values of this round of the loop)
                 def use(guard=guard, opened=opened, begins=begins, wrong=wrong, call=call):
                     begins.wait()
                     try:
-                        wrong.extend(() if all(call(guard, opened) for _ in range(20)) else ("another answer",))
+                        if not all(call(guard, opened) for _ in range(20)):
+                            wrong.append("another answer")
                     except ValueError:
                         pass
 
@@ -653,10 +678,10 @@ class Guards(unittest.TestCase):
 
     def test_threads(self):
         guard, granted = spki.Guard(LIST), []
-        opened = guard.ask(asked())
+        opened = guard.ask(new_question())
 
         def ask():
-            granted.append(all(guard.decide(asked(), right) and opened.mark(0) is None and opened.decide() for _ in range(200)))
+            granted.append(all(guard.decide(new_question(), accept_all) and opened.mark(0) is None and opened.decide() for _ in range(200)))
 
         threads = [threading.Thread(target=ask) for _ in range(8)]
         for thread in threads:
@@ -665,23 +690,24 @@ class Guards(unittest.TestCase):
             thread.join()
         self.assertEqual(granted, [True] * 8)
 
-    # A decision closes its question by `of.close`, also if the verifier raises, and handles close themselves. `closed` has each in order.
+    # `decide` closes its question by `_library.close`, also if the verifier raises: the first two of `closed`. The handles of the guard and of the
+    # opened question are closed by `__del__`, whose default argument is replaced here, and once, though `close` is called twice.
     def test_each_handle_is_closed_once(self):
         closed = []
         closing = mock.patch.object(spki._GuardHandle.__del__, "__defaults__", (closed.append,)), \
             mock.patch.object(spki._AskedHandle.__del__, "__defaults__", (closed.append,))
         with closing[0], closing[1], mock.patch.object(_library, "close", closed.append):
             guard = spki.Guard(LIST)
-            opened = guard.ask(asked())
-            self.assertTrue(guard.decide(asked(), right))
+            opened = guard.ask(new_question())
+            self.assertTrue(guard.decide(new_question(), accept_all))
             with self.assertRaises(ZeroDivisionError):
-                guard.decide(asked(), lambda it: 1 / 0)
+                guard.decide(new_question(), fail)
             guard.close()
             opened.close()
             opened.close()
             guard.close()
             del guard, opened
-        self.assertEqual([type(it).__name__ for it in closed], ["c_void_p", "c_void_p", "_GuardHandle", "_AskedHandle"])
+        self.assertEqual([type(handle).__name__ for handle in closed], ["c_void_p", "c_void_p", "_GuardHandle", "_AskedHandle"])
 
 
 class Texts(unittest.TestCase):
@@ -704,7 +730,7 @@ class Texts(unittest.TestCase):
         self.assertIsNone(spki.string_at(b"(a)", 0))
 
     def test_signature_without_memory(self):
-        opened = spki.Guard(LIST).ask(asked())
+        opened = spki.Guard(LIST).ask(new_question())
         with mock.patch.object(_library, "signature", return_value=_library.NO_MEMORY), self.assertRaises(spki.Refused) as raised:
             opened.signatures()
         self.assertEqual(raised.exception.fault, "Memory")
@@ -716,7 +742,7 @@ class Texts(unittest.TestCase):
 
     # The library is replaced by calls that return a status which they do not have.
     def test_an_unknown_status_is_no_answer(self):
-        opened = spki.Guard(LIST).ask(asked())
+        opened = spki.Guard(LIST).ask(new_question())
         for status in (0, 3, 5, 7, 10):
             with mock.patch.object(_library, "decide", return_value=_library.Decision(status)), self.assertRaises(RuntimeError):
                 opened.decide()
@@ -742,8 +768,8 @@ class Libraries(unittest.TestCase):
         """A library is loaded if the first two numbers of its version are those of this module. Otherwise the error says its version."""
         source = 'const char *spki_version(void) { return "%s"; }'
         for version, is_used in (("0.2.0", True), ("0.2.7", True), ("0.1.0", False), ("1.2.0", False), ("0.20.0", False)):
-            with tempfile.TemporaryDirectory() as room:
-                path = os.path.join(room, "libspki_c.so")
+            with tempfile.TemporaryDirectory() as folder:
+                path = os.path.join(folder, "libspki_c.so")
                 words = ["cc", "-shared", "-fPIC", "-x", "c", "-", "-o", path]
                 try:
                     subprocess.run(words, input=source % version, text=True, check=True)
@@ -769,21 +795,21 @@ class Libraries(unittest.TestCase):
 @unittest.skipUnless(importlib.util.find_spec("setuptools"), "there is no setuptools; Debian: python3-setuptools")
 class Builds(unittest.TestCase):
     def test_the_library_that_is_named_is_put_in(self):
-        """SPKI_LIBRARY names it also for a build in the folder of an earlier one: an older file, none, and one that is
-        not there."""
-        with tempfile.TemporaryDirectory() as room:
+        """A build has the file that SPKI_LIBRARY names, also if an earlier build in the same folder had another one: after `new` an older file,
+        none, and one that is not there, which fails."""
+        with tempfile.TemporaryDirectory() as folder:
             skipped = shutil.ignore_patterns("build", "*.egg-info", "__pycache__")
-            folder = shutil.copytree(os.path.dirname(os.path.realpath(__file__)), os.path.join(room, "python"), ignore=skipped)
+            package = shutil.copytree(os.path.dirname(os.path.realpath(__file__)), os.path.join(folder, "python"), ignore=skipped)
             for name, seconds in (("new", 2_000_000_000), ("old", 1_000_000_000)):
-                with open(os.path.join(room, name), "w", encoding="ascii") as file:
+                with open(os.path.join(folder, name), "w", encoding="ascii") as file:
                     file.write(name)
                 os.utime(file.name, (seconds, seconds))
             for name, wanted in (("new", ["new"]), ("old", ["old"]), ("none", []), ("absent", [])):
-                named = name if name == "none" else os.path.join(room, name)
+                named = name if name == "none" else os.path.join(folder, name)
                 words = [sys.executable, "setup.py", "-q", "build_py", "--build-lib", "library"]
-                done = subprocess.run(words, cwd=folder, env={**os.environ, "SPKI_LIBRARY": named}, capture_output=True, text=True)
+                done = subprocess.run(words, cwd=package, env={**os.environ, "SPKI_LIBRARY": named}, capture_output=True, text=True)
                 self.assertEqual(done.returncode == 0, name != "absent", done.stderr)
-                libraries = Path(folder, "library", "spki").glob("*.so")
+                libraries = Path(package, "library", "spki").glob("*.so")
                 self.assertEqual([path.read_text("ascii") for path in libraries], wanted, name)
 
 

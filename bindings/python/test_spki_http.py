@@ -120,7 +120,7 @@ class Handler(http.server.BaseHTTPRequestHandler):
     verifier: spki_http.Verifier
 
     def respond(self) -> None:
-        """Answers a request."""
+        """Answers 200 and the key that has signed the request, or 401 and the name of the refusal."""
         body = self.rfile.read(int(self.headers.get("Content-Length", 0)))
         try:
             proof = self.verifier.prove(self.command, self.headers["Host"], self.path, self.headers.items(), body)
@@ -180,8 +180,8 @@ class Requests(unittest.TestCase):
             return True
 
         message, now = self.valid_message()
-        for wrong in (lambda it: 1, lambda it: "no", lambda it: None, lambda it: 0, later):
-            verifier = spki_http.Verifier("example.com", start=0, now=lambda: now, verify=wrong)  # type: ignore[arg-type]
+        for verify in (lambda signature: 1, lambda signature: "no", lambda signature: None, lambda signature: 0, later):
+            verifier = spki_http.Verifier("example.com", start=0, now=lambda: now, verify=verify)  # type: ignore[arg-type]
             with warnings.catch_warnings(), self.assertRaises(TypeError):
                 warnings.simplefilter("ignore")
                 verifier.check(message)
@@ -212,7 +212,8 @@ class Requests(unittest.TestCase):
                 verifier.take(proof)
             self.assertEqual(refused.exception.name, wanted)
 
-    # Each nonce is kept for 360 s at least, in two sets of at most 2 nonces. `now` is in seconds.
+    # Each nonce is kept for 360 s at least, in two sets of at most 2 nonces. `now` is in seconds. A young set begins at 1000, 1360, 1720 and 3000.
+    # The one before it is then the old set, and is dropped at 3000, since it is over 720 s old. At 900 the clock has gone back.
     def test_nonces(self) -> None:
         store = spki_http.Memory(2)
         for nonce, now, wanted in (
@@ -254,8 +255,8 @@ class Clients(unittest.TestCase):
         def value(kind: bytes, *strings: bytes) -> bytes:
             return b"(7:sig-val(5:%b(1:r%d:%b)(1:s%d:%b)))" % (kind, len(strings[0]), strings[0], len(strings[1]), strings[1])
 
-        for given in ((b"r" * 31, b"s" * 32), (b"\0" + b"r" * 31, b"s" * 32), (b"\0\0" + b"r" * 31, b"\0" + b"s" * 32)):
-            self.assertEqual(spki_http.octets_of(value(b"ecdsa", *given), 64), b"\0" + b"r" * 31 + b"s" * 32)
+        for numbers in ((b"r" * 31, b"s" * 32), (b"\0" + b"r" * 31, b"s" * 32), (b"\0\0" + b"r" * 31, b"\0" + b"s" * 32)):
+            self.assertEqual(spki_http.octets_of(value(b"ecdsa", *numbers), 64), b"\0" + b"r" * 31 + b"s" * 32)
         self.assertEqual(spki_http.octets_of(value(b"ecdsa", b"r" * 31, b"s" * 31), 64), b"\0" + b"r" * 31 + b"\0" + b"s" * 31)
         self.assertEqual(spki_http.octets_of(value(b"eddsa", b"\0" * 32, b"s" * 32), 64), b"\0" * 32 + b"s" * 32)
         self.assertEqual(spki_http.octets_of(b"(7:sig-val(3:rsa(1:s3:\0ab)))", 4), b"\0\0ab")
@@ -264,13 +265,13 @@ class Clients(unittest.TestCase):
     def test_covered_fields(self) -> None:
         """The signature covers a field that the caller names, once. A name that the request has no field of is refused, also if it is one that the
         profile asks for where it is present."""
-        signer, given = curve_signer(), [("X-Job", "7")]
-        fields = signer.fields("PUT", "https://files.example.org/a", b"x", given, ["x-job", "x-job", "content-digest", "x-spki-public-key"])
+        signer, own_fields = curve_signer(), [("X-Job", "7")]
+        fields = signer.fields("PUT", "https://files.example.org/a", b"x", own_fields, ["x-job", "x-job", "content-digest", "x-spki-public-key"])
         covered = fields["Signature-Input"].partition(")")[0]
         self.assertEqual([covered.count(f'"{name}"') for name in ("x-job", "content-digest", "x-spki-public-key")], [1, 1, 1])
         for absent in "x-jobs", "X-Job", "content-digest":
             with self.assertRaisesRegex(ValueError, absent):
-                signer.fields("GET", "https://files.example.org/a", b"", given, ["x-job", absent])
+                signer.fields("GET", "https://files.example.org/a", b"", own_fields, ["x-job", absent])
 
     def test_what_cannot_be_signed(self) -> None:
         """An address or a method that each verifier would refuse."""
