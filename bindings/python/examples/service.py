@@ -9,14 +9,19 @@ import spki
 import spki_http
 import spki_verify
 
+# The most octets of a body, and the action in the request to the guard by the method of HTTP.
 MOST, ACTIONS = 65_536, {"GET": b"read", "PUT": b"write"}
 
 
 class Handler(http.server.BaseHTTPRequestHandler):
-    def answer(self) -> None:  # (200 and the number of the entry, or 403 and why not; 400 if the length of the body is none from 0 to MOST)
+    def answer(self) -> None:
+        """Answers 200 and the number of the entry that grants the request, 403 and why none does, or 400 if Content-Length is not 0 to MOST."""
         host, status = ", ".join(self.headers.get_all("Host", [])), 400
         try:
-            body, status = self.rfile.read(range(MOST + 1).index(int(self.headers.get("Content-Length", 0)))), 403  # (or a ValueError by `index`)
+            length = int(self.headers.get("Content-Length", 0))
+            if not 0 <= length <= MOST:
+                raise ValueError(f"the length of the body is not from 0 to {MOST}")
+            body, status = self.rfile.read(length), 403
             proof = verifier.prove(self.command, host, self.path, self.headers.items(), body)
             if posixpath.normpath(self.path) != self.path or "%" in self.path or "?" in self.path:
                 raise ValueError("the path is not normal")
