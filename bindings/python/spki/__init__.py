@@ -130,7 +130,7 @@ class Asked(_Closable, NoDecision):
 
     def __init__(self, guard: c_void_p, question: Question, answer_octets: int) -> None:
         """Opens a question for `Guard.ask`. `guard` is the handle of the guard, and `answer_octets` the most octets of
-        an explanation or a reduction. Raises as `_open_question` does."""
+        an explanation or a reduction. Raises `Refused` if a part of the question cannot be read or exceeds a limit."""
         self._handle, self._answer_octets = _AskedHandle(_open_question(guard, question)), answer_octets
         self._count = _library.count(self._handle)
         # (while a signature is marked, the library permits no other call on the question)
@@ -337,8 +337,9 @@ def _convert(command: int, text: bytes) -> bytes:
 
 
 class _CallMemory:
-    """Memory for what one call returns: a line, a handle or a signature. `at_..` are the addresses that the call is
-    given. `needed` is the length of the line, for which there are `octets`."""
+    """Memory for what one call returns: a line in `buffer`, which has `octets` octets, the address of a question in
+    `opened`, or a `struct spki_signed` in `signed`. `needed` is the length of the line. The attributes `at_..` are
+    the addresses of these, which are passed to the call."""
 
     def __init__(self) -> None:
         self.buffer, self.octets, self.needed = (c_char * _LINE_OCTETS)(), c_size_t(_LINE_OCTETS), c_size_t()
@@ -389,7 +390,8 @@ def _take_answer_memory() -> _AnswerMemory:
 
 
 def _size_argument(number: int) -> c_size_t:
-    """A number as an argument of the library. Small ones are made once. One below 0 is a number that no question has as a place."""
+    """A number as an argument of the library. Those from 0 to 63 were made once, to save time. `c_size_t` turns one below 0 into a number so high
+    that the library refuses it as a place."""
     return _small_sizes[number] if 0 <= number < len(_small_sizes) else c_size_t(number)
 
 
@@ -451,7 +453,7 @@ def _count_valid(handle: c_void_p, count: int, verify: Verify) -> int:
             at, length, message_at, message_length, value_at, value_length, *_ = _signature_addresses(handle, place, call_memory)
             key = memory[at:at + length]
             if key != last_key:
-                # (a verifier that keeps keys keeps one of many equal ones)
+                # (equal keys in a row are one object, so that a verifier that stores keys stores it once)
                 last_key = key
             message, value = memory[message_at:message_at + message_length], memory[value_at:value_at + value_length]
             answer = verify(signature_of(last_key, message, value))

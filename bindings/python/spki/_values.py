@@ -262,7 +262,7 @@ _Parts = tuple[bytes, ProvenKey, Union[Sequence[bytes], None], Union[bytes, None
 
 
 def _question_of(sequence: bytes, key: ProvenKey, words: Sequence[bytes] | None, text: bytes | None, moment: bytes | datetime) -> Question:
-    """The question of these parts: how a copy is made."""
+    """The question with these parts. `copy` and `pickle` call it, since they pass no arguments by name."""
     return Question(sequence, key, words=words, text=text, moment=moment)
 
 
@@ -370,7 +370,9 @@ def moment_of(seconds: int) -> datetime:
     """The moment of seconds since 1970, which may be negative. Before the year 1 it is the first moment of a `datetime`, and past the year 9999 the
     last one."""
     last, first = (limit.replace(tzinfo=timezone.utc) for limit in (datetime.max, datetime.min))
-    return last if seconds > seconds_of(last) else first if seconds < seconds_of(first) else EPOCH + seconds * SECOND
+    if seconds > seconds_of(last):
+        return last
+    return first if seconds < seconds_of(first) else EPOCH + seconds * SECOND
 
 
 def seconds_of(moment: datetime) -> int:
@@ -379,5 +381,5 @@ def seconds_of(moment: datetime) -> int:
         raise TypeError(f"a moment is a `datetime` or the text of a date, and not {type(moment).__name__}: use datetime.now(timezone.utc)")
     if moment.tzinfo is None:
         raise TypeError("a `datetime` without a time zone is no moment: use datetime.now(timezone.utc)")
-    # (a float rounds the last microsecond of the year 9999 up)
+    # (and not `moment.timestamp()`: as a float it rounds the last microsecond of the year 9999 up)
     return (moment - EPOCH) // SECOND

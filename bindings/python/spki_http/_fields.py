@@ -72,7 +72,8 @@ class Parser:
     is that of the rest, which is not read yet."""
 
     def __init__(self, text: str) -> None:
-        """Reads the label `spki=`. Another one is `other-label`."""
+        """Reads the label `spki=` of `text`, the value of a field. Raises `Refused`: `other-label` for another label, and
+        `malformed` for none or a text over `MOST_INPUT`."""
         if len(text) > MOST_INPUT:
             raise Refused("malformed")
         self.text, self.position = text, 0
@@ -111,8 +112,10 @@ class Parser:
         names: list[str] = []
         self.expect("(")
         while not self.skip_if(")"):
-            if len(names) == MOST_COMPONENTS or names and not self.skip_if(" "):
+            if len(names) == MOST_COMPONENTS:
                 raise Refused("malformed")
+            if names:
+                self.expect(" ")
             name = self.take(STRING)[1]
             # (behind `;` are parameters of a component)
             if not is_component(name) or self.text.startswith(";", self.position):
@@ -141,7 +144,8 @@ class Parser:
 def is_component(name: str) -> bool:
     """Whether a signature may cover what has this name: a field, in small letters, or one of the five components of
     `DERIVED`. The two fields of the signature itself may not be covered."""
-    return name in DERIVED or FIELD.fullmatch(name) is not None and name not in ("signature", "signature-input")
+    is_field = FIELD.fullmatch(name) is not None
+    return name in DERIVED or (is_field and name not in ("signature", "signature-input"))
 
 
 def input_of(text: str) -> Input:

@@ -43,7 +43,7 @@ class Message:
 
 
 def authority_of(scheme: str, authority: str) -> str:
-    """A name with its port as it is signed: in small letters, without the port that the scheme has anyway."""
+    """The name of a host, perhaps with a port, as it is signed: in small letters, without the default port of the scheme, `https` or `http`."""
     return authority.lower().removesuffix(PORTS[scheme])
 
 
@@ -57,7 +57,7 @@ def base_of(message: Message, scheme: str, components: list[str], parameters: st
 def value_of(message: Message, scheme: str, name: str) -> str:
     """The value of a component by its name, such as `@path` or the name of a field. That of `@query` begins with `?`, also without a query.
     Raises `Refused` if the component is a field that is absent, repeated, or neither printable ASCII nor tabs."""
-    path, mark, query = message.target.partition("?")
+    path, separator, query = message.target.partition("?")
     authority = authority_of(scheme, message.authority)
     match name:
         case "@method":
@@ -69,7 +69,7 @@ def value_of(message: Message, scheme: str, name: str) -> str:
         case "@query":
             return f"?{query}"
         case "@target-uri":
-            return f"{scheme}://{authority}{path}{mark}{query}"
+            return f"{scheme}://{authority}{path}{separator}{query}"
     values = message.values(name)
     if len(values) != 1:
         raise Refused("repeated-field" if values else "absent-field")

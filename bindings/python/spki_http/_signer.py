@@ -46,7 +46,9 @@ class Signer:
         if not METHOD.fullmatch(method) or not TARGET.fullmatch(target):
             raise ValueError("no method of HTTP, or an address with a space or an octet that is not ASCII: "
                              f"{method} {target}")
-        sent, added = [*fields], {KEY: in_braces(self.key), **({SEQUENCE: self.sequence} if self.sequence else {})}
+        sent, added = [*fields], {KEY: in_braces(self.key)}
+        if self.sequence:
+            added[SEQUENCE] = self.sequence
         if Message(method, parts.netloc, target, sent, body).may_have_body():
             added["Content-Digest"] = content_digest(body)
         replaced = {name.lower() for name in added}
@@ -67,8 +69,8 @@ class Signer:
 
 
 def _components(message: Message, covered: Iterable[str]) -> list[str]:
-    """The names of the components that the signature of a request covers: those of the profile, and the fields of
-    `covered`. Raises `ValueError` if the request has no field of a name in `covered`."""
+    """The names of the components that the signature of a request covers: those that docs/SIGNATURES.md requires, and
+    the fields of `covered`, each once. Raises `ValueError` if the request has no field of a name in `covered`."""
     names = ["@method", "@authority", "@path", "@query", PUBLIC_KEY]
     names += [name for name in (CHAINED, SEQUENCE.lower(), DIGEST) if message.values(name)]
     more = [name for name in dict.fromkeys(covered) if name not in names]
@@ -78,14 +80,14 @@ def _components(message: Message, covered: Iterable[str]) -> list[str]:
 
 
 class _ToNames:
-    """A base of what signs the requests of a library for HTTP, if they go to one of some names."""
+    """The base of `Auth` and `Handler`, which sign a request of a library for HTTP if it goes to one of the given hosts."""
 
     def __init__(self, signer: Signer, *names: str) -> None:
-        """`names` are those of services, with ports that are not the scheme's own."""
+        """`names` are the hosts of services, such as `files.example.org` or `localhost:8080`: a port is needed only if it is not the default."""
         self.signer, self.names = signer, names
 
     def _is_to_one(self, url: str) -> bool:
-        """Whether the host and port of an address are one of the names."""
+        """Whether the host and port of a URL are those of one of the names."""
         parts = urllib.parse.urlsplit(url)
         if parts.scheme not in PORTS:
             return False

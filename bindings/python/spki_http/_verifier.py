@@ -45,8 +45,8 @@ class Nonces(Protocol):
 
 class Memory:
     """Keeps nonces in two sets of at most `most` each, as digests of key and nonce. New ones go into the young set.
-    When this was begun as long ago as a nonce is kept, it becomes the old one, and the old one is dropped.
-    `young_since` is when it was begun, in seconds since 1970."""
+    Once the young set is as old as the time for which a nonce is kept, it becomes the old set, and the old set is
+    dropped. `young_since` is when the young set was begun, in seconds since 1970."""
 
     def __init__(self, most: int = USUAL_NONCES) -> None:
         self.most, self.young_since, self.lock = most, 0, threading.Lock()
@@ -61,6 +61,7 @@ class Memory:
         with self.lock:
             age = now - self.young_since
             if age >= seconds:
+                # (after twice the time the nonces of the young set need not be kept either)
                 self.old = self.young if age < 2 * seconds else set()
                 self.young, self.young_since = set(), now
             if digest in self.old or digest in self.young:
@@ -106,8 +107,8 @@ class Verifier:
         self.start = int(now() if start is None else start)
 
     def prove(self, method: str, authority: str, target: str, fields: Iterable[tuple[str, str]], body: bytes | None = None) -> Proof:
-        """The proof of a request, whose parts are those of `Message`. Its nonce is used up. Raises `Refused`. A body that is None must be tested
-        later, by `Proof.covers`."""
+        """The proof of a request, whose nonce is used up. `authority` is the value of Host, `target` the path with the query, and `fields` has
+        pairs of name and value. Raises `Refused`. If `body` is None, the caller must test the body later by `Proof.covers`."""
         proof = self.check(Message(method, authority, target, fields, body))
         self.take(proof)
         return proof

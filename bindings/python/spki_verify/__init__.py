@@ -123,7 +123,8 @@ def _is_of_large_order(q: bytes) -> bool:
 
 
 def _are_coordinates(curve: Curve, q: bytes) -> bool:
-    """Whether octets are 4 and then two coordinates below the prime of a curve. `cryptography` tests that the point is on the curve."""
+    """Whether octets are an uncompressed point: 4, and then two coordinates below the prime of a curve. `cryptography` tests that the point is on
+    the curve."""
     x, y = int.from_bytes(q[1:1 + curve.octets], "big"), int.from_bytes(q[1 + curve.octets:], "big")
     return len(q) == 1 + 2 * curve.octets and q[0] == 4 and x < curve.prime and y < curve.prime
 
