@@ -12,7 +12,8 @@ func login(message string) spki.Signature {
 	return spki.Signature{Key: []byte("(10:public-key(4:test1:b))"), Message: []byte(message), Value: []byte("3:sig")}
 }
 
-// TestProveKey makes a key of a login whose signature is valid. Whoever shows a certificate does not hold the key that has signed it.
+// TestProveKey takes a login whose signature is valid, one whose signature is not, and a certificate. Only the first proves its key: whoever shows a
+// certificate need not hold the key that has signed it.
 func TestProveKey(t *testing.T) {
 	for _, row := range []struct {
 		message  string
@@ -21,7 +22,8 @@ func TestProveKey(t *testing.T) {
 	}{{"(5:login7:service5:nonce)", true, true}, {"(5:login7:service5:nonce)", false, false}, {"(4:cert)", true, false}} {
 		key, err := spki.ProveKey(login(row.message), func(spki.Signature) bool { return row.isValid })
 		isKey := key == spki.AssumeKey(login("").Key)
-		if row.isProved != (err == nil) || row.isProved != isKey || !row.isProved && !errors.Is(err, spki.ErrNotProved) {
+		isRefused := errors.Is(err, spki.ErrNotProved)
+		if isKey != row.isProved || isRefused == row.isProved || (err == nil) != row.isProved {
 			t.Errorf("%+v: %v, %v", row, key, err)
 		}
 	}

@@ -31,7 +31,7 @@ VALGRIND = ["valgrind", "--quiet", "--leak-check=full", "--show-leak-kinds=defin
 SECONDS = 120
 # The most lines of each service.
 SERVICES = {"examples/c/service.c": 70, "bindings/rust/examples/service.rs": 60, "bindings/python/examples/service.py": 45,
-            "bindings/go/examples/service/main.go": 40}
+            "bindings/go/examples/service/main.go": 45}
 # A request as it is sent: the method, the target and the fields, without `Host`.
 Sent = tuple[str, str, dict[str, str]]
 

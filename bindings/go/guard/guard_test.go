@@ -145,7 +145,7 @@ func TestVerifierStopsAtTheFirstWrongOne(t *testing.T) {
 	}
 }
 
-// TestMarks marks what the question does not have: -255, 0x101 and other numbers that a verifier may have returned. Nothing is marked.
+// TestMarks marks places that the question does not have, which is ErrMisused and marks nothing, and then its only place, 0, twice.
 func TestMarks(t *testing.T) {
 	asked := askMarked(t, openGuard(t, list), questionWith(1))
 	if listed := asked.Signatures(); len(listed) != 1 || string(listed[0].Message) != signed[1] || !asked.Possible() {
@@ -183,15 +183,19 @@ func verifiedOf(t *testing.T, opened *guard.Guard, question guard.Question, plac
 // grants the request, or 0.
 func TestVerifiedBefore(t *testing.T) {
 	opened, question := openGuard(t, list), questionWith(1)
-	asking := question
-	asking.Sequence = []byte("(sequence " + own + pair + ")")
+	withSequence := question
+	withSequence.Sequence = []byte("(sequence " + own + pair + ")")
 	question.Sequence = nil
 	for _, row := range []struct {
 		places []int
 		most   int
 		wanted int
-	}{{nil, 2, 0}, {[]int{0}, 2, 0}, {[]int{1}, 2, 0}, {[]int{0, 1}, 2, 1}, {[]int{0, 1}, 1, 0}, {[]int{0, 1}, 99, 1}, {[]int{0, 1}, -1, 0}, {[]int{1, 0}, 2, 0}} {
-		verified := verifiedOf(t, opened, asking, row.places...).First(row.most)
+	}{
+		{nil, 2, 0}, {[]int{0}, 2, 0}, {[]int{1}, 2, 0}, {[]int{0, 1}, 2, 1}, {[]int{0, 1}, 1, 0}, {[]int{0, 1}, 99, 1}, {[]int{0, 1}, -1, 0},
+		// (the mark of 1 was set before that of 0, so it is left out)
+		{[]int{1, 0}, 2, 0},
+	} {
+		verified := verifiedOf(t, opened, withSequence, row.places...).First(row.most)
 		canonical, err := verified.Canonical()
 		if err != nil || !bytes.HasPrefix(canonical.Sequence(), []byte("(8:sequence")) {
 			t.Fatalf("%q, %v", canonical.Sequence(), err)
@@ -203,12 +207,13 @@ func TestVerifiedBefore(t *testing.T) {
 		}
 	}
 	var events []guard.Event
-	verified := verifiedOf(t, opened, asking, 0, 1)
-	_, _ = opened.Logged(func(event guard.Event) { events = append(events, event); event.Question.Sequence[1] ^= 1 }).DecideVerified(question, verified)
+	verified := verifiedOf(t, opened, withSequence, 0, 1)
+	log := func(event guard.Event) { events = append(events, event); event.Question.Sequence[1] ^= 1 }
+	_, _ = opened.Logged(log).DecideVerified(question, verified)
 	if len(events) != 1 || !events[0].Decision.Granted() {
 		t.Errorf("%v", events)
 	}
-	if !bytes.Equal(verified.Sequence(), asking.Sequence) {
+	if !bytes.Equal(verified.Sequence(), withSequence.Sequence) {
 		t.Errorf("the function of the log changed what is verified: %q", verified.Sequence())
 	}
 }
@@ -216,26 +221,26 @@ func TestVerifiedBefore(t *testing.T) {
 // TestVerifiedIsOfItsSequence shows that what is known of one sequence counts for no other one, for no other policy, and not without its marks.
 func TestVerifiedIsOfItsSequence(t *testing.T) {
 	opened, question := openGuard(t, list), questionWith(1)
-	asking, forged := question, append([]byte(nil), question.Sequence...)
-	asking.Sequence = []byte("(sequence " + own + pair + ")")
-	verified := verifiedOf(t, opened, asking, 0, 1)
-	open, err := guard.Open([]byte(list), guard.AllowSHA1, guard.Limits{})
+	withSequence, otherSequence := question, append([]byte(nil), question.Sequence...)
+	withSequence.Sequence = []byte("(sequence " + own + pair + ")")
+	verified := verifiedOf(t, opened, withSequence, 0, 1)
+	allowingSHA1, err := guard.Open([]byte(list), guard.AllowSHA1, guard.Limits{})
 	if err != nil {
 		t.Fatal(err)
 	}
-	defer open.Close()
-	question.Sequence = forged
+	defer allowingSHA1.Close()
+	question.Sequence = otherSequence
 	if decision, err := opened.DecideVerified(question, verified); !errors.Is(err, guard.ErrMisused) || decision.Granted() {
 		t.Errorf("another sequence: %v, %v", decision, err)
 	}
 	question.Sequence = nil
-	if decision, err := open.DecideVerified(question, verified); !errors.Is(err, guard.ErrMisused) || decision.Granted() {
+	if decision, err := allowingSHA1.DecideVerified(question, verified); !errors.Is(err, guard.ErrMisused) || decision.Granted() {
 		t.Errorf("another policy: %v, %v", decision, err)
 	}
 	if decision, err := opened.DecideVerified(question, guard.Verified{}); err != nil || decision.Granted() {
 		t.Errorf("no certificates: %v, %v", decision, err)
 	}
-	asking.Sequence[len(asking.Sequence)-2] ^= 1
+	withSequence.Sequence[len(withSequence.Sequence)-2] ^= 1
 	verified.Sequence()[0] ^= 1
 	if decision, err := opened.DecideVerified(question, verified); err != nil || !decision.Granted() {
 		t.Errorf("octets that changed since: %v, %v", decision, err)
@@ -303,14 +308,17 @@ func TestMarksAreOfOnePlace(t *testing.T) {
 	}
 }
 
-// TestVerifierThatFailsMarksNothing fails behind a valid signature.
+// TestVerifierThatFailsMarksNothing has a verifier fail at the second signature. The first, which is valid, is not marked then, so a mark of the second
+// alone grants nothing.
 func TestVerifierThatFailsMarksNothing(t *testing.T) {
 	question, fault := questionWith(0), errors.New("no such key")
 	question.Sequence, question.Key = []byte("(sequence "+own+own+")"), spki.AssumeKey([]byte("(public-key (test a))"))
 	asked, calls := askMarked(t, openGuard(t, list), question), 0
 	err := asked.VerifyContext(context.Background(), func(context.Context, guard.Signature) (bool, error) {
-		calls++
-		return true, map[int]error{2: fault}[calls]
+		if calls++; calls == 2 {
+			return true, fault
+		}
+		return true, nil
 	})
 	if !errors.Is(err, fault) || calls != 2 {
 		t.Errorf("%v, %d calls", err, calls)
@@ -320,7 +328,8 @@ func TestVerifierThatFailsMarksNothing(t *testing.T) {
 	}
 }
 
-// TestNothingIsVerifiedInVain asks where no signature could help. An explanation needs to know what is valid.
+// TestNothingIsVerifiedInVain asks two questions that are denied whichever signatures are valid, so Decide calls no verifier. Explain does: its lines
+// depend on which are valid.
 func TestNothingIsVerifiedInVain(t *testing.T) {
 	calls := 0
 	counted := func(guard.Signature) bool { calls++; return true }
@@ -336,7 +345,8 @@ func TestNothingIsVerifiedInVain(t *testing.T) {
 	}
 }
 
-// TestSignaturesAreOfTheSequence asks by other keys, requests, times and lists. The signatures are the same, as a cache of places needs it.
+// TestSignaturesAreOfTheSequence asks with other keys, requests, times and lists. The signatures depend on the sequence alone: a Verified keeps places of
+// a sequence for other questions.
 func TestSignaturesAreOfTheSequence(t *testing.T) {
 	otherDigest := strings.Replace(pair, "#d7", "#d8", 1)
 	for _, text := range []string{pair, pair + pair, pair + otherDigest + pair, "(public-key (test c)) " + pair} {
@@ -554,8 +564,8 @@ func TestLimitsBelowZero(t *testing.T) {
 	}
 }
 
-// TestAClockThatFailed asks at times that no clock gives: before 1970, and from the year 10000 on. An expired right is not granted. By the
-// nanosecond no time is the zero Time.
+// TestAClockThatFailed asks at times that no clock gives: before 1970, and from the year 10000 on, which begins at 253,402,300,800. An expired right is
+// not granted. Each time has a nanosecond more, so that none is the zero Time, which would say that no time is given.
 func TestAClockThatFailed(t *testing.T) {
 	opened := openGuard(t, `(acl (entry (public-key (test b)) (tag (*)) (not-after "1999-12-31_23:59:59")))`)
 	question := questionWith(0)
@@ -664,7 +674,8 @@ func byLongKey(t testing.TB, times, octets int) guard.Question {
 	return question
 }
 
-// TestSignaturesAreCopiedOneByOne bounds what is allocated: a signature is copied when it is its turn, and the key of many is one object.
+// TestSignaturesAreCopiedOneByOne bounds what is allocated for 200 signatures by one key of 100,000 octets by the octets of 10 keys: a signature is
+// copied when it is its turn, and equal keys in a row are copied once.
 func TestSignaturesAreCopiedOneByOne(t *testing.T) {
 	opened, err := guard.Open([]byte(list), guard.Strict, guard.Highest())
 	if err != nil {
@@ -790,7 +801,7 @@ func TestForms(t *testing.T) {
 	if text, err := guard.Advanced([]byte("(" + strings.Repeat("1:\x00", 1000) + ")")); err != nil || len(text) != 7002 {
 		t.Errorf("%d, %v", len(text), err)
 	}
-	// (and none more in transport form: 32 octets for 12)
+	// (and none more in transport form: 32 octets for the 12 of three times `a(b)`, and 7 for the outer list, the braces and the line feed)
 	if text, err := guard.Transport([]byte("(" + strings.Repeat("a(b)", 3000) + ")")); err != nil || len(text) != 32007 {
 		t.Errorf("%d, %v", len(text), err)
 	}

@@ -127,23 +127,23 @@ type arguments struct {
 // argumentsOf returns a question as arguments of a call. It copies all texts but the sequence, whose octets the call reads where they are.
 func argumentsOf(question *Question) arguments {
 	joined, lengths := question.joined()
-	given := arguments{
+	result := arguments{
 		parts:    C.struct_library_question{sequence_length: C.size_t(len(question.Sequence)), word_count: C.size_t(len(question.Words))},
 		sequence: (*C.char)(text(question.Sequence).octets), joined: (*C.char)(text(joined).octets), lengths: (*C.size_t)(unsafe.Pointer(&lengths[0])),
 	}
 	if question.Words != nil {
-		given.parts.by_words = 1
+		result.parts.by_words = 1
 	}
 	if !question.Time.IsZero() {
-		given.parts.by_seconds, given.parts.seconds = 1, C.int64_t(question.Time.Unix())
+		result.parts.by_seconds, result.parts.seconds = 1, C.int64_t(question.Time.Unix())
 	}
-	return given
+	return result
 }
 
-// ask opens a question, and counts its signatures. The caller closes it. The error is that of errorOf: a refusal, ErrMisused, or want of memory.
+// ask opens a question, and counts its signatures. The caller closes it. The error is a *Refusal, also if an allocation failed, or ErrMisused.
 func ask(guard guardHandle, question *Question) (asked askedHandle, count int, err error) {
-	given := argumentsOf(question)
-	result := C.library_ask(guard, given.parts, given.sequence, given.joined, given.lengths)
+	args := argumentsOf(question)
+	result := C.library_ask(guard, args.parts, args.sequence, args.joined, args.lengths)
 	if result.status != C.SPKI_DONE || result.asked == nil {
 		return nil, 0, errorOf(result.status, lineIn(&result))
 	}
@@ -151,7 +151,7 @@ func ask(guard guardHandle, question *Question) (asked askedHandle, count int, e
 }
 
 // signature returns a copy of the signature at a place, from 0, which must be below the count. `key` is the key of the signature before it, or nil: if both
-// are equal, the result has `key` itself, so that no key is copied twice. The error is want of memory.
+// are equal, the result has `key` itself, so that no key is copied twice. The error says that an allocation failed.
 func signature(asked askedHandle, place int, key []byte) (Signature, error) {
 	var signed C.struct_spki_signed
 	if status := C.spki_asked_signature(asked, C.size_t(place), &signed); status != C.SPKI_DONE {
@@ -190,8 +190,8 @@ func decide(asked askedHandle) (Decision, error) {
 // decideVerified returns the decision of a question of which the first `valid` signatures are valid, in one call. The error is ErrMisused unless the
 // question has `listed` signatures, as it had when they were verified, and otherwise that of ask.
 func decideVerified(guard guardHandle, question *Question, listed, valid int) (Decision, error) {
-	given := argumentsOf(question)
-	result := C.library_decide_verified(guard, given.parts, given.sequence, given.joined, given.lengths, C.size_t(listed), C.size_t(valid))
+	args := argumentsOf(question)
+	result := C.library_decide_verified(guard, args.parts, args.sequence, args.joined, args.lengths, C.size_t(listed), C.size_t(valid))
 	return decisionIn(&result)
 }
 
@@ -227,15 +227,15 @@ func closeAsked(asked askedHandle) {
 }
 
 // convert returns a text in another form. The command is SPKI_CANONICAL, SPKI_ADVANCED or SPKI_TRANSPORT. The error is a *Refusal.
-func convert(command command, given []byte) ([]byte, error) {
+func convert(command command, source []byte) ([]byte, error) {
 	// No form has more than three times the octets of another: an octet that is printed in base64 takes 7 for the 3 of its canonical text, and `a(b)`,
-	// again and again, takes 8 for 3 in transport form. A text of more than mostOctets is refused, so the room is bounded.
-	octets := len(given)
+	// again and again, takes 8 for 3 in transport form. A text of more than mostOctets is refused, so the buffer is bounded.
+	octets := len(source)
 	if octets > mostOctets {
 		octets = mostOctets
 	}
 	buffer, length := make([]byte, 3*octets+roomForLine), C.size_t(0)
-	argument := text(given)
+	argument := text(source)
 	status := C.spki_answer(command, argument.octets, argument.length, unsafe.Pointer(&buffer[0]), C.size_t(len(buffer)), &length).status
 	if status == C.SPKI_TOO_SMALL {
 		return nil, errorOf(status, "")

@@ -39,11 +39,14 @@ static inline struct library_result library_open(struct spki_text list, enum spk
     return result;
 }
 
-/* Takes the first text off `*joined`, whose length is the first of `*lengths`, and sets both pointers to the next text. */
+/* Takes the first text off `*joined`, whose length is the first of `*lengths`, and sets both pointers to the next text. An empty text gets a null
+ * pointer, as one that is not given. */
 static inline struct spki_text library_next_text(const char **joined, const size_t **lengths)
 {
-    struct spki_text text = {**lengths > 0 ? *joined : NULL, **lengths};
-    *joined += *(*lengths)++;
+    const size_t length = **lengths;
+    const struct spki_text text = {length > 0 ? *joined : NULL, length};
+    *joined += length;
+    *lengths += 1;
     return text;
 }
 
@@ -100,7 +103,7 @@ static inline struct library_result library_decide_verified(const spki_guard *gu
 }
 
 /* Explains or reduces a question, by the command SPKI_EXPLAIN or SPKI_REDUCE. Sets `lines` to the answer or to the line of a refusal, and to an empty
- * text with SPKI_TOO_SMALL. library_free frees it. It has room for `room` octets, of which the system uses no more memory than is written. With
+ * text with SPKI_TOO_SMALL. library_free frees it. The buffer has `room` octets, of which only those that are written use memory of the system. With
  * SPKI_NO_MEMORY `lines` is unchanged. */
 static inline enum spki_status library_lines(const spki_asked *asked, enum spki_command command, size_t room, struct spki_text *lines)
 {
@@ -108,9 +111,10 @@ static inline enum spki_status library_lines(const spki_asked *asked, enum spki_
     size_t length = 0;
     if (!buffer)
         return SPKI_NO_MEMORY;
-    enum spki_status status = (command == SPKI_EXPLAIN ? spki_asked_explain : spki_asked_reduce)(asked, buffer, room, &length).status;
-    *lines = (struct spki_text){buffer, status == SPKI_TOO_SMALL ? 0 : length};
-    return status;
+    const struct spki_answered answered =
+        command == SPKI_EXPLAIN ? spki_asked_explain(asked, buffer, room, &length) : spki_asked_reduce(asked, buffer, room, &length);
+    *lines = (struct spki_text){buffer, answered.status == SPKI_TOO_SMALL ? 0 : length};
+    return answered.status;
 }
 
 /* Frees the lines of library_lines. */

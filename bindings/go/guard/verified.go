@@ -13,8 +13,8 @@ type Verified struct {
 var noCertificates = []byte("(8:sequence)")
 
 // Verified returns the sequence of a question with the marks that were set in order: the first signature, then the second, and so on. A mark that was
-// set earlier than that is left out, with all behind it. So a service need not verify a sequence again that it is shown again. Verified may be called
-// after Close too.
+// set before that of an earlier place is left out, with all behind it. So a service need not verify a sequence again that it is shown again. Verified
+// may be called after Close too.
 func (a *Asked) Verified() Verified {
 	if a.shared == nil {
 		return Verified{}

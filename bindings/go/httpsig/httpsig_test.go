@@ -333,8 +333,8 @@ func TestTakenLate(t *testing.T) {
 	}
 }
 
-// putForward returns a moment as a clock has it that was put forward by some seconds since, as by `date -s`: the reading of the monotonic clock stays.
-// (A Time with such a reading has the seconds of the day's time above 30 bits for nanoseconds in its first field.)
+// putForward returns a moment as Go has it after the system's clock was put forward by some seconds, as by `date -s`: the reading of the monotonic clock
+// stays. (The first field of such a Time has 30 bits for the nanoseconds of the system's clock, and above these its seconds.)
 func putForward(moment time.Time, seconds uint64) time.Time {
 	*(*uint64)(unsafe.Pointer(&moment)) += seconds << 30
 	return moment
@@ -541,7 +541,8 @@ func TestUnknownBodyIsNotSigned(t *testing.T) {
 	}
 }
 
-// TestNonces takes nonces at times in seconds. Each is kept for 360 s at least, in two sets of at most 2 nonces.
+// TestNonces takes nonces at times in seconds. Each is kept for 360 s at least, in two sets of at most 2 nonces. A young set begins at 1000, 1360, 1720
+// and 3000. The one before it is then the old set, and is dropped at 3000, since it is over 720 s old. At 900 the clock has gone back.
 func TestNonces(t *testing.T) {
 	store := NewMemory(2)
 	for _, row := range []struct {
@@ -593,12 +594,15 @@ func FuzzSigned(f *testing.F) {
 	f.Add("GET", "/foo?a=b", "accept", "text/html", "body")
 	byAlgorithm, algorithms := signers(f), []string{Ed25519, P256, P384, RSA}
 	f.Fuzz(func(t *testing.T, method, target, name, value, body string) {
-		signer, verifier := byAlgorithm[algorithms[(len(target)+len(body))%len(algorithms)]], NewVerifier("example.com")
+		// (so the inputs reach all algorithms, and the same input always reaches the same one)
+		algorithm := algorithms[(len(target)+len(body))%len(algorithms)]
+		signer, verifier := byAlgorithm[algorithm], NewVerifier("example.com")
 		message := Message{Method: method, Authority: "example.com", Target: target, Header: http.Header{}, Body: []byte(body)}
 		message.Header.Set(name, value)
 		if signer.Sign("https", message, strings.ToLower(name)) != nil {
 			return
 		}
+		// (no field has such a name: it is that of a component such as @path)
 		if strings.HasPrefix(name, "@") {
 			return
 		}

@@ -136,7 +136,10 @@ func (p *parser) components() ([]string, error) {
 	}
 	var names []string
 	for !p.trySkip(")") {
-		if len(names) > 0 && !p.trySkip(" ") || len(names) == mostComponents {
+		if len(names) == mostComponents {
+			return nil, Malformed
+		}
+		if len(names) > 0 && !p.trySkip(" ") {
 			return nil, Malformed
 		}
 		name, err := p.string()

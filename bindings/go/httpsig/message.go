@@ -38,7 +38,7 @@ func MessageOf(request *http.Request) Message {
 	}
 }
 
-// mayHaveBody says whether the message may have a body, so that its digest must be covered.
+// mayHaveBody says whether the message may have a body, so that its digest must be covered. Each method but GET and HEAD may have one.
 func (m *Message) mayHaveBody() bool {
 	return m.Method != http.MethodGet && m.Method != http.MethodHead || len(m.Body) > 0 || m.announcesBody()
 }
@@ -64,10 +64,11 @@ func (m *Message) addDigest() error {
 	return nil
 }
 
-// AuthorityOf returns a name with its port as it is signed: in small letters, without the port that the scheme has anyway.
+// AuthorityOf returns the name of a host, perhaps with a port, as it is signed: in small letters, without the default port of the scheme, which is `https`
+// or `http`.
 func AuthorityOf(scheme, authority string) string {
-	usual := map[string]string{"https": ":443", "http": ":80"}[scheme]
-	return strings.TrimSuffix(strings.ToLower(authority), usual)
+	defaultPort := map[string]string{"https": ":443", "http": ":80"}[scheme]
+	return strings.TrimSuffix(strings.ToLower(authority), defaultPort)
 }
 
 // isToken says whether a text is a token of HTTP, as a method and the name of a field are.

@@ -15,8 +15,8 @@ type Nonces interface {
 // The most nonces in each set of the Memory of NewVerifier.
 const usualNonces = 1_000_000
 
-// A Memory keeps nonces in two sets, as hashes of key and nonce. New ones go into the young set. When this was begun as long ago as a nonce is kept,
-// it becomes the old one, and the old one is dropped. If two nonces have the same hash, the second is refused.
+// A Memory keeps nonces in two sets, as hashes of key and nonce. New ones go into the young set. Once the young set is as old as the time for which a
+// nonce is kept, it becomes the old set, and the old set is dropped. If two nonces have the same hash, the second is refused.
 type Memory struct {
 	mutex sync.Mutex
 	seed  maphash.Seed

@@ -36,16 +36,17 @@ func (t *Transport) RoundTrip(request *http.Request) (*http.Response, error) {
 	return sender.RoundTrip(signed)
 }
 
-// isToOneOf says whether the URL of a client's request has one of some names as its host and port, no other is asked there, and TLS was not lost on the
-// way there.
+// isToOneOf says whether the URL of a client's request has one of some names as its host and port, its field Host has the same name, and TLS was not lost
+// on the way there (hasLostTLS).
 func isToOneOf(names []string, request *http.Request) bool {
 	scheme := request.URL.Scheme
-	asked := AuthorityOf(scheme, request.URL.Host)
-	if request.Host != "" && AuthorityOf(scheme, request.Host) != asked || hasLostTLS(request) {
+	host := AuthorityOf(scheme, request.URL.Host)
+	hasOtherHost := request.Host != "" && AuthorityOf(scheme, request.Host) != host
+	if hasOtherHost || hasLostTLS(request) {
 		return false
 	}
 	for _, name := range names {
-		if AuthorityOf(scheme, name) == asked {
+		if AuthorityOf(scheme, name) == host {
 			return true
 		}
 	}

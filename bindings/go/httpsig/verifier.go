@@ -198,7 +198,8 @@ func signatureOf(header http.Header) (*input, []byte, error) {
 	return input, octets, err
 }
 
-// checkParameters returns the refusal of the tag, of the length of the nonce or of the times, or nil.
+// checkParameters returns the refusal of the tag, of the length of the nonce or of the times, or nil. The signature must not precede the start of the
+// service, neither by the clock as it was set then, nor as it is set now.
 func (v *Verifier) checkParameters(input *input) error {
 	moment := v.Now()
 	now := moment.Unix()
@@ -219,8 +220,8 @@ func (v *Verifier) checkParameters(input *input) error {
 	return nil
 }
 
-// startBy returns the second since 1970 that a clock would have shown at `start` if it had gone as it has since `start`, until it showed `now`: both times
-// have a reading of the monotonic clock, which nobody puts forward. If one has none, that is the second of `start`.
+// startBy returns the second since 1970 of the start, by the clock as it is set at `now`: `now` less the time since `start`. Go takes that time by the
+// monotonic clock, which nobody puts forward. If one of the two has no reading of it, the result is the second of `start`.
 func startBy(now, start time.Time) int64 {
 	return now.Add(-now.Sub(start)).Unix()
 }

@@ -15,25 +15,27 @@ import (
 	"conguraki/spki/verify"
 )
 
-func must[T any](value T, err error) T { // (it returns the value, or ends the program with a message if there is an error)
+// must returns a value, or ends the program with a message if there is an error.
+func must[T any](value T, err error) T {
 	if err != nil {
 		log.Fatal(err)
 	}
 	return value
 }
 
+// main answers each line with one: `denied`, that the text is written or not and its octets, the content of the file, or that nothing is there.
 func main() {
 	if len(os.Args) != 5 {
 		log.Fatal("usage: cache ACL FOLDER KEY SEQUENCE")
 	}
 	list := must(guard.Open(must(os.ReadFile(os.Args[1])), guard.Strict, guard.Limits{}))
-	client, sequence, decision, last := spki.AssumeKey(must(os.ReadFile(os.Args[3]))), must(os.ReadFile(os.Args[4])), guard.Decision{}, ""
-	for lines := bufio.NewScanner(os.Stdin); lines.Scan() || must(false, lines.Err()); { // (a line over 64 KiB ends the program by an error)
+	client, sequence, decision, decided := spki.AssumeKey(must(os.ReadFile(os.Args[3]))), must(os.ReadFile(os.Args[4])), guard.Decision{}, ""
+	for lines := bufio.NewScanner(os.Stdin); lines.Scan() || must(false, lines.Err()); { // (Scan also ends at an error, as for a line over 64 KiB)
 		words := append(strings.SplitN(lines.Text(), " ", 3), "", "") // (action, path and text, of which some may be empty)
 		file, isNormal := os.Args[2]+words[1], words[1] != "/" && path.Clean("/"+words[1]) == words[1]
-		if asked := words[0] + " " + words[1]; asked != last || !decision.HoldsAt(time.Now()) {
+		if request := words[0] + " " + words[1]; request != decided || !decision.HoldsAt(time.Now()) {
 			question := guard.Question{Key: client, Sequence: sequence, Words: []string{"cache", words[0], words[1]}, Time: time.Now()}
-			last = asked                                          // (while its grant holds, the same request is not decided again)
+			decided = request                                     // (while its grant holds, the same request is not decided again)
 			decision, _ = list.Decide(question, verify.Signature) // (with an error it is a no)
 		}
 		if !isNormal || !decision.HoldsAt(time.Now()) {

@@ -16,6 +16,7 @@ import (
 	"conguraki/spki/verify"
 )
 
+// main serves at a free port of this machine, which it prints. The answer is 200 with an empty body if the request is granted, and otherwise 403.
 func main() {
 	flag.Parse()
 	octets, fileError := os.ReadFile(flag.Arg(0))
@@ -25,7 +26,7 @@ func main() {
 		log.Fatal(fileError, listError, portError)
 	}
 	fmt.Println(listener.Addr().(*net.TCPAddr).Port)
-	verifier := httpsig.NewVerifier(flag.Arg(1)) // (the name by which clients ask for the service; a granted request gets 200 and an empty body)
+	verifier := httpsig.NewVerifier(flag.Arg(1)) // (the name by which clients ask for the service)
 	log.Fatal(http.Serve(listener, http.HandlerFunc(func(answer http.ResponseWriter, request *http.Request) {
 		var decision guard.Decision
 		proof, err := verifier.Request(request)
@@ -33,7 +34,8 @@ func main() {
 			words := []string{"packages", "read", request.RequestURI}
 			decision, err = list.Decide(guard.Question{Sequence: proof.Sequence, Key: proof.Key, Words: words, Time: time.Now()}, verify.Signature)
 		}
-		if err != nil || !decision.Granted() || request.Method != http.MethodGet || path.Clean(request.URL.Path) != request.RequestURI {
+		isNormal := path.Clean(request.URL.Path) == request.RequestURI // (no `..`, no escape such as %2e, and no query)
+		if err != nil || !decision.Granted() || request.Method != http.MethodGet || !isNormal {
 			http.Error(answer, "denied", http.StatusForbidden)
 		}
 	})))
