@@ -12,7 +12,7 @@ fn is_normal(path: &str) -> bool {
     let mut parts = path.split('/');
     parts.next() == Some("")
         && parts.clone().count() > 0
-        && parts.all(|it| !["", ".", ".."].contains(&it))
+        && parts.all(|part| !["", ".", ".."].contains(&part))
 }
 
 /// Decides whether the client may do an action, `read` or `write`, with a path. An error is that of the command `openssl`.
@@ -28,24 +28,25 @@ fn decide(
     guard.decide_by(&question, &mut Openssl)
 }
 
+/// Answers each line of the input with one. While its grant holds, the same request is not decided again.
 fn main() -> Result<(), Box<dyn Error>> {
-    let given: Vec<String> = env::args().collect();
-    let [_, list, folder, key, sequence] = &given[..] else {
+    let arguments: Vec<String> = env::args().collect();
+    let [_, list, folder, key, sequence] = &arguments[..] else {
         return Err("usage: cache ACL FOLDER KEY SEQUENCE".into());
     };
     let guard = Guard::read(&fs::read(list)?, Policy::Strict, Limits::default())?;
     let (client, sequence) = (ProvenKey::assume(fs::read(key)?), fs::read(sequence)?);
-    let mut kept: Option<(String, Grant)> = None;
+    let mut kept: Option<(String, Grant)> = None; // (the last request, if it was granted)
     for line in io::stdin().lines() {
         let line = line?;
         let mut words = line.splitn(3, ' ');
         let mut next = || words.next().unwrap_or_default();
         let (action, path, text) = (next(), next(), next());
-        let (file, asked) = (format!("{folder}{path}"), format!("{action} {path}"));
-        if !matches!(&kept, Some((last, grant)) if *last == asked && grant.holds_at(SystemTime::now()))
-        {
-            let decided = decide(&guard, &client, &sequence, action, path);
-            kept = decided.ok().map(|grant| (asked, grant));
+        let (file, request) = (format!("{folder}{path}"), format!("{action} {path}"));
+        let now = SystemTime::now();
+        if !matches!(&kept, Some((granted, grant)) if *granted == request && grant.holds_at(now)) {
+            let decision = decide(&guard, &client, &sequence, action, path);
+            kept = decision.ok().map(|grant| (request, grant));
         }
         if !["read", "write"].contains(&action) || !is_normal(path) || kept.is_none() {
             println!("denied");

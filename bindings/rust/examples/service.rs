@@ -29,7 +29,7 @@ fn grant(guard: &Guard, requests: &Requests, head: &str) -> Option<()> {
     guard.decide_by(&question, &mut Openssl).ok().map(|_| ())
 }
 
-/// Reads the head of one request, and answers by its status alone.
+/// Reads the head of one request, and answers by its status alone. A client that sends nothing for 5 seconds gets no answer.
 fn answer(guard: &Guard, requests: &Requests, mut client: TcpStream) -> io::Result<()> {
     client.set_read_timeout(Some(Duration::from_secs(5)))?;
     let mut reader = BufReader::new(client.try_clone()?.take(MOST_OCTETS));
@@ -41,8 +41,8 @@ fn answer(guard: &Guard, requests: &Requests, mut client: TcpStream) -> io::Resu
 }
 
 fn main() -> Result<(), Box<dyn std::error::Error>> {
-    let given: Vec<String> = std::env::args().collect();
-    let [_, list, name] = &given[..] else {
+    let arguments: Vec<String> = std::env::args().collect();
+    let [_, list, name] = &arguments[..] else {
         return Err("usage: service ACL NAME".into());
     };
     let guard = Guard::read(&std::fs::read(list)?, Policy::Strict, Limits::default())?;

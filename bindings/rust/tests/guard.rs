@@ -73,7 +73,9 @@ fn refusal_line<T: std::fmt::Debug>(result: Result<T, Denied>) -> String {
 /// Entry, item and word of each line.
 fn lines(explanation: &Explanation) -> Vec<(Option<usize>, Option<usize>, &str)> {
     let reasons = explanation.reasons();
-    reasons.map(|it| (it.entry, it.item, it.word)).collect()
+    reasons
+        .map(|reason| (reason.entry, reason.item, reason.word))
+        .collect()
 }
 
 #[test]
@@ -90,6 +92,7 @@ fn a_verifier_is_given_what_is_signed() -> Outcome {
     Ok(())
 }
 
+/// Of three certificates the second has a wrong signature. It is item 3, since each signature is an item too.
 #[test]
 fn a_verifier_is_not_called_behind_the_first_wrong_one() -> Outcome {
     let invalid = PAIR.replace("sig)", "invalid)");
@@ -97,9 +100,9 @@ fn a_verifier_is_not_called_behind_the_first_wrong_one() -> Outcome {
     let guard = guard(LIST);
     let mut asked = guard.ask(&question_showing(sequence.as_bytes()))?;
     let mut calls = 0;
-    asked.verify(|it| {
+    asked.verify(|signature| {
         calls += 1;
-        it.value == b"3:sig"
+        signature.value == b"3:sig"
     })?;
     assert_eq!(calls, 2);
     let explanation = asked.explain()?;
@@ -111,9 +114,9 @@ fn a_verifier_is_not_called_behind_the_first_wrong_one() -> Outcome {
 fn a_verifier_is_called_for_each_of_many() -> Outcome {
     let sequence = format!("(sequence {} {PAIR})", OWN.repeat(39));
     let mut calls = 0;
-    let grant = guard(LIST).decide(&question_showing(sequence.as_bytes()), |it| {
+    let grant = guard(LIST).decide(&question_showing(sequence.as_bytes()), |signature| {
         calls += 1;
-        (it.key, it.value) == (SIGNED.key, SIGNED.value)
+        (signature.key, signature.value) == (SIGNED.key, SIGNED.value)
     })?;
     assert_eq!((calls, grant.entry), (40, 1));
     Ok(())
@@ -146,7 +149,7 @@ fn marks_are_of_one_question() -> Outcome {
     ))?;
     assert!(good.is_possible() && bad.is_possible());
     for asked in [&mut good, &mut bad] {
-        asked.verify(|it| it.value == b"3:sig")?;
+        asked.verify(|signature| signature.value == b"3:sig")?;
     }
     assert_eq!(
         (good.decide().is_ok(), bad.decide()),
@@ -182,7 +185,7 @@ fn marks_are_of_one_place() -> Outcome {
     Ok(())
 }
 
-/// What is no place marks nothing: -255, 0x101 and other numbers that a verifier may have returned.
+/// Only place 0 has a signature. Any other number is misuse, and marks nothing.
 #[test]
 fn other_numbers_are_no_places() -> Outcome {
     let guard = guard(LIST);
@@ -206,6 +209,7 @@ fn other_numbers_are_no_places() -> Outcome {
     Ok(())
 }
 
+/// The caller gets the verifier's error. A verifier that may fail and does not is asked as any other.
 #[test]
 fn an_error_of_a_verifier_goes_on() {
     let sequence = sequence_of(1);
@@ -245,7 +249,7 @@ fn texts(error: &dyn Error) -> Vec<String> {
     texts
 }
 
-/// Whoever prints an error with its sources prints each text once, and the cause of the verifier's error too.
+/// A program that prints an error and its sources prints each text once, and the cause of the verifier's error too.
 #[test]
 fn an_error_of_a_verifier_is_told_once() {
     let failed = || NoAnswer("x".parse::<u8>().expect_err("no number"));
@@ -268,7 +272,7 @@ fn a_panic_of_a_verifier_goes_on() {
     assert!(guard.decide(&question_showing(&sequence), valid).is_ok());
 }
 
-/// The question mark passes on a no, a refusal and an error of the verifier. What is behind it has a grant.
+/// The operator `?` returns a no and a refusal to the caller. What is behind it runs with a grant alone.
 #[test]
 fn a_question_mark_is_no_grant() {
     fn serve(guard: &Guard, question: &Question) -> Result<(), Denied> {
@@ -288,6 +292,7 @@ fn a_question_mark_is_no_grant() {
     assert_eq!(serve(&own, &question_showing(b"(sequence)")), Ok(()));
 }
 
+/// The texts of a question may be freed or changed once it is opened.
 #[test]
 fn an_opened_question_needs_no_texts() -> Outcome {
     let guard = guard(LIST);
@@ -315,12 +320,13 @@ fn a_value_that_is_a_list_has_no_octets() -> Outcome {
     ))?;
     let octets: Vec<_> = asked
         .signatures()
-        .map(|it| (it.value, it.octets()))
+        .map(|signature| (signature.value, signature.octets()))
         .collect();
     assert_eq!(octets, [(&b"(7:sig-val1:x)"[..], None)]);
     Ok(())
 }
 
+/// A string with a space or a parenthesis in it stays one string of the request.
 #[test]
 fn strings_are_strings() {
     let guard =
@@ -338,6 +344,7 @@ fn strings_are_strings() {
     }
 }
 
+/// The tag is a list of 40 strings. It contains each request that begins with them. Up to 16 strings are passed on the stack, and more in a vector.
 #[test]
 fn many_strings_are_strings() {
     let tag = "w ".repeat(40);
@@ -456,7 +463,7 @@ fn a_login_proves_its_key() {
         value: b"3:sig",
     };
     let message = b"(5:login7:service5:nonce)";
-    let client = ProvenKey::by(login(message), |it| it.key == KEY && it.message == message);
+    let client = ProvenKey::by(login(message), |signature| signature == login(message));
     assert_eq!(client.as_ref(), Ok(proven(KEY)));
     assert_eq!(client.map(ProvenKey::into_owned), Ok(proven(KEY).clone()));
     assert_eq!(ProvenKey::by(login(message), |_| false), Err(NotProved::No));
@@ -508,16 +515,17 @@ fn an_opened_question_is_stored() -> Outcome {
     Ok(())
 }
 
+/// The words of an explanation and of a refusal are variants of `Cause`, `Part` and `Fault`.
 #[test]
 fn the_words_of_lines_are_types() -> Outcome {
     let guard = guard(LIST);
     let asked = guard.ask(&question_showing(b"(sequence)"))?;
     let explanation = asked.explain()?;
-    let causes: Vec<_> = explanation.reasons().map(|it| it.cause).collect();
+    let causes: Vec<_> = explanation.reasons().map(|reason| reason.cause).collect();
     assert_eq!(causes, [Cause::NotTheKey]);
     let own = Question::new(b"(sequence)", proven(b"(public-key (test a))"), WORDS, NOW);
     let explanation = guard.ask(&own)?.explain()?;
-    let causes: Vec<_> = explanation.reasons().map(|it| it.cause).collect();
+    let causes: Vec<_> = explanation.reasons().map(|reason| reason.cause).collect();
     assert_eq!(causes, [Cause::Grants]);
     let rows: [(&[u8], Option<Part>, Fault); 4] = [
         (b"(acl (entry))", Some(Part::Acl), Fault::Shape),
@@ -672,7 +680,8 @@ fn several_threads_serve_two_clients() {
             } else {
                 question_showing(&sequence)
             };
-            let answer = guard.decide(&question, |it: Signature| it.value == b"3:sig");
+            let verify = |signature: Signature| signature.value == b"3:sig";
+            let answer = guard.decide(&question, verify);
             assert_eq!(answer.is_ok(), !is_forged);
         }
     };

@@ -206,7 +206,9 @@ fn a_body_that_no_field_says_needs_a_digest() {
         let fields = row.fields();
         let message = row.message(&fields).with_body(has_body);
         let requests = Requests::new(&["example.com"], Nonces::new(10), START, sha256);
-        let proof = requests.prove(&message, START + 100, |it: Signature| Openssl.verify(it));
+        let proof = requests.prove(&message, START + 100, |signed: Signature| {
+            Openssl.verify(signed)
+        });
         assert_eq!(proof.err(), wanted, "{name}, {has_body}");
     }
 }
@@ -261,7 +263,8 @@ fn the_published_signature_is_valid() {
 }
 
 /// A row has a nonce, the second at which it comes, and the refusal, empty if the nonce is taken. Each set has room for 2, and a nonce is kept for
-/// 360 seconds.
+/// 360 seconds. A young set begins at 1000, 1360, 1720 and 3000. The one before it is then the old set, and is dropped at 3000, since it is over 720
+/// seconds old. At 900 the clock has gone back.
 #[test]
 fn nonces_are_kept_in_two_sets() {
     let store = Nonces::new(2);

@@ -40,7 +40,8 @@ fn limits_are_written_and_read() {
     let twice = [("words", 1_u64), ("words", 2)].into_iter();
     let read: Result<Limits, Error> = limits::deserialize(MapDeserializer::new(twice));
     assert_eq!(
-        read.map(|it| it.named()).map_err(|error| error.to_string()),
+        read.map(|limits| limits.named())
+            .map_err(|error| error.to_string()),
         Err("the limit words is there twice".into())
     );
 }

@@ -146,8 +146,11 @@ impl<'a> Parser<'a> {
         let mut names = Vec::new();
         self.expect("(")?;
         while !self.try_skip(")") {
-            if names.len() == MOST_COMPONENTS || !names.is_empty() && !self.try_skip(" ") {
+            if names.len() == MOST_COMPONENTS {
                 return Err(Unproved::Malformed);
+            }
+            if !names.is_empty() {
+                self.expect(" ")?;
             }
             let name = self.string()?;
             if !is_component(name) || self.rest.starts_with(';') {
@@ -204,11 +207,12 @@ pub(super) fn is_token_octet(octet: u8) -> bool {
     octet.is_ascii_alphanumeric() || b"!#$%&'*+-.^_`|~".contains(&octet)
 }
 
-/// Whether a name is one of a field in small letters, but not of the two with signatures, or of the five components that are derived.
+/// Whether a signature may cover what has this name: a field, in small letters, or one of the five components of `DERIVED`. The two fields of the
+/// signature itself may not be covered.
 fn is_component(name: &str) -> bool {
     let is_small = |octet: u8| is_token_octet(octet) && !octet.is_ascii_uppercase();
-    DERIVED.contains(&name)
-        || !["", "signature", "signature-input"].contains(&name) && name.bytes().all(is_small)
+    let is_excluded = ["", "signature", "signature-input"].contains(&name);
+    DERIVED.contains(&name) || (!is_excluded && name.bytes().all(is_small))
 }
 
 /// Reads the value of `Signature-Input`. A component or a parameter that the profile requires must not be missing.

@@ -127,7 +127,7 @@ fn trimmed(mut value: &[u8]) -> &[u8] {
     value
 }
 
-/// A name with its port as it is signed: in small letters, without the port of https.
+/// The name of a host, perhaps with a port, as it is signed: in small letters, without the port of https.
 pub(super) fn authority_of(name: &str) -> String {
     let name = name.strip_suffix(PORT).unwrap_or(name);
     name.to_ascii_lowercase()
