@@ -40,7 +40,7 @@ SETTLED = 0.25
 
 
 def arguments():
-    """What the command line asks for."""
+    """The parsed command line: `seconds` of each measurement, `soak` seconds under load with reloads, and the path of the `library`."""
     parser = argparse.ArgumentParser(description=__doc__, formatter_class=argparse.RawDescriptionHelpFormatter)
     parser.add_argument("--seconds", type=int, default=10, help="of each measurement")
     parser.add_argument("--soak", type=int, default=60, help="seconds under load with reloads")
@@ -107,16 +107,17 @@ def faults_of_races(site):
     return [f"a race, or wrong answers: {log}"] if "DATA RACE" in log or figures.errors or process.returncode else []
 
 
-def faults_of(site, asked):
-    """Measures and prints all figures, and returns a list of what is wrong in them, which is empty if nothing is."""
+def faults_of(site, options):
+    """Measures and prints all figures, by the options of the command line. Returns a list of what is wrong in them, which is empty if nothing is."""
     site.build()
     process = site.start_all()
-    figures = measure_ways(site, asked.seconds)
-    print_processor_time(site, process, asked.seconds)
-    half = at_half_load(site, asked.seconds, figures["nginx and daemon"])
-    soak, memory = run_soak(site, process, asked.soak)
+    figures = measure_ways(site, options.seconds)
+    print_processor_time(site, process, options.seconds)
+    half = at_half_load(site, options.seconds, figures["nginx and daemon"])
+    soak, memory = run_soak(site, process, options.soak)
     site.end()
-    print(f"{f'{asked.soak} s of reloads':<20}{soak}; {memory[0] / 1024:.0f} MiB at first, {max(memory) / 1024:.0f} at most, "
+    title = f"{options.soak} s of reloads"
+    print(f"{title:<20}{soak}; {memory[0] / 1024:.0f} MiB at first, {max(memory) / 1024:.0f} at most, "
           f"{memory[-1] / 1024:.0f} at last, grown by {growth(memory):.3f} since it settled", flush=True)
     ratio = figures["nginx and daemon"].rate / figures["nginx and handler"].rate
     print(f"nginx and daemon: {ratio:.2f} of the handler's requests", flush=True)
@@ -129,14 +130,14 @@ def faults_of(site, asked):
 
 def main():
     """Measures all. Returns the exit status: 1 if a limit is passed. Without nginx, wrk or Go it measures nothing, says so, and returns 0."""
-    asked = arguments()
+    options = arguments()
     if not all(map(shutil.which, ("nginx", "wrk", "go"))):
         print("spki-authd is left out\n0 passed, 0 failed")
         return 0
-    with tempfile.TemporaryDirectory() as room:
-        site = Site(room, os.path.abspath(asked.library))
+    with tempfile.TemporaryDirectory() as folder:
+        site = Site(folder, os.path.abspath(options.library))
         try:
-            faults = faults_of(site, asked)
+            faults = faults_of(site, options)
         finally:
             site.end()
     print("".join(f"{line}\n" for line in faults), end="")

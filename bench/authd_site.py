@@ -101,7 +101,7 @@ def free_ports(count):
     """Numbers of ports of loopback on which no process listens now."""
     with contextlib.ExitStack() as stack:
         sockets = [stack.enter_context(socket.create_server(("127.0.0.1", 0))) for _ in range(count)]
-        return [it.getsockname()[1] for it in sockets]
+        return [each.getsockname()[1] for each in sockets]
 
 
 class Site:
@@ -135,6 +135,7 @@ class Site:
         it as `certificate`, in percent-encoding as nginx passes one."""
         private = new_private("ed25519")
         signers, client = [FileSigner(new_private("ed25519")) for _ in range(3)], FileSigner(private)
+        # (S-expressions in canonical form: each string has its length and a colon in front)
         others = b"".join(b"(5:entry(10:public-key(4:test%d:%d))(3:tag(5:files)))" % (len(str(place)), place) for place in range(ENTRIES - 1))
         self.list = self.path("acl")
         with open(self.list, "wb") as file:

@@ -1,6 +1,6 @@
 #!/usr/bin/env python3
-"""Times `spki check` on long chains of certificates and on wide texts, and beside `openssl`. `linear.py` has slower texts. Times are
-processor times, the least of some runs.
+"""Times `spki check` on long chains of certificates and on wide texts, and beside `openssl`. Each text is a case: an access list, certificates and a
+question in one. `linear.py` has slower texts. Times are processor times, the least of some runs.
 
 Build the program first (`rt run` in crates/spki). Usage: bench/chains.py [PROGRAM]
 """
@@ -39,6 +39,7 @@ def largest_growth():
 
 def widest():
     """Yields (what it is, text, its answer): cases of at most 1 MiB with many entries, or with certificates for large tags."""
+    # (1,024, 8 * 1,024 and 16 * 1,024 octets are more than what a case has besides)
     one = len(entry(key("k00000")))
     link = len(by_keys(2)) - len(by_keys(1))
     half = MOST_OCTETS // 2

@@ -1,6 +1,6 @@
 #!/usr/bin/env python3
-"""Times `spki check` on large cases, and prints how the time grows with the octets and how much memory it takes. Times are processor
-times, the least of some runs.
+"""Times `spki check` on large cases, and prints how the time grows with the octets and how much memory it takes. A case is one text with an access
+list, certificates, which signatures are valid, and a question. Times are processor times, the least of some runs.
 
 Build the program first (`rt run` in crates/spki). Usage: bench/check.py [PROGRAM]
 """
@@ -43,14 +43,14 @@ STAR = group(string("*"))
 # Each of the next functions returns a text of at most `size` octets, and how the answer to it begins.
 
 def many_entries(size):
-    """(text, begin of its answer): a case with entries of other keys, and the asking key's entry at the end."""
+    """Returns a text and how its answer begins: a case with entries of other keys, and the asking key's entry at the end."""
     empty = len(case([entry("a", STAR)], string("ftp")))
     one = len(entry("b", STAR))
     return case([entry("b", STAR)] * ((size - empty) // one) + [entry("a", STAR)], string("ftp")), b"yes entry"
 
 
 def many_structures(size):
-    """(text, begin of its answer): a case with entries for names, for hashes and with windows, and the asking key's entry at the end."""
+    """Returns a text and how its answer begins: a case with entries for names, for hashes and with windows, and the asking key's entry at the end."""
     date = string("2024-01-01_00:00:00")
     tag = group(string("tag"), STAR)
     three = [
@@ -63,7 +63,7 @@ def many_structures(size):
 
 
 def many_certificates(size):
-    """(text, begin of its answer): a case with one certificate many times, whose signature has another digest."""
+    """Returns a text and how its answer begins: a case with one certificate many times, whose signature has another digest."""
     cert = group(string("cert"), group(string("issuer"), key("a")), group(string("subject"), key("b")), group(string("tag"), STAR))
     pair = cert + group(string("signature"), group(string("hash"), string("sha256"), string("d" * 32)), key("a"), string("sig"))
 
@@ -77,26 +77,28 @@ def many_certificates(size):
 
 
 def many_members(size):
-    """(text, begin of its answer): a case with a request of many members."""
-    empty = len(case([entry("a", STAR)], group(string("ftp"))))
-    return case([entry("a", STAR)], group(string("ftp"), *[string("x")] * ((size - empty) // 3))), b"yes entry 1\n"
+    """Returns a text and how its answer begins: a case with a request of many members."""
+    empty, one = len(case([entry("a", STAR)], group(string("ftp")))), len(string("x"))
+    return case([entry("a", STAR)], group(string("ftp"), *[string("x")] * ((size - empty) // one))), b"yes entry 1\n"
 
 
 def lists_in_lists(size):
-    """(text, begin of its answer): a case with a request of lists that are as deep as the limit allows."""
+    """Returns a text and how its answer begins: a case with a request of 60 lists in one another, again and again. With the three around them 63 are
+    open at once, and the limit is 64."""
     deep = b"".join([b"(1:f"] * 60) + b")" * 60
     empty = len(case([entry("a", STAR)], group(string("ftp"))))
     return case([entry("a", STAR)], group(string("ftp"), *[deep] * ((size - empty) // len(deep)))), b"yes entry 1\n"
 
 
 def one_string(size):
-    """(text, begin of its answer): a case with a request of one long string."""
+    """Returns a text and how its answer begins: a case with a request of one long string."""
+    # (16 octets more than the digits of the string's length need)
     empty = len(case([entry("a", STAR)], string("ftp"))) + 16
     return case([entry("a", STAR)], string(b"x" * (size - empty))), b"yes entry 1\n"
 
 
 def no_value(size):
-    """(text, begin of its answer): empty lists without an end, which have the most nodes for the octets, and are no whole value."""
+    """Returns a text and how its answer begins: empty lists without an end, which have the most nodes for the octets, and are no whole value."""
     return b"(" + b"()" * ((size - 1) // 2), b"refused form Short\n"
 
 

@@ -136,24 +136,25 @@ def theirs(form):
 def measure(form, texts):
     """The seconds of `spki` on each text, those of `sexp-conv` on the last and largest, and the MiB of `spki` on that. On the largest the two
     programs run in turn, so that other work on the machine disturbs both alike."""
-    times, other = [], float("inf")
+    times, peer_seconds = [], float("inf")
     for text in texts:
         times.append(min(text.seconds(ours(form)) for _ in range(RUNS)))
     for _ in range(RUNS):
         times[-1] = min(times[-1], texts[-1].seconds(ours(form)))
-        other = min(other, texts[-1].seconds(theirs(form)))
-    return times, other, peak(PROGRAM, form, texts[-1].octets)
+        peer_seconds = min(peer_seconds, texts[-1].seconds(theirs(form)))
+    return times, peer_seconds, peak(PROGRAM, form, texts[-1].octets)
 
 
-def ratio_beside_peer(form, text, seconds, other):
-    """The ratio of the seconds of `spki` to those of `sexp-conv` (`other`). If it is over its limit, the ratio of their instructions, if that is
-    less."""
-    ratio = seconds / other
+def ratio_beside_peer(form, text, seconds, peer_seconds):
+    """The ratio of the seconds of `spki` to those of `sexp-conv`. If it is over its limit, the ratio of their instructions, if that is less."""
+    ratio = seconds / peer_seconds
     if ratio <= LIMIT_PEER:
         return ratio
     count = choose_counter()
-    few, many = (counted(count, [shutil.which(command[0]), *command[1:]], text.octets) for command in (ours(form), theirs(form)))
-    return min(ratio, few / many)
+    # (a counter needs the whole path of the program)
+    commands = [[shutil.which(command[0]), *command[1:]] for command in (ours(form), theirs(form))]
+    own, of_peer = (counted(count, command, text.octets) for command in commands)
+    return min(ratio, own / of_peer)
 
 
 def print_target(name, worst, limit):
@@ -176,15 +177,15 @@ def main():
         if texts[0].conversion_by(ours("canonical")) != texts[0].conversion_by(theirs("canonical")):
             sys.exit(f"{make.__name__}: the canonical forms differ")
         for form in FORMS:
-            times, other, memory = measure(form, texts)
+            times, peer_seconds, memory = measure(form, texts)
             ratios = [after / before for before, after in zip(times, times[1:])]
-            ratio = ratio_beside_peer(form, texts[-1], times[-1], other)
+            ratio = ratio_beside_peer(form, texts[-1], times[-1], peer_seconds)
             slowest = max(slowest, ratio)
             steepest = max([steepest] + ratios)
             largest = max(largest, memory)
             print(f"{make.__name__:<20}{form:<11}" + "".join(f"{seconds * 1000:>9.1f} ms" for seconds in times)
                   + "   " + " ".join(f"{growth:5.2f}" for growth in ratios)
-                  + f"   {other * 1000:>9.1f} ms {ratio:>11.2f}   {memory:>9.1f} MiB")
+                  + f"   {peer_seconds * 1000:>9.1f} ms {ratio:>11.2f}   {memory:>9.1f} MiB")
     are_within = [
         print_target("slowest beside sexp-conv", slowest, LIMIT_PEER),
         print_target("steepest for 4 times the octets", steepest, LIMIT_RATIO),

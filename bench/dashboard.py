@@ -41,6 +41,7 @@ def changes(site, seconds):
     quarters. The daemon reads the list after each change."""
     with open(site.list, "rb") as file:
         whole = file.read()
+    # (the issuer has the last entry)
     without = whole[:whole.rindex(b"(5:entry")] + b")"
     for text in (without, b"(3:acl", whole):
         time.sleep(seconds / 4)
@@ -73,11 +74,14 @@ def rates(samples, name, labels):
 def quantile(samples, share):
     """For each second the least bound of the daemon's histogram, in milliseconds, up to which a share (0.99) of its answers took. The greatest bound
     if fewer did."""
+    # (the labels of a bucket are `le="0.005"`: so many answers took at most 0.005 seconds)
     bounds = sorted({float(labels[4:-1]) for name, labels in samples[0] if name == "seconds_bucket" and "Inf" not in labels})
-    grown = [rates(samples, "seconds_bucket", f'le="{bound:g}"') for bound in bounds]
-    counts = rates(samples, "seconds_count", "")
-    return [next((bound * 1000 for bound, each in zip(bounds, grown) if each[at] >= share * count), bounds[-1] * 1000)
-            for at, count in enumerate(counts)]
+    by_bound = [rates(samples, "seconds_bucket", f'le="{bound:g}"') for bound in bounds]
+    least = []
+    for second, count in enumerate(rates(samples, "seconds_count", "")):
+        sufficient = [bound for bound, numbers in zip(bounds, by_bound) if numbers[second] >= share * count]
+        least.append(1000 * (sufficient or bounds[-1:])[0])
+    return least
 
 
 def panels(samples):
@@ -93,13 +97,15 @@ def elements_of(place, title, lines):
     """Yields the elements of a panel in SVG. Its place is 0 to 3, by rows of two. `lines` are those of `panels`."""
     left, top = LEFT + place % 2 * (WIDTH + 80), TOP_OF_PANEL + place // 2 * ROW
     most = max(max(values) for _, values in lines) or 1
+    # (with four digits that count)
+    written_most = f"{float(f'{most:.4g}'):,.10g}"
     yield f'<text x="{left}" y="{top - 8}" font-weight="bold">{escape(title)}</text>'
     yield f'<rect x="{left}" y="{top}" width="{WIDTH}" height="{HEIGHT}" fill="none" stroke="#999"/>'
-    yield f'<text x="{left - 6}" y="{top + 10}" text-anchor="end">{float(f"{most:.4g}"):,.10g}</text>'
+    yield f'<text x="{left - 6}" y="{top + 10}" text-anchor="end">{written_most}</text>'
     yield f'<text x="{left - 6}" y="{top + HEIGHT}" text-anchor="end">0</text>'
     for number, (name, values) in enumerate(lines):
         step = WIDTH / max(1, len(values) - 1)
-        points = " ".join(f"{left + at * step:.1f},{top + HEIGHT - value / most * HEIGHT:.1f}" for at, value in enumerate(values))
+        points = " ".join(f"{left + second * step:.1f},{top + HEIGHT - value / most * HEIGHT:.1f}" for second, value in enumerate(values))
         yield f'<polyline points="{points}" fill="none" stroke="{COLOURS[number]}" stroke-width="1.5"/>'
         yield f'<text x="{left + number * 130}" y="{top + HEIGHT + 16}" fill="{COLOURS[number]}">{escape(name)}</text>'
 
@@ -109,13 +115,13 @@ def main():
     parser = argparse.ArgumentParser(description=__doc__, formatter_class=argparse.RawDescriptionHelpFormatter)
     parser.add_argument("--seconds", type=int, default=60)
     parser.add_argument("library", nargs="?", default=LIBRARY)
-    given = parser.parse_args()
-    with tempfile.TemporaryDirectory() as room:
-        site = Site(room, os.path.abspath(given.library))
+    options = parser.parse_args()
+    with tempfile.TemporaryDirectory() as folder:
+        site = Site(folder, os.path.abspath(options.library))
         try:
             site.build()
             site.start_all()
-            samples = sample(site, given.seconds)
+            samples = sample(site, options.seconds)
         finally:
             site.end()
     parts = [part for place, (title, lines) in enumerate(panels(samples)) for part in elements_of(place, title, lines)]

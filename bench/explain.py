@@ -1,5 +1,6 @@
 #!/usr/bin/env python3
-"""Counts the instructions of `spki explain`, and shows what `reduce` may write. The limits are:
+"""Counts the instructions of `spki explain` on cases, texts with an access list, certificates and a question, and shows what `reduce` may write. The
+limits are:
 
 - On cases of one entry, at most 4 times the instructions of `check`, which intersects no tags there.
 - On many entries with many certificates, at most 1.5 times the entries times what one entry takes with the certificates: each is folded.
@@ -26,6 +27,7 @@ def measure_one_entry(count):
     """The largest ratio of the instructions of `explain`, by the counter `count`, to those of `check` on one entry, and the most MiB."""
     texts = [("a chain by keys", by_keys(1500, asks=key("other"))), ("a chain by hashes", by_hashes(1500)),
              ("a chain through names", through_names(1500))]
+    # (the first of `widest` has many entries)
     _, *of_one_entry = widest()
     texts += [(what, text) for what, text, _ in of_one_entry]
     worst, most = 0.0, 0.0
@@ -59,12 +61,14 @@ def print_reductions():
     """Prints what `reduce` takes and writes for some of the largest entries, and how many fit into a text."""
     one = len(largest(2)) - len(largest(1))
     fit = (MOST_OCTETS - len(largest(0))) // one
+    # (an entry's line has `a` and a space for each string, and some 70 octets more)
+    line_octets = COPIES * COPIES * 2 + 70
     for entries in (1, 2, 4):
         text = largest(entries)
         seconds, memory = used(PROGRAM, "reduce", text)
         written = len(subprocess.run([PROGRAM, "reduce"], input=text, stdout=subprocess.PIPE, check=True).stdout)
         print(f"{entries} such entries, {len(text)} octets: {written} octets written in {seconds:.2f} s with {memory:.0f} MiB")
-    print(f"{fit} such entries fit into {MOST_OCTETS} octets: {fit * (COPIES * COPIES * 2 + 70)} octets to be written")
+    print(f"{fit} such entries fit into {MOST_OCTETS} octets: {fit * line_octets} octets to be written")
 
 
 def most_of_long_keys():

@@ -91,7 +91,7 @@ class Asker(threading.Thread):
 
 def span_of_503(answers, failed):
     """When the first 503 was received, and the first answer to a request after the last 503, in seconds since the failure. None if there is no
-    503. An Asker is ended once its daemon answers again, so the last answer is none."""
+    503. An Asker is ended once its daemon answers again, so an answer follows the last 503."""
     refused = [place for place, (_, _, _, status) in enumerate(answers) if status == 503]
     return (answers[refused[0]][1] - failed, answers[refused[-1] + 1][1] - failed) if refused else None
 
@@ -101,7 +101,8 @@ def is_wrong(answer, removed, stale):
     begun, _, name, status = answer
     if name == GOES and status == 200:
         return begun > removed + stale
-    return status not in (503, 200 if name == STAYS else 401)
+    own_status = 200 if name == STAYS else 401
+    return status not in (503, own_status)
 
 
 class Site:
@@ -217,12 +218,13 @@ def main():
     parser.add_argument("--wait", type=float, nargs="+", help="seconds from the failure to the promotion")
     parser.add_argument("--times", type=int, default=1, help="how often all is measured")
     parser.add_argument("library", nargs="?", default=LIBRARY)
-    given, wrong = parser.parse_args(), 0
-    with tempfile.TemporaryDirectory() as room:
-        program = golang.build_daemon(os.path.abspath(given.library), os.path.join(room, "spki-authd"), *store.DRIVER)
-        for stale, wait in [(stale, wait) for stale in given.stale for wait in given.wait or waits_of(stale)] * given.times:
-            with contextlib.ExitStack() as stack, tempfile.TemporaryDirectory(dir=room) as own:
-                wrong += Site(stack, own, program, stale, given.cut).measure(wait)
+    options, wrong = parser.parse_args(), 0
+    with tempfile.TemporaryDirectory() as folder:
+        program = golang.build_daemon(os.path.abspath(options.library), os.path.join(folder, "spki-authd"), *store.DRIVER)
+        failovers = [(stale, wait) for stale in options.stale for wait in options.wait or waits_of(stale)]
+        for stale, wait in failovers * options.times:
+            with contextlib.ExitStack() as stack, tempfile.TemporaryDirectory(dir=folder) as own:
+                wrong += Site(stack, own, program, stale, options.cut).measure(wait)
     return 1 if wrong else 0
 
 

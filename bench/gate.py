@@ -27,14 +27,14 @@ FIXED = ["rt", "selftest"]
 
 def words_of(process):
     """The command line of a process, by its number."""
-    with open(f"/proc/{process}/cmdline", "rb") as it:
-        return it.read().decode(errors="replace").split("\0")
+    with open(f"/proc/{process}/cmdline", "rb") as file:
+        return file.read().decode(errors="replace").split("\0")
 
 
 def fields_of(process):
     """The fields of /proc/PID/stat behind the name: [1] is the parent, [11] and [12] the ticks, [19] the begin."""
-    with open(f"/proc/{process}/stat") as it:
-        return it.read().rpartition(")")[2].split()
+    with open(f"/proc/{process}/stat") as file:
+        return file.read().rpartition(")")[2].split()
 
 
 def ticks_of(process):

@@ -1,5 +1,6 @@
 #!/usr/bin/env python3
-"""Times `spki check` on texts whose time must be linear in their octets. `slowest.py` searches for others.
+"""Times `spki check` on texts whose time must be linear in their octets. `slowest.py` searches for others. Each text is a case: an access list,
+certificates, which signatures are valid, and a question.
 
 Each text is made for three lengths. Times are processor times, the least of some runs. The ratio for 4 times the octets is that of times or
 that of instructions, whichever is less: short times differ by half from run to run, and a comparison of long octets has more instructions than
@@ -104,7 +105,7 @@ def wide_sets(entries, certificates, members):
 
 
 def list_of_members(entries, certificates, members):
-    """A case of an entry for a list, and so many times a certificate for its head."""
+    """A case of an entry for a list of nine tenths of `members` members, and so many times a certificate for the list of its first member, (ftp)."""
     return repeated([entry(OWNER, group(string("ftp"), *[string("x")] * (members * 9 // 10 - 1)))], certificate(OWNER, OWNER, FTP), certificates)
 
 
@@ -175,8 +176,8 @@ def large_tag_and_range(entries, certificates, members):
 
 
 def large_tag_and_set(entries, certificates, members):
-    """A case of two sets whose intersection has many strings, and many times a certificate for a set of two strings. That has 3 nodes, so there are
-    fewer members."""
+    """A case of two sets whose intersection has many strings, and many times a certificate for a set of two strings. The product of the nodes of all
+    three is limited, and the third set has 3 nodes, so the two have fewer members."""
     return large_tag(entries, certificates, int(members / 3 ** 0.5), SET_OF_TWO)
 
 
@@ -199,7 +200,7 @@ def narrowed_ranges(entries, certificates, members):
 
 def ranges_and_sets_of_two(entries, certificates, members):
     """A case of two sets whose intersection has many ranges, and certificates for sets of two: a range within that of the certificate before, and one
-    that has nothing in common with the others. Such a set has 3 nodes, so there are fewer members."""
+    that has nothing in common with the others. Such a set has 3 nodes, so the two have fewer members, as in `large_tag_and_set`."""
     low, high = (group(*map(string, ("*", "range", "alpha", word, "b"))) for word in ("l", "g"))
     sets = (group(string("*"), string("set"), between(place), high) for place in range(certificates))
     return after_large(a_set(low, int(members / 3 ** 0.5)), sets)

@@ -25,7 +25,7 @@ KEYSTROKE = """
     const done = arguments[arguments.length - 1], box = document.getElementById('request'), line = document.getElementById('line');
     const wanted = box.value.includes('read') ? 'no' : 'yes', begins = performance.now();
     box.value = wanted === 'no' ? 'packages\\nrear' : 'packages\\nread\\n/builds/web/index.html';
-    const seen = (_, it) => line.textContent.startsWith(wanted) && (it.disconnect(),
+    const seen = (_, observer) => line.textContent.startsWith(wanted) && (observer.disconnect(),
       requestAnimationFrame(() => done((performance.now() - begins) / 1000)));
     new MutationObserver(seen).observe(line, {childList: true, characterData: true, subtree: true});
     box.dispatchEvent(new Event('input', {bubbles: true}));"""
@@ -40,6 +40,7 @@ class Timed(InChromium):
         """The median of the seconds from a keystroke to the answer, for the parts of a question by their names."""
         for name in ("acl", "sequence"):
             self.put(name, question[name])
+        # (until the page has answered to these texts)
         time.sleep(2)
         return statistics.median(self.browser.execute_async_script(KEYSTROKE) for _ in range(RUNS))
 

@@ -35,11 +35,11 @@ def main():
         sys.exit(__doc__)
     name, rows = sys.argv[1], int(sys.argv[2]) if len(sys.argv) > 2 else 20
     crate = toolchain.crates(name)[name]
-    with tempfile.TemporaryDirectory() as room:
-        ran = toolchain.rt_module().checked(crate, {}, toolchain.ONE, room)
+    with tempfile.TemporaryDirectory() as folder:
+        ran = toolchain.rt_module().checked(crate, {}, toolchain.ONE, folder)
         if ran.returncode:
             sys.exit(ran.stdout)
-        parts = list(parts_in(room))
+        parts = list(parts_in(folder))
     every, states, goals = Counter(), Counter(), Counter()
     for function, part, seconds in parts:
         every[function] += seconds

@@ -44,13 +44,16 @@ class Tag:
             return string(octets)
         if kind == "prefix":
             return group(*map(string, (b"*", b"prefix", octets)))
-        limits = [string(it) for it in (b"ge", octets + b"a", b"le", octets + b"z")] if kind == "limits" else []
+        limits = [string(word) for word in (b"ge", octets + b"a", b"le", octets + b"z")] if kind == "limits" else []
         return group(*map(string, (b"*", b"range", b"alpha")), *limits)
 
     @property
     def nodes(self) -> int:
         """The number of nodes of the written tag, or a greater one."""
-        own = self.members + self.depth * (1 if self.kind == "set" else 2) if self.kind in ("list", "set") else 1
+        own = 1
+        if self.kind in ("list", "set"):
+            # (a list has a node for itself and one for its first string)
+            own = self.members + self.depth * (1 if self.kind == "set" else 2)
         return own + 2 * self.lists + (1 if self.lists else 0)
 
     def text(self) -> bytes:
@@ -243,7 +246,7 @@ def formed(form: Form, octets: int) -> Form | None:
 
 
 def near(chance: random.Random, number: int, most: int) -> int:
-    """A number from 1 to `most`, mostly near another one."""
+    """A number from 1 to `most`: in seven of ten calls one that is up to 2.8 times more or less than `number`, and otherwise any."""
     if chance.random() < 0.3:
         return min(most, int(2 ** chance.uniform(0, most.bit_length())))
     return max(1, min(most, int(number * 2 ** chance.uniform(-1.5, 1.5)) + chance.choice((-1, 0, 1))))
@@ -251,50 +254,53 @@ def near(chance: random.Random, number: int, most: int) -> int:
 
 def changed_tag(chance: random.Random, tag: Tag) -> Tag:
     """A tag of which one part is changed by chance."""
-    what = chance.choice(("kind", "kind", "members", "octets", "depth", "of", "are_equal", "lists"))
-    others = {"kind": lambda: chance.choice(KINDS), "members": lambda: near(chance, tag.members, 999),
+    field = chance.choice(("kind", "kind", "members", "octets", "depth", "of", "are_equal", "lists"))
+    # (only the function of the chosen field is called)
+    values = {"kind": lambda: chance.choice(KINDS), "members": lambda: near(chance, tag.members, 999),
               "octets": lambda: near(chance, tag.octets, 30_000), "depth": lambda: near(chance, tag.depth, MOST_DEPTH),
               "of": lambda: chance.choice(LEAVES), "are_equal": lambda: not tag.are_equal, "lists": lambda: chance.choice((0, 0, 1, 10))}
-    return replace(tag, **{what: others[what]()})
+    return replace(tag, **{field: values[field]()})
 
 
 def changed_link(chance: random.Random, link: Link) -> Link:
     """A certificate of which one part is changed by chance."""
-    what = chance.choice(("tag", "tag", "tag", "repeats", "names", "comment"))
-    if what == "tag":
+    field = chance.choice(("tag", "tag", "tag", "repeats", "names", "comment"))
+    if field == "tag":
         return replace(link, tag=changed_tag(chance, link.tag))
-    if what == "repeats":
+    if field == "repeats":
         return replace(link, repeats=near(chance, link.repeats, 60))
-    number = 0 if chance.random() < 0.5 else near(chance, getattr(link, what) or 1, 30_000)
-    return replace(link, **{what: number})
+    number = 0 if chance.random() < 0.5 else near(chance, getattr(link, field) or 1, 30_000)
+    return replace(link, **{field: number})
 
 
 def changed(chance: random.Random, recipe: Recipe) -> Recipe:
     """The recipe with one part changed by chance: its entries, a link, which number grows, or who asks for what. It gets at most four links."""
-    entries, links, what = recipe.entries, recipe.links, chance.choice(("entries", "entries", "link", "link", "links", "grows", "request", "by"))
-    if what == "entries":
+    entries, links, part = recipe.entries, recipe.links, chance.choice(("entries", "entries", "link", "link", "links", "grows", "request", "by"))
+    if part == "entries":
         changes = (replace(entries, tag=changed_tag(chance, entries.tag)), replace(entries, names=chance.choice((0, 0, 1, 2, 50))),
                    replace(entries, grows=chance.choice(("count", "octets", "names"))))
         return replace(recipe, entries=chance.choice(changes))
-    if what == "link" and links:
+    if part == "link" and links:
         at = chance.randrange(len(links))
         return replace(recipe, links=(*links[:at], changed_link(chance, links[at]), *links[at + 1:]))
-    if what in ("link", "links"):
+    if part in ("link", "links"):
         at = chance.randrange(len(links) + 1)
         if links and (len(links) == 4 or chance.random() < 0.3):
-            return replace(recipe, links=(*links[:at], *links[at + 1:]) if at < len(links) else links[1:])
+            # (one is removed, the first if `at` is behind the last)
+            removed = at % len(links)
+            return replace(recipe, links=(*links[:removed], *links[removed + 1:]))
         return replace(recipe, links=(*links[:at], chance.choice((*links, changed_link(chance, Link()))), *links[at:]))
-    if what == "grows":
+    if part == "grows":
         return replace(recipe, grown=chance.randrange(4), grows=chance.choice(("", "repeats", "names", "octets", "members", "comment")))
-    if what == "request":
+    if part == "request":
         return replace(recipe, words=near(chance, recipe.words, 64), word_octets=near(chance, recipe.word_octets, 20_000))
     return replace(recipe, is_by_other=not recipe.is_by_other)
 
 
 def changed_form(chance: random.Random, form: Form) -> Form:
     """A form of which one part is changed by chance."""
-    what = chance.choice(("kind", "count", "octets", "depth", "is_braced"))
-    others = {"kind": lambda: chance.choice(FORMS), "count": lambda: near(chance, form.count, 100_000),
+    field = chance.choice(("kind", "count", "octets", "depth", "is_braced"))
+    values = {"kind": lambda: chance.choice(FORMS), "count": lambda: near(chance, form.count, 100_000),
               "octets": lambda: near(chance, form.octets, 100_000), "depth": lambda: near(chance, form.depth, 60),
               "is_braced": lambda: not form.is_braced}
-    return replace(form, **{what: others[what]()})
+    return replace(form, **{field: values[field]()})
