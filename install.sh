@@ -29,7 +29,8 @@ cmake=$libraries/cmake/spki
 # The modules of spki-cert, and those that it shares with services in Python.
 modules=(apps/spki-cert/spki_cert_tool/{*.py,py.typed} bindings/python/spki{,_http,_verify}/{*.py,py.typed})
 
-# module_place MODULE: prints the place of a module of spki-cert under the prefix.
+# module_place MODULE: prints the place of a module of spki-cert under the prefix, for its path in this repository: the packages are put beside one
+# another, without the folders apps/spki-cert and bindings/python.
 module_place() {
     local path=${1#apps/spki-cert/}
     echo "share/spki-cert/${path#bindings/python/}"

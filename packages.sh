@@ -104,7 +104,7 @@ END
 
 # package_library ARCHITECTURE STATIC TOOLS: makes the two packages of the library for an architecture, of the static library STATIC and of the shared
 # one beside it. The headers and the files for pkg-config and CMake are those in $room/all, which were installed for the architecture of this machine.
-# TOOLS is as for `strip_file`.
+# TOOLS is how the name of `strip` begins, as for `strip_file`.
 package_library() {
     local architecture=$1 static=$2 tools=$3 own place depends
     own=$(libraries_of "$(dpkg --print-architecture)") place=usr/$(libraries_of "$1")

@@ -118,9 +118,9 @@ def description_of(package: str, maintainer: str) -> tuple[Row, list[Row], set[t
     return whole, files, linked_into([content for _, content in contents_of_files])
 
 
-def relationship(one: object, how: str, other: object) -> Row:
-    """A relationship of two elements, by their SPDXID, as SPDX has it. `how` is a word of SPDX."""
-    return {"spdxElementId": one, "relationshipType": how, "relatedSpdxElement": other}
+def relationship(element: object, kind: str, other: object) -> Row:
+    """The relationship of an element to another, both given by their SPDXID, as SPDX has it. `kind` is a word of SPDX, such as `CONTAINS`."""
+    return {"spdxElementId": element, "relationshipType": kind, "relatedSpdxElement": other}
 
 
 def linked_into(contents_of_files: list[bytes]) -> set[tuple[str, str]]:
