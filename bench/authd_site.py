@@ -50,18 +50,19 @@ function done(summary, latency, requests)
                         errors.connect + errors.read + errors.write + errors.status + errors.timeout))
 end
 """
-NGINX = """daemon off; {as_user} error_log {room}/nginx.log warn; pid {room}/nginx.pid; worker_processes 2;
+NGINX = """daemon off; {as_user} error_log {folder}/nginx.log warn; pid {folder}/nginx.pid; worker_processes 2;
 events {{ worker_connections 1024; }}
 http {{
     access_log off;
     large_client_header_buffers 4 80k;
-    client_body_temp_path {room}/body; proxy_temp_path {room}/proxy; fastcgi_temp_path {room}/f; uwsgi_temp_path {room}/u; scgi_temp_path {room}/s;
-    upstream yes {{ server unix:{room}/yes.socket; keepalive 64; }}
-    upstream authd {{ server unix:{room}/authd.socket; keepalive 64; }}
+    client_body_temp_path {folder}/body; proxy_temp_path {folder}/proxy; fastcgi_temp_path {folder}/f;
+    uwsgi_temp_path {folder}/u; scgi_temp_path {folder}/s;
+    upstream yes {{ server unix:{folder}/yes.socket; keepalive 64; }}
+    upstream authd {{ server unix:{folder}/authd.socket; keepalive 64; }}
 {servers}
 }}
 """
-SERVER = """    server {{ listen 127.0.0.1:{port}; root {room}; {ask}
+SERVER = """    server {{ listen 127.0.0.1:{port}; root {folder}; {ask}
         location = /auth {{ internal; proxy_pass http://{name}; proxy_http_version 1.1; proxy_set_header Connection ""; proxy_pass_request_body off;
             proxy_set_header Content-Length ""; proxy_set_header X-Original-Method $request_method; proxy_set_header X-Original-URI $request_uri;
             proxy_set_header X-Original-Host $host; proxy_set_header X-Client-Cert "{certificate}"; }} }}
@@ -105,19 +106,19 @@ def free_ports(count):
 
 
 class Site:
-    """The files and the programs in the folder `room`. `nginx` has the ports for nginx alone, with the handler, and with the daemon. `list` is the
+    """The files and the programs in `folder`. `nginx` has the ports for nginx alone, with the handler, and with the daemon. `list` is the
     path of the access list, and `running` has the processes that `end` ends."""
 
-    def __init__(self, room, library):
-        self.room, self.library, self.running = room, library, []
+    def __init__(self, folder, library):
+        self.folder, self.library, self.running = folder, library, []
         self.nginx = free_ports(PORTS)
-        os.chmod(room, 0o755)
+        os.chmod(folder, 0o755)
         self.write("web/index.html", "<p>hello</p>\n" * 100)
         self.make_certificates()
 
     def path(self, name):
         """The path of a file of the site."""
-        return os.path.join(self.room, name)
+        return os.path.join(self.folder, name)
 
     def write(self, name, text, mode=0o644):
         """Writes a file, and returns its path."""
@@ -197,11 +198,11 @@ class Site:
             os.remove(self.path("yes.socket"))
         self.handler = self.start(self.path("yes"), self.path("yes.socket"), at=self.path("yes.socket"))
         asks = [("", "yes"), ("auth_request /auth;", "yes"), ("auth_request /auth;", "authd")]
-        servers = "".join(SERVER.format(port=port, room=self.room, ask=ask, name=name, certificate=self.certificate)
+        servers = "".join(SERVER.format(port=port, folder=self.folder, ask=ask, name=name, certificate=self.certificate)
                           for port, (ask, name) in zip(self.nginx, asks))
         as_user = "user root;" if os.getuid() == 0 else ""
-        path = self.write("nginx.conf", NGINX.format(room=self.room, servers=servers, as_user=as_user))
-        self.start("nginx", "-p", self.room, "-c", path, "-e", self.path("nginx.log"), at=self.nginx[0])
+        path = self.write("nginx.conf", NGINX.format(folder=self.folder, servers=servers, as_user=as_user))
+        self.start("nginx", "-p", self.folder, "-c", path, "-e", self.path("nginx.log"), at=self.nginx[0])
         return daemon
 
     def end(self):

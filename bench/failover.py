@@ -109,7 +109,7 @@ class Site:
     """Servers, daemons, and those who ask them. `nodes` are those of a network at which the primary, the two replicas and the heartbeat run, in this
     order, if the primary is to be cut off; otherwise each is None. `number` is that of the entry that is removed."""
 
-    def __init__(self, stack, room, program, stale, is_cut):
+    def __init__(self, stack, folder, program, stale, is_cut):
         self.nodes, self.stale = nodes_of(stack) if is_cut else [None] * 4, stale
         self.primary = stack.enter_context(databases.Server(at=self.nodes[0], fsync="on"))
         self.store = store.new_store(self.primary)
@@ -125,7 +125,7 @@ class Site:
         _, self.number = (self.store.add(people[name].entry) for name in (STAYS, GOES))
         self.askers = []
         for place, each in enumerate(self.replicas):
-            process, socket = store.start_daemon(program, each, room, place, stale_seconds=stale)
+            process, socket = store.start_daemon(program, each, folder, place, stale_seconds=stale)
             stack.enter_context(databases.killed_at_end(process))
             self.askers.append(Asker(socket, people))
             databases.waits_for("the daemon has the entries", lambda: people[GOES].status(self.askers[-1].socket) == 200)

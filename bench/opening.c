@@ -20,11 +20,12 @@ int main(int count, char **words)
     if (count != 2)
         return 2;
     struct held held = held_in(words[1], &highest);
-    const struct spki_question *it = &held.question;
+    const struct spki_question *question = &held.question;
+    size_t octets = question->sequence.length + question->key.text.length + question->request.length + question->moment.length;
     begin_counting();
     double begun = used();
     enum spki_status status = list_signed(&held);
     double took = used() - begun;
-    printf("%zu %zu %zu %.2f\n", it->sequence.length + it->key.text.length + it->request.length + it->moment.length, most_taken(), taken, took);
+    printf("%zu %zu %zu %.2f\n", octets, most_taken(), taken, took);
     return status == SPKI_DONE && decided(&held) != SPKI_MISUSED ? 0 : 4;
 }

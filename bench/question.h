@@ -58,11 +58,11 @@ static inline enum spki_status list_signed(struct held *held)
     return status;
 }
 
-/* A call that answers an opened question: it writes the answer to a buffer, sets how long that is, and returns the status. */
-typedef enum spki_status wish(const spki_asked *, void *, size_t, size_t *);
+/* A call that answers an opened question: it writes the answer to a buffer of a size, sets how long the answer is, and returns the status. */
+typedef enum spki_status answering(const spki_asked *, void *, size_t, size_t *);
 
 /* The status of a call that answers the opened question. */
-static inline enum spki_status answered(struct held *held, wish *call)
+static inline enum spki_status answered(struct held *held, answering *call)
 {
     size_t needed;
     return call(held->asked, held->buffer, held->room, &needed);

@@ -1,7 +1,7 @@
 /* Times what a service does with the library, and prints numbers that `service.py` compares.
  *
  * service decide FILE           the µs of listing the signatures and of a decision
- * service widest WISH FILE      with a limit of 64 KiB, of one question whose answer is `decide`, `explain` or `reduce`: the
+ * service widest KIND FILE      with a limit of 64 KiB, of one question whose answer is `decide`, `explain` or `reduce`: the
  *                               status, the ms of the processor, those of listing the signatures, and the MiB that the library takes
  * service threads N FILE        of one thread and of N (1 to 64), each with a guard of its own, the questions that are opened and decided in a
  *                               second; how many times as far N threads count as one; and how often the N threads waited for each 1,000
@@ -103,35 +103,35 @@ static void forget_peak(void)
     }
 }
 
-/* `spki_asked_explain` as a `wish` of question.h: returns the status alone. */
+/* `spki_asked_explain` as a call that `answered` of question.h takes: returns the status alone. */
 static enum spki_status status_of_explanation(const spki_asked *asked, void *buffer, size_t room, size_t *needed)
 {
     return spki_asked_explain(asked, buffer, room, needed).status;
 }
 
-/* `spki_asked_reduce` as a `wish` of question.h: returns the status alone. */
+/* `spki_asked_reduce` as a call that `answered` of question.h takes: returns the status alone. */
 static enum spki_status status_of_reduction(const spki_asked *asked, void *buffer, size_t room, size_t *needed)
 {
     return spki_asked_reduce(asked, buffer, room, needed).status;
 }
 
-/* The call for an answer of this kind. Ends the program with status 2 if there is none. */
-static wish *wish_of(const char *word)
+/* The call for an answer of a kind, `decide`, `explain` or `reduce`. Ends the program with status 2 for another word. */
+static answering *call_for(const char *kind)
 {
-    static const struct { const char *word; wish *call; } wishes[] = {
+    static const struct { const char *kind; answering *call; } calls[] = {
         {"decide", decision_of}, {"explain", status_of_explanation}, {"reduce", status_of_reduction}};
-    for (size_t i = 0; i < sizeof wishes / sizeof *wishes; i++)
-        if (!strcmp(word, wishes[i].word))
-            return wishes[i].call;
+    for (size_t i = 0; i < sizeof calls / sizeof *calls; i++)
+        if (!strcmp(kind, calls[i].kind))
+            return calls[i].call;
     exit(2);
 }
 
-/* The way `widest`: prints the status of one answer of the kind that `word` names, its ms, those of listing the signatures, and the MiB. */
-static void ask_widest(const char *word, const char *path)
+/* The way `widest`: prints the status of one answer of a kind, its ms, those of listing the signatures, and the MiB. */
+static void ask_widest(const char *kind, const char *path)
 {
     struct spki_limits limits = SPKI_USUAL_LIMITS;
     limits.certificates = limits.words = SIZE_MAX;
-    wish *call = wish_of(word);
+    answering *call = call_for(kind);
     struct held held = held_in(path, &limits);
     /* The room for answers is the caller's, and is no part of what the question takes. */
     memset(held.buffer, 1, held.room);

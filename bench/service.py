@@ -1,5 +1,6 @@
 #!/usr/bin/env python3
-"""Measures what a service does with a guard, through the library for C, and ends with another status where a limit is passed.
+"""Measures what a service does with a guard, through the library for C, and ends with another status where a limit is passed. Most texts are cases:
+an access list, certificates, which signatures are valid, and a question.
 
 - A question without certificates and one with three, opened and decided, on lists of 10,000 entries for keys and for hashes, beside a list of
   one.
@@ -72,15 +73,15 @@ ANSWERS = {1: "no", 2: "refused", 6: "done", 9: "yes"}
 class Driver:
     """The program of service.c, in a folder that has it and the texts that it reads."""
 
-    def __init__(self, room, library):
-        self.room, self.program, self.library = room, os.path.join(room, "service"), library
+    def __init__(self, folder, library):
+        self.folder, self.program, self.library = folder, os.path.join(folder, "service"), library
         words = ["cc", *FLAGS, "-I", os.path.join(TOP, "crates", "spki_c"), "-o", self.program, os.path.join(BENCH, "service.c"), library]
         if subprocess.run(words).returncode:
             sys.exit(f"bench/service.c does not compile with {library}, which crates/spki_c/archive.py builds")
 
     def file(self, name, octets):
         """Writes a file with these octets, and returns its path."""
-        path = os.path.join(self.room, name)
+        path = os.path.join(self.folder, name)
         with open(path, "wb") as file:
             file.write(octets)
         return path
@@ -95,7 +96,7 @@ class Driver:
 
     def build_opening(self):
         """Builds opening.c, which counts memory, and returns the path of the program."""
-        program = os.path.join(self.room, "opening")
+        program = os.path.join(self.folder, "opening")
         words = ["cc", *FLAGS, "-Wl,--wrap=malloc,--wrap=realloc,--wrap=free", "-I", os.path.join(TOP, "crates", "spki_c"), "-o", program]
         subprocess.run([*words, os.path.join(BENCH, "opening.c"), self.library], check=True)
         return program
@@ -161,7 +162,7 @@ def from_text(driver):
 def beside_macaroons(driver):
     """Yields (name of a limit, ratio): a decision by three certificates to the verification of a macaroon, of a question that is open already, and
     with the opening. Yields nothing if libmacaroons is not there."""
-    words = build(driver.room, driver.library)
+    words = build(driver.folder, driver.library)
     if words is None:
         print("libmacaroons is not there (Debian: libmacaroons-dev): the decision beside a macaroon is left out")
         return
@@ -189,7 +190,7 @@ def beside_digests(driver):
 
 def build_in_rust(driver):
     """Builds service.rs, and returns the path of the program."""
-    crate = os.path.join(driver.room, "rust")
+    crate = os.path.join(driver.folder, "rust")
     os.makedirs(crate)
     with open(os.path.join(crate, "Cargo.toml"), "w", encoding="utf-8") as file:
         file.write(f"""[package]
@@ -236,12 +237,12 @@ def by_instructions(driver):
         yield from part(driver)
 
 
-def turns(is_kept_now):
-    """Yields the numbers of the turns in which the caller takes a time: TURNS, and then more after pauses, until `is_kept_now` returns true or
+def turns(is_limit_kept):
+    """Yields the numbers of the turns in which the caller takes a time: TURNS, and then more after pauses, until `is_limit_kept` returns true or
     there were MOST_TURNS."""
     for turn in range(MOST_TURNS):
         if turn >= TURNS:
-            if is_kept_now():
+            if is_limit_kept():
                 return
             time.sleep(PAUSE)
         yield turn
@@ -297,12 +298,12 @@ def ten_large_sets(entries, certificates, members):
     return canonical(value)
 
 
-def one_answer(driver, wish, path, enough):
+def one_answer(driver, kind, path, enough):
     """The quickest of some runs that answer the question of a file: its status, the milliseconds, those of them that list the signatures, and
-    the MiB. More runs are made until one takes at most `enough` milliseconds."""
+    the MiB. `kind` is `decide`, `explain` or `reduce`. More runs are made until one takes at most `enough` milliseconds."""
     runs = []
     for _ in turns(lambda: min(took for _, took, *_ in runs) <= enough):
-        runs.append(driver.run("widest", wish, path))
+        runs.append(driver.run("widest", kind, path))
     return min(runs, key=lambda run: run[1])
 
 
@@ -312,11 +313,11 @@ def one_question(driver, what, text):
     listed, asked = len(parts_of(text)[0]), question_of(text)
     print(f"{what}: list of {listed:,} octets, question of {asked:,}")
     costs = {}
-    for wish in ("decide", "explain", "reduce"):
-        limit = MOST["a decision, ms" if wish == "decide" else "an explanation or a reduction, ms"]
-        status, milliseconds, listing, mebibytes = one_answer(driver, wish, path, limit)
-        costs[wish] = milliseconds, mebibytes
-        print(f"    {wish}: {ANSWERS[status]}, {milliseconds:.1f} ms, of which {listing:.1f} list the signatures, {mebibytes:.1f} MiB", flush=True)
+    for kind in ("decide", "explain", "reduce"):
+        limit = MOST["a decision, ms" if kind == "decide" else "an explanation or a reduction, ms"]
+        status, milliseconds, listing, mebibytes = one_answer(driver, kind, path, limit)
+        costs[kind] = milliseconds, mebibytes
+        print(f"    {kind}: {ANSWERS[status]}, {milliseconds:.1f} ms, of which {listing:.1f} list the signatures, {mebibytes:.1f} MiB", flush=True)
     return costs
 
 
@@ -410,7 +411,7 @@ def widest(driver):
     costs = [one_question(driver, what, text) for what, text in texts]
     for place, unit in enumerate(("ms", "MiB")):
         yield f"a decision, {unit}", max(each["decide"][place] for each in costs)
-        yield f"an explanation or a reduction, {unit}", max(each[wish][place] for each in costs for wish in ("explain", "reduce"))
+        yield f"an explanation or a reduction, {unit}", max(each[kind][place] for each in costs for kind in ("explain", "reduce"))
 
 
 def in_transport_form(count):
@@ -530,8 +531,8 @@ def print_and_check(what, value):
 def main():
     """Measures all. Ends with status 1 if a limit is passed."""
     library = os.path.abspath(sys.argv[1] if len(sys.argv) > 1 else LIBRARY)
-    with tempfile.TemporaryDirectory() as room:
-        driver = Driver(room, library)
+    with tempfile.TemporaryDirectory() as folder:
+        driver = Driver(folder, library)
         parts = (by_instructions, through_python, opening_of_widest, by_default, widest, threads)
         values = [pair for part in parts for pair in part(driver)]
     if not all([print_and_check(*pair) for pair in values]):

@@ -1,4 +1,5 @@
-"""Parts of the cases that the benches time: keys, certificates, chains and wide tags. All values are octets in canonical form."""
+"""Parts of the cases that the benches time: keys, certificates, chains and wide tags. A case is one text with an access list, certificates, which
+signatures are valid, and a question. All values are octets in canonical form."""
 import hashlib
 
 from check import STAR, group, key, string
@@ -84,4 +85,4 @@ def parts_of(text):
     """The list, the sequence, the key, the request and the moment of a case, each in canonical form. A case is given in canonical form."""
     # (some lists here are longer than a text may be: so they are read by the parser of `spki-cert` and not by the model)
     _, acl, _, sequence, asker, request, moment, *_ = Parser(text, True).value(0, "a value").value
-    return [canonical(it) for it in (acl, sequence, asker[1], request[1], moment[1])]
+    return [canonical(part) for part in (acl, sequence, asker[1], request[1], moment[1])]

@@ -165,14 +165,14 @@ class TooSlow(Exception):
 class Measure:
     """Runs calls, in a folder of its own."""
 
-    def __init__(self, room: str, program: str, library: str) -> None:
-        self.program, self.library, self.room, self.file = program, library, room, os.path.join(room, "text")
+    def __init__(self, folder: str, program: str, library: str) -> None:
+        self.program, self.library, self.folder, self.file = program, library, folder, os.path.join(folder, "text")
 
     @cached_property
     def driver(self) -> str:
         """The path of the program of slowest.c, which is built once. Raises CalledProcessError if it does not compile."""
-        program, folder = os.path.join(self.room, "slowest"), os.path.join(TOP, "crates", "spki_c")
-        subprocess.run(["cc", *FLAGS, "-I", folder, "-o", program, os.path.join(BENCH, "slowest.c"), self.library], check=True)
+        program, headers = os.path.join(self.folder, "slowest"), os.path.join(TOP, "crates", "spki_c")
+        subprocess.run(["cc", *FLAGS, "-I", headers, "-o", program, os.path.join(BENCH, "slowest.c"), self.library], check=True)
         return program
 
     def write(self, octets: bytes) -> None:
@@ -201,14 +201,14 @@ class Measure:
         """What a command of the program, named by a word, takes on a text. Its memory is measured apart: it is 0 here."""
         self.write(text)
         before = resource.getrusage(resource.RUSAGE_CHILDREN)
-        with open(self.file, "rb") as given:
-            done = self.run([self.program, word], seconds, stdin=given, stdout=subprocess.DEVNULL)
+        with open(self.file, "rb") as source:
+            done = self.run([self.program, word], seconds, stdin=source, stdout=subprocess.DEVNULL)
         after = resource.getrusage(resource.RUSAGE_CHILDREN)
         return Cost(done.returncode, after.ru_utime + after.ru_stime - before.ru_utime - before.ru_stime, 0.0)
 
     def written(self, word: str) -> int:
         """How many octets a command writes of the text in the file."""
-        with open(self.file, "rb") as given, subprocess.Popen([self.program, word], stdin=given, stdout=subprocess.PIPE) as writing:
+        with open(self.file, "rb") as source, subprocess.Popen([self.program, word], stdin=source, stdout=subprocess.PIPE) as writing:
             counting = subprocess.run(["wc", "-c"], stdin=writing.stdout, stdout=subprocess.PIPE)
         return int(counting.stdout)
 
@@ -218,7 +218,7 @@ class Measure:
         try:
             if call.limits:
                 return self.guard(call, recipe, seconds)
-            text = recipe.text() if call.word in FORMED else recipe.tags() if call.word == "intersect" else recipe.case()
+            text = text_for(call, recipe)
             cost = self.command(call.word, text, seconds)
             if not is_whole:
                 return cost
@@ -227,12 +227,17 @@ class Measure:
             return Cost(-1, float("inf"), 0.0)
 
 
-def size_of(call: Call, recipe: Any) -> int:
-    """The number of octets that a recipe makes for a call: of the text to be converted, of two tags, or of the list and the question together. For a
-    conversion the recipe is a Form."""
+def text_for(call: Call, recipe: Any) -> bytes:
+    """The text that a recipe makes for a command: one to be converted, for which the recipe is a Form, two tags, or a list and a question."""
     if call.word in FORMED:
-        return len(recipe.text())
-    return len(recipe.tags()) if call.word == "intersect" else sum(map(len, recipe.parts()))
+        return bytes(recipe.text())
+    return bytes(recipe.tags() if call.word == "intersect" else recipe.case())
+
+
+def size_of(call: Call, recipe: Any) -> int:
+    """The number of octets that a recipe makes for a call: of the text to be converted, of two tags, or of the list and the question together."""
+    is_of_parts = call.word not in FORMED and call.word != "intersect"
+    return sum(map(len, recipe.parts())) if is_of_parts else len(text_for(call, recipe))
 
 
 def sized(call: Call, recipe: Any, listed: int, asked: int, entries: int = MANY) -> Any:
@@ -242,9 +247,10 @@ def sized(call: Call, recipe: Any, listed: int, asked: int, entries: int = MANY)
     if call.word in FORMED:
         return formed(recipe, listed)
     larger = fitted(recipe, listed, asked, call.certificates, entries)
+    if larger is None or call.limits:
+        return larger
     # (a command's text has more than the list and the question, and may have 1 MiB)
-    is_small = larger is None or call.limits or len(larger.tags() if call.word == "intersect" else larger.case()) <= MIB
-    return larger if is_small else None
+    return larger if len(text_for(call, larger)) <= MIB else None
 
 
 def found_size(call: Call, recipe: Any, listed: int, asked: int) -> Any:
@@ -280,7 +286,7 @@ def recipes_of(measure: Measure, call: Call, steps: int, seed: int) -> Iterator[
     begins: list[Any] = [Form()] * STARTS if call.word in FORMED else [named.recipe for named in of_call] + [Recipe()] * STARTS
     for first in begins if steps else []:
         slowest += [*searched(measure, call, first, chance, steps // len(begins))][-1:]
-    for _, recipe in sorted(slowest, key=lambda it: -it[0])[:IN_FULL]:
+    for _, recipe in sorted(slowest, key=lambda found: -found[0])[:IN_FULL]:
         yield "found", found_size(call, recipe, MIB, MIB)
 
 
@@ -302,7 +308,7 @@ def least_cost(measure: Measure, call: Call, recipe: Any) -> Cost:
         limit = most_seconds(call, recipe, least.written)
         if limit < least.seconds < 2 * limit:
             time.sleep(PAUSE)
-            least = min(least, measure.cost_of(call, recipe, most, True), key=lambda it: it.seconds)
+            least = min(least, measure.cost_of(call, recipe, most, True), key=lambda cost: cost.seconds)
     return least
 
 
@@ -333,14 +339,14 @@ def main() -> None:
     parser.add_argument("--program", default=PROGRAM)
     parser.add_argument("--library", default=LIBRARY)
     parser.add_argument("calls", nargs="*", metavar="CALL", help="how the names of the calls begin that are measured")
-    given = parser.parse_args()
-    chosen = [call for call in CALLS if call.what.startswith(tuple(given.calls or [""]))]
-    if any(not any(call.what.startswith(word) for call in CALLS) for word in given.calls):
+    options = parser.parse_args()
+    chosen = [call for call in CALLS if call.what.startswith(tuple(options.calls or [""]))]
+    if not all(any(call.what.startswith(word) for call in CALLS) for word in options.calls):
         parser.error(f"no call begins so; they are: {', '.join(call.what for call in CALLS)}")
     resource.setrlimit(resource.RLIMIT_AS, (MOST_MEMORY, MOST_MEMORY))
-    with tempfile.TemporaryDirectory() as room:
-        measure = Measure(room, given.program, given.library)
-        over = [fault for call in chosen for fault in faults_of(measure, call, 0 if given.named else given.steps, given.seed)]
+    with tempfile.TemporaryDirectory() as folder:
+        measure, steps = Measure(folder, options.program, options.library), 0 if options.named else options.steps
+        over = [fault for call in chosen for fault in faults_of(measure, call, steps, options.seed)]
     print("over the limits:", *over or ["none"], sep="\n")
     if over:
         sys.exit(1)

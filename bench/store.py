@@ -63,7 +63,8 @@ def key(number):
 
 
 def entries(count):
-    """Entries for keys, and of 100 entries five for names of groups."""
+    """Entries for keys, and of 100 entries five for names of groups. The keys of entries are numbered from 0 without a gap, and those of groups from
+    10 ** 9."""
     for place in range(count):
         if place % 20 == 19:
             group = key(10 ** 9 + place // 20 // GROUP)
@@ -73,7 +74,7 @@ def entries(count):
 
 
 def arguments():
-    """What the command line asks for."""
+    """The parsed command line: the numbers of `entries`, the `share` of a processor and the `times`, and the path of the `library`."""
     parser = argparse.ArgumentParser(description=__doc__, formatter_class=argparse.RawDescriptionHelpFormatter)
     parser.add_argument("--entries", type=int, nargs="+", default=[1_000, 1_000_000])
     parser.add_argument("--share", type=float, default=0.0, help="measure daemons that have so much of a processor each")
@@ -123,12 +124,12 @@ def heartbeat(address, *before):
     return databases.killed_at_end(subprocess.Popen(words, stderr=subprocess.DEVNULL))
 
 
-def start_daemon(program, server, room, number, **more):
+def start_daemon(program, server, folder, number, **more):
     """Starts a daemon with the store of a server, and waits for the first line that it writes, by which it listens. Returns its process and the path
-    of its socket. `number` distinguishes its files in the folder `room`, and `more` are further settings of its store. Ends the script if the daemon
+    of its socket. `number` distinguishes its files in `folder`, and `more` are further settings of its store. Ends the script if the daemon
     ends before that line."""
     rules = [{"prefix": "/", "methods": {"GET": "read"}, "request": ["files", "{method}", "{path}"]}]
-    path, config = os.path.join(room, f"daemon-{number}"), os.path.join(room, f"config-{number}")
+    path, config = os.path.join(folder, f"daemon-{number}"), os.path.join(folder, f"config-{number}")
     with open(config, "w", encoding="utf-8") as file:
         json.dump({"listen": f"unix:{path}", "socket_mode": "0600", "server": "nginx", "log": f"{path}.log", "requests": rules,
                    "list": {"postgres": {"host": server.folder, "database": "postgres", "user": "postgres", "schema": SCHEMA, **more}}}, file)
@@ -143,10 +144,10 @@ def ask_by_people(server, library, count, program, number, rate, share=0.0):
     PostgreSQL. `rate` is the number of questions to each in a second, 0 for as many as it answers, and `share` the part of a processor that each
     has, 0 for no limit."""
     with removing_added_entries(server), contextlib.ExitStack() as running:
-        daemons, sockets, room = [], [], running.enter_context(tempfile.TemporaryDirectory())
+        daemons, sockets, folder = [], [], running.enter_context(tempfile.TemporaryDirectory())
         for place in range(number):
             group = running.enter_context(shares.Share(share)) if share else None
-            process, socket = start_daemon(program, server, room, place)
+            process, socket = start_daemon(program, server, folder, place)
             running.enter_context(databases.killed_at_end(process))
             daemons.append(process.pid)
             sockets.append(socket)
@@ -169,8 +170,8 @@ def removing_added_entries(server):
 
 def print_served(server, library, count):
     """Prints what decisions over HTTP take."""
-    with tempfile.TemporaryDirectory() as room, heartbeat(server.address):
-        program = golang.build_daemon(library, os.path.join(room, "spki-authd"), *DRIVER)
+    with tempfile.TemporaryDirectory() as folder, heartbeat(server.address):
+        program = golang.build_daemon(library, os.path.join(folder, "spki-authd"), *DRIVER)
         for number in DAEMONS:
             for rate in RATES:
                 text, daemon, database = ask_by_people(server, library, count, program, number, rate)
@@ -181,8 +182,8 @@ def print_served(server, library, count):
 def faults_of_shares(server, library, count, share, times):
     """Prints what daemons answer of which each has a share of a processor. Returns a line for each limit that is passed."""
     faults = []
-    with tempfile.TemporaryDirectory() as room, heartbeat(server.address):
-        program = golang.build_daemon(library, os.path.join(room, "spki-authd"), *DRIVER)
+    with tempfile.TemporaryDirectory() as folder, heartbeat(server.address):
+        program = golang.build_daemon(library, os.path.join(folder, "spki-authd"), *DRIVER)
         for _ in range(times):
             rates = []
             for number in DAEMONS:
@@ -212,9 +213,9 @@ def new_store(server):
     return store
 
 
-def fill(store, count, room):
-    """Imports so many entries, and prints what that took. The file is in a folder."""
-    path = os.path.join(room, "list")
+def fill(store, count, folder):
+    """Imports so many entries, from a file in `folder`, and prints what that took."""
+    path = os.path.join(folder, "list")
     with open(path, "wb") as file:
         file.write(b"(3:acl")
         file.writelines(entries(count))
@@ -232,6 +233,7 @@ def fill(store, count, room):
 
 def adds_a_second(store):
     """How many entries a second can be added one after the other."""
+    # (a key that begins with `a` has no entry yet)
     begun, text = time.monotonic(), next(entries(1)).replace(b"k0", b"a0")
     for _ in range(500):
         store.add(text)
@@ -241,9 +243,9 @@ def adds_a_second(store):
 @contextlib.contextmanager
 def server_with_store(count):
     """A context with a server, and a store there with so many entries."""
-    with databases.Server(**SERVER) as server, tempfile.TemporaryDirectory() as room:
+    with databases.Server(**SERVER) as server, tempfile.TemporaryDirectory() as folder:
         with contextlib.closing(new_store(server)) as store:
-            fill(store, count, room)
+            fill(store, count, folder)
             yield server, store
 
 
@@ -283,10 +285,13 @@ def faults_of_scaling(counts, library, share, times):
 
 def main():
     """Measures all. Returns the exit status: 1 if a limit is passed."""
-    given = arguments()
-    library = os.path.abspath(given.library)
+    options = arguments()
+    library = os.path.abspath(options.library)
     os.environ["SPKI_LIBRARY"] = library.removesuffix(".a") + ".so"
-    faults = faults_of_scaling(given.entries, library, given.share, given.times) if given.share else faults_of_growth(given.entries, library)
+    if options.share:
+        faults = faults_of_scaling(options.entries, library, options.share, options.times)
+    else:
+        faults = faults_of_growth(options.entries, library)
     print("".join(f"{line}\n" for line in faults), end="")
     return 1 if faults else 0
 
