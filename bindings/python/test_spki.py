@@ -99,6 +99,7 @@ class Verifiers(unittest.TestCase):
                 with self.assertRaises(TypeError):
                     ask(new_question(), lambda signature: answer)
 
+    # A coroutine is true in Python, but no answer. Python would also warn that it is never awaited.
     def test_that_is_a_coroutine_is_an_error(self):
         async def verify(signature):
             return True
@@ -157,6 +158,7 @@ class Opened(unittest.TestCase):
     def setUp(self):
         self.guard = spki.Guard(LIST)
 
+    # The octets of a value that is one string are those of the string. A value that is a list has none.
     def test_signatures(self):
         with self.guard.ask(new_question()) as opened:
             self.assertEqual(opened.signatures(), [SIGNED])
@@ -240,6 +242,7 @@ class Opened(unittest.TestCase):
             opened.mark(1)
             self.assertEqual(opened.decide(), None)
 
+    # The signatures may be verified by coroutines, all at the same time. The places of the valid ones are marked afterwards.
     def test_signatures_are_verified_elsewhere(self):
         async def verify(signature):
             await asyncio.sleep(0)
@@ -277,6 +280,7 @@ class Opened(unittest.TestCase):
         self.assertTrue(opened.decide())
         self.assertEqual(str(opened.reduce()), "entry 1 (five (subject (public-key (test b))) (tag (*)))")
 
+    # `require` raises `Denied` for a no, and returns the number of the entry for a yes.
     def test_a_decision_that_is_required(self):
         opened = self.guard.ask(new_question())
         for call in (lambda: self.guard.require(new_question(), accept_none), opened.require):
@@ -315,6 +319,7 @@ class Opened(unittest.TestCase):
                     mock.patch.object(spki._CallMemory, "line", return_value=b"yes entry 7\n"):
                 self.assertEqual(opened.decide(), spki.Grant(7, wanted))
 
+    # Equal keys are one object of `bytes`, so that a service which keeps 40 of them needs the memory of one.
     def test_equal_keys_are_one_object(self):
         opened, kept = spki.Guard(LIST, limits=HIGHEST).ask(new_question(b"(sequence " + PAIR * 40 + b")")), []
         for listed in (opened.signatures(), list(opened)):
@@ -348,6 +353,7 @@ class Copies(unittest.TestCase):
         self.guard = spki.Guard(LIST)
         self.opened = self.guard.ask(new_question())
 
+    # Each way to copy or pickle a guard, an opened question or the handle of one is a `TypeError`.
     def test_what_is_open_is_not_copied(self):
         @dataclasses.dataclass
         class Service:
@@ -364,12 +370,14 @@ class Copies(unittest.TestCase):
         other = spki.Guard(b"(acl)")
         self.assertEqual((self.guard.decide(new_question(), accept_all), other.decide(new_question(), accept_all)), (spki.Grant(1), None))
 
+    # The arguments of a new process are pickled.
     def test_what_is_open_is_not_sent_to_a_process(self):
         for original in (self.guard, self.opened):
             process = multiprocessing.get_context("spawn").Process(target=print, args=(original,))
             with self.assertRaisesRegex(TypeError, "read the list and ask again"):
                 process.start()
 
+    # A copy of a question, and what its `repr` evaluates to, equal the question. Questions with other parts do not.
     def test_a_question_is_copied(self):
         for question in (new_question(), new_question(text=b"(ftp host)", moment=b'"2024-01-01_00:00:00"'), new_question(words=[]),
                          new_question(moment=BEFORE)):
@@ -420,6 +428,7 @@ class Keys(unittest.TestCase):
 
     LOGIN = spki.Signature(key=spki.canonical(KEY), message=b"(5:login7:service5:nonce)", value=b"3:sig")
 
+    # A valid signature of a message that is no certificate proves its key. A verifier must return `True` or `False`.
     def test_a_login_proves_its_key(self):
         seen = []
         proven = spki.ProvenKey.by(self.LOGIN, recording(seen))
@@ -454,6 +463,7 @@ class Keys(unittest.TestCase):
             with self.assertRaises(TypeError):
                 spki.Signature(*given)
 
+    # The scheme of a signature is that of the form of its key.
     def test_schemes(self):
         for key, scheme in [(b"(public-key (ecc (curve Ed25519) (flags eddsa) (q #00#)))", spki.Scheme.ED25519),
                             (b"(public-key (rsa (n #00#) (e #010001#)))", spki.Scheme.RSA),
@@ -473,6 +483,7 @@ class Parts(unittest.TestCase):
             self.assertEqual(bool(guard.decide(new_question(b"(sequence)", words=words), accept_all)), is_granted, words)
             self.assertEqual(bool(guard.decide(new_question(b"(sequence)", words=list(words)), accept_all)), is_granted, words)
 
+    # A request by one word is that string, and not the list of it.
     def test_one_string_is_a_string(self):
         guard = spki.Guard(b"(acl (entry (public-key (test b)) (tag ftp)))")
         self.assertTrue(guard.decide(new_question(b"(sequence)", words=(b"ftp",)), accept_all))
@@ -486,6 +497,7 @@ class Parts(unittest.TestCase):
             for moment in (NOW, b'"2024-01-01_00:00:00"'):
                 self.assertEqual(bool(guard.decide(new_question(b"(sequence)", words=count * [b"w"], moment=moment), accept_all)), count >= 40, count)
 
+    # A window that begins with 1970, asked at its first second, long after it, a second before it, and by a clock in another time zone.
     def test_moments(self):
         guard = spki.Guard(b'(acl (entry (public-key (test b)) (tag (*)) (not-before "1970-01-01_00:00:00")))')
         for moment, is_granted in [(EPOCH, True), (datetime.max.replace(tzinfo=timezone.utc), True), (b'"1970-01-01_00:00:00"', True),
@@ -505,6 +517,7 @@ class Parts(unittest.TestCase):
                     ask(new_question(b"(sequence)", moment=moment), accept_all)
                 self.assertEqual(raised.exception.line, "refused at BadDate")
 
+    # A part of a question that cannot be read raises `Refused` with the line of the program.
     def test_refusals(self):
         guard = spki.Guard(LIST)
         for question, line, fault in [
@@ -521,6 +534,7 @@ class Parts(unittest.TestCase):
                 self.assertEqual((raised.exception.line, str(raised.exception), raised.exception.fault), (line, line, fault))
                 self.assertEqual(raised.exception.part, line.split()[1])
 
+    # Arguments of other types are a `TypeError`.
     def test_other_types_are_no_parts(self):
         for given in ({"sequence": "(sequence)"}, {"key": bytearray(KEY)}, {"words": "ftp"}, {"words": b"ftp"}, {"words": ("ftp",)}, {"words": 7},
                       {"words": (bytearray(b"ftp"),)}, {"moment": 1.5}, {"moment": True}, {"moment": 1_704_067_200}, {"text": "ftp"}):
@@ -546,6 +560,7 @@ class Parts(unittest.TestCase):
         self.assertTrue(all(guard.decide(question, accept_all) for question in questions))
         self.assertEqual(len(garbage), 20_000)
 
+    # A request by neither words nor a text, or by both, is a `TypeError`.
     def test_a_request_is_given_once(self):
         for given in ({}, {"words": WORDS, "text": b"(ftp)"}):
             with self.assertRaises(TypeError):
@@ -570,6 +585,7 @@ class Parts(unittest.TestCase):
 
 
 class Guards(unittest.TestCase):
+    # An empty list, the same in transport form, and a list whose entry has no parts.
     def test_lists(self):
         self.assertEqual(spki.Guard(b"(acl)").entries, 0)
         self.assertEqual(spki.Guard(b"{KDM6YWNsKQ==}").entries, 0)
@@ -577,6 +593,7 @@ class Guards(unittest.TestCase):
             spki.Guard(b"(acl (entry))")
         self.assertEqual(raised.exception.line, "refused acl 1 Shape")
 
+    # The explanation and the reduction of a list of 500 entries are whole.
     def test_long_answers(self):
         guard = spki.Guard(b"(acl " + LIST[5:-1] * 500 + b")")
         self.assertEqual(guard.entries, 500)
@@ -585,10 +602,12 @@ class Guards(unittest.TestCase):
         last_line = guard.reduce(new_question(), accept_all).text.splitlines()[499]
         self.assertEqual(last_line, "entry 500 (five (subject (public-key (test b))) (tag (*)))")
 
+    # The explanation of an empty list has no reasons.
     def test_explanations(self):
         self.assertEqual(list(spki.Guard(b"(acl)").explain(new_question(), accept_all).reasons()), [])
         self.assertEqual(str(spki.Guard(b"(acl)").explain(new_question(), accept_all)), "no entries")
 
+    # A hash by SHA-1 names a key under `ALLOW_SHA1` alone. `STRICT` is the default, and a policy is no number.
     def test_policies(self):
         digest = hashlib.sha1(spki.canonical(KEY)).hexdigest().encode()
         by_sha1 = b"(acl (entry (hash sha1 #%s#) (tag (*))))" % digest
@@ -624,6 +643,7 @@ class Guards(unittest.TestCase):
                 guard.explain(new_question(), accept_all)
             self.assertEqual((raised.exception.line, raised.exception.part), ("refused TooLarge", None))
 
+    # After `close` each call on a guard or an opened question raises `ValueError`, and `close` may be called again.
     def test_closing(self):
         with spki.Guard(LIST) as guard:
             self.assertTrue(guard.decide(new_question(), accept_all))
@@ -676,6 +696,7 @@ class Guards(unittest.TestCase):
                 thread.join()
                 self.assertEqual(wrong, [], name)
 
+    # Eight threads use one guard and one opened question.
     def test_threads(self):
         guard, granted = spki.Guard(LIST), []
         opened = guard.ask(new_question())
@@ -711,6 +732,7 @@ class Guards(unittest.TestCase):
 
 
 class Texts(unittest.TestCase):
+    # A text in each form of RFC 9804, and one that is in none: no string begins with `~`.
     def test_forms(self):
         self.assertEqual(spki.canonical(b"(a #00#)"), b"(1:a1:\0)")
         self.assertEqual(spki.advanced(b"(1:a1:b)"), b"(a b)\n")
@@ -719,6 +741,7 @@ class Texts(unittest.TestCase):
             spki.canonical(b"(a ~)")
         self.assertEqual(raised.exception.line, "refused form Bad 3")
 
+    # A path has the numbers of the members to go into. `None` if no string is there, or the text is not in canonical form.
     def test_strings(self):
         key = spki.canonical(b"(public-key (rsa-pkcs1-sha256 (e #010001#) (n #c000ff#)))")
         self.assertEqual(spki.string_at(key, 1, 2, 1), b"\xc0\0\xff")
@@ -729,12 +752,14 @@ class Texts(unittest.TestCase):
             self.assertIsNone(spki.string_at(key, *path))
         self.assertIsNone(spki.string_at(b"(a)", 0))
 
+    # A failed allocation raises `Refused` with the fault `MEMORY`, and is not the end of the list.
     def test_signature_without_memory(self):
         opened = spki.Guard(LIST).ask(new_question())
         with mock.patch.object(_library, "signature", return_value=_library.NO_MEMORY), self.assertRaises(spki.Refused) as raised:
             opened.signatures()
         self.assertEqual(raised.exception.fault, "Memory")
 
+    # A failed allocation raises `Refused` with the fault `MEMORY`, and does not mean that no string is there.
     def test_string_without_memory(self):
         with mock.patch.object(spki.library, "spki_string", return_value=_library.NO_MEMORY), self.assertRaises(spki.Refused) as raised:
             spki.string_at(b"3:abc")

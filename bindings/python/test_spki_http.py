@@ -154,6 +154,7 @@ class Requests(unittest.TestCase):
                 clock[0] = now
                 self.assertEqual(answer(verifier, message), gives)
 
+    # The signature of the example by Ed25519 is made again, and both examples are verified.
     def test_examples_of_the_standard(self) -> None:
         private = load_der_private_key(base64.b64decode(PRIVATE), None)
         assert isinstance(private, Ed25519PrivateKey)

@@ -110,6 +110,7 @@ fn a_verifier_is_not_called_behind_the_first_wrong_one() -> Outcome {
     Ok(())
 }
 
+/// A certificate from a to itself stands 39 times before the one from a to b: each of the 40 signatures is verified.
 #[test]
 fn a_verifier_is_called_for_each_of_many() -> Outcome {
     let sequence = format!("(sequence {} {PAIR})", OWN.repeat(39));
@@ -262,6 +263,7 @@ fn an_error_of_a_verifier_is_told_once() {
     assert_eq!(texts(&Denied::<NoAnswer>::No), ["no"]);
 }
 
+/// A panic of a verifier reaches the caller, and the guard can be asked afterwards.
 #[test]
 fn a_panic_of_a_verifier_goes_on() {
     let sequence = sequence_of(1);
@@ -311,6 +313,7 @@ fn an_opened_question_needs_no_texts() -> Outcome {
     Ok(())
 }
 
+/// The octets of a value are those of its one string. A value that is a list has none.
 #[test]
 fn a_value_that_is_a_list_has_no_octets() -> Outcome {
     let sequence = PAIR.replace(" sig)", " (sig-val x))");
@@ -363,6 +366,7 @@ fn many_strings_are_strings() {
     }
 }
 
+/// A request and a moment may be given as texts in any form. The second request is `(ftp)` in transport form.
 #[test]
 fn requests_and_moments_may_be_texts() {
     let guard = guard(b"(acl (entry (public-key (test b)) (tag (ftp host))))");
@@ -378,6 +382,7 @@ fn requests_and_moments_may_be_texts() {
     }
 }
 
+/// The moment is the second that the time is in: times before 1970 are rounded down, too.
 #[test]
 fn a_time_of_the_system_is_a_moment() {
     let (second, half) = (Duration::from_secs(1), Duration::from_millis(500));
@@ -455,6 +460,7 @@ fn a_grant_says_until_when_it_holds() -> Outcome {
     Ok(())
 }
 
+/// A valid signature of a message that is no certificate proves its key.
 #[test]
 fn a_login_proves_its_key() {
     let login = |message| Signature {
@@ -473,6 +479,7 @@ fn a_login_proves_its_key() {
     assert_eq!(ProvenKey::by(SIGNED, valid), Err(NotProved::No));
 }
 
+/// The form of a key says how its signatures are made.
 #[test]
 fn a_scheme_is_that_of_the_key() {
     let rows: [(&[u8], Option<Scheme>); 4] = [
@@ -548,6 +555,7 @@ fn the_words_of_lines_are_types() -> Outcome {
     Ok(())
 }
 
+/// Each question has one part that cannot be read. The line of the refusal names it, and says what is wrong.
 #[test]
 fn refusals_name_the_part() {
     let guard = guard(LIST);
@@ -573,6 +581,8 @@ fn refusals_name_the_part() {
     assert_eq!(decide(nobody), "refused key Short");
 }
 
+/// By the library's own limits a question has at most 16 certificates and 64 strings. A limit above the highest is the highest, and one of 0 the
+/// library's own.
 #[test]
 fn questions_have_limits() -> Outcome {
     let decide = |limits, question: &Question| {
@@ -622,6 +632,7 @@ fn explanations_have_limits() -> Outcome {
     Ok(())
 }
 
+/// The explanation and the reduction of a list of 500 entries are whole.
 #[test]
 fn long_answers_are_whole() -> Outcome {
     let entries = "(entry (public-key (test b)) (tag (*)))".repeat(500);
@@ -648,6 +659,7 @@ fn long_forms_are_whole() -> Outcome {
     Ok(())
 }
 
+/// Eight threads use one guard and one opened question.
 #[test]
 fn several_threads_ask_one_guard() -> Outcome {
     let guard = guard(LIST);

@@ -238,6 +238,7 @@ fn a_modulus_of_nothing_proves_no_key() {
     }
 }
 
+/// The signature of RFC 9421 is valid for the text there, and not for one without its first octet.
 #[test]
 fn the_published_signature_is_valid() {
     let string = |octets: Vec<u8>| [format!("{}:", octets.len()).into_bytes(), octets].concat();
@@ -309,6 +310,7 @@ fn a_nonce_is_not_taken_late() {
     }
 }
 
+/// With an error of the verifier it is not known whether the signature is valid, so nothing is proved.
 #[test]
 fn a_verifier_that_fails_proves_nothing() {
     let row = &rows()[0];
