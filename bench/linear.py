@@ -238,9 +238,10 @@ class Shape:
         """The numbers of entries and certificates in the largest text of at most `size` octets: first as many entries as the list's part allows, and
         then as many certificates as fit into what is left."""
         entries = self.entries(int(size * self.listed), MEMBERS)
+        # (what a case has besides its list: it does not depend on the number of entries)
         others = lengths_in_case(self.make(1, 2, MEMBERS))[1]
-        listed = len(self.make(entries, 2, MEMBERS)) - others
-        return entries, largest_count(lambda count: lengths_in_case(self.make(1, count, MEMBERS))[1], size - listed)
+        list_octets = len(self.make(entries, 2, MEMBERS)) - others
+        return entries, largest_count(lambda count: lengths_in_case(self.make(1, count, MEMBERS))[1], size - list_octets)
 
     def text(self, size):
         """What the largest text of at most so many octets is, in words, and the text."""
@@ -257,8 +258,8 @@ def largest_count(octets_of, octets):
 
 def lengths_in_case(text):
     """The number of octets of a case's list, and that of all other octets of the case."""
-    listed = len(parts_of(text)[0])
-    return listed, len(text) - listed
+    list_octets = len(parts_of(text)[0])
+    return list_octets, len(text) - list_octets
 
 
 # Those of which `service.py` asks guards.

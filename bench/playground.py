@@ -46,11 +46,11 @@ class Timed(InChromium):
 
     def to_the_first_paint(self):
         """The median of the seconds from a reload to the first paint."""
-        took = []
+        seconds = []
         for _ in range(RUNS):
             self.browser.refresh()
-            took.append(self.until("return performance.getEntriesByName('first-contentful-paint')[0]?.startTime") / 1000)
-        return statistics.median(took)
+            seconds.append(self.until("return performance.getEntriesByName('first-contentful-paint')[0]?.startTime") / 1000)
+        return statistics.median(seconds)
 
 
 def main():
@@ -59,13 +59,13 @@ def main():
     try:
         timed = Timed()
         timed.setUp()
-        took = [("the first paint", timed.to_the_first_paint(), PAINT_SECONDS), ("the story", timed.to_the_answer(PAGE.STORY), STORY_SECONDS),
+        rows = [("the first paint", timed.to_the_first_paint(), PAINT_SECONDS), ("the story", timed.to_the_answer(PAGE.STORY), STORY_SECONDS),
                 ("a long question", timed.to_the_answer(PAGE.long_question()), LONG_SECONDS)]
     finally:
         Timed.doClassCleanups()
-    for name, seconds, limit in took:
+    for name, seconds, limit in rows:
         print(f"{name}: {seconds * 1000:.0f} ms (at most {limit * 1000:.0f}), {Timed.engine}")
-    return 1 if any(seconds > limit for _, seconds, limit in took) else 0
+    return 1 if any(seconds > limit for _, seconds, limit in rows) else 0
 
 
 if __name__ == "__main__":

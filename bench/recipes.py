@@ -141,9 +141,9 @@ class Recipe:
 
     def case(self) -> bytes:
         """The list and the question as one text, a case with a row for each certificate."""
-        listed, sequence, key, request, moment = self.parts()
+        acl, sequence, key, request, moment = self.parts()
         rows = {group(string("by"), OWNER, digest(cert), string("s")) for cert in self.certificates()}
-        return group(string("case"), listed, group(string("accepted"), *sorted(rows)), sequence, group(string("key"), key),
+        return group(string("case"), acl, group(string("accepted"), *sorted(rows)), sequence, group(string("key"), key),
                      group(string("request"), request), group(string("at"), moment))
 
     def tags(self) -> bytes:
@@ -188,25 +188,25 @@ def greatest(fits: Callable[[int], bool], most: int = 1 << 20) -> int:
     return low
 
 
-def fitted(recipe: Recipe, listed: int, asked: int, certificates: int, entries: int) -> Recipe | None:
-    """The recipe with its growing numbers as great as can be: the list has at most `listed` octets and `entries` entries, the question at most
-    `asked` octets and `certificates` certificates. None if even the number 1 makes more, or tags of too many nodes or too deep ones."""
-    def asks(number: int) -> bool:
+def fitted(recipe: Recipe, list_octets: int, question_octets: int, certificates: int, entries: int) -> Recipe | None:
+    """The recipe with its growing numbers as great as can be: the list has at most `list_octets` octets and `entries` entries, the question at most
+    `question_octets` octets and `certificates` certificates. None if even the number 1 makes more, or tags of too many nodes or too deep ones."""
+    def question_fits(number: int) -> bool:
         """Whether the question is read and small enough with this as its growing number."""
         larger = recipe.with_links(number)
-        return larger.is_read(certificates) and sum(map(len, larger.parts()[1:])) <= asked
+        return larger.is_read(certificates) and sum(map(len, larger.parts()[1:])) <= question_octets
 
-    number = greatest(asks) if recipe.links and recipe.grows else int(asks(1))
+    number = greatest(question_fits) if recipe.links and recipe.grows else int(question_fits(1))
     if not number:
         return None
     with_question = recipe.with_links(number)
 
-    def lists(number: int) -> bool:
+    def list_fits(number: int) -> bool:
         """Whether the list is read and small enough with this as the growing number of its entries."""
         larger = with_question.with_list(number)
-        return larger.is_read(certificates) and larger.entries.count <= entries and len(larger.list_text()) <= listed
+        return larger.is_read(certificates) and larger.entries.count <= entries and len(larger.list_text()) <= list_octets
 
-    number = greatest(lists)
+    number = greatest(list_fits)
     return with_question.with_list(number) if number else None
 
 

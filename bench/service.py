@@ -310,8 +310,8 @@ def one_answer(driver, kind, path, enough):
 def one_question(driver, what, text):
     """The milliseconds and the MiB of the decision, the explanation and the reduction of one question, by these three words."""
     path = driver.question("wide", text)
-    listed, asked = len(parts_of(text)[0]), question_of(text)
-    print(f"{what}: list of {listed:,} octets, question of {asked:,}")
+    list_octets, question_octets = len(parts_of(text)[0]), question_of(text)
+    print(f"{what}: list of {list_octets:,} octets, question of {question_octets:,}")
     costs = {}
     for kind in ("decide", "explain", "reduce"):
         limit = MOST["a decision, ms" if kind == "decide" else "an explanation or a reduction, ms"]
@@ -349,8 +349,8 @@ def entry_for_name(count):
 def full_list(tag):
     """A case with a list of 1 MiB: as many entries for a tag as can be, all for the shortest key, which asks."""
     asker = group(string("public-key"), group(string("a")))
-    listed = group(string("entry"), asker, group(string("tag"), tag))
-    return case([listed] * ((MOST_OCTETS - len(group(string("acl")))) // len(listed)), [], asks=asker)
+    one = group(string("entry"), asker, group(string("tag"), tag))
+    return case([one] * ((MOST_OCTETS - len(group(string("acl")))) // len(one)), [], asks=asker)
 
 
 def lists_of_strings(members):

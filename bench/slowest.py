@@ -240,22 +240,22 @@ def size_of(call: Call, recipe: Any) -> int:
     return sum(map(len, recipe.parts())) if is_of_parts else len(text_for(call, recipe))
 
 
-def sized(call: Call, recipe: Any, listed: int, asked: int, entries: int = MANY) -> Any:
-    """The recipe with the largest text that a call may have, with at most so many octets of the list and the question, and so many entries. None if
-    none is small enough."""
-    listed, asked = min(listed, call.listed), min(asked, call.asked)
+def sized(call: Call, recipe: Any, list_octets: int, question_octets: int, entries: int = MANY) -> Any:
+    """The recipe with the largest text that a call may have, with at most so many octets of the list and of the question, and so many entries. None
+    if none is small enough. For a conversion the recipe is a Form, and `list_octets` is for its whole text."""
+    list_octets, question_octets = min(list_octets, call.listed), min(question_octets, call.asked)
     if call.word in FORMED:
-        return formed(recipe, listed)
-    larger = fitted(recipe, listed, asked, call.certificates, entries)
+        return formed(recipe, list_octets)
+    larger = fitted(recipe, list_octets, question_octets, call.certificates, entries)
     if larger is None or call.limits:
         return larger
     # (a command's text has more than the list and the question, and may have 1 MiB)
     return larger if len(text_for(call, larger)) <= MIB else None
 
 
-def found_size(call: Call, recipe: Any, listed: int, asked: int) -> Any:
+def found_size(call: Call, recipe: Any, list_octets: int, question_octets: int) -> Any:
     """As `sized`, for a recipe that the search made: with MOST_ENTRIES at most for a call whose limit is by the entry."""
-    return sized(call, recipe, listed, asked, MOST_ENTRIES if call.is_by_entry else MANY)
+    return sized(call, recipe, list_octets, question_octets, MOST_ENTRIES if call.is_by_entry else MANY)
 
 
 def searched(measure: Measure, call: Call, first: Any, chance: random.Random, steps: int) -> Iterator[tuple[float, Any]]:
@@ -331,7 +331,7 @@ def faults_of(measure: Measure, call: Call, steps: int, seed: int) -> Iterator[s
 
 
 def main() -> None:
-    """Measures all calls that are asked for. Ends with status 1 if a limit is exceeded, 2 if a word is the beginning of no call's name."""
+    """Measures the calls that the command line names. Ends with status 1 if a limit is exceeded, 2 if a word is the beginning of no call's name."""
     parser = argparse.ArgumentParser(description="Searches for the slowest texts of each call.")
     parser.add_argument("--named", action="store_true", help="measure the named texts alone")
     parser.add_argument("--steps", type=int, default=STEPS, help="of the search for one call")

@@ -14,7 +14,7 @@ const (
 // A Message is a request, as it was sent.
 type Message struct {
 	Method string
-	// The name that the client asks, with the port if it is not the scheme's own.
+	// The name that the client asks, with the port unless that is the default one of the scheme.
 	Authority string
 	// The path and the query, as in the first line of HTTP/1.1.
 	Target string

@@ -14,7 +14,7 @@ import (
 //	client := http.Client{Transport: &httpsig.Transport{Signer: signer, Names: []string{"files.example.org"}}}
 type Transport struct {
 	Signer *Signer
-	// The services, by https or http, with ports that are not the scheme's own.
+	// The services, by https or http, each with its port unless that is the default one of the scheme.
 	Names []string
 	// What sends the request: http.DefaultTransport, if nothing is set.
 	Base http.RoundTripper

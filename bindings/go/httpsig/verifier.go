@@ -26,7 +26,7 @@ const (
 
 // A Verifier says which key has made a request. Its fields are set before it is used, and then several goroutines may use it.
 type Verifier struct {
-	// The names of this service, with ports that are not the scheme's own. A request for any other is refused.
+	// The names of this service, each with its port unless that is the default one of the scheme. A request for any other is refused.
 	Authorities []string
 	// `https`, unless `http` is set.
 	Scheme string

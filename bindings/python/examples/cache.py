@@ -9,14 +9,14 @@ import spki
 import spki_verify
 
 access_list, folder, key, sequence = map(Path, sys.argv[1:]) if len(sys.argv) == 5 else sys.exit(__doc__)
-guard, client, last, grant = spki.Guard(access_list.read_bytes()), spki.ProvenKey.assume(key.read_bytes()), None, None
+guard, client, decided, grant = spki.Guard(access_list.read_bytes()), spki.ProvenKey.assume(key.read_bytes()), None, None
 for line in sys.stdin.buffer:
     action, path, text = (line.rstrip(b"\n").split(b" ", 2) + [b"", b""])[:3]
-    asked, answer, now = (action, path), b"denied", datetime.now(timezone.utc)
+    request, answer, now = (action, path), b"denied", datetime.now(timezone.utc)
     try:
-        if asked != last or not grant or not grant.holds_at(now):
-            question = spki.Question(sequence.read_bytes(), client, words=[b"cache", *asked], moment=now)
-            last, grant = asked, guard.decide(question, spki_verify.verify)
+        if request != decided or not grant or not grant.holds_at(now):  # (while its grant holds, the same request is not decided again)
+            question = spki.Question(sequence.read_bytes(), client, words=[b"cache", *request], moment=now)
+            decided, grant = request, guard.decide(question, spki_verify.verify)
         file, is_normal = folder / os.fsdecode(path[1:]), re.fullmatch(rb"(/(?!\.\.?(/|$))[^/]+)+", path)
         if grant and is_normal and action == b"write":
             answer = b"written %d" % file.write_bytes(text)

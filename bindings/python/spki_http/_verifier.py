@@ -88,7 +88,7 @@ class Proof:
 
 
 class Verifier:
-    """Verifies requests to a service of these names, with ports that are not the scheme's own.
+    """Verifies requests to a service of these names, each with its port unless that is the default one of the scheme.
 
     `scheme` is `https` or `http`. `sequence` is the name of the field with the certificates, in small letters. `nonces`
     keeps the used nonces, in a `Memory` if it is None. `now` is the clock, in seconds since 1970, and `verify` says
