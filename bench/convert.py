@@ -74,8 +74,8 @@ def hints(size):
 
 def binary_strings(size):
     """Strings of 32 octets each, in canonical form."""
-    octets = random.Random(size)
-    return b"(" + b"".join(b"32:" + octets.randbytes(32) for _ in range((size - 2) // 35)) + b")"
+    chance, length = random.Random(size), len(b"32:") + 32
+    return b"(" + b"".join(b"32:" + chance.randbytes(32) for _ in range((size - 2) // length)) + b")"
 
 
 def one_binary_string(size):
@@ -95,7 +95,7 @@ def hexadecimal_strings(size):
 
 
 def braces(size):
-    """Short strings, in braces."""
+    """Short strings, in braces: as base64, which has four octets for three."""
     return braced(filled(3 * (size - 4) // 4, b"3:abc1:d"))
 
 

@@ -76,6 +76,7 @@ def most_of_long_keys():
     each of the two. Ends the process if `reduce` does not answer."""
     most = 0.0
     issuer, other = keys_of(1)
+    # (an empty string has two octets, so 250,000 of them are about half the text too)
     for parts in ([string(b"\x01" * (MOST_OCTETS // 2 - 100))], [string("")] * 250_000):
         links = [(certificate(issuer, group(string("public-key"), group(string("rsa"), *parts))), issuer)]
         one = len(case([entry(issuer)], links, asks=other)) - len(case([], links, asks=other))

@@ -108,11 +108,12 @@ def table(totals, whole, clock, fixed):
         yield f"{crate:<24}" + "".join(f"{minutes:>9.1f}" for minutes in [*row, sum(row)])
     sums = [sum(minutes for (_, name), minutes in totals.items() if name == part) for part in PARTS]
     yield f"{'all crates':<24}" + "".join(f"{minutes:>9.1f}" for minutes in [*sums, sum(sums)])
-    yield f"{'all else':<24}" + " " * 27 + f"{max(0.0, whole - sum(sums)):>9.1f}"
-    yield f"{'all':<24}" + " " * 27 + f"{whole:>9.1f}"
-    yield f"{'minutes on the clock':<24}" + " " * 27 + f"{clock:>9.1f}"
-    yield f"{'the fixed check':<24}" + " " * 27 + f"{fixed:>9.1f}"
-    yield f"{'all, as a multiple of it':<24}" + " " * 27 + f"{whole / fixed:>9.1f}"
+    without_parts = " " * 9 * len(PARTS)
+    yield f"{'all else':<24}{without_parts}{max(0.0, whole - sum(sums)):>9.1f}"
+    yield f"{'all':<24}{without_parts}{whole:>9.1f}"
+    yield f"{'minutes on the clock':<24}{without_parts}{clock:>9.1f}"
+    yield f"{'the fixed check':<24}{without_parts}{fixed:>9.1f}"
+    yield f"{'all, as a multiple of it':<24}{without_parts}{whole / fixed:>9.1f}"
 
 
 def main():

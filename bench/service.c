@@ -159,10 +159,10 @@ static long waits(void)
     return used.ru_nvcsw;
 }
 
-/* What a thread does until it is stopped: opens and decides its question, and counts. */
-static void *decide_on(void *which)
+/* What a thread does until it is stopped: opens and decides its question, and counts. `number` is that of the thread, from 0, as a pointer. */
+static void *decide_on(void *number)
 {
-    size_t thread = (size_t)which;
+    size_t thread = (size_t)number;
     long count = 0, before = waits();
     while (!atomic_load_explicit(&stop, memory_order_relaxed))
         if (list_signed(&of_threads[thread]) == SPKI_DONE && decided(&of_threads[thread]) == SPKI_YES)
@@ -172,13 +172,14 @@ static void *decide_on(void *which)
     return NULL;
 }
 
-/* What a thread does until it is stopped, to find out how many processors are free: it only counts, and uses nothing that threads share. */
-static void *count_on(void *which)
+/* What a thread does until it is stopped, to find out how many processors are free: it only counts, and uses nothing that threads share. `number` is
+ * that of the thread, from 0, as a pointer. */
+static void *count_on(void *number)
 {
     long count = 0;
     while (!atomic_load_explicit(&stop, memory_order_relaxed))
         count++;
-    tallies[(size_t)which].count = count;
+    tallies[(size_t)number].count = count;
     return NULL;
 }
 
@@ -204,6 +205,7 @@ static struct rate rate_of(void *(*work)(void *), size_t threads)
         total += tallies[i].count;
         waited += tallies[i].waits;
     }
+    /* (a 1 more, since a thread may have done nothing) */
     return (struct rate){total / (now() - begun) * 1e6, waited * 1e3 / (total + 1)};
 }
 
