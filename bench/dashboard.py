@@ -66,14 +66,15 @@ def sample(site, seconds):
 
 
 def rates(samples, name, labels):
-    """By how much a metric grew in each second. Its value is the sum of all values of this name whose labels contain the text `labels`."""
+    """By how much a metric grew in each second. `samples` has the metrics at each second, as `sample` returns them. The value of the metric is the
+    sum of all values of this name whose labels contain the text `labels`."""
     values = [sum(value for key, value in metrics_then.items() if key[0] == name and labels in key[1]) for metrics_then in samples]
     return [after - before for before, after in zip(values, values[1:])]
 
 
 def quantile(samples, share):
-    """For each second the least bound of the daemon's histogram, in milliseconds, up to which a share (0.99) of its answers took. The greatest bound
-    if fewer did."""
+    """For each second the least bound of the daemon's histogram, in milliseconds, within which a share (0.99) of its answers came. The greatest
+    bound if fewer did. `samples` is as for `rates`."""
     # (the labels of a bucket are `le="0.005"`: so many answers took at most 0.005 seconds)
     bounds = sorted({float(labels[4:-1]) for name, labels in samples[0] if name == "seconds_bucket" and "Inf" not in labels})
     by_bound = [rates(samples, "seconds_bucket", f'le="{bound:g}"') for bound in bounds]
@@ -85,7 +86,7 @@ def quantile(samples, share):
 
 
 def panels(samples):
-    """The title of each panel, and its lines, each a name and the values of the seconds."""
+    """Yields the title of each panel, and a list of its lines, each a name and a list of a value for each second. `samples` is as for `rates`."""
     yield "Answers a second", [(answer, rates(samples, "decisions_total", f'answer="{answer}"')) for answer in ("yes", "no", "failed")]
     yield "Bound of 99 of 100 answers, ms", [("p99", quantile(samples, 0.99))]
     yield "Signatures a second", [(how, rates(samples, "signatures_total", f'how="{how}"')) for how in ("known", "verified", "spared")]

@@ -90,10 +90,15 @@ class Asker(threading.Thread):
 
 
 def span_of_503(answers, failed):
-    """When the first 503 was received, and the first answer to a request after the last 503, in seconds since the failure. None if there is no
-    503. An Asker is ended once its daemon answers again, so an answer follows the last 503."""
+    """When the first 503 was received, and the first answer to a request after the last 503, in seconds since the failure. `answers` are those of
+    an Asker, and `failed` is the time of the failure. None if there is no 503. An Asker is ended once its daemon answers again, so an answer follows
+    the last 503."""
     refused = [place for place, (_, _, _, status) in enumerate(answers) if status == 503]
-    return (answers[refused[0]][1] - failed, answers[refused[-1] + 1][1] - failed) if refused else None
+    if not refused:
+        return None
+    _, first_end, *_ = answers[refused[0]]
+    _, next_end, *_ = answers[refused[-1] + 1]
+    return first_end - failed, next_end - failed
 
 
 def is_wrong(answer, removed, stale):

@@ -95,8 +95,8 @@ def restart_cold(server):
 
 
 def figures(server, what, count, library, **more):
-    """Runs a test of the daemon on a store of so many entries: `what` is single, load, cold or served. Returns the lines that it prints, by their
-    names. Ends the script if it fails."""
+    """Runs a test of the daemon on a store of so many entries: `what` is single, load, cold or served, and `more` are further variables of its
+    environment. Returns the lines that it prints, by their names. Ends the script if it fails."""
     test = "TestStoreServed" if what == "served" else "TestStoreFigures"
     done = golang.go(golang.DAEMON, ["test", *DRIVER, "-count=1", "-run", test, "-v", "."], library, None, SPKI_STORE_HOST=server.folder,
                      SPKI_STORE_SCHEMA=SCHEMA, SPKI_STORE_KEYS=str(count - count // 20), SPKI_STORE_WHAT=what, **more)

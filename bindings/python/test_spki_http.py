@@ -245,8 +245,8 @@ class Clients(unittest.TestCase):
         self.url = f"http://{self.name}/a%20b/%7ec?d=e+f"
         self.signers = [ed25519_signer(Ed25519PrivateKey.generate()), curve_signer()]
 
-    def each(self, send: Callable[[spki_http.Signer, str, bytes | None], bytes]) -> None:
-        """Sends requests of each signer by `send(signer, method, body)`. It returns the server's answer, which must be the signer's key."""
+    def check_requests(self, send: Callable[[spki_http.Signer, str, bytes | None], bytes]) -> None:
+        """Has `send(signer, method, body)` send requests of each signer. It returns the server's answer, which must be the signer's key."""
         for signer in self.signers:
             for method, body in (("GET", None), ("PUT", b"some octets"), ("PUT", b""), ("DELETE", None)):
                 self.assertEqual(send(signer, method, body), signer.key, method)
@@ -288,7 +288,7 @@ class Clients(unittest.TestCase):
             opener = urllib.request.build_opener(urllib.request.ProxyHandler({}), spki_http.Handler(signer, self.name))
             with opener.open(urllib.request.Request(self.url, body, method=method)) as response:
                 return bytes(response.read())
-        self.each(send)
+        self.check_requests(send)
         again = urllib.request.Request(self.url, b"some octets", method="PUT")
         for signer in self.signers:
             with urllib.request.build_opener(urllib.request.ProxyHandler({}), spki_http.Handler(signer, self.name)).open(again) as response:
@@ -314,7 +314,7 @@ class Clients(unittest.TestCase):
                 opener = urllib.request.build_opener(urllib.request.ProxyHandler({}))
                 with opener.open(urllib.request.Request(prepared.url, body, prepared.headers, method=method)) as response:
                     return bytes(response.read())
-            self.each(send)
+            self.check_requests(send)
             other = spki_http.Auth(self.signers[0], "example.com")(Prepared("GET", self.url, None, has_content))
             self.assertEqual({*other.headers}, {"Accept", "Content-Length"})
         with self.assertRaises(TypeError):
