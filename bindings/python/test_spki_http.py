@@ -264,8 +264,8 @@ class Clients(unittest.TestCase):
         self.assertEqual(spki_http.octets_of(value(b"ecdsa", b"\0r", b"ss")), b"\0rss")
 
     def test_covered_fields(self) -> None:
-        """The signature covers a field that the caller names, once. A name that the request has no field of is refused, also if it is one that the
-        profile asks for where it is present."""
+        """The signature covers a field that the caller names, once. A name that the request has no field of is refused, also if it must be
+        covered where it is present."""
         signer, own_fields = curve_signer(), [("X-Job", "7")]
         fields = signer.fields("PUT", "https://files.example.org/a", b"x", own_fields, ["x-job", "x-job", "content-digest", "x-spki-public-key"])
         covered = fields["Signature-Input"].partition(")")[0]

@@ -249,7 +249,7 @@ func TestClientAndServer(t *testing.T) {
 	}
 }
 
-// TestCovered names fields to be covered. Each is covered once. One that the request lacks is an error, also if the profile asks for it where it is
+// TestCovered names fields to be covered. Each is covered once. One that the request lacks is an error, also if it must be covered where it is
 // present.
 func TestCovered(t *testing.T) {
 	signer, verifier := signers(t)[Ed25519], NewVerifier("example.com")

@@ -6,7 +6,8 @@ import (
 	"strings"
 )
 
-// The label of the one member that each field has, and the tag of the profile.
+// The label of `Signature-Input` and `Signature`, as in `spki=..`, and the value of the parameter `tag`. docs/SIGNATURES.md says what else a request must
+// have.
 const (
 	label = "spki"
 	tag   = "spki"
@@ -96,7 +97,7 @@ func isNameOctet(octet byte, place int) bool {
 		place > 0 && ('0' <= octet && octet <= '9' || octet == '_' || octet == '-' || octet == '.')
 }
 
-// string reads a string in quotes. Everything else is Malformed, also an escape: nothing in the profile needs one.
+// string reads a string in quotes. Everything else is Malformed, also an escape: no string of a request needs one.
 func (p *parser) string() (string, error) {
 	if !p.trySkip(`"`) {
 		return "", Malformed
@@ -179,7 +180,7 @@ func contains(names []string, name string) bool {
 	return false
 }
 
-// inputOf reads the value of `Signature-Input`. The error is a Refusal, also if a component or a parameter is missing that the profile requires.
+// inputOf reads the value of `Signature-Input`. The error is a Refusal, also if a component or a parameter is missing that is required.
 func inputOf(text string) (*input, error) {
 	if len(text) > mostInput {
 		return nil, Malformed
@@ -206,7 +207,7 @@ func inputOf(text string) (*input, error) {
 	return input, nil
 }
 
-// hasComponents says whether all components are there that the profile requires: the method, the authority, the key, and the target, either whole
+// hasComponents says whether all components are there that are required: the method, the authority, the key, and the target, either whole
 // or as path and query.
 func (i *input) hasComponents() bool {
 	hasTarget := contains(i.components, targetURI) || contains(i.components, path) && contains(i.components, query)

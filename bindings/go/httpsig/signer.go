@@ -81,7 +81,7 @@ func (s *Signer) Sign(scheme string, message Message, covered ...string) error {
 	return nil
 }
 
-// componentsOf returns the names of what a signature covers: the components of the profile, as far as a header has them, and the fields `covered`. The
+// componentsOf returns the names of what a signature covers: what docs/SIGNATURES.md requires, as far as a header has it, and the fields `covered`. The
 // error is UnknownComponent for a name that no field has.
 func componentsOf(header http.Header, covered []string) ([]string, error) {
 	names := []string{method, authority, path, query, publicKey}

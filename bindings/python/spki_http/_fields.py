@@ -149,7 +149,7 @@ def is_component(name: str) -> bool:
 
 
 def input_of(text: str) -> Input:
-    """Reads the value of `Signature-Input`. Raises `Refused`, also if a component or a parameter that the profile requires is missing."""
+    """Reads the value of `Signature-Input`. Raises `Refused`, also if a component or a parameter that is required is missing."""
     parser = Parser(text)
     begin = parser.position
     components, parameters = parser.components(), parser.parameters()

@@ -32,7 +32,7 @@ class Signer:
     def fields(self, method: str, url: str, body: bytes = b"", fields: Iterable[tuple[str, str]] = (),
                covered: Iterable[str] = ()) -> dict[str, str]:
         """The fields to set in a request, which replace its own fields of the same names. `fields` are those that it
-        has. The signature covers what the profile asks for, and the fields of `covered`, which are names in small
+        has. The signature covers what docs/SIGNATURES.md requires, and the fields of `covered`, which are names in small
         letters.
 
         Raises `ValueError` for an address or a method that cannot be signed, and if the request has no field of a name

@@ -100,7 +100,7 @@ impl<'a> Parser<'a> {
         }))
     }
 
-    /// A string in quotes. An escape is refused: nothing in the profile needs one.
+    /// A string in quotes. An escape is refused: no string of a request needs one.
     fn string(&mut self) -> Result<&'a str, Unproved> {
         self.expect("\"")?;
         let text = self
@@ -166,8 +166,8 @@ impl<'a> Parser<'a> {
 }
 
 impl<'a> Input<'a> {
-    /// Reads the parameters, each `;name=value`, up to the end of the field. Then no component and no parameter that the profile requires may be
-    /// missing. The components are read before.
+    /// Reads the parameters, each `;name=value`, up to the end of the field. Fails also if a parameter is missing, or a component that is required. The
+    /// components are read before.
     fn read_parameters(&mut self, parser: &mut Parser<'a>) -> Result<(), Unproved> {
         let mut seen = Vec::new();
         while parser.try_skip(";") {
@@ -215,7 +215,7 @@ fn is_component(name: &str) -> bool {
     DERIVED.contains(&name) || (!is_excluded && name.bytes().all(is_small))
 }
 
-/// Reads the value of `Signature-Input`. A component or a parameter that the profile requires must not be missing.
+/// Reads the value of `Signature-Input`. Fails also if a component or a parameter is missing that is required.
 pub(super) fn input_of(value: &[u8]) -> Result<Input<'_>, Unproved> {
     let mut parser = Parser::new(value)?;
     let mut input = Input {
