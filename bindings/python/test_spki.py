@@ -206,14 +206,15 @@ class Opened(unittest.TestCase):
         self.assertEqual(again.decide(), None)
 
     def test_clients_in_threads(self):
-        """Two clients in several threads: each answer is by the marks of its own question."""
-        granted = []
+        """Two clients in several threads: each answer is by the marks of its own question. A row of `answers` says whether the certificate is forged,
+        and whether the request is granted."""
+        answers = []
 
         def serve(sequence, key):
             for _ in range(200):
                 with self.guard.ask(new_question(sequence, key)) as opened:
                     opened.verify(lambda signature: signature.value == b"3:sig")
-                    granted.append((sequence is FORGED, opened.decide() is not None))
+                    answers.append((sequence is FORGED, opened.decide() is not None))
 
         clients = [(SHOWN, KEY), (FORGED, b"(public-key (test c))")]
         threads = [threading.Thread(target=serve, args=clients[place % 2]) for place in range(6)]
@@ -221,7 +222,7 @@ class Opened(unittest.TestCase):
             thread.start()
         for thread in threads:
             thread.join()
-        self.assertEqual((len(granted), set(granted)), (1200, {(False, True), (True, False)}))
+        self.assertEqual((len(answers), set(answers)), (6 * 200, {(False, True), (True, False)}))
 
     def test_marks_are_of_one_place(self):
         """Two equal signatures are two places, and both marks are needed."""
@@ -440,7 +441,7 @@ class Keys(unittest.TestCase):
                 spki.ProvenKey.by(self.LOGIN, lambda signature: answer)
 
     def test_a_certificate_proves_no_key(self):
-        """Whoever shows a certificate does not hold the key that has signed it."""
+        """Whoever shows a certificate need not hold the key that has signed it."""
         signature, = spki.Guard(LIST).ask(new_question()).signatures()
         with self.assertRaises(spki.NotProved):
             spki.ProvenKey.by(signature, accept_all)

@@ -8,7 +8,7 @@ from dataclasses import dataclass
 from ._fields import Refused
 
 # The fields that must be covered wherever a request has them, besides the one with the certificates.
-CHAINED, DIGEST = "authorization", "content-digest"
+AUTHORIZATION, DIGEST = "authorization", "content-digest"
 # A method, a path and perhaps a query, the value of a field, and the ports that are not named.
 METHOD = re.compile(r"[A-Za-z0-9!#$%&'*+.^_`|~-]+")
 TARGET = re.compile(r"/[!\"$-~]*")

@@ -10,7 +10,7 @@ from collections.abc import Callable, Iterable
 from typing import Any
 
 from ._fields import LABEL, PUBLIC_KEY, TAG, content_digest, hash_of, in_braces, kind_of, octets_of
-from ._message import CHAINED, DIGEST, METHOD, PORTS, TARGET, Message, authority_of, base_of
+from ._message import AUTHORIZATION, DIGEST, METHOD, PORTS, TARGET, Message, authority_of, base_of
 from ._verifier import MOST_WINDOW
 
 SEQUENCE, KEY = "X-Spki-Sequence", "X-Spki-Public-Key"
@@ -72,7 +72,7 @@ def _components(message: Message, covered: Iterable[str]) -> list[str]:
     """The names of the components that the signature of a request covers: those that docs/SIGNATURES.md requires, and
     the fields of `covered`, each once. Raises `ValueError` if the request has no field of a name in `covered`."""
     names = ["@method", "@authority", "@path", "@query", PUBLIC_KEY]
-    names += [name for name in (CHAINED, SEQUENCE.lower(), DIGEST) if message.values(name)]
+    names += [name for name in (AUTHORIZATION, SEQUENCE.lower(), DIGEST) if message.values(name)]
     more = [name for name in dict.fromkeys(covered) if name not in names]
     if absent := [name for name in more if not message.values(name)]:
         raise ValueError(f"the request has no field {absent[0]!r}, which the signature should cover")

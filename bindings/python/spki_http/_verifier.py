@@ -9,7 +9,7 @@ from dataclasses import dataclass, replace
 from typing import NamedTuple, Protocol
 
 from ._fields import PUBLIC_KEY, TAG, Input, Refused, digest_of, hash_of, input_of, key_of, signature_of, value_of
-from ._message import CHAINED, DIGEST, METHOD, TARGET, Message, authority_of, base_of
+from ._message import AUTHORIZATION, DIGEST, METHOD, TARGET, Message, authority_of, base_of
 from ._message import value_of as component_of
 
 # The seconds from `created` to `expires` at most, and those that a client's clock may be ahead.
@@ -183,7 +183,7 @@ class Verifier:
             raise Refused("other-authority")
         text = base_of(message, self.scheme, signature_input.components, signature_input.text)
         components = signature_input.components
-        if any(message.values(name) and name not in components for name in (CHAINED, self.sequence, DIGEST)):
+        if any(message.values(name) and name not in components for name in (AUTHORIZATION, self.sequence, DIGEST)):
             raise Refused("uncovered-field")
         if DIGEST not in signature_input.components:
             if message.may_have_body():

@@ -475,7 +475,7 @@ fn a_login_proves_its_key() {
     assert_eq!(ProvenKey::by(login(message), |_| false), Err(NotProved::No));
     let failed = ProvenKey::by(login(message), |_| Err("no such key"));
     assert_eq!(failed, Err(NotProved::Verifier("no such key")));
-    // (whoever shows a certificate does not hold the key that has signed it)
+    // (whoever shows a certificate need not hold the key that has signed it)
     assert_eq!(ProvenKey::by(SIGNED, valid), Err(NotProved::No));
 }
 
