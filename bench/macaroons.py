@@ -27,7 +27,7 @@ DECIDE_ONLY, MACAROON, OPEN_AND_DECIDE = "1", "2", "3"
 
 
 def written_parts(text):
-    """The parts of a case, as the octets of a file that question.h reads."""
+    """The parts of a case, as the octets of a file that question.h reads: each part with its length on a line before it."""
     return b"".join(b"%d\n%s" % (len(part), part) for part in parts_of(text))
 
 

@@ -21,12 +21,13 @@ PART = re.compile(r"Rattle-\w+-proofs\.(?:(?P<function>.*)\.)?(?P<part>[^.]+)")
 
 
 def parts_in(folder):
-    """Yields the parts of proofs that a check has written to a folder, in order: the function, its part, and the seconds that this took."""
-    files = sorted((os.stat(os.path.join(at, name)).st_mtime, name) for at, _, names in os.walk(folder) for name in names)
-    for (before, _), (time, name) in zip(files, files[1:]):
+    """Yields the parts of proofs that a check has written to a folder, in order: the function, its part, and the seconds from the file before it."""
+    paths = [os.path.join(parent, name) for parent, _, names in os.walk(folder) for name in names]
+    files = sorted((os.stat(path).st_mtime, os.path.basename(path)) for path in paths)
+    for (begin, _), (end, name) in zip(files, files[1:]):
         part = PART.fullmatch(name.removesuffix(".oantt").removesuffix(".decls"))
         if part:
-            yield part["function"] or "chapters", part["part"].partition("-")[0], time - before
+            yield part["function"] or "chapters", part["part"].partition("-")[0], end - begin
 
 
 def main():

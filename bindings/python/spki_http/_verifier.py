@@ -84,7 +84,11 @@ class Proof:
 
     def covers(self, body: bytes) -> bool:
         """Whether a body is the signed one, by its digest. If no digest is covered, the empty body alone is."""
-        return body == b"" if self.digest is None else hashlib.new(self.digest[0].replace("-", ""), body).digest() == self.digest[1]
+        if self.digest is None:
+            return body == b""
+        algorithm, octets = self.digest
+        # (`hashlib` writes the names without a hyphen)
+        return hashlib.new(algorithm.replace("-", ""), body).digest() == octets
 
 
 class Verifier:
