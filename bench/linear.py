@@ -115,8 +115,8 @@ def entries_and_chain(entries, certificates, members):
 
 
 def entries_and_tags(entries, certificates, members):
-    """A case of equal entries for (ftp), and a chain by keys for (ftp). The product of the nodes of all tags is over the limit, so it does not show that
-    no intersection is too large."""
+    """A case of equal entries for (ftp), and a chain by keys for (ftp). The product of the nodes of all tags is over the limit, so it does not show
+    that no intersection is too large."""
     return by_keys(certificates, FTP, entries=entries, asks=OTHER)
 
 

@@ -49,7 +49,7 @@ impl Row {
     }
 }
 
-/// The octets of a line of the table, which writes some as `\t`, `\n`, `\r` or `\xHH`. Behind another backslash is the octet itself.
+/// The octets of a line of the table, which writes some as `\t`, `\n`, `\r` or `\xHH`. Any other octet behind a backslash is itself.
 fn unescaped(text: &str) -> Vec<u8> {
     let mut octets = Vec::new();
     let mut rest = text.bytes();

@@ -15,6 +15,7 @@ fn limits_of(value: Value) -> Result<Limits, String> {
     limits::deserialize(value).map_err(|error| error.to_string())
 }
 
+/// Only limits that are set are written. A number above the highest is read as the highest, and a name that is unknown or twice is an error.
 #[test]
 fn limits_are_written_and_read() {
     let some = Limits::default().octets(4096).work(7);
@@ -46,6 +47,7 @@ fn limits_are_written_and_read() {
     );
 }
 
+/// A policy is one of two words. Any other value is an error.
 #[test]
 fn policies_are_written_and_read() {
     for (word, wanted) in [
@@ -78,6 +80,7 @@ fn json_of(decided: &Result<Grant, Denied>) -> Value {
     decision(decided, Serializer).expect("a map")
 }
 
+/// A grant has the number of its entry and its last second, 2026-06-30 23:59:59. An explanation is a list of lines.
 #[test]
 fn grants_are_written() {
     let (guard, client) = (guard_of(LIST), client());
@@ -112,6 +115,7 @@ fn an_end_before_1970_is_written() {
     );
 }
 
+/// A no, a refusal and a verifier that failed are written differently, and none is granted.
 #[test]
 fn denials_are_written() {
     let (guard, client) = (guard_of(LIST), client());

@@ -87,7 +87,7 @@ impl<'a> Parser<'a> {
         taken
     }
 
-    /// The name of a member or of a parameter.
+    /// The name of a member or of a parameter. Fails with `Malformed` if none is there.
     fn name(&mut self) -> Result<&'a str, Unproved> {
         if !self
             .rest
@@ -100,7 +100,7 @@ impl<'a> Parser<'a> {
         }))
     }
 
-    /// A string in quotes. An escape is refused: no string of a request needs one.
+    /// A string in quotes. Anything else is `Malformed`, also an escape: no string of a request needs one.
     fn string(&mut self) -> Result<&'a str, Unproved> {
         self.expect("\"")?;
         let text = self
@@ -109,7 +109,7 @@ impl<'a> Parser<'a> {
         Ok(text)
     }
 
-    /// A number of seconds, of at most `MOST_DIGITS` digits, without zeros before it.
+    /// A number of seconds, of at most `MOST_DIGITS` digits, without zeros before it. Anything else is `Malformed`.
     fn integer(&mut self) -> Result<u64, Unproved> {
         let digits = self.take_while(|octet| octet.is_ascii_digit());
         if digits.len() > MOST_DIGITS || digits.len() > 1 && digits.starts_with('0') {
@@ -118,7 +118,7 @@ impl<'a> Parser<'a> {
         digits.parse().map_err(|_| Unproved::Malformed)
     }
 
-    /// Octets between colons, in base64.
+    /// The octets that are in base64 between two colons. Anything else is `Malformed`.
     fn octets(&mut self) -> Result<Vec<u8>, Unproved> {
         self.expect(":")?;
         let text = self.take_while(|octet| octet != b':');
