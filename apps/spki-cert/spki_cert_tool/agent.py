@@ -22,9 +22,9 @@ def ssh_string(octets: bytes) -> bytes:
 
 
 def ask_agent(kind: int, body: bytes, wanted: int, refusal: str) -> bytes:
-    """Sends the agent a message of a kind. Returns the body of its answer, which must be of the kind `wanted`. Raises BadKey: with the words
-    `refusal` for an answer of another kind, and if there is no agent, if it does not answer in time, or if its answer is not whole or is
-    longer than MOST_OCTETS."""
+    """Sends the agent a message: its kind, which is a number such as SIGN_REQUEST, and its body. Returns the body of the answer, which must be of the
+    kind `wanted`. Raises BadKey: with the words `refusal` for an answer of another kind, and if there is no agent, if it does not answer in time, or
+    if its answer is not whole or is longer than MOST_OCTETS."""
     path = os.environ.get("SSH_AUTH_SOCK")
     if not path:
         raise BadKey("this is a public key, and there is no ssh-agent to sign by it: SSH_AUTH_SOCK is not set. Give the private key's file")
@@ -35,6 +35,7 @@ def ask_agent(kind: int, body: bytes, wanted: int, refusal: str) -> bytes:
             agent.sendall(ssh_string(bytes([kind]) + body))
             with agent.makefile("rb") as file:
                 length = file.read(4)
+                # (of a longer answer only a part is read, which is then not whole)
                 answer, _ = split_string(length + file.read(min(int.from_bytes(length, "big"), MOST_OCTETS)))
     except OSError as why:
         raise BadKey(f"ssh-agent at {path} does not answer: {why}") from None

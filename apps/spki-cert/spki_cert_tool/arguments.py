@@ -43,7 +43,8 @@ class Once(argparse._StoreAction):
 
 
 class CommandParser(argparse.ArgumentParser):
-    """Parses the words of a command. Raises Refused for wrong ones. No option is abbreviated: the beginning of one may be another one."""
+    """Parses the words of a command line. Raises Refused for wrong ones. No option may be abbreviated: `--name`, the beginning of `--named`, is an
+    option too."""
 
     def __init__(self, **settings: Any) -> None:
         """Makes `Once` the action of each option that names none, or `store`. `settings` are those of ArgumentParser."""
@@ -56,7 +57,7 @@ class CommandParser(argparse.ArgumentParser):
         that is not known, and says which option or command may be meant."""
         options = [name[2:] for action in self._actions for name in action.option_strings if name.startswith("--")]
         commands = [name for action in self._actions if isinstance(action, argparse._SubParsersAction) for name in action.choices]
-        for word in itertools.takewhile(lambda it: it != "--", args or []):
+        for word in itertools.takewhile(lambda word: word != "--", args or []):
             if not commands and word.startswith("--") and " " not in word:
                 self.refuse_unknown_option(word, options)
             if commands and not word.startswith("-"):
@@ -80,7 +81,9 @@ class CommandParser(argparse.ArgumentParser):
             return
         having = ", ".join(command for command, names in commands_with_options().items() if option in names)
         others = f" of {self.prog.split()[-1]}, but of {having}" if having else ""
+        # (`--name` of `sign` or `entry` is a frequent mistake)
         others += "; to define a name: `spki-cert name`; a note: `--comment`" if word.startswith("--name") and having else ""
+        # (the suggestion names an option without its dashes, which are put in front)
         near = suggestion(os.fsencode(option[2:]), map(os.fsencode, options)).replace("`", "`--", 1)
         self.error(f"{word}: no such option{others}{near}")
 
@@ -94,7 +97,8 @@ class CommandParser(argparse.ArgumentParser):
 
 
 def count_of(text: str) -> int:
-    """The number from 1 to 999,999,999 that a word of the command line is. Raises ArgumentTypeError for another word."""
+    """The number from 1 to 999,999,999 that a word of the command line is. Raises ArgumentTypeError for another word; for a date it advises
+    --until."""
     if re.fullmatch(r"[0-9]{4}[-/.][0-9].*", text):
         raise argparse.ArgumentTypeError(f"{text} is a date, and a number is wanted; a date is given by --until {text[:10]}")
     if not re.fullmatch(r"[0-9]{1,9}", text) or int(text) == 0:
@@ -110,7 +114,7 @@ def not_empty(text: str) -> str:
 
 
 def plain(text: str) -> str:
-    """A word of the command line as it is. Raises ArgumentTypeError if it is empty, or has line breaks or other controls."""
+    """A word of the command line as it is. Raises ArgumentTypeError if it is empty, or has line breaks or other control characters."""
     if re.search("[\0-\x1f\x7f]", text):
         raise argparse.ArgumentTypeError("this has line breaks or other controls in it")
     return not_empty(text)

@@ -1,7 +1,8 @@
-"""Asks a guard of the library whether a request is granted, and says in words why or why not.
+"""Asks a guard of the library, which holds an access list, whether a request is granted, and says in words why or why not.
 
-The library decides. What is here finds the certificates that lead to the key among those that are given, verifies signatures, and names
-what the library's reasons mean in these files.
+The library decides. What is here finds the certificates that lead to the key among those that are given, verifies signatures, and names what the
+library's reasons mean in these files. A reason is a line of the library's `explain`, as `entry 1 item 3 NoDelegation`: which entry, which item of the
+sequence stops the chain from this entry over all certificates, and the cause. A case is one text with a whole question.
 """
 from __future__ import annotations
 
@@ -73,8 +74,8 @@ class Asked:
 @dataclass
 class Answer:
     """The decision about one sequence, and the library's reasons: the lines of `explain`. `entry` is the number of the entry that grants, or None.
-    `reduced` has the lines of `reduce`: for each entry `entry N (five ..)` or what stops its chain. It has only one line if a certificate does not
-    pass, or if there are no entries."""
+    `reduced` has the lines of `reduce`: for each entry `entry N (five ..)`, which is the right that is left of it, or what stops its chain. It has
+    only one line if a certificate does not pass, or if there are no entries."""
 
     sequence: Value
     entry: int | None
@@ -98,11 +99,12 @@ class Answer:
 def furthest(reasons: list[Reason]) -> Reason | None:
     """The reason of the entry that goes furthest: it grants, or its chain ends last. A reason without an item joins to its end, and of equal ones the
     first entry is taken. None if there are no entries."""
-    return max(reasons, key=lambda it: (it.word == "grants", it.item or sys.maxsize, -(it.entry or 0))) if reasons else None
+    return max(reasons, key=lambda reason: (reason.word == "grants", reason.item or sys.maxsize, -(reason.entry or 0)), default=None)
 
 
 def guard_of(asked: Asked) -> Guard:
-    """The guard of the access list, by the module `spki` and its library. Raises Refused."""
+    """The guard of the access list, an object of the module `spki` that answers questions by it. Raises Refused if the library cannot be loaded, or
+    refuses the list."""
     try:
         import spki
     except (ImportError, OSError) as why:
@@ -115,14 +117,15 @@ def guard_of(asked: Asked) -> Guard:
 
 
 def answer_of(guard: Guard, asked: Asked, sequence: Value) -> Answer:
-    """The decision about a sequence, as a service would decide. Raises Refused."""
+    """The decision about a sequence, and its reasons, as a service would decide. Raises Refused if it refuses the question, or cannot explain."""
     import spki
+    # (nobody is let in here, so the key counts as proven)
     key = spki.ProvenKey.assume(canonical(asked.key))
     decided = ""
     question: Question = spki.Question(canonical(sequence), key, text=canonical(asked.request), moment=canonical(asked.moment))
     try:
         with guard.ask(question) as opened:
-            opened.verify(lambda it: asked.verify(it.key, it.message, it.value))
+            opened.verify(lambda signature: asked.verify(signature.key, signature.message, signature.value))
             grant = opened.decide()
             decided = f"entry {grant.entry} grants it" if grant else "no entry grants it"
             explanation: Explanation = opened.explain()
@@ -134,9 +137,9 @@ def answer_of(guard: Guard, asked: Asked, sequence: Value) -> Answer:
 
 
 def best_answer(asked: Asked) -> Answer:
-    """The answer that `ask` says: the first that grants, of the one sequence that is given, as it is, of no certificates if several are given, or
-    of a chain. If none grants, that of the one sequence, if it has certificates, else of the chain that goes furthest, or of an empty sequence if
-    there is no chain. Raises Refused."""
+    """The answer that `ask` says: the first one that grants. It asks about the sequence that is given, as it is, or an empty one unless exactly one
+    is given; and then about each chain that `sequences_to` finds. If none grants, the answer is that of the sequence given, if it has certificates,
+    else that of the chain that goes furthest, or of the empty sequence if there is no chain. Raises Refused."""
     with guard_of(asked) as guard:
         sequence_given = asked.sequences[0] if len(asked.sequences) == 1 else [b"sequence"]
         answer_as_given = answer_of(guard, asked, sequence_given)
@@ -229,9 +232,10 @@ class Words:
     def links_of(self, chosen: Reason, with_stop: bool = False) -> list[tuple[str, Terms]]:
         """The entry of a reason, if it has one, and the certificates before the item that stops the chain, or all if none does: each as its name, as
         "entry 1" or "item 3", and its terms. With `with_stop` the item that stops the chain is there too."""
-        last = (chosen.item or sys.maxsize) - (not with_stop)
+        stop = chosen.item or sys.maxsize
+        joined = [signed for signed in self.chain if signed.number < stop or with_stop and signed.number == stop]
         entry = [(f"entry {chosen.entry}", self.entries[chosen.entry - 1])] if chosen.entry else []
-        return entry + [(f"item {signed.number}", signed.terms) for signed in self.chain if signed.number <= last]
+        return entry + [(f"item {signed.number}", signed.terms) for signed in joined]
 
     def statement_of(self, terms: Terms) -> str:
         """What an entry or a certificate says, in one line."""
@@ -311,13 +315,13 @@ class Words:
             return FAULTS[chosen.word]
         issuer, (principal, names) = self.labels.of(item.terms.issuer), self.holder(chosen)
         holder = self.labels.of_subject(subject_of(principal, names))
-        is_meant = suggestion(item.terms.name, [string_of(name) or b"" for name in names[:1]])
+        perhaps_meant = suggestion(item.terms.name, [string_of(name) or b"" for name in names[:1]])
         if chosen.word == "NoTag":
             tags = [terms.tag for _, terms in self.links_of(chosen)] + [item.terms.tag]
             return f"its tag and the tags before it have no request in common: {' and '.join(on_one_line(tag) for tag in tags if tag is not None)}"
         return {
             "NotIssuer": f"{issuer} issues it, and the right is with {holder} there",
-            "NotTheName": f"it defines {on_one_line(item.terms.name or b'')} of {issuer}, and the right is with {holder} there{is_meant}",
+            "NotTheName": f"it defines {on_one_line(item.terms.name or b'')} of {issuer}, and the right is with {holder} there{perhaps_meant}",
             "NoDelegation": f"{issuer} may not delegate the right: what comes before it has no (propagate)",
             "NoValidity": f"it is valid {item.terms.window}, and no moment of that is in the windows before it"}[chosen.word]
 
@@ -328,7 +332,7 @@ def subject_of(principal: Value, names: list[Value]) -> Value:
 
 
 def asked_of_case(case: Value, labels: Labels) -> Asked:
-    """The question of a case that was read as one. Its rows say which signatures are valid."""
+    """The question of a case, a value that was read as one: its parts, whose rows `(accepted ROW ..)` say which signatures are valid."""
     # (a case may end with `(policy strict)`, and with no other policy)
     access_list, accepted, sequence, key, request, moment, *policy = members(case)
     date = members(moment)[0]

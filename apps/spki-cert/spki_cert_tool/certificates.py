@@ -1,4 +1,9 @@
-"""What entries and certificates say: who gives what to whom, until when, and whether it may be delegated."""
+"""What entries and certificates say: who gives what to whom, until when, and whether it may be delegated.
+
+An entry is `(entry SUBJECT FIELD ..)` in an access list `(acl ENTRY ..)`. A certificate is `(cert FIELD ..)` in a sequence `(sequence ITEM ..)`,
+where its signature follows it. A principal is a key `(public-key ..)` or a hash of one, `(hash ALGORITHM DIGEST)`. A name is
+`(name PRINCIPAL STRING ..)`.
+"""
 import contextlib
 import hashlib
 import re
@@ -25,7 +30,7 @@ def members(value: Value) -> list[Value]:
 
 
 def field(value: Value, head: bytes) -> Value | None:
-    """The field of an entry or a certificate with a head, or None."""
+    """The first field of an entry or a certificate with a head, as `(tag ..)` for `tag`, or None if it has none."""
     return next((member for member in members(value) if headed(member, head)), None)
 
 
@@ -102,8 +107,8 @@ def terms_of(value: Value) -> Terms:
 
 
 def remarks_on_window(begins: bytes | None, ends: bytes | None, moment: bytes, what: str = "it") -> Iterator[tuple[bytes, str]]:
-    """Yields what is probably a mistake in a window, as of a moment: for each the head of its field, and a remark, which calls what has the window
-    `what`."""
+    """Yields what is probably a mistake in a window of time, from `begins` to `ends`, as of a moment: for each the head of its field, and a remark.
+    The remark speaks of `what`, as "this entry". All three are dates, as 2026-03-01_12:00:00; None is no limit."""
     for head, limit in ((b"not-before", begins), (b"not-after", ends)):
         if limit and not is_in_calendar(limit):
             yield head, f"no calendar has the moment {limit.decode()}"
@@ -121,7 +126,7 @@ def is_in_calendar(moment: bytes) -> bool:
 
 
 def entries_of(access_list: Value) -> list[Terms]:
-    """The entries of an access list."""
+    """The terms of each entry of an access list, in their order."""
     return [terms_of(member) for member in members(access_list) if headed(member, b"entry")]
 
 
@@ -231,8 +236,9 @@ def holder_of(principal: Value, names: Iterable[Value], keys: Keys) -> Holder:
 
 
 def chains(entries: Iterable[Terms], certificates: list[Signed], keys: Keys, key: Value, steps: Steps, most: int = 16) -> Iterator[list[Signed]]:
-    """Yields the chains of at most `most` certificates that lead from an entry to a key, the shortest first. No chain passes a holder twice: without
-    the certificates in between it would give at least as much. The search ends when no steps are left, and then sets `steps.is_cut`."""
+    """Yields the chains of at most `most` certificates that lead from an entry to a key, the shortest first. A holder is who has the right, a key or
+    a name. No chain passes one twice: without the certificates in between it would give at least as much. The search ends when no steps are left, and
+    then sets `steps.is_cut`."""
     # (the certificates by their issuers as holders, a key or a key and the name that is defined, each with its subject as a holder)
     wanted, by_issuer = holder_of(key, [], keys), dict[Holder, list[tuple[Signed, Holder]]]()
     for signed in certificates:

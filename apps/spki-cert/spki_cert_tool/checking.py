@@ -49,6 +49,7 @@ def files_below(paths: list[str]) -> Iterator[tuple[str, bool]]:
         for folder, folders, names in os.walk(path, onerror=refuse_folder):
             folders[:] = sorted(name for name in folders if not name.startswith("."))
             files = (os.path.join(folder, name) for name in sorted(names) if not name.startswith("."))
+            # (a link to nothing is yielded too: whoever reads it says what is wrong)
             yield from ((file, False) for file in files if os.path.isfile(file) or not os.path.exists(file))
 
 
@@ -119,7 +120,7 @@ def fault_of_tag(node: Node) -> Wrong | None:
 
 
 def tag_of(node: Node) -> Node:
-    """The tag in a text `(tag ..)`. Any other text is taken as the tag itself."""
+    """The tag in a value `(tag TAG)`. Any other value is taken as the tag itself."""
     return node.members[1] if node.head == b"tag" and node.members and len(node.members) == 2 else node
 
 
@@ -178,22 +179,23 @@ def mistakes_in_terms(node: Node, moment: bytes) -> Iterator[tuple[int, str]]:
 
 def needless_entries(node: Node) -> Iterator[tuple[int, str]]:
     """Yields the entries of a list that give nothing that another one does not give: for each the offset in the text, and a remark. Of those for one
-    subject the first MOST_COMPARED are compared, until the work is MOST_PRODUCTS."""
+    subject the first MOST_COMPARED are compared. The work of a comparison is the product of both lengths. Past MOST_PRODUCTS in all, this ends."""
     entries = [(entry, terms_of(entry.value)) for entry in node.rest if entry.head == b"entry"]
     # (the indices, from 0, of the entries for each subject)
     keys, by_subject = Keys(terms.principal for _, terms in entries), dict[bytes, list[int]]()
     for index, (_, terms) in enumerate(entries):
         by_subject.setdefault(canonical([keys.text_of(terms.principal)[1], *terms.names]), []).append(index)
     work_left, needless = MOST_PRODUCTS, set[int]()
-    for one, other in (pair for same in by_subject.values() for pair in itertools.permutations(same[:MOST_COMPARED], 2)):
-        (narrow_node, narrow), (wide_node, wide) = entries[one], entries[other]
+    pairs = (pair for same in by_subject.values() for pair in itertools.permutations(same[:MOST_COMPARED], 2))
+    for index, wide_index in pairs:
+        (narrow_node, narrow), (wide_node, wide) = entries[index], entries[wide_index]
         work_left -= (narrow_node.end - narrow_node.begin) * (wide_node.end - wide_node.begin)
         if work_left < 0:
             return
         # (of two that give the same only the later one is needless)
-        if one not in needless and contains(wide, narrow, keys) and (other < one or not contains(narrow, wide, keys)):
-            needless.add(one)
-            yield narrow_node.begin, f"entry {other + 1} gives all of entry {one + 1}: remove entry {one + 1}"
+        if index not in needless and contains(wide, narrow, keys) and (wide_index < index or not contains(narrow, wide, keys)):
+            needless.add(index)
+            yield narrow_node.begin, f"entry {wide_index + 1} gives all of entry {index + 1}: remove entry {index + 1}"
 
 
 def mistakes_in_key(node: Node) -> Iterator[tuple[int, str]]:
@@ -209,7 +211,7 @@ def mistakes_in_key(node: Node) -> Iterator[tuple[int, str]]:
 def invalid_signatures(node: Node) -> Iterator[tuple[int, str]]:
     """Yields the certificates of a sequence or a case whose signatures are not valid: for each the offset in the text, and a remark. A signature by
     a key of a kind that services do not verify is left out if only its value is in doubt."""
-    # (the sequence is the third part of a case)
+    # (the sequence is the third part of a case, behind the head, the list and the rows)
     sequence = node if node.head == b"sequence" else (node.members or [])[3]
     value = sequence.value
     keys = Keys(keys_in(value))
@@ -217,4 +219,5 @@ def invalid_signatures(node: Node) -> Iterator[tuple[int, str]]:
         key = keys.named(signed.terms.issuer or b"")
         fault = fault_of_signature(signed, keys)
         if fault and (key is None or public_of(key) is not None or fault != "NotAccepted"):
+            # (item 1 of a sequence is its member 1, since its head is member 0)
             yield (sequence.members or [])[signed.number].begin, f"{FAULTS[fault]} ({fault})"

@@ -37,8 +37,8 @@ NOT_SHOWN = "only an access list, a certificate, a sequence or a case is shown; 
 
 
 def key(given: argparse.Namespace) -> int:
-    """Writes the SPKI keys of files, or with --hash their hashes. Of a private key it writes the public one."""
-    keys = [(path, key_at(path, given.number, True)) for path in given.files]
+    """Writes the SPKI keys of files, or with --hash their hashes, or with --json both. Of a private key it writes the public one."""
+    keys = [(path, key_at(path, given.number, is_private_too=True)) for path in given.files]
     rows = [{"file": path, "key": on_one_line(key), "hash": on_one_line(hash_of(key)), "algorithm": kind_of(key)} for path, key in keys]
     text = b"".join(text_of(hash_of(key) if given.hash else key) for _, key in keys)
     write((given.output, json.dumps(rows, indent=1).encode() + b"\n" if given.json else text), force=given.force)
@@ -57,8 +57,8 @@ def new_key(given: argparse.Namespace) -> int:
     passphrase = b"" if given.no_passphrase else passphrase_for(f"the new {path} (empty: none)")
     if passphrase and passphrase_for(f"the new {path} again") != passphrase:
         raise Refused("the passphrases differ; nothing was written")
-    # (what cannot be written is refused before the private key is)
-    target_of(f"{path}.pub", b"", False, False)
+    # (raises Refused if the public key cannot be written, before the private one is)
+    target_of(f"{path}.pub", b"", force=False, edits=False)
     private = new_private(given.type)
     comment = os.fsencode(given.comment or os.path.basename(path))
     write((path, file_of(private, passphrase, given.pem)), mode=0o600)
@@ -79,7 +79,7 @@ def sign(given: argparse.Namespace) -> int:
     signer = signer_at(given.by)
     certificate = certificate_of(signer.key, subject, fields, os.fsencode(given.name) if given.name is not None else None)
     terms = terms_of(certificate)
-    # (until when the chain must be valid: --days 30 means whole days, and a chain that ends some hours before gives them)
+    # (until when the chain must be valid. With --days 30 it is a day less: a chain that was signed some hours ago for 30 days is no mistake)
     chain_until = now(given.days - 1) if given.days is not None else terms.ends
     warnings = [*remark_on_mode(given.by), *warnings_of_certificate(terms, given.tag, chain_until, chain, [*map(request_of, given.tries)])]
     try:
@@ -119,13 +119,17 @@ def add(given: argparse.Namespace) -> int:
         return UNCONFIRMED
     if given.store is not None:
         return add_to_store(text_of(new_entry), given.store)
-    write((given.acl or given.output, text if given.acl else text_of(new_entry)), force=given.force, edits=is_there)
-    return say(*([] if is_there else [f"made {given.acl}"]), "entries added: 1", is_aside=given.acl == "-") if given.acl else DONE
+    if not given.acl:
+        write((given.output, text_of(new_entry)), force=given.force)
+        return DONE
+    write((given.acl, text), force=given.force, edits=is_there)
+    return say(*([] if is_there else [f"made {given.acl}"]), "entries added: 1", is_aside=given.acl == "-")
 
 
 def add_to_store(text: bytes, settings: str) -> int:
-    """Has `spki-store`, from the folder beside that of this command or as it is installed, add an entry to a store. `text` is the entry, and
-    `settings` are those of libpq. Returns the exit status of `spki-store`, or FAILED if a signal ended it. Raises Refused if it is not there."""
+    """Has `spki-store`, from the folder beside that of this command or as it is installed, add an entry to a store, a table in PostgreSQL. `text` is
+    the entry, and `settings` say which database, as `dbname=acl`, in the form of libpq. Returns the exit status of `spki-store`, or FAILED if a
+    signal ended it. Raises Refused if it cannot be run."""
     beside = os.path.join(os.path.dirname(os.path.realpath(__file__)), "..", "..", "spki-store", "spki-store")
     program = beside if os.path.exists(beside) else "spki-store"
     try:
@@ -200,7 +204,7 @@ def request_of(words: list[str]) -> Value:
 
 
 def labels_of(given: argparse.Namespace, *paths: str) -> Labels:
-    """The labels of keys, from the files and folders of --labels, of SPKI_LABELS, and of `paths`. The first label of a key stays."""
+    """The labels by which keys are called, from the files and folders of --labels, of SPKI_LABELS, and of `paths`. The first label of a key stays."""
     labels = Labels()
     for path in (*given.labels, os.environ.get("SPKI_LABELS", ""), *paths):
         if path:
@@ -209,7 +213,7 @@ def labels_of(given: argparse.Namespace, *paths: str) -> Labels:
 
 
 def show(given: argparse.Namespace) -> int:
-    """Says in words, in JSON, in braces or as a picture what files have."""
+    """Says what access lists, certificates, sequences and cases say: in words, in JSON, in braces or as a picture. Returns DONE."""
     labels, moment = labels_of(given), given.at or now()
     values = [(path, value_headed(path, (b"acl", b"cert", b"sequence", b"case"), NOT_SHOWN)) for path in given.files]
     if given.braces:
@@ -228,7 +232,8 @@ def show(given: argparse.Namespace) -> int:
 
 
 def ask(given: argparse.Namespace) -> int:
-    """Decides a request, or that of --case, says why, and writes the files that are wanted of the decision. Returns NO if it is not granted."""
+    """Decides a request by an access list and certificates, or that of --case. Says why, and writes the files of --sequence, --save and --svg.
+    Returns DONE if the request is granted, otherwise NO."""
     from .asking import Asked, Words, asked_of_case, best_answer, case_of
     if given.case and (given.acl or given.key or given.cert or given.words or given.at or given.open):
         raise Refused("--case is a whole question: it goes with no --acl, --key, --cert, --at, --open and no request")
@@ -254,7 +259,7 @@ def ask(given: argparse.Namespace) -> int:
         parts.append((given.svg, svg_of_answer(asked, answer)))
     write(*parts, force=given.force)
     if given.json:
-        reasons = [it._asdict() for it in answer.reasons]
+        reasons = [reason._asdict() for reason in answer.reasons]
         lines = [json.dumps({"granted": answer.entry is not None, "entry": answer.entry, "reasons": reasons, "words": lines}, indent=1)]
     say(*lines, is_aside="-" in (given.sequence, given.save, given.svg))
     return DONE if answer.entry is not None else NO
@@ -274,7 +279,7 @@ def check(given: argparse.Namespace) -> int:
     """Says what is wrong in files. Returns REFUSED if a service would refuse one of them, NO if there are other remarks, and else DONE."""
     from .checking import files_below, remarks_on
     moment = now()
-    # (for each file whether its own path is given, what the file is, or None if it is left out, and the remarks on it)
+    # (for each file its path, whether that itself is given, what the file is, or None if it is left out, and the remarks on it)
     files = [(path, is_given, *remarks_on(path, moment, is_given)) for path, is_given in files_below(given.paths)]
     kinds = [(path, kind) for path, is_given, kind, _ in files if is_given and kind]
     remarks = [remark for *_, of_file in files for remark in of_file]
@@ -304,6 +309,7 @@ def main() -> int:
         if any(has_private_key(os.fsencode(word)) for word in words):
             raise Refused("a private key is among the words of this command, where other users and the history of the shell have it: replace it by a "
                           "new one, and give the name of its file")
+        # (argparse has no commands of two words)
         given = parser_of_commands().parse_args([NEW_KEY, *words[2:]] if words[:2] == ["key", "new"] else words)
         return COMMANDS[given.command](given)
     except Refused as why:

@@ -1,4 +1,4 @@
-"""Draws the delegation chain of a case as SVG. A certificate is an arrow, and what stops the chain is red.
+"""Draws the delegation chain of a case, which is one text with a whole question, as SVG. A certificate is an arrow, and what stops the chain is red.
 
 The chain is that of the entry that grants the request, else of the entry whose chain goes furthest. The library says what stops it, and
 what right is left at its end. Other entries are left out. Long texts are broken into lines, and nothing but white space is cut off.
@@ -32,14 +32,14 @@ MEANINGS = {
 
 
 class Shape(NamedTuple):
-    """A subject, which has no colour, or a box with one. `lines` are its text."""
+    """What arrows begin and end at: a subject, which has no colour, or the access list or the request, which has one. `lines` are its text."""
 
     lines: list[str]
     colour: str = ""
 
 
 class Arrow(NamedTuple):
-    """An arrow between two shapes, by their names, with lines of text beside it."""
+    """An arrow from one shape to another, by their names in `Drawing.shapes`, with lines of text beside it. Its colour is RED, GREEN or BLACK."""
 
     begin: bytes
     end: bytes
@@ -48,8 +48,8 @@ class Arrow(NamedTuple):
 
 
 class Drawing:
-    """The shapes and arrows that are drawn. A hash of one of `keys`, or of a key that has a label, is that key. Without `labels` keys are written as
-    they are. A line of a key, a request, a tag or a validity has at most `width` letters."""
+    """The shapes and arrows that are drawn. A hash of one of `keys`, or of a key that has a label, is drawn as that key. `labels` say what keys are
+    called; for None they are written as they are. A line of a key, a request, a tag or a validity has at most `width` letters."""
 
     def __init__(self, keys: Iterable[Value], labels: Labels | None, width: int) -> None:
         keys_of_labels = labels.keys.by_hash.values() if labels is not None else ()
@@ -157,18 +157,22 @@ STYLE = f"""
 
 # What XML does not have: a label may have it.
 NO_XML = re.compile("[^\t\n -\ud7ff\ue000-\ufffd\U00010000-\U0010ffff]")
-# The height of a line of text in a box, and what a box has above and below its lines, in pixels.
-LINE, MARGINS = 18, 22
+# In pixels: the height of a line of text in a box, and what a box has above and below its lines; the width of a box of a chain, and the margin of
+# the picture, which is also the room between two boxes without an arrow.
+LINE, MARGINS, BOX_WIDTH, EDGE = 18, 22, 420, 20
+# In pixels, of the text beside an arrow: the height of a line, where the first one is below the arrow's beginning, and how far right of the arrow.
+BESIDE_LINE, BESIDE_TOP, BESIDE_GAP = 16, 24, 14
 
 
 def box(x: float, y: float, width: float, height: float, lines: list[str], kind: str = "box") -> Iterator[str]:
     """A box as SVG, with lines of text in its middle, the first of which is its title. `x` and `y` are those of its upper left corner, in pixels as
     all lengths here, and `kind` is a class of CLASSES."""
     yield f'<rect class="{kind}" x="{x}" y="{y}" width="{width}" height="{height}" rx="6"/>'
-    top = y + height / 2 - LINE * (len(lines) - 1) / 2 + 5
+    # (where the letters of the first line stand: 5 pixels below the middle of the line)
+    baseline = y + height / 2 - LINE * (len(lines) - 1) / 2 + 5
     for place, line in enumerate(lines):
         of_class = ' class="title"' if place == 0 else ' class="small"'
-        yield f'<text{of_class} x="{x + width / 2:g}" y="{top + LINE * place:g}">{escape(NO_XML.sub("?", line))}</text>'
+        yield f'<text{of_class} x="{x + width / 2:g}" y="{baseline + LINE * place:g}">{escape(NO_XML.sub("?", line))}</text>'
 
 
 def text(x: float | str, y: float, line: str, of_class: str = "small left") -> Iterator[str]:
@@ -191,26 +195,26 @@ def page(width: float, height: float, title: str, *parts: Iterable[str]) -> Iter
 
 
 def svg_of_drawing(drawing: Drawing, title: str, width: float = 620) -> Iterator[str]:
-    """A picture as SVG: from top to bottom, each arrow with the boxes where it begins and ends. Where an arrow begins at the box before,
-    that box is not drawn again."""
+    """The lines of a picture as SVG, `width` pixels wide: from top to bottom, each arrow with the boxes where it begins and ends. Where an arrow
+    begins at the box before, that box is not drawn again."""
     # (`y` is the lower edge of the last box, whose name is `last`. An arrow goes down from its middle, with lines of text on its right)
-    x, y, box_width, line_height, parts = 20, 20, 420, 16, list[str]()
+    middle, y, parts = EDGE + BOX_WIDTH // 2, EDGE, list[str]()
     last: bytes | None = None
     for arrow, is_end in ((arrow, is_end) for arrow in drawing.arrows for is_end in (False, True)):
         shape_name = arrow.end if is_end else arrow.begin
         if shape_name == last and not is_end:
             continue
         shape = drawing.shapes[shape_name]
-        top = y + (24 + line_height * len(arrow.lines) if is_end else 20 if last else 0)
+        top = y + (BESIDE_TOP + BESIDE_LINE * len(arrow.lines) if is_end else EDGE if last else 0)
         if is_end:
-            middle = x + box_width // 2
+            # (the head of the arrow ends 2 pixels above the box)
             parts.append(f'<path class="line {arrow.colour}" marker-end="url(#end)" d="M{middle} {y} L{middle} {top - 2}"/>')
             for place, line in enumerate(arrow.lines):
-                parts += text(middle + 14, y + 24 + line_height * place, line, f"small left {arrow.colour}")
+                parts += text(middle + BESIDE_GAP, y + BESIDE_TOP + BESIDE_LINE * place, line, f"small left {arrow.colour}")
         height = MARGINS + LINE * len(shape.lines)
-        parts += box(x, top, box_width, height, shape.lines, KINDS.get(shape.colour, "box"))
+        parts += box(EDGE, top, BOX_WIDTH, height, shape.lines, KINDS.get(shape.colour, "box"))
         y, last = top + height, shape_name
-    return page(width, y + 20, title, parts)
+    return page(width, y + EDGE, title, parts)
 
 
 def svg_of(value: Value, labels: Labels) -> bytes:
@@ -223,10 +227,10 @@ def svg_of(value: Value, labels: Labels) -> bytes:
         drawing.entries(value)
     else:
         drawing.links([b"sequence", value] if headed(value, b"cert") else value)
-    return "\n".join([*svg_of_drawing(drawing, "Certificates", 840), ""]).encode()
+    return "\n".join([*svg_of_drawing(drawing, "Certificates", width=840), ""]).encode()
 
 
 def svg_of_answer(asked: Asked, answer: Answer) -> bytes:
-    """The chain of an answer as SVG."""
+    """The chain of an answer as SVG: that of the reason that goes furthest. `asked` is the question."""
     drawing = drawing_of_case(case_of(asked, answer.sequence), answer.reasons, answer.left, asked.labels, PICTURE_WIDTH)
-    return "\n".join([*svg_of_drawing(drawing, "The chain of a request", 840), ""]).encode()
+    return "\n".join([*svg_of_drawing(drawing, "The chain of a request", width=840), ""]).encode()

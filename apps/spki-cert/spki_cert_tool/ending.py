@@ -16,7 +16,7 @@ from .certificates import certificates_in, headed
 from .files import DONE, NO, UNCONFIRMED, Refused, locked, now, octets_of, say, tell, value_headed, write
 from .keys import digest_of
 
-# `spki-authd` reads no more octets.
+# The most octets of the file, since `spki-authd` reads no more, and the most letters of a reason.
 MOST_ENDED, MOST_REASON = 1 << 24, 200
 HEAD = b"# SHA-256 of certificates that no longer count. Only `spki-cert end` may change this file."
 DIGITS = re.compile(r"[0-9A-Fa-f]{64}")
@@ -49,18 +49,18 @@ def digests_of(lines: Iterable[bytes]) -> set[str]:
 
 
 def last_line(lines: list[bytes]) -> bytes:
-    """The last line of a file whose other lines are these."""
+    """The last line `end COUNT SHA256` of a file whose other lines are these: how many of them have a digest, and the SHA-256 of them all."""
     return b"end %d %s" % (len(rows_of(lines)), hashlib.sha256(b"\n".join([*lines, b""])).hexdigest().encode())
 
 
 def lines_in(path: str) -> list[bytes]:
     """The lines of the file before the last one. Raises Refused if they or the last line are not in the form, or do not belong together, and OSError
     if there is no file."""
-    # (one more line in front, since two are unpacked, and an empty file is only one)
-    *lines, last, behind = [b"", *read_ended(path).split(b"\n")]
+    # (`rest` is what follows the last line feed, and must be empty. An empty line is put in front, since an empty file has only one to unpack)
+    *lines, last, rest = [b"", *read_ended(path).split(b"\n")]
     lines, last_match = lines[1:], LAST.fullmatch(last)
     advice = f"compare it with a copy; then `spki-cert end --adopt --ended {path}` takes its lines as they are"
-    if behind or last_match is None:
+    if rest or last_match is None:
         raise Refused(f"{path}: the last line is not `end COUNT SHA256`: the file was cut, or written by hand; {advice}")
     faulty = [number for number, line in enumerate(lines, 1) if line and not line.startswith(b"#") and not ENDED.fullmatch(line)]
     if faulty:
@@ -73,9 +73,9 @@ def lines_in(path: str) -> list[bytes]:
 
 
 def lines_by_hand(path: str) -> tuple[list[bytes], bool]:
-    """The lines of a file that people have written or changed, in the form of the file, and whether they have as many digests as its last line says.
-    This line, right or wrong, is left out; if there is none, the answer is True. Raises Refused for a line that is none of these, and OSError if
-    there is no file."""
+    """The lines of a file that people have written or changed, rewritten in the form of the file, and whether they have as many digests as its last
+    line says. A last line that begins with `end `, right or wrong, is left out. If there is none, the second value is True. Raises Refused for a line
+    that is neither a digest, a comment nor empty, and OSError if there is no file."""
     octets = read_ended(path)
     lines = octets.removesuffix(b"\n").split(b"\n") if octets else []
     last = lines.pop() if lines and lines[-1].startswith(b"end ") else None
@@ -86,8 +86,10 @@ def lines_by_hand(path: str) -> tuple[list[bytes], bool]:
             raise Refused(f"{path}: line {number} is no digest of 64 hexadecimal digits, no comment and not empty: remove or mend it; "
                           "nothing was written")
         digest, comment = match.groups()
-        behind = b" # " + comment.strip() if comment and comment.strip() else b""
-        rewritten.append(digest.lower() + behind if digest else b"#" + comment if comment is not None else b"")
+        if digest:
+            rewritten.append(digest.lower() + (b" # " + comment.strip() if comment and comment.strip() else b""))
+        else:
+            rewritten.append(b"" if comment is None else b"#" + comment)
     last_match = LAST.fullmatch(last) if last is not None else None
     return rewritten, last is None or last_match is not None and int(last_match[1]) == len(rows_of(rewritten))
 
@@ -108,7 +110,8 @@ def read_ended(path: str) -> bytes:
 
 
 def write_lines(path: str, lines: list[bytes]) -> None:
-    """Replaces the file by one of these lines and their last line. A new one may be read by all. Raises Refused or Failed."""
+    """Writes the file anew: these lines, and the last line that belongs to them. A file that was not there may be read by all users. Raises Refused
+    if it would be too long or may not be written, and Failed if writing fails."""
     octets = b"\n".join([*lines, last_line(lines), b""])
     if len(octets) > MOST_ENDED:
         raise Refused(f"{path}: it would have more than {MOST_ENDED} octets, which `spki-authd` does not read; nothing was written")
@@ -147,7 +150,8 @@ def meant_by(given: argparse.Namespace) -> dict[str, str]:
 
 
 def make(given: argparse.Namespace) -> int:
-    """Makes the file without digests if it is not there. Otherwise says how many it has. Raises Refused if it is not whole."""
+    """Makes the file without digests if it is not there. Otherwise says how many it has. Returns DONE. Raises Refused if a file is there that
+    `lines_in` refuses."""
     with locked(given.ended):
         if os.path.lexists(os.path.realpath(given.ended)):
             return say(f"{given.ended}: it is there already, and whole; digests: {len(rows_of(lines_in(given.ended)))}")
@@ -156,8 +160,10 @@ def make(given: argparse.Namespace) -> int:
 
 
 def add(given: argparse.Namespace) -> int:
-    """Ends certificates. Says which of them had ended before: they are not written twice."""
+    """Ends certificates: adds their digests to the file, each with today's date and --reason as a comment. Says which of them had ended before: they
+    are not written twice. Returns DONE."""
     meant = meant_by(given)
+    # (of the present moment, as 2026-03-01_12:00:00, the first 10 octets are the date)
     comment = f"{now()[:10].decode()} {visible(given.reason)[:MOST_REASON]}".rstrip()
     with locked(given.ended):
         lines = lines_in(given.ended)
@@ -181,6 +187,7 @@ def undo(given: argparse.Namespace) -> int:
         if missing:
             tell(*(f"spki-cert: {name}: it has not ended; nothing was written" for name in missing))
             return NO
+        # (a digest is the first 64 octets of its line)
         write_lines(given.ended, [line for line in lines if line[:64].decode(errors="replace") not in meant])
     return say(*(f"{name}: taken out" for name in meant.values()),
                f"digests taken out: {len(meant)}; the next reload needs `spki-authd -reload -fewer`")
@@ -218,8 +225,8 @@ def adopt(given: argparse.Namespace) -> int:
 
 
 def end(given: argparse.Namespace) -> int:
-    """Ends certificates, undoes that, lists what has ended, or makes or adopts the file. Raises Refused for words that do not go together, or for a
-    file that cannot be read or written."""
+    """The command `end`: ends certificates, undoes that, lists what has ended, or makes or adopts the file. Returns the exit status. Raises Refused
+    for options that do not go together, or for a file that cannot be read or written."""
     names_some = bool(given.files or given.digest)
     for is_fault, text in (
             (given.ended == "-", "--ended is a file that is replaced, and no stream"),
@@ -230,7 +237,8 @@ def end(given: argparse.Namespace) -> int:
             (given.reason and (given.undo or not names_some), "--reason goes with a FILE or --digest that is ended")):
         if is_fault:
             raise Refused(text)
-    action = undo if given.undo else list_all if given.list else adopt if given.adopt else add if names_some else make
+    without_option = add if names_some else make
+    action = undo if given.undo else list_all if given.list else adopt if given.adopt else without_option
     try:
         return action(given)
     except FileNotFoundError:

@@ -106,7 +106,7 @@ def say(*lines: str, is_aside: bool = False) -> int:
 
 
 def identity(state: os.stat_result) -> tuple[int, int]:
-    """What a file is known by in READ: its device and inode."""
+    """What a file is known by in READ, whatever its path is: its device and inode."""
     return state.st_dev, state.st_ino
 
 
@@ -179,7 +179,9 @@ def node_of(octets: bytes, what: str, read: Reader) -> Node:
         name_foreign(octets, wrong)
         if wrong.kind == "Trailing":
             whole = octets.decode(errors="surrogateescape")
-            wrong.why = f"these are several values; a list is in parentheses, as '({'* set ' if whole.lstrip()[:1] == '(' else ''}{whole})'"
+            # (several lists are probably meant as a set of tags, and several strings as one list)
+            front = "* set " if whole.lstrip().startswith("(") else ""
+            wrong.why = f"these are several values; a list is in parentheses, as '({front}{whole})'"
         raise Refused(*lines_of_fault(what, (wrong, octets, None))) from None
 
 
@@ -256,6 +258,7 @@ def moment_of(text: str, time_of_day: str = "_00:00:00") -> bytes:
         return whole
     advised, why = "YYYY-MM-DD or YYYY-MM-DD_HH:MM:SS", "no date in the form that is read"
     if parts := NEARLY_DATE.fullmatch(text):
+        # (what is missing is "0": the time of day, of which group 4 is the hour, or the zone)
         *numbers, zone = parts.groups("0")
         rewritten = "{:04}-{:02}-{:02}_{:02}:{:02}:{:02}".format(*map(int, numbers))
         if not is_in_calendar(rewritten.encode()):
@@ -440,6 +443,7 @@ def locked(path: str) -> Iterator[None]:
                 break
             if time.monotonic() > end:
                 raise Refused(f"{path}: another program has locked it for {SECONDS_TO_LOCK} seconds; nothing was written")
+            # (`flock` has no time limit of its own, so it is tried 20 times a second)
             time.sleep(0.05)
         yield
     finally:

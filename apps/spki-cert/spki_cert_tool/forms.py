@@ -91,6 +91,7 @@ class Wrong(Exception):
 def remark_on_octet(text: bytes, at: int) -> str | None:
     """A remark on the octet at the offset `at`, where a value should begin and none does: what its author probably meant, and what to write instead.
     None if there is nothing to say of it."""
+    # (a character has at most four octets in UTF-8. If the octets are no UTF-8, `character` is empty or one behind them)
     octet, character = text[at:at + 1], text[at:at + 4].decode(errors="ignore")[:1]
     if octet >= b"\x80" and character and text.startswith(character.encode(), at):
         if character in "“”„‟«»‘’‚‹›´":
@@ -98,9 +99,10 @@ def remark_on_octet(text: bytes, at: int) -> str | None:
         if unicodedata.category(character) in INVISIBLE:
             name = unicodedata.name(character, "without a name").lower()
             return f"this is the invisible character U+{ord(character):04X}, {name}, which is no space here: delete it, or write a plain one"
+        # (the whole word that the character is in)
         word = next(letters[0] for letters in LETTERS.finditer(text) if letters.end() > at)
         return f"a string with `{character}` needs quotes: `\"{word.decode(errors='replace')}\"`"
-    # (as in `@FILE` of other commands)
+    # (other commands read a file for `@FILE`)
     if octet == b"@" and at == 0:
         return "no file is read here, and \"$(cat FILE)\" gives what is in it"
     return REMARKS.get(octet, f"a string with `{octet.decode()}` needs quotes" if octet in b"!$%&@~<>\\^`" else None)
@@ -132,7 +134,7 @@ def suggestion(word: bytes | None, allowed: Iterable[bytes]) -> str:
 
 
 def excerpt(octets: bytes) -> str:
-    """Octets for people to read, cut off where they are many."""
+    """The first 40 octets for people to read, with `..` behind them if there are more."""
     return repr(octets[:40])[2:-1] + (".." if len(octets) > 40 else "")
 
 
@@ -256,7 +258,7 @@ class Parser:
         """The octets of a string with a length, and the offset after it. It begins at `begin` with the digits of its length, which end at `at`.
         Behind them is a colon, or in advanced form the mark of a string as `string_in_marks` reads it. Raises Wrong."""
         octet = self.octet(at, begin)
-        # (a number of ten digits is more than any text has, and one of a million would take long to read)
+        # (ten digits are more octets than any text has, and a number of a million digits would take long to read)
         length = int(digits) if len(digits) < 10 else 10**9
         if octet == b":":
             if at + 1 + length > len(self.text):
@@ -307,8 +309,8 @@ class Parser:
         return b"".join(pieces)
 
     def escape_fault(self, begin: int, at: int) -> None:
-        """Raises Wrong for the escape whose backslash is at an offset, and which is wrong or cut off: at its first octet that no escape has there.
-        The string begins at `begin`."""
+        """Raises Wrong for the escape whose backslash is at the offset `at`, and which is wrong or cut off. The place of the fault is its first
+        octet that no escape has there. The string begins at `begin`."""
         first = self.octet(at + 1, begin)
         # (the octets that may be behind the backslash, in this order)
         allowed = [b"0123abtnvfrx\"'?\\\r\n"] + ([b"01234567"] * 2 if first in b"0123" else [b"0123456789abcdefABCDEF"] * 2)

@@ -173,7 +173,7 @@ def is_text(octets: bytes) -> bool:
 
 def read_public(octets: bytes, asking: Asking, number: int | None = None) -> Value:
     """The public key of the octets of a file: OpenSSH, PEM or S-expression, public or private. Of several it is the one with this number, from 1,
-    which must be given then. `asking` gives the passphrase of a private key in PEM that is encrypted. Raises BadKey, or Wrong for an S-expression
+    which must be given then. `asking` is called for the passphrase of an encrypted private key in PEM. Raises BadKey, or Wrong for an S-expression
     that is no key."""
     if is_private(octets):
         octets = public_part(octets) or openssh_line(read_private(octets, asking).public_key())

@@ -1,4 +1,8 @@
-"""Makes certificates and entries: what is asked for, what is probably a mistake, and the signed sequence."""
+"""Makes certificates and entries: what is asked for, what is probably a mistake, and the signed sequence.
+
+An entry of an access list and a certificate give a right to a subject. A sequence has certificates, each with its signature behind it, and keys: a
+client shows it to a service. Values are S-expressions as `sexp` has them.
+"""
 import os
 import re
 from collections.abc import Iterator
@@ -12,14 +16,15 @@ from .tag_words import MOST_PRODUCTS, contains, is_everything, lacks, remarks
 
 
 def certificate_of(key: Value, subject: Value, fields: list[Value], name: bytes | None = None) -> Value:
-    """The certificate by the holder of a key, which defines `name`, or gives a right if that is None. The subject is a principal or a name. `fields`
-    are the others, as `fields_of` returns them."""
+    """The unsigned certificate `(cert ..)` by the holder of a key, which defines `name`, or gives a right if that is None. The subject is a key, a
+    hash of a key or a name. `fields` are the other fields, as `fields_of` returns them."""
     issuer = principal_of(key)
     return [b"cert", [b"issuer", [b"name", issuer, name] if name is not None else issuer], [b"subject", subject], *fields]
 
 
 def fields_of(tag: Value | None, begins: bytes | None, ends: bytes | None, delegates: bool = False, comment: str = "") -> list[Value]:
-    """The fields that certificates and entries have alike. What is None, or an empty comment, gets no field."""
+    """The fields that certificates and entries have alike, each as a list that begins with its name. `begins` and `ends` are dates, as
+    2026-03-01_12:00:00, and `delegates` says that the subject may delegate the right. What is None, or an empty comment, gets no field."""
     fields: list[Value] = [[b"propagate"]] if delegates else []
     pairs = (b"tag", tag), (b"not-before", begins), (b"not-after", ends), (b"comment", os.fsencode(comment) or None)
     return fields + [[head, value] for head, value in pairs if value is not None]
@@ -31,14 +36,16 @@ def list_with(entry: Value, before: bytes) -> bytes:
     node = value_in(before)
     text = text_of([b"acl", *members(node.value), entry])
     if not before.lstrip().startswith(b"{"):
+        # (without the `)` that ends the list, which is written again behind the entry)
         text = before[:node.end - 1].rstrip() + b"\n " + laid_out(entry, 1).encode() + b")\n"
     refuse_as_service("acl", text)
     return text
 
 
 def signed_sequence(certificate: Value, signer: Signer, chain: Value | None) -> Value:
-    """Signs a certificate. Returns the sequence of a chain, if there is one, and the certificate with its signature. Raises Refused if the signature
-    does not verify, or if a service would refuse the sequence, and BadKey if the signer does not sign."""
+    """Signs a certificate. Returns the sequence `(sequence ..)` that a client shows: the items of the sequence `chain`, if there is one, and then the
+    certificate with its signature. Raises Refused if the signature does not verify, or if a service would refuse the sequence, and BadKey if the
+    signer does not sign."""
     octets = canonical(certificate)
     value = signer.sign(octets)
     if not verifies(signer.key, octets, value):
@@ -49,8 +56,8 @@ def signed_sequence(certificate: Value, signer: Signer, chain: Value | None) -> 
 
 
 def sequence_with(chain: Value | None, key: Value, certificate: Value, value: Value) -> Value:
-    """The sequence of a chain, or of none, and a certificate with a signature by the key. `value` is that of the signature. The key is in the
-    sequence if certificates name it by its hash."""
+    """The sequence that has the items of the sequence `chain`, or none for None, and then a certificate with its signature by `key`. `value` is the
+    value of the signature, `(sig-val ..)`. The key is put before the certificate if certificates name it by its hash, unless the chain has it."""
     items = members(chain) if chain is not None else []
     keys_shown = [] if principal_of(key) == key or key in items else [key]
     return [b"sequence", *items, *keys_shown, certificate, [b"signature", hash_of(certificate), principal_of(key), value]]
@@ -61,6 +68,7 @@ def list_without(subject: Value, before: bytes) -> tuple[bytes, list[tuple[int, 
     as it is, unless the list is in braces: then it is written in advanced form. A key and a hash of it are one subject."""
     if before.lstrip().startswith(b"{"):
         before = text_of(value_in(before).value)
+    # (an entry without a tag has terms too, of which only the subject is used)
     wanted, entries = terms_of([b"entry", subject]), [node for node in value_in(before).members or [] if node.head == b"entry"]
     entry_terms = [terms_of(node.value) for node in entries]
     keys = Keys(terms.principal for terms in (wanted, *entry_terms))
@@ -100,8 +108,8 @@ def warnings_of_certificate(terms: Terms, tag_text: str, chain_until: bytes | No
 
 
 def warnings_of_list(new_entry: Value, before: bytes) -> Iterator[str]:
-    """Yields a remark for each entry of an access list that gives all of the new entry already. The list has the text `before`, and is compared until
-    the work is MOST_PRODUCTS."""
+    """Yields a remark for each entry of an access list that gives all of the new entry already. `before` is the text of the list. The work of one
+    comparison is the product of the lengths of both tags. Once the work of all reaches MOST_PRODUCTS, no further entry is compared."""
     entries, new, work_left = entries_of(value_in(before).value), terms_of(new_entry), MOST_PRODUCTS
     keys = Keys(terms.principal for terms in (*entries, new))
     for number, terms in enumerate(entries, 1):
@@ -111,8 +119,8 @@ def warnings_of_list(new_entry: Value, before: bytes) -> Iterator[str]:
 
 
 def warnings_of(terms: Terms, tag_text: str, tries: list[Value]) -> Iterator[str]:
-    """Yields what is probably a mistake in what certificates and entries both have. An entry needs no end, since it can be removed from its list.
-    `tag_text` is the tag as it was written, and `tries` are requests that the tag is to contain."""
+    """Yields what is probably a mistake in what certificates and entries both have. A missing end is none here: an entry can be removed from its
+    list. `tag_text` is the tag as it was written, and `tries` are requests that the tag is to contain."""
     yield from (f"{why}: give a later date by --until" for _, why in remarks_on_window(terms.begins, terms.ends, now()))
     if headed(terms.principal, b"hash") and members(terms.principal)[0] == b"sha1":
         yield "its subject is a hash by sha1, which names no key under the strict policy"

@@ -177,10 +177,10 @@ def read_outline(node: Node) -> None:
         if place > 2 and len(part.rest) != 1:
             raise Wrong("case Shape", part.begin, f"`({head.decode()} ..)` has one member, and this has {len(part.rest)}")
     for place, member in enumerate(parts[len(PARTS):]):
-        policy = member.rest
-        if place or member.head != b"policy" or len(policy) != 1 or not policy[0].is_plain(b"strict"):
-            raise Wrong("case Shape", member.begin, "the moment is followed by `(policy strict)` or nothing" + (
-                "; for the open policy leave it out" if not place and member.head == b"policy" else suggestion(member.head, (b"policy",))))
+        is_policy, words = place == 0 and member.head == b"policy", member.rest
+        if not is_policy or len(words) != 1 or not words[0].is_plain(b"strict"):
+            advice = "; for the open policy leave it out" if is_policy else suggestion(member.head, (b"policy",))
+            raise Wrong("case Shape", member.begin, f"the moment is followed by `(policy strict)` or nothing{advice}")
 
 
 def read_intersect(node: Node) -> None:
@@ -218,7 +218,9 @@ def kind_of(node: Node, word: str) -> str | None:
     """The kind in READERS as which a text is read, by its head, or by `word`, which is the word after `refused` in a refusal, or empty. The head says
     it unless `word` belongs to texts of another kind only. None if neither says it."""
     kind = BY_HEAD.get(node.head or b"")
-    if kind and (word in (kind, *WORDS.get(kind, ())) or word not in READERS and word not in BY_WORD):
+    is_word_of_kind = kind is not None and word in (kind, *WORDS.get(kind, ()))
+    is_word_of_none = word not in READERS and word not in BY_WORD
+    if kind and (is_word_of_kind or is_word_of_none):
         return kind
     return BY_WORD.get(word, word if word in READERS else None)
 
@@ -240,10 +242,11 @@ def read_as(node: Node, word: str, fault: str) -> None:
 
 
 def read_text(text: bytes, given: str = "") -> tuple[Diagnosis, Node]:
-    """What is wrong with a text, and its value, which is an empty list if the form of the text cannot be read. `given` is empty, or a refusal that
-    is to be explained, as `refused sequence 3 Shape` or `refused key Short`: its second word says as what the text is read."""
-    # (`inner` is the text, or what is in its braces, and then `places` are the offsets of these octets in the text)
+    """What is wrong with a text, a `Diagnosis`, and its value, which is an empty list if the form of the text cannot be read. `given` is empty, or a
+    refusal that is to be explained, as `refused sequence 3 Shape` or `refused key Short`: its second word says as what the text is read."""
+    # (the words after `refused`, each empty if it is missing)
     word, fault, *_ = *given.split()[1:3], "", ""
+    # (`inner` is the text, or what is in its braces, and then `places` are the offsets of these octets in the text)
     node, inner, places = Node(0, members=[]), text, None
     try:
         inner, places, closing = without_braces(text)
@@ -254,6 +257,7 @@ def read_text(text: bytes, given: str = "") -> tuple[Diagnosis, Node]:
         read_as(node, word, fault)
     except Wrong as wrong:
         if wrong.kind in FORM_FAULTS:
+            # (`spki` says `Bad` of what is in braces, whatever else than TooDeep is wrong with its form)
             if places and wrong.kind != "TooDeep":
                 wrong.kind, wrong.why = "Bad", f"what is in the braces is no canonical form in base64 (a list is in parentheses): {wrong.why}"
             wrong.kind = f"{word if word in NAMED and fault in FORM_FAULTS else 'form'} {wrong.kind}"
@@ -261,6 +265,7 @@ def read_text(text: bytes, given: str = "") -> tuple[Diagnosis, Node]:
             name_foreign(text, wrong)
         if not text.strip():
             wrong.why = f"the file is empty; {EMPTY.get(word, '; '.join(EMPTY.values()))}"
+        # (a fault that is shown at the beginning: the text is probably something else altogether)
         elif wrong.shown_at == 0 and word in ("acl", "sequence"):
             wrong.why += f"; {EMPTY[word]}"
         return (wrong, inner, places), node
@@ -305,8 +310,8 @@ def lines_in(text: bytes) -> Lines:
 
 
 def place_shown(text: bytes, places: list[int] | None, at: int) -> tuple[str, str]:
-    """A place in words, as line and column, and the text around it with a mark below. If the text was in braces, `places` has for each of its octets
-    the offset in the file."""
+    """A place, the offset `at`, in words, as line and column, and the text around it with a mark below. If the text was in braces, `places` has for
+    each of its octets the offset in the file; otherwise it is None."""
     line, column = lines_in(text).line_and_column(at)
     line_begin, line_end = at - column + 1, text.find(b"\n", at)
     first, last = max(line_begin, at - WIDTH), min(len(text) if line_end < 0 else line_end, at + WIDTH)

@@ -31,9 +31,9 @@ def request(given: argparse.Namespace) -> int:
     if given.words and not given.curl:
         raise Refused(f"{given.words[0]}: options of curl go with --curl")
     sequence = "{%s}" % base64.b64encode(canonical(value_of(given.cert, "sequence"))).decode() if given.cert is not None else ""
-    by = signer_at(given.by)
+    key_signer = signer_at(given.by)
     tell(*(f"spki-cert: {remark}" for remark in remark_on_mode(given.by)))
-    signer = Signer(canonical(by.key), lambda message: canonical(by.sign(message)), sequence)
+    signer = Signer(canonical(key_signer.key), lambda message: canonical(key_signer.sign(message)), sequence)
     try:
         fields = signer.fields(method, given.address, body or b"")
     except ValueError as why:
@@ -46,10 +46,11 @@ def request(given: argparse.Namespace) -> int:
 
 
 def send_by_curl(method: str, address: str, lines: bytes, body: bytes | None, words: list[str]) -> int:
-    """Has curl send a request as it is, and returns its exit status. `lines` are the fields, `body` is None for a request without one, and `words`
-    are more options of curl. The fields and the body are files without a name, so that no list of processes shows them."""
+    """Has curl send a request as it is, and returns its exit status. `lines` are the fields, each as a line NAME: VALUE, `body` is None for a request
+    without one, and `words` are more options of curl. The fields and the body are files without a name, so that no list of processes shows them.
+    Raises Refused if there is no curl."""
     files = [file_of(octets) for octets in [lines, *([body] if body is not None else [])]]
-    # (without --path-as-is and --globoff curl would change the address, which is signed)
+    # (without --path-as-is and --globoff curl would change the address, which is signed. With `--request HEAD` it would wait for a body)
     command = ["curl", "--path-as-is", "--globoff", *(["--head"] if method == "HEAD" else ["--request", method]), "--header", f"@/dev/fd/{files[0]}",
                *(["--header", "Content-Type: application/octet-stream", "--data-binary", f"@/dev/fd/{files[1]}"] if body is not None else []),
                *words, "--url", address]

@@ -76,8 +76,8 @@ class Labels:
 
 
 def row_of_terms(kind: str, number: int | None, terms: Terms, moment: bytes, labels: Labels) -> Row:
-    """What an entry or a certificate says, as a row. `kind` is `entry` or `certificate`, and `number` is that of the entry or item, or None for a
-    certificate that is alone. `moment` is that for which the row says whether it is valid."""
+    """What an entry or a certificate says, as a row: a dictionary, for JSON and for `lines_of`. `kind` is `entry` or `certificate`, and `number` is
+    that of the entry or item, or None for a certificate that is alone. The row says whether it is valid at `moment`."""
     return {"kind": kind, "number": number, "issuer": labels.of(terms.issuer),
             "name": terms.name.decode(errors="surrogateescape") if terms.name is not None else None,
             "subject": labels.of_subject(terms.subject), "tag": on_one_line(terms.tag) if terms.tag is not None else None,
@@ -101,6 +101,7 @@ def rows_of(value: Value, moment: bytes, labels: Labels) -> Iterator[Row]:
                 yield {**row_of_terms("certificate", number, signed.terms, moment, labels), "digest": digest_of(signed.terms.value).hex(),
                        "fault": fault_of_signature(signed, keys)}
     else:
+        # (a case, whose parts are the list, the rows, the sequence, the key, the request and the moment)
         parts = members(value)
         yield from (row for part in (parts[0], parts[2]) for row in rows_of(part, moment, labels))
         yield {"kind": "question", "key": labels.of(members(parts[3])[0]), "request": on_one_line(members(parts[4])[0]),

@@ -1,5 +1,8 @@
 """Reads keys, hashes, names, entries, certificates and signatures, and tags, which are patterns for requests: docs/FORMATS.md, "Keys, hashes,
-dates, entries, certificates" and "Tags"."""
+dates, entries, certificates" and "Tags".
+
+To read a value, a `Node` with its place in a text, is to check that it has the form that is required. The head of a list is the word it begins with.
+"""
 import re
 from collections.abc import Callable
 
@@ -21,7 +24,8 @@ FieldsRead = dict[bytes, tuple[Node, object]]
 
 
 def but_is(node: Node, *heads: bytes) -> str:
-    """The end of a remark behind "must be": the heads that are allowed, of which a list must have one, and what the value is instead."""
+    """The end of a remark behind "must be", as "`(key ..)`, but is `(kay ..)`; is `key` meant?": the heads that are allowed, of which a list must
+    have one, and what the value is instead."""
     allowed = [f"`({head.decode()} ..)`" for head in heads]
     actual = f"the string `{excerpt(node.body or b'')}`" if node.members is None else "a list without a word as its head"
     if node.head is not None:
@@ -242,6 +246,7 @@ def read_digest_of_row(node: Node) -> None:
 
 def read_operation(node: Node) -> None:
     """Reads an item `(do hash ALGORITHM)`. Raises Wrong if it is none."""
+    # (another operation has a fault of its own, so this is tested before the rest)
     if not node.rest or not node.rest[0].is_plain(b"hash"):
         raise Wrong("UnknownOp", node.begin, "the only operation is `(do hash ALGORITHM)`")
     list_of(b"do", "an operation", ("hash", lambda _: None), ("the algorithm", read_algorithm))(node)
@@ -279,8 +284,8 @@ def list_head(node: Node) -> Node:
 
 
 def read_tag(node: Node, nodes: list[int] | None = None) -> None:
-    """Reads a tag, and the tags in it. Raises Wrong if one is none. `nodes` is a list of one number, which counts the nodes of the whole tag so far;
-    None for a whole tag."""
+    """Reads a tag, and the tags in it, each of which is a node. Raises Wrong if one is none, or if there are over MOST_NODES. `nodes` is a list of
+    one number, which counts the nodes of the outermost tag so far. It is None for the outermost tag itself."""
     nodes = [0] if nodes is None else nodes
     nodes[0] += 1
     if nodes[0] > MOST_NODES:

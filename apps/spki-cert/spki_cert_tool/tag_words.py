@@ -1,4 +1,9 @@
-"""Why a tag does not contain a request, and what in a tag is probably a mistake."""
+"""Why a tag, which is a pattern for requests, does not contain a request, and what in a tag is probably a mistake.
+
+A request is a string or a list of requests. A string as a tag contains only itself. A list contains the lists that are at least as long, and whose
+members its own members contain, one by one. `(*)` contains every request, `(* set TAG ..)` what one of its members contains, `(* prefix STRING)` the
+strings that begin so, and `(* range ORDERING ge LOW le HIGH)` the strings between two limits.
+"""
 import operator
 import re
 from collections.abc import Iterator
@@ -69,26 +74,28 @@ def has_form(ordering: bytes, octets: bytes) -> bool:
 
 
 def covers(wide: Value, narrow: Value) -> bool:
-    """Whether a tag contains all that another one contains, as far as that is easily seen: for a range it may be False although it does, for example
-    if the other is a narrower range."""
+    """Whether the tag `wide` contains all that the tag `narrow` contains, as far as that is easily seen. It may be False although it does: for two
+    ranges, and where only several members of a set contain it together."""
     if wide == narrow or wide == [b"*"]:
         return True
     if headed(narrow, b"*") and members(narrow)[:1] == [b"set"]:
         return all(covers(wide, member) for member in members(narrow)[1:])
     if not headed(wide, b"*"):
+        # (a string contains only itself. A list contains lists that have at least its members)
         if headed(narrow, b"*") or not isinstance(wide, list) or not isinstance(narrow, list):
             return False
         return len(narrow) >= len(wide) and all(map(covers, wide, narrow))
     if members(wide)[0] == b"set":
         return any(covers(member, narrow) for member in members(wide)[1:])
+    # (`wide` is a prefix or a range. A longer prefix is narrower; ranges are not compared)
     if headed(narrow, b"*"):
         return members(narrow)[:1] == members(wide)[:1] == [b"prefix"] and holds(wide, members(narrow)[1])
     return isinstance(narrow, bytes) and holds(wide, narrow)
 
 
 def contains(wide: Terms, narrow: Terms, keys: Keys) -> bool:
-    """Whether the entry `wide` gives all that the entry `narrow` gives. As by `covers`, it may be False for ranges although
-    one contains the other. `keys` are those that hashes may name."""
+    """Whether the entry `wide` gives all that the entry `narrow` gives: to the same subject, for at least as long, and with delegation if `narrow`
+    has it. As `covers`, it may be False although it does. `keys` are those that hashes may name."""
     is_one_subject = wide.names == narrow.names and keys.are_one(wide.principal, narrow.principal)
     # (`~` is after every date)
     is_as_long = (wide.begins or b"") <= (narrow.begins or b"") and (wide.ends or b"~") >= (narrow.ends or b"~")
@@ -160,14 +167,15 @@ def remarks_on_prefix(node: Node, body: bytes) -> Iterator[Place]:
     elif b"*" in body:
         begin = on_one_line(body.split(b"*")[0])
         yield node.begin, f"a prefix is no pattern, and ends before what may follow: without the star it is `(* prefix {begin})`"
+    # (a last part with a dot, as `/web/index.html`, is probably a whole file)
     elif b"/" in body and not body.endswith(b"/") and b"." not in body.rsplit(b"/", 1)[1]:
         text = on_one_line(body)
         yield node.begin, f"`{text}` is also the beginning of `{text}-other`; the prefix of a folder ends with `/`"
 
 
 def remarks_on_range(node: Node, ordering: bytes, limits: list[bytes]) -> Iterator[Place]:
-    """Yields what in a range is probably a mistake: for each the offset and a remark. `limits` are its members behind the ordering: a word, which is
-    `g`, `ge`, `l` or `le`, and a string, and perhaps two more."""
+    """Yields what in a range is probably a mistake: for each the offset and a remark. `limits` are its members behind the ordering: `g`, `ge`, `l` or
+    `le`, for above, at least, below or at most, and then a string; perhaps two more of these; or nothing."""
     limit_by_word = dict(zip(limits[::2], limits[1::2]))
     low, up = limit_by_word.get(b"g", limit_by_word.get(b"ge")), limit_by_word.get(b"l", limit_by_word.get(b"le"))
     for limit in filter(None, (low, up)):
