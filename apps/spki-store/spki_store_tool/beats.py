@@ -13,8 +13,9 @@ EVERY, AGAIN = 1.0, 0.2
 
 
 class Beats:
-    """Beats at one server while it takes the beats. After a fault it connects to all servers at once, since a machine that is gone keeps one waiting
-    for seconds. Of those that answer the first in order is taken; a server where a beat failed becomes the last in order."""
+    """Makes the beats of the heartbeat, each of which increases its number, at one server while that takes them. After a fault it connects to all
+    servers at once, since a machine that is gone keeps one waiting for seconds. Of those that answer the first in order is taken; a server where a
+    beat failed becomes the last in order."""
 
     def __init__(self, store: Store) -> None:
         # (`hosts` are settings of libpq, each for one server, in the order in which they are taken)
@@ -24,19 +25,21 @@ class Beats:
         self.pool = ThreadPoolExecutor(len(self.hosts))
 
     def beat(self) -> None:
-        """Beats once. Raises `psycopg.Error` if that fails, and the next beat is then tried at another connection."""
+        """Makes one beat. Raises `psycopg.Error` if that fails, and the next beat is then tried by another connection."""
         if self.store.connection.closed:
             self.connect()
         try:
             self.store.beat()
         except psycopg.Error:
             self.store.close()
-            self.hosts.append(self.hosts.pop(self.hosts.index(self.store.at)))
+            # (its server becomes the last in order)
+            self.hosts.remove(self.store.at)
+            self.hosts.append(self.store.at)
             raise
 
     def connect(self) -> None:
-        """Connects to all servers, waits until all have answered, for AGAIN seconds at most, and takes the first in order that has taken the
-        connection. Closes the others, also those that come later. Raises OperationalError if none has taken it yet: then the next call waits on."""
+        """Connects to all servers, waits until all have answered, but at most AGAIN seconds, and uses the connection to the first in order that has
+        taken one. Closes the others, also those that come later. Raises OperationalError if none has taken one yet: then the next call waits on."""
         for host in self.hosts:
             if host not in self.opening:
                 self.opening[host] = self.pool.submit(connect_to, host)

@@ -42,7 +42,8 @@ def tell(line: str) -> None:
 
 
 def end_by_signal(number: int, frame: object) -> NoReturn:
-    """Handles a signal by SystemExit, so that what is open is closed."""
+    """Handles a signal by SystemExit with the status FAILED, so that files and connections are closed. Python calls it with the signal's number and
+    the frame that was running."""
     # (psycopg would write a line about the transaction that ends so)
     logging.disable()
     sys.exit(FAILED)
@@ -59,7 +60,8 @@ def init(store: Store, given: argparse.Namespace) -> int:
 
 
 def import_(store: Store, given: argparse.Namespace) -> int:
-    """Adds the entries of a list, or goes on with an import that was stopped. With --again it begins anew, also after a whole import."""
+    """Adds the entries of a list, or goes on with an import that was stopped, and says how many. With --again it begins anew, also after a whole
+    import. Progress is shown where standard error is a terminal, or with --progress."""
     if given.again:
         forget(store, given.file)
     added, before = import_list(store, given.file, sys.stderr is not None and (sys.stderr.isatty() or given.progress))
@@ -120,10 +122,12 @@ def check(store: Store, given: argparse.Namespace) -> int:
 
 
 def log(store: Store, given: argparse.Namespace) -> int:
-    """Writes who changed what, the last changes last. The text is that of a removed entry."""
+    """Writes who changed what, the last changes last: number, moment, account, `add`, `remove` or `end`, the entry's number, the digest of its
+    principal or of the ended certificate, and the text of a removed entry."""
     for number, moment, who, what, entry, digest, text in store.rows(
             "SELECT * FROM (SELECT number, moment, who, what, entry, digest, text FROM {changes} ORDER BY number DESC LIMIT %s) last ORDER BY number",
             given.last):
+        # (a row about an ended certificate has no entry)
         fields = [str(number), moment.isoformat(timespec="milliseconds"), ascii(who), what, str(entry or ""), digest.hex()]
         put(" ".join(fields + ([] if text is None else [advanced(text)])))
     return DONE
@@ -140,10 +144,11 @@ def diff(store: Store, given: argparse.Namespace) -> int:
 
 
 def beat(store: Store, given: argparse.Namespace) -> int:
-    """Increases the number of the heartbeat each second, as often as --times says, or until it is ended. After any fault of the database it looks
-    five times a second for a server that takes it: another one may be the primary. A fault that stays is told once."""
+    """Increases the number of the heartbeat each second, as often as --times says, or for 0 until it is ended. After any fault of the database it
+    looks five times a second for a server that takes it: another one may be the primary. A fault that stays is told once."""
     beats, count, last_fault = Beats(store), 0, ""
     while not given.times or count < given.times:
+        # (the seconds from the beginning of this beat to that of the next one)
         begun, pause = time.monotonic(), EVERY
         try:
             beats.beat()

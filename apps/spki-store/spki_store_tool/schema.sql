@@ -4,7 +4,8 @@ CREATE SCHEMA @SCHEMA@;
 
 -- What an entry is found by: the digest of its subject's hash, or the SHA-256 digest of its subject's key. The text must be one list in canonical
 -- form that begins with `entry` and a subject, and nothing follows it: another text is an error. `spki-store check` says whether the library reads it
--- as an entry. It calls the functions of the system, and none of the same name that an account has made.
+-- as an entry. It calls the functions of the system, and none of the same name that an account has made. Octets are compared by their numbers in
+-- ASCII: 40 is `(`, 41 `)`, 91 `[`, 93 `]`, 58 `:`, and 48 to 57 are the digits.
 CREATE FUNCTION @SCHEMA@.principal_of(text bytea) RETURNS bytea LANGUAGE plpgsql IMMUTABLE STRICT PARALLEL SAFE
 SET search_path = pg_catalog, pg_temp AS $$
 DECLARE
@@ -21,6 +22,7 @@ DECLARE
     is_hint boolean := false;
     length integer;
     octet integer;
+    -- The result, as soon as it is known.
     found bytea;
 BEGIN
     IF substring(text FROM 1 FOR 8) <> '(5:entry' OR NOT (is_hash OR substring(text FROM begun + 1 FOR 14) = '(10:public-key') THEN
@@ -42,6 +44,7 @@ BEGIN
         ELSIF octet = 91 OR octet = 93 THEN
             is_hint := octet = 91;
         ELSE
+            -- A string: its length in decimal digits, a colon, its octets. No text is longer than 1048576.
             length := 0;
             WHILE octet <> 58 LOOP
                 IF octet < 48 OR octet > 57 OR length > 1048576 THEN
@@ -116,7 +119,8 @@ INSERT INTO @SCHEMA@.heartbeat (number, moment) VALUES (0, clock_timestamp());
 -- How far a file was imported, by its SHA-256 digest.
 CREATE TABLE @SCHEMA@.imports (file bytea PRIMARY KEY, octets bigint NOT NULL, entries bigint NOT NULL, is_done boolean NOT NULL);
 
--- Writes the rows that a statement has added or removed into `changes`, with the next numbers.
+-- Writes the rows that a statement has added or removed into `changes`, with the next numbers. The triggers below call it, with these rows as
+-- `changed`.
 CREATE FUNCTION @SCHEMA@.note_change() RETURNS trigger LANGUAGE plpgsql SECURITY DEFINER SET search_path = pg_catalog, pg_temp AS $$
 DECLARE
     changed CONSTANT bigint := (SELECT count(*) FROM changed);
@@ -154,20 +158,21 @@ CREATE TRIGGER refused BEFORE UPDATE OR TRUNCATE ON @SCHEMA@.entries FOR EACH ST
 CREATE TRIGGER refused BEFORE UPDATE OR DELETE OR TRUNCATE ON @SCHEMA@.ended FOR EACH STATEMENT EXECUTE FUNCTION @SCHEMA@.refuse_change();
 CREATE TRIGGER refused BEFORE UPDATE OR DELETE OR TRUNCATE ON @SCHEMA@.changes FOR EACH STATEMENT EXECUTE FUNCTION @SCHEMA@.refuse_change();
 
--- Keeps the certificates of a key until a time, and says what became of that: `kept`, `known`, or `full` if this key has `most_each`, or if it has
--- none and `most_keys` others have some. Those that have ended are removed. Only this function adds any, one after the other.
+-- Keeps the certificates of a key until a time, `ends`. `of_key` is the SHA-256 digest of the key, and `shown` the text of the sequence with the
+-- certificates. Returns `kept`; `known` if they are kept already; or `full` if this key has `most_each` such texts, or if it has none and `most_keys`
+-- others have some. Texts that have ended are removed. Only this function adds any, one call after the other.
 CREATE FUNCTION @SCHEMA@.keep(of_key bytea, shown bytea, ends timestamptz, most_each integer, most_keys integer) RETURNS text
 LANGUAGE plpgsql SECURITY DEFINER SET search_path = pg_catalog, pg_temp AS $$
 DECLARE
-    known bigint;
+    texts_of_key bigint;
 BEGIN
     LOCK TABLE @SCHEMA@.chains IN SHARE ROW EXCLUSIVE MODE;
     DELETE FROM @SCHEMA@.chains WHERE until <= clock_timestamp();
     IF EXISTS (SELECT FROM @SCHEMA@.chains WHERE key = of_key AND digest = sha256(shown)) THEN
         RETURN 'known';
     END IF;
-    SELECT count(*) INTO known FROM @SCHEMA@.chains WHERE key = of_key;
-    IF known >= most_each OR known = 0 AND (SELECT count(DISTINCT key) FROM @SCHEMA@.chains) >= most_keys THEN
+    SELECT count(*) INTO texts_of_key FROM @SCHEMA@.chains WHERE key = of_key;
+    IF texts_of_key >= most_each OR texts_of_key = 0 AND (SELECT count(DISTINCT key) FROM @SCHEMA@.chains) >= most_keys THEN
         RETURN 'full';
     END IF;
     INSERT INTO @SCHEMA@.chains (key, until, text) VALUES (of_key, ends, shown);

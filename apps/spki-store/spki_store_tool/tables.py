@@ -41,8 +41,8 @@ def connect_to(settings: str) -> psycopg.Connection[Any]:
 
 
 def value_of(connection: PGconn, text: bytes, seconds: float) -> bytes:
-    """Sends statements, and waits for so many seconds. Returns the value in the only row of the last one that has a row. Raises OperationalError if
-    one fails, or if the server does not answer in time. (psycopg alone would wait for ever.)"""
+    """Sends the statements in `text`, and waits for at most so many seconds. Returns the value in the only row of the last one that has a row, as
+    octets. Raises OperationalError if one fails, or if the server does not answer in time. (psycopg alone would wait for ever.)"""
     end, value = time.monotonic() + seconds, b""
     connection.send_query(text)
     connection.flush()
@@ -64,7 +64,7 @@ def value_of(connection: PGconn, text: bytes, seconds: float) -> bytes:
 
 @dataclass(frozen=True)
 class Row:
-    """An entry of the store. `principal` is the digest by which it is found, and `text` the entry in canonical form."""
+    """An entry of the store. `number` is its number there, `principal` the digest by which it is found, and `text` the entry in canonical form."""
 
     number: int
     principal: bytes
@@ -86,9 +86,10 @@ class Store:
         settings = {**PATIENCE, **conninfo_to_dict(self.settings)}
         # (one port is for all hosts, otherwise each has its own)
         hosts, ports = (str(settings.get(name, "")).split(",") for name in ("host", "port"))
-        places = [{"host": host, "port": ports[place % len(ports)]} for place, host in enumerate(hosts)]
-        # (what is not given is left to libpq, which looks for a service and in the environment)
-        return [make_conninfo(**{**settings, **{name: at[name] for name in at if name in settings}}) for at in places]
+        addresses = [{"host": host, "port": ports[place % len(ports)]} for place, host in enumerate(hosts)]
+        # (a host or port that is not given is left to libpq, which looks for a service and in the environment)
+        given = [{name: value for name, value in address.items() if name in settings} for address in addresses]
+        return [make_conninfo(**{**settings, **address}) for address in given]
 
     def connect(self) -> None:
         """Connects to the first of the hosts that takes it, whose settings are then in `at`. A host that is cut off is given up after seconds, by

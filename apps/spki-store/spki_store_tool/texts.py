@@ -21,7 +21,7 @@ MOST_LENGTH = 8
 
 
 class Wrong(Exception):
-    """A text, a row or a word is refused. It says why."""
+    """A text, a row of the database or a word of the command line is refused. The message says why."""
 
 
 def end_of(text: mmap.mmap | bytes, at: int) -> int:
@@ -50,8 +50,9 @@ def end_of(text: mmap.mmap | bytes, at: int) -> int:
 
 
 def entries_in(text: mmap.mmap | bytes, begin: int = 0) -> Iterator[tuple[bytes, int]]:
-    """Yields the entries of an access list in canonical form, each with the offset behind it. `begin` is such an offset, from which an import goes
-    on, or 0. Raises Wrong where no list follows, and does not test that the lists are entries."""
+    """Yields the entries of an access list in canonical form, each with the offset behind it. `begin` is 0, or such an offset, from which an import
+    goes on. Raises Wrong if the text does not begin as an access list, or where neither a list nor its end follows. Does not test that the lists are
+    entries."""
     if text[:len(BEGIN)] != BEGIN:
         raise Wrong("this is no access list, which begins with (3:acl in canonical form; one of over 1 MiB must be in this form")
     at = begin or len(BEGIN)
@@ -137,13 +138,14 @@ def fault_of_one(text: bytes) -> str | None:
 
 
 def principal_of(text: bytes) -> bytes:
-    """What an entry in canonical form is found by: the digest of its hash, or the SHA-256 digest of its key. Raises Wrong."""
+    """What an entry in canonical form is found by: the digest of its hash, or the SHA-256 digest of its key. Raises Wrong for another text."""
     import spki
-    # (behind `(5:entry`, and for a name behind `(4:name`)
+    # (the principal is behind the 8 octets `(5:entry`, and for a name behind the 7 octets `(4:name` too)
     at = 15 if text[8:15] == b"(4:name" else 8
     principal = text[at:end_of(text, at)]
     if spki.string_at(principal, 0) not in (b"public-key", b"hash"):
         raise Wrong("an entry is for a key, a hash or a name that begins with one")
+    # (the string at place 2 of `(hash ALGORITHM DIGEST)` is the digest; a key has none there)
     return spki.string_at(principal, 2) or hashlib.sha256(principal).digest()
 
 

@@ -29,9 +29,10 @@ class Progress:
         self.begun, self.shown_at = time.monotonic(), 0.0
 
     def show(self, done: int, entries: int) -> None:
-        """Shows that so many octets and entries of the list are done, at most once in PAUSE seconds and at the end."""
+        """Shows that so many octets (`done`) and entries of the list are imported, at most once in PAUSE seconds and at the end."""
         now = time.monotonic()
         if self.is_shown and (now - self.shown_at > PAUSE or done == self.octets):
+            # (`max`, since neither the time nor the length may be 0 in a division)
             self.shown_at, rate = now, (entries - self.entries_before) / max(now - self.begun, 0.001)
             bar = "#" * (30 * done // max(self.octets, 1))
             sys.stderr.write(f"\r[{bar:<30}] {100 * done // max(self.octets, 1):>3} %  {entries:,} entries, {rate:,.0f} a second ")
@@ -45,9 +46,9 @@ def digest_of(text: mmap.mmap | bytes) -> bytes:
 
 
 def import_list(store: Store, path: str, is_shown: bool) -> tuple[int, int]:
-    """Adds the entries of a list. Returns how many were added now, and how many before by an import of this list that did not end. Entries and
-    how far the import is are one transaction: nothing is added twice. `is_shown` says whether to show the progress. Raises Wrong for a list that was
-    imported before or is being imported, or has something that is no entry: the entries before that stay."""
+    """Adds the entries of the list in the file at `path`. Returns how many were added now, and how many before, by an import of this list that did
+    not end. A transaction adds entries and notes how far the import is, so nothing is added twice. `is_shown` says whether to show the progress.
+    Raises Wrong for a list that was imported before or is being imported, or has something that is no entry: the entries before that stay."""
     with open_list(path) as text:
         digest, offset, before = digest_of(text), 0, 0
         # (at most one row: how far an import of this list is)
@@ -73,6 +74,7 @@ def import_list(store: Store, path: str, is_shown: bool) -> tuple[int, int]:
 def note(store: Store, digest: bytes, begin: int, end: int, entries: int, is_done: bool) -> None:
     """Notes that the list with a digest was imported from the offset `begin` up to `end`, and has so many entries up to there. `is_done` says that it
     is the whole list. Raises Wrong if the list is no longer imported just up to `begin`: another import of it has done that meanwhile."""
+    # (this makes the list's row, or changes it if it is at `begin`; otherwise no row is returned)
     if not store.rows("INSERT INTO {imports} AS so_far (file, octets, entries, is_done) VALUES (%s, %s, %s, %s) ON CONFLICT (file) DO UPDATE"
                       " SET octets = excluded.octets, entries = excluded.entries, is_done = excluded.is_done"
                       " WHERE so_far.octets = %s AND NOT so_far.is_done RETURNING 1", digest, end, entries, is_done, begin):
