@@ -25,6 +25,7 @@ MOST_SECONDS = 3600
 
 def seconds_of(text):
     """The seconds of a word of the command line. Raises ArgumentTypeError if they are no number from 1 to MOST_SECONDS."""
+    # (`isascii`, since `isdigit` also takes other digits than 0 to 9)
     if not (text.isascii() and text.isdigit() and len(text) < 5 and 1 <= int(text) <= MOST_SECONDS):
         raise argparse.ArgumentTypeError(f"{text} is no number from 1 to {MOST_SECONDS}")
     return int(text)
@@ -59,7 +60,7 @@ def print_or_say_why(text):
 
 
 def main():
-    """Serves the page until it is ended. Returns the exit status."""
+    """Serves the page until it is ended by ctrl-c or SIGTERM. Returns the exit status: 2 if it cannot start, and says why."""
     given = options()
     try:
         engine = choose_engine(given.engine)
@@ -74,6 +75,7 @@ def main():
         workers.end()
         return 2
     with server:
+        # (raises SystemExit, so that the processes are ended below)
         signal.signal(signal.SIGTERM, lambda *_: sys.exit(0))
         try:
             if not print_or_say_why(f"{server.address}\n{engine.name} decides; ctrl-c ends the page"):

@@ -18,7 +18,8 @@ MOST_REASONS, MOST_LEFT = 100, 20
 
 
 def refusal_part(given, line):
-    """The part of an answer that shows a refusal. `given` is the question, a `Given` or `GivenCase`, and `line` the line of the refusal."""
+    """The part of an answer that shows a refusal. `given` is the question, a `Given` or `GivenCase`, and `line` the line of the refusal, as
+    `refused sequence 3 Shape`."""
     return {"kind": "refused", "line": line, "shown": given.shown(line), "title": REFUSED.get(line, ""), "faults": given.fault(line)}
 
 
@@ -31,12 +32,13 @@ def labels_of(engine, sent):
 
 
 def question(engine, sent):
-    """Yields the answer to the question in boxes that the page sent, in parts, the decision first."""
+    """Yields the answer to the question that the page sent in several boxes, in parts, the decision first. If it cannot be read, a part says why."""
     labels = labels_of(engine, sent)
     yield {"labelFaults": labels.faults}
     try:
         given = Given(engine, sent)
     except Refused as why:
+        # (what was sent has a field of a wrong type; the page itself sends none)
         yield {"kind": "refused", "line": why.line, "title": f"The question cannot be read: {why.line.removeprefix('refused: ')}.", "faults": {}}
         return
     try:
@@ -112,10 +114,12 @@ def right_text(line):
 
 
 def times(engine, sent):
-    """Yields the spans of time in which the answer to the question that the page sent stays the same, each with this answer."""
+    """Yields one part: the spans of time in which the answer to the question that the page sent stays the same, each with this answer, as
+    `moments.spans` returns them; or for a refusal `refused`, with its line."""
     try:
         given = Given(engine, sent)
         acl, sequence, *_ = given.values()
+        # (the first line of `check` is its whole answer)
         yield moments.spans((acl, sequence), lambda date: engine.lines(given.question._replace(at=string(date)), "check")[0])
     except Refused as why:
         yield {"refused": why.line}

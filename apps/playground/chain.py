@@ -1,4 +1,5 @@
-"""The chain of an answer as boxes and arrows from the access list to the request, which the page draws as SVG."""
+"""The chain of an answer as boxes and arrows from the access list to the request, which the page draws as SVG. Entries, certificates and rights are
+values of S-expressions: a string is `bytes`, and a list a `list` whose first member is its head."""
 from labels import field
 from spki_cert_tool.sexp import on_one_line
 from story import issuer_of, subject_after, moment_of, subject_of, tag_of, window
@@ -38,8 +39,8 @@ class Chain:
         self.story, self.steps, self.subject = story, [], None
 
     def box(self, shape, label, whole, note="", state="plain"):
-        """Adds a box with a label and a note below it. `whole` is its text in full. `shape` is `list`, `subject` or `request`, and `state` a
-        class of the page, such as `bad`."""
+        """Adds a box with a label and a note below it. `whole` is its text in full. `shape` is `list`, `subject` or `request`, and `state` is
+        `plain`, `good`, `bad` or `faint`, by which the page colours it."""
         self.steps.append({"kind": "box", "shape": shape, "label": label, "note": note, "whole": whole, "state": state})
 
     def subject_box(self, subject, state="plain"):
@@ -65,8 +66,8 @@ class Chain:
             self.certificate(number, item, reason.word if is_last else None, self.story.left(reason) if is_last else None)
 
     def certificate(self, number, item, word, before):
-        """Adds a certificate: an arrow to its subject. If it stops the chain, `word` is the cause, and `before` is the right before it, or None. Then
-        the arrow is red, or faint behind a red gap for a certificate that does not join."""
+        """Adds a certificate, which is item `number` from 1: an arrow to its subject. If it stops the chain, `word` is the cause, otherwise None, and
+        `before` is the right before it, if that is known. Then the arrow is red, or faint behind a red gap for a certificate that does not join."""
         issuer = issuer_of(item)
         # (one that does not join comes behind a gap, from the box of its issuer, and is faint)
         if word in APART:
@@ -74,6 +75,7 @@ class Chain:
         if word in APART or self.subject is None:
             self.subject_box(issuer)
         lines = terms(f"certificate {self.story.number(number)}", item)
+        # (a certificate that defines a name has no tag; its second line is which name)
         if issuer[0] == b"name":
             lines[1] = f"defines {self.story.labels.of(issuer)}"
         state = "faint" if word in APART else "bad" if word else "plain"
@@ -84,8 +86,8 @@ class Chain:
         self.subject_box(subject_after(self.subject or issuer, item) if state == "plain" else subject_of(item), "faint" if word else "plain")
 
     def end(self, reason, left):
-        """Adds the request, and whether the right that is left at the end of the chain contains it. `left` is this right, or None if it is not
-        known."""
+        """Adds the box of the request, and the arrow to it, which says whether the chain of `reason` grants it. `left` is the right at the end of the
+        chain, or None if it is not known."""
         story, word = self.story, reason.word
         is_granted = word == "grants"
         if word == "NotTheKey":
@@ -101,8 +103,8 @@ class Chain:
 
 
 def chain(story, reason):
-    """The chain that a line of `explain`, a `Reason`, is about: its `steps`, and `behind`, which is how many certificates behind the one that stops
-    it are not drawn. The reason is None where there are no entries."""
+    """The chain that `reason`, a line of `explain`, is about, as a dictionary for the page: its `steps`, and `behind`, which is how many certificates
+    behind the one that stops it are not drawn. The reason is None where there are no entries."""
     steps = Chain(story)
     if reason is None:
         steps.box("list", "Access list", "0 entries", "no entries", "bad")

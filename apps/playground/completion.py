@@ -21,13 +21,14 @@ class SignedText:
         self.text, self.added = text, []
 
     def add(self, at, signature):
-        """Writes a signature at an offset of the text as it was typed. Offsets must be given from the least to the greatest."""
+        """Writes `signature`, octets, at the offset `at` of the text as it was typed. Offsets must be given from the least to the greatest."""
         at += sum(length for _, length in self.added)
         self.text = self.text[:at] + signature + self.text[at:]
         self.added.append((at, len(signature)))
 
     def offset_as_typed(self, at):
-        """The offset in the text as it was typed, of an offset in the text with the signatures. One in a signature is that where it was written."""
+        """The offset in the text as it was typed, for the offset `at` in the text with the signatures. For an offset in an added signature it is that
+        where the signature was added."""
         for begin, length in reversed(self.added):
             if at > begin:
                 at = max(begin, at - length)
@@ -35,12 +36,12 @@ class SignedText:
 
 
 def with_signatures(engine, text):
-    """A sequence as a SignedText, with a signature behind each certificate. A text that cannot be read is left as it is."""
+    """A sequence, given as octets, as a SignedText, with a signature behind each certificate. A text that cannot be read is left as it is."""
     signed = SignedText(text)
     # (an operation `(do ..)` may be between a certificate and its signature)
     items = [item for item in items_of(text) or () if item.head != b"do"]
-    for item, behind in zip(items, [*items[1:], None]):
-        if item.head == b"cert" and (behind is None or behind.head != b"signature"):
+    for item, next_item in zip(items, [*items[1:], None]):
+        if item.head == b"cert" and (next_item is None or next_item.head != b"signature"):
             signed.add(item.end, b" " + signature(engine, text[item.begin:item.end]))
     return signed
 

@@ -1,7 +1,7 @@
 """Who decides: the library for C through `bindings/python/spki/`, or the program `spki` where the library is not built.
 
-Both give the same lines. The library takes the parts of a question as separate texts. For the program one case is written of their
-canonical forms, so that no part can become another one.
+Both give the same lines. The library takes the parts of a question as separate texts. For the program one case, a text with the whole question, is
+written of their canonical forms, so that no part can become another one.
 """
 import ctypes
 import functools
@@ -17,7 +17,7 @@ LIBRARY = os.path.join(TOP, "crates", "spki_c", "out", "libspki_c.so")
 PROGRAM = os.path.join(TOP, "crates", "spki", "out", "spki")
 # The program that `tests/run --quick` compiles without a proof.
 TRIED = os.path.join(TOP, "tests", "out", "tried", "spki")
-# What is said where nothing can decide: the quickest command that changes it.
+# What is said where nothing can decide: the quickest command that changes it. `{}` is the path of `tests/run`.
 NOTHING = "nothing that can decide is built: `{} --quick words` compiles the program in a minute or two, and proves nothing; then start this again"
 sys.path.append(os.path.join(TOP, "apps", "spki-cert"))
 from spki_cert_tool.sexp import canonical, read  # noqa: E402
@@ -28,7 +28,7 @@ COMMANDS = ("canonical", "advanced", "transport", "intersect", "reduce", "check"
 MOST_OCTETS, MOST_NODES = 65_536, 1_000_000
 # How many texts or questions are kept with what was made of them.
 CACHE_SIZE = 32
-# The parts in the order in which they are read, each with a text that can be read.
+# The parts in the order in which they are read, each with a text that can be read, in canonical form.
 PARTS = {"sequence": b"(8:sequence)", "key": b"(10:public-key(4:test7:anybody))", "request": b"1:a", "at": b"19:2000-01-01_00:00:00"}
 
 
@@ -71,13 +71,14 @@ def string(octets):
 
 
 def request_text(words):
-    """The request that strings mean: the list of them, or the string if there is one."""
+    """The request of the strings `words`, in canonical form: the list of them, or the string if there is one."""
     return string(words[0]) if len(words) == 1 else b"(" + b"".join(map(string, words)) + b")"
 
 
 class Engine:
-    """What both engines have: commands on one text, and of a text its canonical form and its value, which are kept for the next keystroke. An engine
-    also has `name`, for people to read, `limits_memory`, `answer`, and for a question `signed` and `lines`."""
+    """What both engines have: `command`, which runs a command on one text, and `canonical` and `value`, which return the canonical form of a text and
+    its value, and keep them for the next keystroke. An engine also has `name`, for people to read, `limits_memory`, which says whether the memory of
+    its process may be limited, `answer`, and for a question `signed` and `lines`."""
 
     def __init__(self):
         # (functions of a text, which raise `Refused` if it cannot be read)
@@ -93,7 +94,7 @@ class Engine:
 
 
 class ByLibrary(Engine):
-    """The library for C, in this process. So the memory of this process can be limited."""
+    """The engine that calls the library for C, in this process. So the memory of this process can be limited."""
 
     name, limits_memory = "libspki_c.so", True
 
@@ -110,7 +111,7 @@ class ByLibrary(Engine):
 
     def answer(self, name, text):
         """The octets that the program `spki` would write for a text that it gets with the command `name`."""
-        # (`spki_answer` writes how many octets it needs, and is called again if there was less room)
+        # (`spki_answer` sets `needed` to how many octets it needs, and is called again if there was less room. At first that is a guess)
         needed, room = ctypes.c_size_t(MOST_OCTETS), b""
         while len(room) < needed.value:
             room = ctypes.create_string_buffer(needed.value)
@@ -123,7 +124,8 @@ class ByLibrary(Engine):
                                self.spki.Limits(octets=MOST_OCTETS, certificates=MOST_OCTETS, words=MOST_OCTETS, nodes=MOST_NODES))
 
     def ask(self, question, use):
-        """Opens a question, and returns what the function `use` returns of it. Raises `Refused`. The key counts as proven: nobody is let in here."""
+        """Opens a question (`Question`), calls the function `use` with the opened one, an object of the package `spki`, and returns what it returns.
+        Raises `Refused`. The key counts as proven: nobody is let in here."""
         key = self.spki.ProvenKey.assume(question.key)
         parts = self.spki.Question(question.sequence, key, words=question.words, moment=question.at)
         try:
@@ -137,9 +139,9 @@ class ByLibrary(Engine):
         return self.ask(question, lambda asked: [Signed(signature.key, signature.message, signature.value) for signature in asked.signatures()])
 
     def lines(self, question, command):
-        """The lines of the command `check`, `explain` or `reduce`. Raises `Refused`."""
+        """The lines of the command `check`, `explain` or `reduce` for a question. Raises `Refused`."""
         def mark_and_answer(asked):
-            """Marks the signatures that count, and returns the answer of the command."""
+            """Marks the signatures that count as valid, and returns what the method of the command's name returns, which for `check` is `decide`."""
             for place in range(len(asked)):
                 if place not in question.refused_signatures:
                     asked.mark(place)
@@ -152,7 +154,7 @@ class ByLibrary(Engine):
 
 
 class ByProgram(Engine):
-    """The program `spki` at a path, which is run for each answer. Its memory is not limited by a limit on this process."""
+    """The engine that runs the program `spki`, at a path, for each answer. Its memory is not limited by a limit on this process."""
 
     limits_memory = False
 
@@ -184,7 +186,8 @@ class ByProgram(Engine):
             try:
                 canonical_texts.append(self.canonical(text))
             except Refused as why:
-                # (a part before this one is refused first, for its value. The parts from this one on are texts that can be read)
+                # (a guard reads the parts one after the other, so a wrong value in an earlier part is refused first. `check` looks for that, with
+                # texts of PARTS, which can be read, in place of this part and the later ones)
                 others = list(PARTS.values())[len(canonical_texts):]
                 self.command("check", case_text(acl, *canonical_texts, *others, (), question.is_strict))
                 raise Refused(why.line.replace(" form ", f" {name} ", 1)) from None
@@ -192,7 +195,7 @@ class ByProgram(Engine):
 
     def list_signed(self, question):
         """The signatures on which the decision depends, in the order of the certificates, up to the first that is not right. Raises `Refused`."""
-        # (if a part is refused, so is the case)
+        # (raises `Refused` if a part is wrong, so what follows may take the parts apart)
         self.answer_of_case(question, ())
         items, right = [item for item in self.value(question.sequence)[1:] if item[0] != b"do"], []
         keys = [item for item in items if item[0] == b"public-key"]
@@ -207,19 +210,19 @@ class ByProgram(Engine):
         return right
 
     def answer_of_case(self, question, accepted, command="check"):
-        """The answer of a command to the case of a question, in which these signatures are valid. Raises `Refused`."""
+        """The answer of a command to the case of a question, in which the signatures `accepted`, each a `Signed`, are valid. Raises `Refused`."""
         case = case_text(*self.parts(question), accepted, question.is_strict)
         return self.command(command, case).decode()
 
     def lines(self, question, command):
-        """The lines of the command `check`, `explain` or `reduce`. Raises `Refused`."""
+        """The lines of the command `check`, `explain` or `reduce` for a question. Raises `Refused`."""
         accepted = [signed for place, signed in enumerate(self.signed(question)) if place not in question.refused_signatures]
         return self.answer_of_case(question, accepted, command).split("\n")
 
 
 def signed_by(certificate, signature, keys, is_strict):
-    """The signature of a certificate, as `Signed`, if the key of its issuer is shown, and the digest and the signer are right. None otherwise. `keys`
-    are those of the sequence."""
+    """The signature of a certificate, as `Signed`, if the key of its issuer is shown, and the digest and the signer are right. None otherwise.
+    Certificate, signature and `keys`, which are those of the sequence, are values: a list is a `list`, and a string is `bytes`."""
     issuer = next(field[1] for field in certificate[1:] if field[0] == b"issuer")
     key, message = key_of(issuer[1] if issuer[0] == b"name" else issuer, keys, is_strict), canonical(certificate)
     _, (_, algorithm, digest, *_), signer, value = signature
@@ -264,8 +267,8 @@ def program():
 
 
 def choose_engine(wanted):
-    """The engine that is wanted, "library" or "program". For None it is the library where it can be loaded, else the program. Raises `LookupError` if
-    it is not there, and says how to build it."""
+    """The engine that is `wanted`, "library" or "program". For None it is the library where it can be loaded, else the program. Raises `LookupError`
+    if it is not there, and says how to build it."""
     if wanted != "program":
         try:
             return ByLibrary()

@@ -31,12 +31,12 @@ def sequence(*items):
 
 
 def defining(name):
-    """The text of a certificate by which Alice defines a name: Carol has it."""
+    """The text of a certificate by which Alice defines `name` as Carol: what the name may do, Carol may do."""
     return f" (cert\n  (issuer (name {ALICE} {name}))\n  (subject {CAROL})\n  (not-after \"2026-12-31_23:59:59\"))"
 
 
 def signature(signer, value):
-    """The text of a signature of the certificate TO_CAROL. Signer and value are texts too."""
+    """The text of a signature of the certificate TO_CAROL. `signer` is the text of a key, and `value` any word: the page verifies none."""
     return f"  (signature {DIGEST}\n   {signer} {value})"
 
 
@@ -46,8 +46,8 @@ WRITE = ["packages", "write", "/builds/web/index.html"]
 
 
 def example(name, group, wanted, **changed):
-    """An example: its name, the group in which the page lists it, the line of `explain` or the refusal that matters most, and the question, which
-    is STORY with what is in `changed` instead."""
+    """An example: its name, the group in which the page lists it, the line of `explain` or the refusal that the answer has first, and the question,
+    which is STORY with the fields `changed` in place of its own."""
     return {"name": name, "group": group, "wanted": wanted, "question": {**STORY, **changed}}
 
 

@@ -19,11 +19,11 @@ def text(sent, name):
 
 def members(sent, name, kind, wanted):
     """The members of the list that is the field `name` of the object that the page sent, as a tuple. It is empty if there is no such field.
-    Raises `Refused`, which says what is `wanted`, for what is no list, or if a member is not of the type `kind`."""
+    Raises `Refused` for what is no list, or if a member is not of the type `kind`. Its text says that the field must be `wanted`, which is words."""
     value = sent.get(name)
     if value is None:
         value = []
-    # (`type`, since for `isinstance` a truth value is a number)
+    # (`type(..) is`, since by `isinstance` True is an `int`)
     if not isinstance(value, list) or any(type(member) is not kind for member in value):
         raise Refused(f"refused: the field `{name}` must be {wanted}")
     return tuple(value)
@@ -62,7 +62,7 @@ class Given:
         return self.engine.lines(self.question, command)
 
     def cut(self, items):
-        """The lines of `reduce` if the sequence had only these items, which are values."""
+        """The lines of `reduce`, which say what right is left of each entry, if the sequence had only these items, which are values."""
         return self.engine.lines(self.question._replace(sequence=canonical([b"sequence", *items])), "reduce")
 
     def signatures(self, labels):
@@ -78,7 +78,9 @@ class Given:
         return rows
 
     def fault(self, line):
-        """What is shown at the box that a refusal is about, with its places there, by the name of the box. Empty if it is about no box."""
+        """What is shown at the box that the refusal `line` is about, with its places there, in a dictionary by the name of the box. Empty if it is
+        about no box."""
+        # (the word after `refused`, as in `refused sequence 3 Shape`)
         word = line.split()[1]
         # (a fault of the form that is named after no part is one of the access list)
         name = "acl" if word == "form" else word
@@ -95,6 +97,7 @@ class Given:
     @functools.cached_property
     def heads(self):
         """The words that the items of the sequence begin with. None for one that the page made up."""
+        # (a signature that is added begins with a space)
         return heads_in(self.question.sequence, [at + 1 for at, _ in self.sequence.added])
 
     def shown(self, line):
@@ -102,7 +105,8 @@ class Given:
         return with_certificate_numbers(line, self.heads)
 
     def fault_of_words(self, name, line):
-        """What is shown at the box `request` or `at` for a refusal. Its text is no S-expression, so its first line is the place."""
+        """What is shown at the box `name`, `request` or `at`, for a refusal. What is typed there is no S-expression, so its first line is the
+        place."""
         typed = self.box["at"]
         why = f"{'this is no moment' if typed else 'the moment is missing'}; choose a date and a time of day, in UTC"
         if name == "request":
@@ -140,7 +144,7 @@ class GivenCase:
         return self.engine.command(command, self.octets).decode().split("\n")
 
     def cut(self, items):
-        """The lines of `reduce` if the sequence of the case had these items only."""
+        """The lines of `reduce`, which say what right is left of each entry, if the sequence of the case had only these items, which are values."""
         case = self.engine.value(self.octets)
         return self.engine.command("reduce", canonical([*case[:3], [b"sequence", *items], *case[4:]])).decode().split("\n")
 
@@ -154,6 +158,6 @@ class GivenCase:
         return with_certificate_numbers(line, self.heads)
 
     def fault(self, line):
-        """What is shown at the box of the case for a refusal, with its places there."""
+        """What is shown at the box of the case for the refusal `line`, with its places there, in a dictionary by the name of the box."""
         in_box = [(at, with_certificate_numbers(why, self.heads)) for at, why in places(self.octets, line)]
         return {"case": {"line": line, "shown": self.shown(line), "places": places_for_page(self.octets, in_box)}}

@@ -14,7 +14,7 @@ PLAIN = re.compile(rb"[ -~]{1,40}\Z")
 
 class Labels:
     """Labels of keys, hashes and names: `of_values` has them by canonical texts, `hashes` the keys by algorithm and digest, and `faults` the lines
-    that cannot be read, each as its number from 1 and why."""
+    that cannot be read, each as its number from 1 and why. `lines` is a text with a label and a key on each line, and `engine` reads the keys."""
 
     def __init__(self, engine, lines):
         self.of_values, self.hashes, self.faults = {}, {}, []
@@ -48,14 +48,15 @@ class Labels:
                 self.learn_comment(part)
 
     def learn_comment(self, part):
-        """Takes the comment of an entry or a certificate as a label of its subject. In a tag or a key there may be lists with these heads alone."""
+        """Takes the comment of `part`, an entry or a certificate, as a label of its subject. In a tag or a key a list may have such a head and be
+        neither, so its form is tested too."""
         comment = field(part, b"comment")
         subject = part[1:2] if part[0] == b"entry" else (field(part, b"subject") or [])[1:2]
         if comment and len(comment) == 2 and isinstance(comment[1], bytes) and subject and isinstance(subject[0], list):
             self.of_values.setdefault(canonical(subject[0]), comment[1].decode(errors="replace")[:MOST_LETTERS])
 
     def key(self, principal):
-        """The key that a principal names, if it is known, else the principal."""
+        """The key that a principal, a key or a hash, names, if it is known, else the principal."""
         return self.hashes.get((principal[1], principal[2]), principal) if principal[0] == b"hash" else principal
 
     def of(self, subject):

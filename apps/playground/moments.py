@@ -20,7 +20,7 @@ def parts_of(date):
 
 
 def date_of(parts):
-    """The date of six numbers."""
+    """The date, as octets YYYY-MM-DD_HH:MM:SS, of six numbers."""
     return b"%04d-%02d-%02d_%02d:%02d:%02d" % parts
 
 
@@ -33,8 +33,8 @@ def after(parts):
 
 
 def limits_of(value):
-    """The limits in a value: the sets of the moments of `not-before` and of `not-after`, by these words. A list of this form in a tag counts too: it
-    is no limit, and only makes one question more."""
+    """The limits in a value, which is `bytes` or a list: the sets of the moments of `not-before` and of `not-after`, by these words, each moment as
+    six numbers. A list of this form in a tag counts too: it is no limit, and only makes one question more."""
     limits, waiting = {b"not-before": set(), b"not-after": set()}, [value]
     while waiting:
         part = waiting.pop()
@@ -47,12 +47,13 @@ def limits_of(value):
 
 
 def spans(values, answer):
-    """The spans between two changes of an answer, in their order, each with the answer and the limits at both ends. The limits are those in `values`,
-    and `answer` returns the answer at a date. Only the first MOST_LIMITS changes are looked at."""
-    limits = [limits_of(value) for value in values]
+    """The spans between two changes of an answer, in their order, as the page gets them: a dictionary, where `spans` has for each its answer and the
+    limits at both ends. The limits are those in `values`, and `answer` is a function that returns the answer at a date, which is octets. Only the
+    first MOST_LIMITS changes are looked at: `isWhole` says whether these are all."""
+    all_limits = [limits_of(value) for value in values]
     # (by the moment from which the answer may change: the word and the limit as the page shows them)
-    begins = {moment: ("from", moment) for of_value in limits for moment in of_value[b"not-before"]}
-    ends = {after(moment): ("after", moment) for of_value in limits for moment in of_value[b"not-after"] if after(moment)}
+    begins = {moment: ("from", moment) for limits in all_limits for moment in limits[b"not-before"]}
+    ends = {after(moment): ("after", moment) for limits in all_limits for moment in limits[b"not-after"] if after(moment)}
     all_changes = {**ends, **begins}
     changes = dict(sorted(all_changes.items())[:MOST_LIMITS])
     spans_begun = spans_without_ends(changes, answer)
@@ -74,11 +75,12 @@ def spans_without_ends(changes, answer):
 
 
 def date_for_page(parts):
-    """A date as the page shows it."""
+    """A date, given as six numbers, as the page shows it."""
     return date_of(parts).decode().replace("_", " ")
 
 
 def limit_for_page(limit):
-    """A limit for the page: `word` is `from` if the span begins with this `moment`, and `after` if it begins after it."""
+    """A limit, a pair of a word and a moment as six numbers, for the page. The word is `from` if the span begins with this moment, and `after` if it
+    begins after it."""
     word, moment = limit
     return {"word": word, "moment": date_for_page(moment)}

@@ -30,11 +30,12 @@ def items_of(text):
 
 
 def places(text, line):
-    """The places of the refusal `line` in a text as offsets, with remarks: the place itself first. Empty if the refusal has none there."""
-    (wrong, _, inner), _ = read_text(text, line)
-    if wrong is None or refusal(wrong, inner) != line:
+    """The places of the refusal `line` in a text as offsets, with remarks: the place itself first. Empty if the text is not refused by this line."""
+    # (for a text in braces, `offsets` has the offset of each octet that they encode; otherwise it is None)
+    (wrong, _, offsets), _ = read_text(text, line)
+    if wrong is None or refusal(wrong, offsets) != line:
         return []
-    return [(inner[min(at, len(inner) - 1)] if inner else at, why) for at, why in places_of(wrong)]
+    return [(offsets[min(at, len(offsets) - 1)] if offsets else at, why) for at, why in places_of(wrong)]
 
 
 def places_for_page(text, offsets):
@@ -55,8 +56,8 @@ def heads_in(text, made_up=()):
 
 
 def with_certificate_numbers(words, heads):
-    """Words in which the number of an item is replaced by that of a certificate among the certificates, or of an item among those that were typed.
-    `heads` are the words that the items begin with, or None for one that the page made up."""
+    """A refusal or a remark in which `sequence N` or `item N`, the number of an item, is replaced by that of a certificate among the certificates, or
+    of an item among those that were typed. `heads` are the words that the items begin with, or None for one that the page made up."""
     def name_of_item(match):
         """What the page calls the item of a match of NUMBER: the matched words themselves if there is no item with this number."""
         number = int(match[1])
@@ -72,9 +73,10 @@ def with_certificate_numbers(words, heads):
 
 
 def place_for_page(text, at, why):
-    """A place with its remark: begin and end, counted as JavaScript counts, line and column from 1."""
+    """A place with its remark, as the page gets it: the begin and the end of the word there, counted as JavaScript counts, and line and column from
+    1. `text` is octets, and `at` an offset in them."""
     before = text[:at].decode(errors="ignore")
-    # (of a longer word 200 octets are enough to see it)
+    # (of a longer word the first 200 octets are underlined, which are enough to see it)
     word = WORD.match(text[at:at + 200].decode(errors="ignore"))[0]
     begin = utf16_length(before)
     line = before.count("\n") + 1

@@ -1,4 +1,5 @@
-"""The answer in words: a sentence for each line of `explain`, and what can be done about it."""
+"""The answer in words: a sentence for each line of `explain`, and what can be done about it. A line, as `entry 1 item 3 NoDelegation`, says which
+entry of the access list grants the request, or which item of the sequence stops its chain of certificates, and for which cause."""
 from labels import field
 from story import issuer_of, moment_of, tag_of, window
 
@@ -39,7 +40,8 @@ def is_one_string_of_words(request):
 
 
 def sentence_of(story, reason):
-    """A line of `explain` in words (`says`), with what to do (`hint`), the line itself and its parts, as the page shows it."""
+    """A line of `explain`, a `Reason`, as the page shows it: a dictionary with the line in words (`says`), what to do (`hint`), the line itself and
+    its parts. `story` is the question that was answered, a `Story`."""
     says, hint = WORDS[reason.word]
     if reason.word == "TagLacks" and is_one_string_of_words(story.request):
         hint = ONE_STRING
@@ -69,7 +71,7 @@ def title(reasons, line):
 
 
 def right_left(story, number, item, right):
-    """The right `(five ..)` that remains of the entry with a number, as the page lists it. If an item is given by its number, it is the right before
-    this item, which stops the chain. Otherwise it is that at the end."""
+    """The right `(five ..)` that remains of the entry with a number, as the page lists it: a dictionary. If `item` is the number of an item, it is
+    the right before this item, which stops the chain. For None it is the right at the chain's end."""
     return {"entry": number, "before": story.number(item) if item else 0, "holder": story.labels.of(field(right, b"subject")[1]),
             "tag": tag_of(right), "window": window(right) or "at all times", "passes": field(right, b"propagate") is not None}

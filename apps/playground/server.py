@@ -27,7 +27,7 @@ HEADERS = {"Content-Security-Policy": POLICY, "X-Content-Type-Options": "nosniff
 
 
 def files():
-    """The files of the page by their names, each as the value of `Content-Type` and its octets."""
+    """The files of the folder `page` by their names, each as the value of `Content-Type` and its octets."""
     by_name = {}
     for name in sorted(os.listdir(PAGE)):
         kind = KINDS.get(os.path.splitext(name)[1])
@@ -38,7 +38,7 @@ def files():
 
 
 class Handler(http.server.BaseHTTPRequestHandler):
-    """One connection."""
+    """Answers the requests of one connection, with the files and jobs of its `server`, a `Server`. The base class calls `do_GET` and so on."""
 
     protocol_version = "HTTP/1.1"
     server_version = "playground"
@@ -58,8 +58,8 @@ class Handler(http.server.BaseHTTPRequestHandler):
         self.answer_by(self.do_job)
 
     def answer_by(self, method):
-        """Answers by `method`, a function without arguments. If it raises an error that is not one of the connection, answers with status 500, and
-        raises the error again."""
+        """Answers by `method`, a function without arguments, which sends the answer. If it raises an error that is not one of the connection, answers
+        with status 500, and raises the error again."""
         try:
             method()
         except (ConnectionError, TimeoutError):
@@ -85,6 +85,7 @@ class Handler(http.server.BaseHTTPRequestHandler):
         name = self.name_asked("")
         if name is None:
             return
+        # (so that no other page of the browser can ask)
         if self.headers.get("Origin") not in self.server.origins or self.headers.get("Sec-Fetch-Site", "same-origin") != "same-origin":
             self.refuse(http.HTTPStatus.FORBIDDEN)
             return
@@ -93,6 +94,7 @@ class Handler(http.server.BaseHTTPRequestHandler):
             return
         sent = self.body()
         if sent is not None:
+            # (a name that each opened page makes up, so that its new question can replace its old one)
             page = sent.get("page")
             answer = self.server.workers.answer(page if isinstance(page, str) else "", name, sent)
             self.reply(http.HTTPStatus.OK, KINDS[".json"], json.dumps(answer).encode())
@@ -115,6 +117,7 @@ class Handler(http.server.BaseHTTPRequestHandler):
         if not length.isascii() or not length.isdigit() or "Transfer-Encoding" in self.headers:
             self.refuse(http.HTTPStatus.LENGTH_REQUIRED)
             return None
+        # (a number of thousands of digits is not read: `int` would raise ValueError)
         if len(length) > 9 or int(length) > MOST_BODY:
             self.refuse(http.HTTPStatus.REQUEST_ENTITY_TOO_LARGE)
             return None

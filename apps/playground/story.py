@@ -1,7 +1,8 @@
 """A question that was answered, as values: what the words, the picture and the labels are made of.
 
-What is decided comes from the lines of `explain` and `reduce`. This module only follows the subjects along the certificates, for people
-to read.
+What is decided comes from the lines of the commands `explain`, which says for each entry why it grants the request or what stops its chain of
+certificates, and `reduce`, which says what right is left of each entry. This module only follows the subjects along the certificates, for people to
+read.
 """
 import re
 import sys
@@ -16,7 +17,8 @@ LINE = re.compile(r"(?:entry (\d+) )?(?:item (\d+) )?(.*)")
 
 @dataclass
 class Reason:
-    """A line of `explain`: numbers from 1, or None, and `grants` or the cause."""
+    """A line of `explain`: the number of an entry and that of an item of the sequence, each from 1 or None, and as `word` either `grants` or the
+    cause of the no, as NotIssuer."""
 
     entry: int | None
     item: int | None
@@ -36,14 +38,14 @@ class Reason:
 
 
 def reasons_of(lines):
-    """The lines of `explain`, read. There is none for an empty list."""
+    """The lines of `explain` as a list of `Reason`. For an access list without entries it is empty."""
     parts = [LINE.fullmatch(line).groups() for line in lines if line != "no entries"]
     return [Reason(int(entry) if entry else None, int(item) if item else None, word) for entry, item, word in parts]
 
 
 @dataclass
 class Story:
-    """The values of a question, and what they are called."""
+    """The values of a question that was answered, and what they are called. In a value a string is `bytes`, and a list is a `list`."""
 
     labels: Labels
     # The entries of the access list, and the items of the sequence: keys, certificates and signatures.
@@ -55,7 +57,7 @@ class Story:
     # The moment.
     at: bytes
     rights_left: dict = of_default(default_factory=dict)
-    """The remaining right of an entry by its number, and by a number and an item the right before this item."""
+    """Rights `(five ..)` by the number of an entry and that of an item: the right of the entry before this item, or for None at the chain's end."""
 
     def certificate(self, item):
         """The item with a number, from 1."""
@@ -94,8 +96,10 @@ def subject_of(certificate):
 
 
 def subject_after(before, certificate):
-    """The subject of a right after a certificate, by that before it. One that defines a name replaces the first name, and further names stay."""
+    """The subject of a right after a certificate. `before` is the subject of the right before it. A certificate that gives a right gives it to its
+    own subject. One that defines a name replaces the first name of `before`, and further names stay."""
     subject = subject_of(certificate)
+    # (a name is `(name PRINCIPAL NAME NAME ..)`, so its second name is member 3)
     further_names = before[3:] if issuer_of(certificate)[0] == b"name" and before[0] == b"name" else []
     if not further_names:
         return subject

@@ -16,12 +16,15 @@ from engine import Failed, choose_engine
 
 # The seconds that a job may take by default, the processes that answer at once at most, and the octets of memory that each may have.
 SECONDS, MOST_WORKERS, MEMORY = 2, 6, 2 << 30
+# The server ends a process that takes too long. One whose server is gone ends so many seconds later by itself.
+GRACE = 3
 TOO_LARGE = "The text is too large for this page."
 
 
 def serve(pipe, wanted, seconds):
-    """Runs in a process until the pipe is closed: takes a job from it, and sends back the parts of its answer, then None. `wanted` is for
-    `choose_engine`, and a job that takes over `seconds` + 3 ends the process."""
+    """Runs in a process until the pipe is closed: takes a job from it, its name in JOBS and what the page sent, and sends back the parts of its
+    answer, which are dictionaries, then None. `wanted` is `library`, `program` or None, for `choose_engine`. A job that takes over `seconds` + GRACE
+    ends the process."""
     # (so the programs that it runs can be ended with it, as a group, and ctrl-c in the terminal of the server does not reach them)
     os.setsid()
     signal.signal(signal.SIGINT, signal.SIG_IGN)
@@ -33,8 +36,7 @@ def serve(pipe, wanted, seconds):
             name, sent = pipe.recv()
         except EOFError:
             return
-        # (a process whose server is gone ends by itself)
-        signal.alarm(seconds + 3)
+        signal.alarm(seconds + GRACE)
         try:
             for part in JOBS[name](engine, sent):
                 pipe.send(part)
@@ -60,8 +62,8 @@ class Worker:
         far_end.close()
 
     def answer(self, name, sent):
-        """Sends a job, and waits for its answer, or for what there is of it in time. Returns it, and whether the process can be asked again. What
-        was left out, and why, is the field `notice` of the answer."""
+        """Sends a job, its name in JOBS and the object that the page sent, and waits for its answer, or for what there is of it in time. Returns it,
+        a dictionary, and whether the process can be asked again. What was left out, and why, is the field `notice` of the answer."""
         whole, ends = {}, time.monotonic() + self.seconds
         try:
             self.pipe.send((name, sent))
@@ -75,6 +77,7 @@ class Worker:
             return {"notice": TOO_LARGE}, True
         except (EOFError, OSError):
             return whole | {"notice": "The answer was stopped."}, False
+        # (an answer with the field `kind` has its decision)
         late = "The explanation" if "kind" in whole else "The answer"
         return whole | {"notice": f"{late} took longer than {self.seconds} seconds and was stopped. A shorter text takes less."}, False
 
@@ -92,8 +95,8 @@ class Worker:
 
 
 class Workers:
-    """All processes: those that wait for a job (`idle`), and by page and job those that have one (`busy`). `wanted` is for `choose_engine`, a job may
-    take so many `seconds`, and about `spare` processes are kept waiting."""
+    """All processes: those that wait for a job (`idle`), and by page and job those that have one (`busy`). `wanted` is `library`, `program` or None,
+    for `choose_engine`, a job may take so many `seconds`, and about `spare` processes are kept waiting."""
 
     def __init__(self, wanted, seconds, spare=2):
         self.wanted, self.seconds, self.spare = wanted, seconds, spare
@@ -102,7 +105,8 @@ class Workers:
         self.busy, self.idle = {}, [Worker(wanted, seconds) for _ in range(spare)]
 
     def answer(self, page, name, sent):
-        """The answer to a job of a page. Ends the job of the same name that the page has under way, and may wait for a free process."""
+        """The answer to a job of a page, a dictionary. `page` is the page's own name, `name` that of the job, and `sent` the object that the page
+        sent. Ends the job of the same name that the page has under way, and may wait for a free process."""
         with self.lock:
             replaced = self.busy.pop((page, name), None)
             if replaced is not None:
