@@ -19,8 +19,8 @@ export function showNotice(id, text) {
 }
 
 export class Answer {
-  /** `boxes` are all boxes of the page by their names. `changed` is called when a signature was ticked. `refused` has the places, from 0, of the
-    * signatures that do not count. */
+  /** `boxes` are all boxes of the page by their names. `changed` is called when a signature was ticked or no longer is. The field `refused` has the
+    * places, from 0, of the signatures that do not count. */
   constructor(boxes, changed) {
     this.boxes = boxes;
     this.changed = changed;
@@ -45,8 +45,8 @@ export class Answer {
     const title = answer.title || this.titleOfFault(answer);
     const first = answer.reasons?.[0];
     this.showFaults(answer);
-    this.verdict(answer.kind, KINDS[answer.kind], title, answer.kind === "no" && first ? `no, ${lineOf(first)}` : answer.shown ?? answer.line,
-      first ? EXPLAINED + first.line : answer.line);
+    const line = answer.kind === "no" && first ? `no, ${lineOf(first)}` : answer.shown ?? answer.line;
+    this.verdict(answer.kind, KINDS[answer.kind], title, line, first ? EXPLAINED + first.line : answer.line);
     this.showReasons(answer, title);
     this.showRights(answer);
     this.showSignatures(answer);
@@ -64,7 +64,7 @@ export class Answer {
     CARDS.forEach((id) => byId(id).hidden = true);
   }
 
-  /** Shows that the answer takes long. */
+  /** Shows in place of a verdict that the answer takes long. */
   wait() {
     byId("verdict").dataset.kind = "none";
     showNotice("notice", "");
@@ -84,12 +84,16 @@ export class Answer {
     setText(byId("spoken"), `${word}. ${text}`);
   }
 
-  /** The title of a refusal: the label of its box, and the remark on its place. Empty if no box is refused. */
+  /** The title of a refusal, a sentence: the label of its box, and the remark on its place. Empty if no box is refused. */
   titleOfFault(answer) {
     const [name, fault] = Object.entries(answer.faults ?? {})[0] ?? [];
+    if (!name) {
+      return "";
+    }
     const label = this.boxes[name] ? document.querySelector(`[data-box="${name}"] label`).textContent : "Moment";
-    const why = fault?.places[0]?.why;
-    return name ? `${label}${why ? `: ${why}` : " cannot be read"}${/[.?]$/.test(why ?? "") ? "" : "."}` : "";
+    const why = fault.places[0]?.why;
+    const sentence = why ? `${label}: ${why}` : `${label} cannot be read`;
+    return /[.?]$/.test(sentence) ? sentence : `${sentence}.`;
   }
 
   /** Shows at each box its fault in an answer, or none: at those of the texts, of the labels and of the moment. */
@@ -138,7 +142,7 @@ export class Answer {
     byId("signatures").querySelectorAll("input")[focused]?.focus();
   }
 
-  /** The line of a signature, by its place from 0, with its tick. */
+  /** The element of HTML for a signature, by its place from 0: a tick, which says whether the signature counts, and who signed what. */
   tick(signature, place) {
     const tick = htmlElement("input", { type: "checkbox" });
     tick.checked = !this.refused.includes(place);

@@ -18,6 +18,7 @@ export function asker(kind, collect, show, countChanges) {
   let underWay = null;
   let isNextWaiting = false;
 
+  // (sends the question, and shows its answer unless a text was changed meanwhile)
   async function send() {
     const count = countChanges();
     const controller = new AbortController();
@@ -42,12 +43,18 @@ export function asker(kind, collect, show, countChanges) {
     } else if (!isNextWaiting) {
       isNextWaiting = true;
       const before = underWay;
-      setTimeout(() => isNextWaiting && underWay === before && (before.abort(), send()), PATIENCE);
+      setTimeout(() => {
+        if (isNextWaiting && underWay === before) {
+          before.abort();
+          send();
+        }
+      }, PATIENCE);
     }
   };
 }
 
-/** The answer of the server, or null if `signal` stopped the question. If the server gives none, an answer whose `notice` says why. */
+/** The answer of the server to `body`, a question in JSON, or null if `signal` stopped the question. `kind` is the job that is asked for. If the
+  * server gives no answer, it is one whose `notice` says why. */
 async function answerTo(kind, body, signal) {
   const octets = new TextEncoder().encode(body);
   if (octets.length > mostOctets) {

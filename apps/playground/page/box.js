@@ -31,7 +31,7 @@ export class Box {
     this.showFault(null);
   }
 
-  /** Shows a refusal: its line, and its places with their remarks. For null it shows none. */
+  /** Shows a refusal, an object: its line (`shown` or `line`), and its `places` with their remarks, as `place.py` makes them. For null shows none. */
   showFault(fault) {
     const places = fault?.places ?? [];
     this.reflect(places[0]);
@@ -45,7 +45,7 @@ export class Box {
     this.faults.replaceChildren(...(fault ? [this.remark(fault, places[0]), ...places.slice(1, 4).map((place) => this.further(place))] : []));
   }
 
-  /** The line for the first place of a refusal, or for a refusal without a place. */
+  /** The element of HTML for the first place of a refusal, or for a refusal without a place. */
   remark(fault, place) {
     const line = htmlElement("code", {}, ` ${fault.shown ?? fault.line}`);
     if (!place) {
@@ -54,7 +54,7 @@ export class Box {
     return htmlElement("li", {}, this.goTo(place), `: ${place.why}`, line);
   }
 
-  /** A line for a further place of a refusal. */
+  /** The element of HTML for a further place of a refusal. */
   further(place) {
     return htmlElement("li", { class: "further" }, this.goTo(place), `: ${place.why}`);
   }
@@ -71,13 +71,14 @@ export class Box {
 
   /** Copies the text into the mirror, with a place underlined if one is given. */
   reflect(place) {
-    // (a line feed at the end has no height without something behind it)
+    // (a line feed at the end has no height without something behind it: here a space of no width)
     const text = this.value, end = "\u200b";
     if (!place) {
       this.mirror.textContent = text + end;
       return;
     }
     const mark = htmlElement("mark", {}, text.slice(place.begin, place.end));
+    // (a place without a visible character, as the end of the text, is marked in another way)
     mark.classList.toggle("at-end", !text.slice(place.begin, place.end).trim());
     this.mirror.replaceChildren(text.slice(0, place.begin), mark, text.slice(place.end) + end);
   }

@@ -4,13 +4,15 @@ import { htmlElement, svgElement } from "./dom.js";
 // In pixels: the room above and below an arrow's text, the height of a line, the margin in a box, and where the shaft of an arrow and the text beside
 // it are, from the left.
 const GAP = 10, LINE = 17, PAD = 10, SHAFT = 22, BESIDE = 42;
-// The lines of a text beside an arrow, and the letters of any text. What is more ends in dots.
-const MOST_LINES = 3, MOST_LETTERS = 1200;
+// The most lines of a text beside an arrow, of one that says why the chain stops, and of the label of a box; and the letters of any text. What is
+// more ends in dots.
+const MOST_LINES = 3, MOST_LINES_OF_STOP = 40, MOST_LINES_OF_LABEL = 12, MOST_LETTERS = 1200;
 // The fonts of a box's name, of other text, of S-expressions, and of the cause that stops a chain.
 const FONTS = { name: "600 13px", plain: "13px", mono: "12px", why: "650 13px" };
 const measuring = document.createElement("canvas").getContext("2d");
 
-/** Draws the steps of a chain, as `chain.py` makes them, as SVG for a width in pixels. `summary` is read out in the place of the picture. */
+/** Returns an element of SVG with the steps of a chain, as `chain.py` makes them, for a width in pixels. A screen reader reads out `summary` in place
+ * of the picture. */
 export function picture(chain, width, summary) {
   const svg = svgElement("svg", { width, role: "img", "aria-label": summary });
   let y = 1;
@@ -38,10 +40,10 @@ export function stepsInWords(chain) {
   });
 }
 
-/** The box of a step as `element`, and its `height` in pixels. */
+/** The box of a step as `element`, and its `height` in pixels. It is as wide as its texts need, at most `width` pixels. */
 function box(step, width) {
   const kind = step.shape === "request" ? "mono" : "name";
-  const lines = wrap(step.label, width - 2 * PAD - 2, kind, 12);
+  const lines = wrap(step.label, width - 2 * PAD - 2, kind, MOST_LINES_OF_LABEL);
   const notes = step.note ? [step.note] : step.shape === "list" ? [step.whole] : [];
   const widest = Math.max(...lines.map((line) => measure(line, kind)), ...notes.map((note) => measure(note, "plain")));
   const height = (lines.length + notes.length) * LINE + 2 * PAD - 4;
@@ -55,14 +57,15 @@ function box(step, width) {
 
 /** The arrow of a step with its lines as `element`, and its `height` in pixels. Where the chain does not join, it is a gap with a cross. */
 function arrow(step, width) {
-  // (then the first line is the cause, and all lines are shown)
+  // (a state other than these two ends the chain: then the first line says why, and whole texts are shown)
   const stops = step.state !== "plain" && step.state !== "faint";
   const group = svgElement("g", { class: step.state }, title(step.whole));
   let lines = 0;
   step.lines.forEach((text, place) => {
+    // (a tag, which begins as an S-expression, perhaps behind `left: `)
     const isTag = /^(left( before)?: )?[([{|#"]/.test(text);
     const kind = place === 0 && stops ? "why" : isTag ? "mono" : "plain";
-    for (const piece of wrap(text, width - BESIDE - 4, kind, stops ? 40 : MOST_LINES)) {
+    for (const piece of wrap(text, width - BESIDE - 4, kind, stops ? MOST_LINES_OF_STOP : MOST_LINES)) {
       const quiet = kind === "plain" ? "quiet" : "";
       group.append(svgElement("text", { x: BESIDE, y: GAP + 11 + lines * LINE, class: `${kind} ${quiet}` }, piece));
       lines += 1;
@@ -80,18 +83,18 @@ function arrow(step, width) {
   return { element: group, height };
 }
 
-/** The element whose text is shown under the pointer. An empty string for an empty text. */
+/** The element `title` of SVG, whose text is shown while the pointer is over its parent. An empty string for an empty text. */
 const title = (text) => (text ? svgElement("title", {}, text) : "");
 
-/** The width of a text in pixels, in a font of FONTS. */
+/** The width of a text in pixels, in the font of FONTS that is called `kind`. */
 function measure(text, kind) {
   const family = getComputedStyle(document.documentElement).getPropertyValue(kind === "mono" ? "--mono" : "--sans");
   measuring.font = `${FONTS[kind]} ${family}`;
   return measuring.measureText(text).width;
 }
 
-/** A text in at most `most` lines of `width` pixels. `kind` is a font of FONTS. A line breaks at a space or behind a slash, else anywhere. What is too
- * long ends in dots. */
+/** A text as an array of at most `most` lines of `width` pixels. `kind` is a font of FONTS. A line breaks at a space or behind a slash, else
+ * anywhere. What is too long ends in dots. */
 function wrap(text, width, kind, most) {
   const lines = [];
   let rest = text.slice(0, MOST_LETTERS);

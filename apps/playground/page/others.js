@@ -22,7 +22,7 @@ export function showTags(boxes, answer) {
   setText(byId("both"), both?.line ?? `${both?.text ?? ""}${both?.isWhole === false ? " .." : ""}`);
 }
 
-/** Shows the three forms of a value, or its refusal. */
+/** Shows the three forms of a value, or its refusal, as `forms` of `asking.py` answers. `boxes` are all boxes of the page by their names. */
 export function showForms(boxes, answer) {
   renew("forms");
   showNotice("forms-notice", answer.notice);

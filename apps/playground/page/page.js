@@ -27,14 +27,14 @@ let changes = 0;
 /** The lines of a text, each a string of the request. A line feed at the end begins no further one. */
 const lines = (text) => (text === "" ? [] : text.replace(/\n$/, "").split("\n"));
 
-/** The moment as a case has it, or an empty text if none is chosen. */
+/** The moment that is chosen, as a case has it: YYYY-MM-DD_HH:MM:SS. An empty text if none is chosen. */
 function moment() {
   const [date, time = ""] = byId("at").value.split("T");
   // (the input leaves out seconds that are 0)
   return date && `${date}_${time.length === 5 ? `${time}:00` : time.slice(0, 8)}`;
 }
 
-/** The question in boxes, as it is sent. */
+/** The question in boxes, as the object that is sent to the server. */
 function question() {
   return { acl: boxes.acl.value, sequence: boxes.sequence.value, key: boxes.key.value, request: lines(boxes.request.value), at: moment(),
     labels: boxes.labels.value, refused: answer.refused, strict: byId("strict").checked, withCase: byId("text-card").open };
@@ -50,7 +50,7 @@ function showAnswer(reply) {
   }
 }
 
-/** How often something that is asked was changed, by which an answer to an earlier text is known. */
+/** How often something that is asked was changed so far. An answer is out of date if this has grown since its question was sent. */
 const countChanges = () => changes;
 const askers = {
   question: asker("question", question, showAnswer, countChanges),
@@ -70,10 +70,11 @@ function changed() {
 
 // ---- what is chosen
 
-/** A text of an example or of the address: an empty one for a value of another type. (`String` would throw an error for some objects.) */
+/** A value of an example or of the address if it is a text, otherwise an empty text. (`String` would throw an error for some objects.) */
 const textOf = (value) => (typeof value === "string" ? value : "");
 
-/** Fills the boxes of a question, from an example or from the address, whose types may be wrong. */
+/** Fills the boxes of the panel for a question by `given`, an object as `question` returns it, of an example or of the address: its types may be
+ * wrong. */
 function load(given) {
   for (const name of ["acl", "sequence", "key", "labels"]) {
     boxes[name].value = textOf(given[name]);
@@ -85,7 +86,7 @@ function load(given) {
   byId("all").checked = !answer.refused.length;
 }
 
-/** Fills the other boxes, as far as there are texts for them. */
+/** Fills the boxes of the other panels by `given`, an object with a text for each box by its name. A box whose text is missing stays as it is. */
 function loadOthers(given) {
   for (const name of OTHERS) {
     if (typeof given[name] === "string") {
@@ -104,6 +105,7 @@ function choose(panel) {
     byId(`tab-${name}`).tabIndex = isChosen ? 0 : -1;
   }
   byId("answer").hidden = byId("verdict").hidden = !["question", "case"].includes(chosen);
+  // (a notice is about the verdict, and hidden with it. Only the next answer shows one again)
   byId("notice").hidden ||= byId("verdict").hidden;
   changed();
 }
@@ -119,7 +121,7 @@ function moveTab(event) {
   }
 }
 
-/** Puts all boxes and the chosen panel into the address, and copies it. */
+/** Puts all boxes and the chosen panel into the address, and copies it to the clipboard. For two seconds the button says whether that worked. */
 async function copyLink() {
   const others = Object.fromEntries(OTHERS.map((name) => [name, boxes[name].value]));
   const address = linkTo({ panel: chosen, ...question(), ...others });

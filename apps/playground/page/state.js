@@ -10,21 +10,22 @@ let waitTimer;
 /** The elements of a part, by its name in PARTS. */
 const elements = (name) => document.querySelectorAll(PARTS[name]);
 
-/** Marks all parts as those of an earlier text. `waited` is called if there is no verdict yet after WAITING milliseconds. */
+/** Marks all parts as those of an earlier text, which dims them. After WAITING milliseconds those that are still marked are hidden, and `waited` is
+ * called if the verdict is one of them. */
 export function outdate(waited) {
   clearTimeout(waitTimer);
   for (const name of Object.keys(PARTS)) {
-    elements(name).forEach((it) => it.classList.add("old"));
+    elements(name).forEach((element) => element.classList.add("old"));
   }
   waitTimer = setTimeout(() => {
-    document.querySelectorAll(".old").forEach((it) => it.classList.add("blank"));
+    document.querySelectorAll(".old").forEach((element) => element.classList.add("blank"));
     if (byId("verdict").matches(".old")) {
       waited();
     }
   }, WAITING);
 }
 
-/** Marks a part, by its name in PARTS, as the answer to what is typed. */
+/** Marks a part, by its name in PARTS, as the answer to what is typed, so that it is neither dimmed nor hidden. */
 export function renew(name) {
-  elements(name).forEach((it) => it.classList.remove("old", "blank"));
+  elements(name).forEach((element) => element.classList.remove("old", "blank"));
 }

@@ -10,6 +10,7 @@ const FIRST = Date.UTC(1000, 0, 1) / 1000, LAST = Date.UTC(9999, 11, 31, 23, 59,
 /** The seconds from 1970 to `YYYY-MM-DD HH:MM:SS` in UTC. A date that the calendar does not have is a near one, and another text is NaN. */
 function secondsOf(moment) {
   const [, ...parts] = /^(\d+)-(\d+)-(\d+).(\d+):(\d+)(?::(\d+))?/.exec(moment) ?? [];
+  // (by setters, since `Date.UTC` takes the years 0 to 99 as 1900 to 1999)
   const date = new Date(0);
   date.setUTCFullYear(Number(parts[0]), Number(parts[1]) - 1, Number(parts[2]));
   date.setUTCHours(Number(parts[3]), Number(parts[4]), Number(parts[5] ?? 0));
@@ -49,24 +50,28 @@ export class Times {
     setText(byId("span"), this.words() + (answer.isWhole === false ? " Later limits are left out." : ""));
   }
 
-  /** Chooses the ends of the scale: around the limits and the moment. It keeps them while they hold all of these. */
+  /** Chooses the ends of the scale: around the limits and the moment. It keeps them while they hold all of these and the limits are the same. */
   fit() {
-    const now = secondsOf(this.moment.value);
-    const points = [...this.limits, ...(Number.isNaN(now) ? [] : [now])];
+    const chosen = secondsOf(this.moment.value);
+    const points = [...this.limits, ...(Number.isNaN(chosen) ? [] : [chosen])];
     const low = Math.min(...points), high = Math.max(...points);
     const key = this.limits.join();
     if (!points.length || (key === this.key && this.low <= low && high <= this.high)) {
       return;
     }
+    // (on each side a quarter of the time between the first and the last of them is free, at least 30 days, and the ends are whole days)
     const room = Math.max((high - low) * 0.25, 30 * DAY);
     const inCalendar = (time) => Math.min(LAST, Math.max(FIRST, time));
-    [this.key, this.low, this.high] = [key, inCalendar(Math.floor((low - room) / DAY) * DAY), inCalendar(Math.ceil((high + room) / DAY) * DAY)];
+    this.key = key;
+    this.low = inCalendar(Math.floor((low - room) / DAY) * DAY);
+    this.high = inCalendar(Math.ceil((high + room) / DAY) * DAY);
   }
 
   /** Draws the spans as parts of a bar, and the dates at its ends. */
   draw() {
-    // (the place of a limit on the bar in percent, or `end` where a span has no limit)
-    const place = (limit, end) => (limit ? Math.min(100, Math.max(0, ((secondsOf(limit.moment) - this.low) / (this.high - this.low)) * 100)) : end);
+    // (the place of a limit on the bar, in percent from 0 to 100, or `end` where a span has no limit)
+    const percent = (time) => Math.min(100, Math.max(0, ((time - this.low) / (this.high - this.low)) * 100));
+    const place = (limit, end) => (limit ? percent(secondsOf(limit.moment)) : end);
     byId("bar").replaceChildren(...this.spans.map((span) => {
       const part = htmlElement("i", { class: span.answer === "no" ? "no" : "yes" });
       const begin = place(span.begin, 0);
@@ -85,7 +90,7 @@ export class Times {
     this.slider.setAttribute("aria-valuetext", this.moment.value.replace("T", " "));
   }
 
-  /** When the answer is yes, in words. Empty if no spans are known. */
+  /** When the answer is yes, in words: in which spans, at most five of them. Empty if no spans are known. */
   words() {
     const granted = this.spans.filter((span) => span.answer !== "no");
     if (!this.spans.length) {
