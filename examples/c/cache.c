@@ -17,7 +17,7 @@ static struct spki_text octets_of(const char *path, void *room, size_t most)
     return text;
 }
 
-/* Decides whether the client's key has the right to the request of three words at the present second. */
+/* The decision whether the client's key may make the request of three words at the present second, by the certificates in `sequence`. */
 static struct spki_decision decide(const spki_guard *guard, struct spki_proven_key key, struct spki_text sequence, const struct spki_text words[3])
 {
     const int64_t now = time(NULL);
@@ -33,7 +33,7 @@ static bool is_normal(const char *path)
     return *path == '/' && !strstr(closed, "//") && !strstr(closed, "/./") && !strstr(closed, "/../");
 }
 
-/* Writes the text to a file below the folder, or prints what the file has, at most MOST octets. */
+/* Writes the text to the file at `path` below the folder, or, unless `writes`, prints what this file has, at most MOST octets. */
 static void answer(bool writes, const char *folder, const char *path, const char *text)
 {
     static char name[2 * MOST], content[MOST];
@@ -53,6 +53,7 @@ int main(int count, char **given)
 {
     static char list[1 << 20], key[MOST], sequence[MOST], line[MOST], asked[2 * MOST], last[2 * MOST];
     struct spki_text text = count == 5 ? octets_of(given[1], list, sizeof list) : (struct spki_text){NULL, 0};
+    /* (the decision about the request in `last`: while it holds, the same request is not decided again) */
     struct spki_decision kept = {SPKI_NO, INT64_MIN};
     spki_guard *guard;
     if (spki_guard_open(text.octets, text.length, SPKI_STRICT, NULL, &guard, line, sizeof line, NULL) != SPKI_DONE)

@@ -39,7 +39,7 @@ static bool is_granted(const spki_guard *guard, struct spki_text sequence, struc
     return is_yes;
 }
 
-/* Reads a file into `octets`, which has room for MOST_OCTETS. The program ends if it cannot be read, or is longer: it is not cut off. */
+/* Reads a file into `octets`, which has room for MOST_OCTETS. If it cannot be read, or is longer, the program ends: no file is cut off. */
 static struct spki_text text_of(const char *path, unsigned char *octets)
 {
     FILE *file = fopen(path, "rb");

@@ -15,7 +15,7 @@ struct http_nonces {
     long long turned;
 };
 
-/* A word rotated to the left. */
+/* A word rotated to the left by `bits`, from 1 to 63. */
 static uint64_t rotated(uint64_t word, unsigned bits)
 {
     return word << bits | word >> (64 - bits);
@@ -72,7 +72,7 @@ static uint64_t hash_of(const uint64_t secret[2], struct spki_text key, struct s
     return hash ? hash : 1;
 }
 
-/* The place of a hash in a set: where it is, or the free one that it would have. */
+/* The place of a hash in a set: where it is, or the free one that it would have. There is a free one, since at most half of the places are used. */
 static uint64_t *place_of(uint64_t *set, size_t most, uint64_t hash)
 {
     size_t at = (size_t)(hash % (2 * most));
@@ -81,6 +81,7 @@ static uint64_t *place_of(uint64_t *set, size_t most, uint64_t hash)
     return &set[at];
 }
 
+/* Two empty sets, each for `most` nonces, which http_nonces_close frees. Null if `most` is 0 or too large, or without memory or randomness. */
 struct http_nonces *http_nonces_open(size_t most)
 {
     struct http_nonces *nonces = most > 0 && most < SIZE_MAX / 2 / sizeof *nonces->young ? calloc(1, sizeof *nonces) : NULL;
@@ -112,6 +113,8 @@ static void turn(struct http_nonces *nonces, long long now, long long seconds)
     nonces->count = 0;
 }
 
+/* Keeps a nonce of a key for at least so many seconds from `now`, in seconds since 1970. `store` is a struct http_nonces. Returns null, or the name
+ * of the refusal: "nonce-seen" if it is kept already, or "store-full". */
 const char *http_nonces_take(void *store, struct spki_text key, struct spki_text nonce, long long now, long long seconds)
 {
     struct http_nonces *nonces = store;
@@ -127,6 +130,7 @@ const char *http_nonces_take(void *store, struct spki_text key, struct spki_text
     return NULL;
 }
 
+/* Frees what http_nonces_open returned, also null. */
 void http_nonces_close(struct http_nonces *nonces)
 {
     if (nonces) {

@@ -45,6 +45,7 @@ static bool is_text(struct spki_text text, const char *wanted)
     return text.length == strlen(wanted) && (text.length == 0 || memcmp(text.octets, wanted, text.length) == 0);
 }
 
+/* A letter of ASCII in lower case. Any other octet is returned as it is. */
 static unsigned char lower_case(unsigned char octet)
 {
     return octet >= 'A' && octet <= 'Z' ? (unsigned char)(octet | 0x20) : octet;
@@ -96,8 +97,8 @@ static int six_bits(unsigned char octet)
     return place ? (int)(place - digits) : -1;
 }
 
-/* Decodes base64 with its padding. False if the text is none, is not the one text of its octets, or has more octets than `room`. Of `bits` the
- * lowest `count` are those that are not in an octet yet, and the others are 0. */
+/* Decodes base64 with its padding into `octets`, and sets `length` to their number. False if the text is none, is not the one text of its octets, or
+ * has more octets than `room`. In the code, the lowest `count` of `bits` are those that are not in an octet yet, and the others are 0. */
 static bool decode_base64(struct spki_text text, unsigned char *octets, size_t room, size_t *length)
 {
     const unsigned char *in = text.octets;
@@ -418,8 +419,8 @@ static const char *put_base(struct writer *out, const struct http_request *reque
 
 /* ---- keys and signatures, as docs/FORMATS.md has them */
 
-/* Reads a key in transport form into the proof. Returns the name of its algorithm, and sets the octets of its signatures. Null if the text is no key
- * of these four forms. The numbers of the key are not tested: the verifier does that. */
+/* Reads a key in transport form, `{BASE64}`, into the proof. Returns the name of its algorithm, and sets how many octets its signatures have. Null if
+ * the text is no key of these four forms. The numbers of the key are not tested: the verifier does that. */
 static const char *read_key(struct spki_text text, struct http_proof *proof, size_t *signature_length)
 {
     const unsigned char *in = text.octets;
@@ -445,6 +446,7 @@ static const char *read_key(struct spki_text text, struct http_proof *proof, siz
 /* Writes a string in canonical form, LENGTH:OCTETS. */
 static void put_string(struct writer *out, struct spki_text string)
 {
+    /* (a half of a signature, or one by RSA, has at most 512 octets, so there is room for the digits and the colon) */
     char digits[8];
     size_t at = sizeof digits;
     digits[--at] = ':';
@@ -525,8 +527,8 @@ static bool is_hash(struct spki_text text, const unsigned char hash[VERIFY_HASH]
     return is_text(text, written);
 }
 
-/* Reads the key, which must be that of `keyid` and `alg`, into the proof. Sets the octets of its signatures. Returns null, the name of the refusal,
- * or "memory". */
+/* Reads the key, which must be that of `keyid` and `alg`, into the proof. Sets how many octets its signatures have. Returns null, the name of the
+ * refusal, or "memory". */
 static const char *check_key(const struct http_request *request, const struct input *input, struct http_proof *proof, size_t *signature_length)
 {
     unsigned char hash[VERIFY_HASH];
@@ -555,8 +557,8 @@ static const char *check_signature(struct spki_text key, struct spki_text algori
     return verifies(&signature) ? NULL : "invalid-signature";
 }
 
-/* Tests the message, then its signature, which sets the key and the digest of the proof. Returns null, the name of the refusal, or "memory". The base
- * is written twice: first only its octets are counted. */
+/* Tests the message, then its signature, whose octets are given, and sets the key and the digest of the proof. Returns null, the name of the refusal,
+ * or "memory". The signature base is written twice: first only its octets are counted. */
 static const char *check_message(const struct http_service *service, const struct http_request *request, const struct input *input,
                                  struct spki_text octets, struct http_proof *proof)
 {
@@ -609,6 +611,8 @@ static struct spki_text cut(char **rest, const char *mark)
     return literal(first);
 }
 
+/* Parses the head of a request of HTTP/1.1, a C string that ends with its empty line, and cuts it into the texts of `request` and `fields`. False if
+ * it is no head of at most `most` fields, each in one line, or has not exactly one `Host`. */
 bool http_request_read(char *head, struct http_field *fields, size_t most, struct http_request *request)
 {
     *request = (struct http_request){.method = cut(&head, " "), .fields = fields};
@@ -626,6 +630,8 @@ bool http_request_read(char *head, struct http_field *fields, size_t most, struc
     return strcmp(head, "\r\n") == 0 && read_field(request, literal("host"), &request->authority) == NULL;
 }
 
+/* Null if a request proves a key at a time, in seconds since 1970. Otherwise the name of the refusal, or "memory". With null the proof is set, and
+ * the nonce of the request is used up. The nonce is taken last, so that only the holder of the key can use it up. */
 const char *http_request_refusal(const struct http_service *service, const struct http_request *request, long long now, struct http_proof *proof)
 {
     struct input input;
@@ -637,6 +643,7 @@ const char *http_request_refusal(const struct http_service *service, const struc
         why = check_parameters(service, &input, now);
     if (why)
         return why;
+    /* (a request without certificates shows an empty sequence. That its field has only one line is tested with the message) */
     if (count_lines(request, literal(sequence), &checked.sequence) == 0)
         checked.sequence = literal("(sequence)");
     why = check_message(service, request, &input, (struct spki_text){octets, length}, &checked);

@@ -11,7 +11,7 @@
 
 enum { MOST_HEAD = 65536, MOST_LIST = 1048576, MOST_FIELDS = 64, MOST_NONCES = 100000, TIMEOUT_SECONDS = 5 };
 
-/* Whether `head`, a C string, is a request whose signer may read what it asks for. http_request_read cuts it into its parts. */
+/* Whether `head`, a C string, is a GET whose signer may read its path, which must be normal. http_request_read cuts `head` into its parts. */
 static bool is_granted(const spki_guard *guard, const struct http_service *service, char *head)
 {
     struct http_field fields[MOST_FIELDS];

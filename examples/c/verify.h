@@ -129,8 +129,8 @@ static inline void verify_reverse(struct spki_text half, unsigned char reversed[
         reversed[i] = octets[VERIFY_HALF - 1 - i];
 }
 
-/* Whether q is a key of Ed25519, and r and s a signature. The point q has no small order and one text: y is at least 2^192, below p - 1, and none of
- * the two of order 8. The number s is below the order of the group. */
+/* Whether q can be a key of Ed25519, and r and s a signature. By a point of small order many signatures count, and some points have a second text:
+ * neither may be a key. So y is at least 2^192, below p - 1, and none of the two y of order 8. The number s is below the order of the group. */
 static inline bool verify_is_ed25519(struct spki_text q, struct spki_text r, struct spki_text s)
 {
     static const char last_y[] = "\x7f\xff\xff\xff\xff\xff\xff\xff\xff\xff\xff\xff\xff\xff\xff\xff\xff\xff\xff\xff\xff\xff\xff\xff\xff\xff\xff\xff"
@@ -145,7 +145,7 @@ static inline bool verify_is_ed25519(struct spki_text q, struct spki_text r, str
         return false;
     verify_reverse(q, y);
     verify_reverse(s, s_number);
-    /* (the highest bit of q says whether x is odd) */
+    /* (the highest bit of q says whether x is odd, and is no part of y. If the first 8 octets of y are 0, it is below 2^192) */
     y[0] &= 0x7f;
     return memcmp(y, (unsigned char[8]){0}, 8) != 0 && verify_is_below_half((struct spki_text){y, VERIFY_HALF}, last_y)
            && memcmp(y, eighth, VERIFY_HALF) != 0 && memcmp(y, other_eighth, VERIFY_HALF) != 0

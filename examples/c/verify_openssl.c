@@ -25,7 +25,7 @@ static EVP_PKEY *key_from(const char *kind, OSSL_PARAM *parameters)
     return key;
 }
 
-/* OpenSSL's key of a modulus and an exponent, or null. */
+/* OpenSSL's key of a modulus and an exponent, which are big-endian numbers. Null if they are no key, or if memory ran out. */
 static EVP_PKEY *rsa_key(struct spki_text modulus, struct spki_text exponent)
 {
     BIGNUM *n = BN_bin2bn(modulus.octets, (int)modulus.length, NULL), *e = BN_bin2bn(exponent.octets, (int)exponent.length, NULL);
@@ -42,7 +42,7 @@ static EVP_PKEY *rsa_key(struct spki_text modulus, struct spki_text exponent)
     return key;
 }
 
-/* OpenSSL's key of a point of P-256 or P-384, by the kind, or null. */
+/* OpenSSL's key of a point of P-256 or P-384, by the kind. Null if it is no point of the curve, or if memory ran out. */
 static EVP_PKEY *ecdsa_key(enum verify_kind kind, struct spki_text point)
 {
     /* (copies, because OSSL_PARAM takes no constants) */
@@ -55,7 +55,7 @@ static EVP_PKEY *ecdsa_key(enum verify_kind kind, struct spki_text point)
     return key_from("EC", parameters);
 }
 
-/* OpenSSL's key of a key that was taken apart, or null. */
+/* OpenSSL's key of a key that verify_parts_of has taken apart. Null if it is no key, or if memory ran out. */
 static EVP_PKEY *key_of(const struct verify_parts *parts)
 {
     if (parts->kind == VERIFY_ED25519)
@@ -63,13 +63,13 @@ static EVP_PKEY *key_of(const struct verify_parts *parts)
     return parts->kind == VERIFY_RSA ? rsa_key(parts->key[0], parts->key[1]) : ecdsa_key(parts->kind, parts->key[0]);
 }
 
-/* Writes the two numbers of a signature by ECDSA in DER. Returns the count of the octets, or 0 if memory ran out. */
+/* Writes r and s, the big-endian numbers of a signature by ECDSA, to `octets` in DER. Returns the count of the octets, or 0 if memory ran out. */
 static size_t ecdsa_signature(struct spki_text r, struct spki_text s, unsigned char *octets)
 {
     ECDSA_SIG *pair = ECDSA_SIG_new();
     BIGNUM *r_number = BN_bin2bn(r.octets, (int)r.length, NULL), *s_number = BN_bin2bn(s.octets, (int)s.length, NULL);
     int length = 0;
-    /* (the pair owns the numbers from then on) */
+    /* (if ECDSA_SIG_set0 succeeds, the pair owns the numbers and frees them) */
     if (pair && r_number && s_number && ECDSA_SIG_set0(pair, r_number, s_number) == 1)
         length = i2d_ECDSA_SIG(pair, &octets);
     else {
@@ -99,17 +99,20 @@ static size_t signature_of(const struct verify_parts *parts, size_t size, unsign
     return size;
 }
 
+/* Writes the SHA-256 hash of octets. False if that fails. */
 bool verify_hash(struct spki_text octets, unsigned char hash[VERIFY_HASH])
 {
     return EVP_Digest(octets.octets, octets.length, hash, NULL, EVP_sha256(), NULL) == 1;
 }
 
+/* Whether a signature is valid: `value` is one of `message` by `key`, all in canonical form. False too if memory ran out. */
 bool verifies(const struct spki_signed *signature)
 {
     unsigned char octets[MOST_SIGNATURE];
     struct spki_text message = signature->message;
     struct verify_parts parts = verify_parts_of(signature->key, signature->value);
     EVP_PKEY *key = parts.kind == VERIFY_NONE || message.length == 0 ? NULL : key_of(&parts);
+    /* (Ed25519 has no digest to choose) */
     const EVP_MD *digest = parts.kind == VERIFY_ED25519 ? NULL : parts.kind == VERIFY_P384 ? EVP_sha384() : EVP_sha256();
     size_t length = key ? signature_of(&parts, (size_t)EVP_PKEY_get_size(key), octets) : 0;
     EVP_MD_CTX *context = EVP_MD_CTX_new();
