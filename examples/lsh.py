@@ -80,8 +80,8 @@ def list_of_hash(algorithm, digest):
 
 
 def tries_of_keys(home):
-    """What is tried with an RSA and a DSA key: a remark, the actual and the expected value. For RSA, -l is the number of bits, and for DSA a
-    level of NIST: 0 has 512 bits."""
+    """Yields what is tried with an RSA and a DSA key of `home`, a `Home`: a remark, the actual and the expected value. For RSA, the option -l of
+    lsh-keygen is the number of bits, and for DSA a level of NIST: 0 has 512 bits."""
     for name, options in (("RSA", ("-l", "1024")), ("DSA", ("-a", "dsa", "-l", "0"))):
         files = home.key_files(name, options)
         for kind, text in files.items():
@@ -105,9 +105,10 @@ def tries_of_keys(home):
 
 
 def tries_of_captured_list(home):
-    """What is tried with the list of hosts that lsh writes: a remark, the actual and the expected output."""
+    """Yields what is tried with the list of hosts that lsh wrote into lsh/captured: a remark, the actual and the expected output."""
     with open(os.path.join(HERE, "lsh", "captured"), "rb") as file:
         text = file.read()
+    # (a remark is in front of the list, which is in transport form)
     braces = text[text.index(b"{"):]
     yield "list: a remark in front is refused", spki("canonical", text), b"refused form Bad 1\n"
     yield "list: behind it, read as sexp-conv reads it", spki("canonical", braces), home.run(["sexp-conv", "-s", "canonical"], braces)
@@ -119,6 +120,7 @@ def tries_of_captured_list(home):
 
 
 def main():
+    """Tries everything in an empty home, and prints a line for each try. Returns the exit status: 0 if all is as wanted, otherwise 1."""
     for program in TOOLS:
         if shutil.which(program) is None:
             sys.exit(f"{program} is not there")

@@ -89,8 +89,8 @@ def printed(octets):
 
 
 def compare(name, text):
-    """The line that is printed about a text, and whether it is as wanted: both programs read it alike, and each reads what the other one writes; or
-    they differ as KNOWN says, and `sexp-conv` reads what `spki` writes."""
+    """Compares both programs on `text`, the octets of the file `name`. Returns the line that is printed about it, and whether it is as wanted: both
+    read it alike, and each reads what the other one writes; or they differ as KNOWN says, and `sexp-conv` reads what `spki` writes."""
     ours, theirs = by_spki("canonical", text), by_peer("canonical", text)
     results = there_and_back(by_spki, by_peer, FORMS, text) if ours is not None else []
     if name in KNOWN:
@@ -105,6 +105,8 @@ def compare(name, text):
 
 
 def main():
+    """Compares the programs on each file of FOLDER, and prints the lines. Ends with status 1 if one is not as wanted, and 2 if something is
+    missing."""
     for name, is_there in ((PEER, shutil.which(PEER) is not None), (FOLDER, os.path.isdir(FOLDER))):
         if not is_there:
             print(f"{name} is not there", file=sys.stderr)

@@ -37,9 +37,9 @@ def answer(program, command, text):
 
 
 def drawn(program, path, width=WIDTH):
-    """The drawing (`drawing.Drawing`) of the case in the file at `path`, by what `program`, the path of `spki`, says of it. A line of text has at
-    most `width` letters. Raises `OSError` if the file cannot be read or the program cannot be run, `NotDrawn` if the program refuses the case or
-    fails, and `subprocess.TimeoutExpired` if it does not end."""
+    """The drawing (`drawing.Drawing`) of the case, a question with its access list, in the file at `path`, by what `program`, the path of `spki`,
+    says of it. A line of text has at most `width` letters. Raises `OSError` if the file cannot be read or the program cannot be run, `NotDrawn` if
+    the program refuses the case or fails, and `subprocess.TimeoutExpired` if it does not end."""
     with open(path, "rb") as file:
         text = file.read()
     lines = answer(program, "explain", text)
@@ -55,12 +55,13 @@ def drawn(program, path, width=WIDTH):
 
 
 def quoted(lines):
-    """Lines as a string of dot."""
+    """Lines of text as one quoted string in the language of Graphviz."""
     return '"' + "\\n".join(line.replace("\\", "\\\\").replace('"', '\\"') for line in lines) + '"'
 
 
 def dot_of(drawing):
-    """The lines of a drawing in the language of Graphviz."""
+    """Yields the lines of a drawing in the language of Graphviz. A subject is an ellipse, which the access list and the request are not."""
+    # (the names of the shapes are octets that Graphviz could not read)
     names = {identity: f"n{place}" for place, identity in enumerate(drawing.shapes)}
     yield from ("digraph chain {", "  rankdir=LR;", "  node [shape=ellipse, fontsize=11];", "  edge [fontsize=10];")
     for identity, shape in drawing.shapes.items():
@@ -71,6 +72,7 @@ def dot_of(drawing):
 
 
 def main():
+    """Prints the drawing of the case that the command line names. Returns the exit status: 0, or 2 if it cannot be drawn."""
     if len(sys.argv) < 2 or sys.argv[1].startswith("-"):
         sys.exit(__doc__)
     try:

@@ -1,7 +1,7 @@
 -- /etc/apache2/spki.lua: asks spki-authd before each request. Debian's lua-socket is needed. Whatever goes wrong here is 503 or 500.
 local unix = require "socket.unix"
 
--- The line of a header, or nothing where there is no value. A value with the end of a line could begin another header.
+-- The line of a header, or an empty text where there is no value. Fails for a value with a control character: a line feed could begin another header.
 local function line(name, value)
     if not value or value == "" then return "" end
     if value:find("[%c]") then error("a control character in " .. name) end
@@ -10,6 +10,7 @@ end
 
 -- Asks the daemon about a request. Returns the status of its answer and X-Spki-Answer, each as a string, or nil if there is none.
 local function ask_daemon(r)
+    -- (X-Client-Cert takes a certificate as base64: PEM without its first and last line and without white space)
     local certificate = (r:ssl_var_lookup("SSL_CLIENT_CERT") or ""):gsub("%-%-%-%-%-[A-Z ]+%-%-%-%-%-", ""):gsub("%s", "")
     local client = assert(unix())
     client:settimeout(5)
@@ -23,6 +24,7 @@ local function ask_daemon(r)
         .. "\r\n"))
     local answer = assert(client:receive("*a"))
     client:close()
+    -- (the lines up to the first empty one)
     local header = assert(answer:match("^(HTTP/1%.[01] .-\r\n)\r\n"), "no whole answer")
     return header:match("^HTTP/1%.[01] (%d%d%d) "), header:match("\r\nX%-Spki%-Answer: (%a+)\r\n")
 end

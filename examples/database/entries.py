@@ -37,7 +37,7 @@ def entry(principal, *fields, names=()):
         raise ValueError("a principal is a public key or a hash")
     subject = b"(4:name%s%s)" % (principal, b"".join(map(string, names))) if names else principal
     text = b"(5:entry%s%s)" % (subject, b"".join(map(spki.canonical, fields)))
-    # (an entry that is none is refused here)
+    # (raises `Refused` if the text is no entry)
     list_of([text]).close()
     return text
 
@@ -47,12 +47,13 @@ LIMITS = spki.Limits(nodes=10_000)
 
 
 def list_of(texts, policy=spki.Policy.STRICT, limits=LIMITS):
-    """A guard of entries in canonical form. Raises `spki.Refused` if one of them is none."""
+    """A guard of the access list of these entries, texts in canonical form. Raises `spki.Refused` if one of them is no entry."""
     return spki.Guard(b"(3:acl%s)" % b"".join(texts), policy, limits)
 
 
 class Service:
-    """Answers questions by the entries of a store: an object whose `found` returns the numbers and the texts of entries, by `digests_of` a key."""
+    """Answers questions by the entries of `store`: an object whose method `found` returns the number and the text of each entry that it finds by the
+    digests of a key, as `digests_of` returns them. `spki_store_tool.tables.Store` is one."""
 
     def __init__(self, store, policy=spki.Policy.STRICT, limits=LIMITS):
         self.store, self.policy, self.limits = store, policy, limits
@@ -65,8 +66,8 @@ class Service:
         the database does not answer. `verify(signature)` is called once for each signature, in order, up to the first that is not valid; and
         not at all if the entries found grant nothing, whatever is valid.
         """
-        # A guard without entries reads the parts, and lists the signatures. If certificates are shown and none is listed, the first does not
-        # stand, and no entry grants whichever are found.
+        # (a guard without entries reads the parts, and lists the signatures. If certificates are shown and none is listed, the first has a fault,
+        # such as another digest: then no entry grants, so any rows may be read)
         with self.no_entries.ask(question) as asked:
             first = next(iter(asked), None)
         rows = self.store.found(digests_of(first.key if first else spki.canonical(question.key.text)))

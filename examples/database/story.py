@@ -36,7 +36,8 @@ RIGHTS = b"(tag (packages (* set read write)))"
 
 
 def answers(store):
-    """Asks one request after the other while the entry of `store` (`Store`) comes and goes, and yields of each answer whether it is as wanted."""
+    """Asks one request after the other while Alice's entry is added to `store`, a `Store`, and removed. Yields for each answer whether it is the
+    expected one."""
     alice, bob, carol = map(Pair, (RSA, ED25519, ED25519))
     to_bob = f'(cert (issuer {alice.principal}) (subject {bob.principal}) (tag (packages read)) (not-after "9999-12-31_23:59:59"))'
     sequence = f"(sequence {alice.text} {signed(to_bob, alice)})"
@@ -44,8 +45,8 @@ def answers(store):
     entry_text, verifier = entries.entry(alice.principal.encode(), RIGHTS, b"(propagate)"), spki_http.Verifier(NAME)
 
     def asks(remark, pair, certificates, words, wanted):
-        """Prints the answer to a request of these words that a pair signs, with a sequence of certificates. Returns whether the answer is as
-        wanted: the number of an entry, or None for a no."""
+        """Prints `remark` and the answer to a request of these words that a pair signs, with a sequence of certificates. Returns whether the answer
+        is `wanted`: the number of the entry that grants, or None for a no."""
         method, target, fields = asked_by(pair, words, certificates)
         proof = verifier.prove(method, NAME, target, fields.items(), b"")
         question = spki.Question(proof.sequence, spki.ProvenKey.assume(proof.key), words=[word.encode() for word in words],
@@ -68,6 +69,7 @@ def answers(store):
 
 
 def main():
+    """Makes the store, asks, and removes the store. Returns the exit status: 0 if each answer is the expected one, otherwise 1."""
     if len(sys.argv) != 2:
         sys.exit("Usage: examples/database/story.py SETTINGS")
     try:

@@ -11,6 +11,7 @@ for tool in nginx curl openssl; do
     command -v "$tool" > /dev/null || { echo "$tool is missing (Debian: $tool)" >&2; exit 1; }
 done
 room=$(mktemp -d)
+# clean_up: ends nginx and the daemon, whose process numbers are in run/, and removes the folder.
 clean_up() {
     kill $(cat "$room"/run/*.pid) 2> /dev/null || true
     wait
@@ -35,6 +36,7 @@ start_daemon() {
     done
 }
 start_daemon
+# (nginx that root starts would otherwise serve as another user, who may not read the folder)
 if [ "$(id -u)" = 0 ]; then as_user='user root;'; else as_user=''; fi
 nginx -p "$room" -c etc/loopback.conf -e log/error.log -g "$as_user" &
 nginx=$!

@@ -44,7 +44,8 @@ PASTED = ("packages", "read", '/manuals/cook.pdf")) (request (packages read "/bu
 
 
 class Pair(FileSigner):
-    """A new key pair. The private key stays in memory."""
+    """A new key pair of a kind of `spki_cert_tool.keys`, such as ED25519. The private key stays in memory. `text` is the public key as an
+    S-expression, and `principal` what certificates name it by: the key, or for one of RSA its hash."""
 
     def __init__(self, kind):
         super().__init__(new_private(kind))
@@ -56,7 +57,8 @@ class Pair(FileSigner):
 
 
 class Story:
-    """The three key pairs, and the texts that their holders write."""
+    """The key pairs of Alice, Bob and Carol; and as texts of S-expressions the access list of the service, and the certificates that Alice and Bob
+    sign, without their signatures."""
 
     def __init__(self):
         self.alice, self.bob, self.carol = Pair(RSA), Pair(ED25519), Pair(P256)
@@ -70,15 +72,16 @@ class Story:
         self.to_carol = f'(cert (issuer {bob}) (subject {carol}) (tag (packages read)) (not-after "2026-06-30_23:59:59"))'
 
     def sequence(self, last, keys=True):
-        """Alice's key, unless `keys` is false, her two certificates with their signatures, and `last`, a certificate with its signature."""
+        """The text of a sequence: Alice's key, unless `keys` is false, her two certificates with their signatures, and `last`, a text with a
+        certificate and its signature, as `signed` returns it."""
         key = self.alice.text if keys else ""
         return f"(sequence {key} {signed(self.to_builders, self.alice)} {signed(self.bob_is_builder, self.alice)} {last})"
 
 
 def signed(certificate, pair, named=None, changed=None):
-    """A certificate and its signature by a pair, as one text: the octets that are signed are those of `spki canonical`.
+    """A certificate, a text, and its signature by a pair, as one text: the octets that are signed are those of `spki canonical`.
 
-    A forger says that it is by another pair (`named`), or shows another certificate than the one that was signed (`changed`).
+    A forger says that the signature is by another pair (`named`), or shows another certificate than the one that was signed (`changed`).
     """
     octets = canonical(certificate)
     digest, signer = laid_out(hash_of(read(octets))), (named or pair).principal
@@ -86,19 +89,20 @@ def signed(certificate, pair, named=None, changed=None):
 
 
 def with_digest_of(other, item):
-    """A certificate with its signature, whose digest is made that of another certificate."""
+    """`item`, a certificate and its signature as `signed` returns them, but with the digest of the certificate `other` in the signature."""
     certificate, signature = read(canonical(f"({item})"))
+    # (a signature is `(signature HASH PRINCIPAL VALUE)`)
     signature[1] = hash_of(read(canonical(other)))
     return f"{laid_out(certificate)} {laid_out(signature)}"
 
 
 def changed_bit(value):
-    """The value of a signature, of whose last octet one bit is changed. Three lists end behind it."""
+    """The value of a signature in canonical form, with one bit of its last octet changed. Behind this octet is the end of three lists, `)))`."""
     return value[:-4] + bytes([value[-4] ^ 1]) + value[-3:]
 
 
 def with_changed_bit(item):
-    """A certificate with its signature, of which one bit is changed."""
+    """`item`, a certificate and its signature as `signed` returns them, with one bit of the signature's value changed."""
     certificate, signature = read(canonical(f"({item})"))
     signature[3] = read(changed_bit(sexp.canonical(signature[3])))
     return f"{laid_out(certificate)} {laid_out(signature)}"
@@ -114,7 +118,7 @@ def asked_by(pair, words, sequence="(sequence)", name=NAME, named=None):
     """The method, the target and the fields of a request that the holder of `pair` signs. `words` are those of the request, such as READ. `sequence`
     is what is shown, as `in_braces` takes it, and `name` the host for which it is signed. A forger says that it is by the key of another pair
     (`named`)."""
-    method = next(each for each, word in METHODS.items() if word == words[1])
+    method = next(method for method, action in METHODS.items() if action == words[1])
     target = urllib.parse.quote(words[2])
     signer = spki_http.Signer(sexp.canonical((named or pair).key), pair.sign, in_braces(sequence))
     return method, target, signer.fields(method, f"https://{name}{target}")
@@ -148,7 +152,8 @@ class Service:
 
 
 def requests(story):
-    """The requests that come: a remark, method, target and fields, and the name of the refusal, or None if the request proves a key."""
+    """Yields the requests that come: a remark; method, target and fields, as `asked_by` returns them; and the name of the refusal that the service
+    must answer, or None if the request proves a key. All are by the key pairs of `story`, a `Story`."""
     alice, bob, carol = story.alice, story.bob, story.carol
     good = asked_by(carol, READ)
     method, target, fields = asked_by(carol, READ)
@@ -160,14 +165,15 @@ def requests(story):
     yield "the path is another", (method, target + "x", fields), "invalid-signature"
     yield "reading was signed, and writing is asked for", ("PUT", target, fields), "body-without-digest"
     yield "the certificates are others", (method, target, {**fields, "X-Spki-Sequence": in_braces("(sequence (key x))")}), "invalid-signature"
-    yield "the certificates are left out", (method, target, {it: fields[it] for it in fields if it != "X-Spki-Sequence"}), "absent-field"
+    without_sequence = {field: value for field, value in fields.items() if field != "X-Spki-Sequence"}
+    yield "the certificates are left out", (method, target, without_sequence), "absent-field"
     other = base64.b64encode(spki_http.octets_of(carol.sign(canonical(story.to_carol)))).decode()
     yield "the signature is Carol's, and of a certificate", (method, target, {**fields, "Signature": f"spki=:{other}:"}), "invalid-signature"
     yield "there is no signature", (method, target, {}), "absent"
 
 
 def try_request(service, remark, request, wanted):
-    """Asks, prints the refusal or that a key is proved, and returns whether that is as wanted: a name of a refusal, or None."""
+    """Asks a service, a `Service`, by a row of `requests`. Prints the refusal or that a key is proved, and returns whether that is as wanted."""
     try:
         service.ask(*request, NOON)
         name = None
@@ -178,7 +184,7 @@ def try_request(service, remark, request, wanted):
 
 
 def unasked(story):
-    """The sequences that the service refuses before it asks `spki check`: a remark, and the sequence as octets in canonical form."""
+    """Yields the sequences that the service refuses before it asks `spki check`: a remark, and the sequence as octets in canonical form."""
     good = signed(story.to_carol, story.bob)
     yield "the sequence is too long", sexp.canonical([b"sequence", bytes(MOST_SHOWN)])
     yield "there are too many certificates", canonical(story.sequence(good * (MOST_CERTIFICATES - 1)))
@@ -200,7 +206,8 @@ def try_unasked(story, remark, sequence):
 
 
 def attempts(story):
-    """What is tried: a name, a remark, the sequence, who asks, the request, the moment, and the line that says what is wrong, or None."""
+    """Yields what is tried: a name, which becomes that of a file; a remark; the text of the sequence; the key pair that asks; the words of the
+    request; the moment; and the line of `spki explain` that says what is wrong, or None if the request is to be granted."""
     bob, carol = story.bob, story.carol
     good = signed(story.to_carol, bob)
     longer = story.to_carol.replace("2026-06-30", "2027-06-30")
@@ -224,10 +231,10 @@ def attempts(story):
 
 
 def wanted_lines(wrong):
-    """What `explain` should say. `wrong` is the line that names the fault, or None for a grant. A certificate that fails a test is one line; else
-    there is a line for each entry.
+    """What `explain` should write. `wrong` is the line that names the fault, or None for a grant. If a certificate fails a test, that is the only
+    line. Otherwise there is a line for each of the two entries.
 
-    Bob's entry is never what the certificates begin with: the first of them, item 2, is by Alice.
+    Entry 2 is Bob's. The first certificate, item 2, is by Alice, so the chain of Bob's entry always stops there.
     """
     if wrong is not None and wrong.startswith("item"):
         return f"{wrong}\n"
@@ -235,14 +242,15 @@ def wanted_lines(wrong):
 
 
 def attempt(story, folder, name, remark, sequence, holder, words, moment, wrong):
-    """Asks, prints the answers, keeps the case in the folder, and returns whether the answers are as wanted. `wrong` is the line of `explain` that
-    names the fault, or None for a grant."""
+    """Asks a new service by a row of `attempts`, whose members are the arguments behind `folder`. Prints the answers, writes the case to the file
+    NAME.sexp of the folder, and returns whether the answers are as wanted."""
     case, status, answer = Service(story.access_list).ask(*asked_by(holder, words, sequence), moment)
     answer, text = answer.decode(), laid_out(case) + "\n"
     explained = spki("explain", text)[1].decode()
     with open(os.path.join(folder, f"{name}.sexp"), "w", encoding="ascii") as file:
         file.write(text)
     print(f"\n{name}: {remark}")
+    # (the part `accepted` of the case has a row for each valid signature, behind its head)
     print(f"  valid signatures: {len(case[2]) - 1} of 3")
     print(f"  spki check: {answer.strip()}")
     print("".join(f"  spki explain: {line}\n" for line in explained.splitlines()), end="")
@@ -262,6 +270,7 @@ def print_texts(story):
 
 
 def main():
+    """Runs the whole example. Returns the exit status: 0 if all is as wanted, 1 if not, 2 if the program or the folder is not there."""
     if len(sys.argv) > 1:
         tools.SPKI = os.path.abspath(sys.argv[1])
     missing = [tools.SPKI] * (shutil.which(tools.SPKI) is None)
