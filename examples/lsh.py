@@ -27,6 +27,7 @@ class Home:
     """An empty home in which the tools are run."""
 
     def __init__(self, folder):
+        """Makes the home in a folder, which must be empty: with a seed of random numbers, which lsh's tools need."""
         self.folder = folder
         self.settings = {**os.environ, "HOME": folder, "LOGNAME": "someone"}
         os.mkdir(os.path.join(folder, ".lsh"))

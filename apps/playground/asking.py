@@ -191,12 +191,16 @@ def forms(engine, sent):
 
 
 def printable(octets):
-    """Octets for people to read: as UTF-8 if they are that, with `\\x..` for each octet of what is no printable character. A canonical form may have
-    any octets."""
+    """Octets for people to read, as a string: as UTF-8 if they are that, with `\\x..` for each octet of what is no printable character. Otherwise as
+    ASCII, with `\\x..` for each other octet. A canonical form may have any octets."""
+    def escaped(some_octets):
+        """Each of the octets as `\\x..`."""
+        return "".join(f"\\x{octet:02x}" for octet in some_octets)
+
     try:
-        return "".join(letter if letter.isprintable() else "".join(f"\\x{octet:02x}" for octet in letter.encode()) for letter in octets.decode())
+        return "".join(letter if letter.isprintable() else escaped(letter.encode()) for letter in octets.decode())
     except UnicodeDecodeError:
-        return "".join(chr(octet) if 32 <= octet < 127 else f"\\x{octet:02x}" for octet in octets)
+        return "".join(chr(octet) if 32 <= octet < 127 else escaped([octet]) for octet in octets)
 
 
 # The jobs by the names under which the page asks for them.

@@ -66,7 +66,7 @@ class Signed(NamedTuple):
 
 
 def string(octets):
-    """A string in canonical form."""
+    """A string in canonical form, LENGTH:OCTETS, as `3:abc`."""
     return b"%d:%s" % (len(octets), octets)
 
 
@@ -99,6 +99,7 @@ class ByLibrary(Engine):
     name, limits_memory = "libspki_c.so", True
 
     def __init__(self):
+        """Loads the library: that which SPKI_LIBRARY names, or the built one. Raises `ImportError` or `OSError` if it is not there."""
         super().__init__()
         if "SPKI_LIBRARY" not in os.environ and os.path.exists(LIBRARY):
             os.environ["SPKI_LIBRARY"] = LIBRARY
@@ -119,7 +120,7 @@ class ByLibrary(Engine):
         return room.raw[:needed.value]
 
     def open_guard(self, acl, is_strict):
-        """The guard of an access list. Raises the library's `Refused`."""
+        """The guard of an access list, a text: an object that answers questions by it. Raises the library's `Refused`."""
         return self.spki.Guard(acl, self.spki.Policy.STRICT if is_strict else self.spki.Policy.ALLOW_SHA1,
                                self.spki.Limits(octets=MOST_OCTETS, certificates=MOST_OCTETS, words=MOST_OCTETS, nodes=MOST_NODES))
 

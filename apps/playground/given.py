@@ -41,6 +41,7 @@ class Given:
     that ask the engine raise `Refused`."""
 
     def __init__(self, engine, sent):
+        """`engine` is the `Engine` that decides. Raises `Refused` as the class says."""
         self.engine, self.box = engine, {name: text(sent, name).encode(errors="replace") for name in ("acl", "sequence", "key", "at")}
         self.words, refused = words_of(sent), members(sent, "refused", int, "a list of whole numbers")
         self.sequence = with_signatures(engine, self.box["sequence"])
@@ -48,7 +49,7 @@ class Given:
                                  sent.get("strict") is not False, refused)
 
     def values(self):
-        """The access list, the sequence, the key, the request and the moment."""
+        """The access list, the sequence, the key, the request and the moment, as values: a string is `bytes`, and a list a `list`."""
         value, question = self.engine.value, self.question
         request = self.words[0] if len(self.words) == 1 else list(self.words)
         return value(question.acl), value(question.sequence), value(question.key), request, self.box["at"]
@@ -58,7 +59,7 @@ class Given:
         return self.engine.lines(self.question, "check")[0]
 
     def lines(self, command):
-        """The lines of `check`, `explain` or `reduce`."""
+        """The lines that the command `check`, `explain` or `reduce` answers to this question."""
         return self.engine.lines(self.question, command)
 
     def cut(self, items):
@@ -131,16 +132,16 @@ class GivenCase:
         self.engine, self.octets = engine, text(sent, "text").encode(errors="replace")
 
     def values(self):
-        """The access list, the sequence, the key, the request and the moment."""
+        """The access list, the sequence, the key, the request and the moment of the case, as values: a string is `bytes`, and a list a `list`."""
         case = self.engine.value(self.octets)
         return case[1], case[3], case[4][1], case[5][1], case[6][1]
 
     def check(self):
-        """The line of the decision."""
+        """The line of the decision: `yes entry N` or `no`."""
         return self.lines("check")[0]
 
     def lines(self, command):
-        """The lines of `check`, `explain` or `reduce`."""
+        """The lines that the command `check`, `explain` or `reduce` answers to the case."""
         return self.engine.command(command, self.octets).decode().split("\n")
 
     def cut(self, items):

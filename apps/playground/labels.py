@@ -23,7 +23,7 @@ class Labels:
                 self.add_line(engine, number, line)
 
     def add_line(self, engine, number, line):
-        """Reads a line `LABEL KEY`, or adds to `faults` why it cannot be read."""
+        """Reads a line `LABEL KEY`, or adds to `faults` its number, which counts from 1, and why it cannot be read."""
         match = LINE.fullmatch(line)
         try:
             if not match or not match[1]:

@@ -139,7 +139,7 @@ class Handler(http.server.BaseHTTPRequestHandler):
         self.reply(status, "text/plain; charset=utf-8", status.phrase.encode())
 
     def reply(self, status, kind, octets):
-        """Answers with octets of a kind, which is the value of `Content-Type`."""
+        """Answers with a status and octets. `kind` is the value of `Content-Type`. For HEAD the octets are left out."""
         self.send_response(status)
         for name, value in {**HEADERS, "Content-Type": kind, "Content-Length": str(len(octets))}.items():
             self.send_header(name, value)
@@ -166,6 +166,7 @@ class Server(http.server.ThreadingHTTPServer):
     request_queue_size = 32
 
     def __init__(self, port, workers, jobs, start):
+        """Listens on a port of 127.0.0.1, or on any free one for 0. Raises `OSError` or `OverflowError` if that is not possible."""
         super().__init__(("127.0.0.1", port), Handler)
         self.token, self.workers, self.jobs = secrets.token_urlsafe(24), workers, jobs
         self.files = {**files(), "start.json": (KINDS[".json"], start)}

@@ -26,7 +26,7 @@ class Reason:
 
     @property
     def line(self):
-        """The line itself."""
+        """The line as `explain` writes it, as `entry 1 item 3 NoDelegation`."""
         parts = [self.entry and f"entry {self.entry}", self.item and f"item {self.item}", self.word]
         return " ".join(part for part in parts if part)
 
@@ -60,7 +60,7 @@ class Story:
     """Rights `(five ..)` by the number of an entry and that of an item: the right of the entry before this item, or for None at the chain's end."""
 
     def certificate(self, item):
-        """The item with a number, from 1."""
+        """The certificate that is the item of the sequence with this number, from 1."""
         return self.items[item - 1]
 
     def number(self, item):
@@ -114,7 +114,7 @@ def window(value):
 
 
 def moment_of(date):
-    """A date as the page shows it."""
+    """A date, given as octets, as the page shows it: 2026-03-01 12:00:00."""
     return date.decode(errors="replace").replace("_", " ")
 
 

@@ -51,6 +51,7 @@ class Worker:
     """One process that runs `serve`, and the pipe to it."""
 
     def __init__(self, wanted, seconds):
+        """Starts the process. The arguments are those of `serve`."""
         # (`spawn`, since a process that is forked from one with threads may hang)
         context = multiprocessing.get_context("spawn")
         self.pipe, far_end = context.Pipe()

@@ -40,6 +40,7 @@ static void read_head(int client, char head[MOST_HEAD])
     }
 }
 
+/* Listens on a free port of loopback, prints it, and answers one client after the other. The exit status is 2 if it cannot start, 1 if it ends. */
 int main(int count, char **given)
 {
     static char list[MOST_LIST + 1], head[MOST_HEAD];

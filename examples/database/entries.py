@@ -21,7 +21,7 @@ def digests_of(key):
 
 
 def string(octets):
-    """A string in canonical form."""
+    """A string in canonical form, LENGTH:OCTETS, as `3:abc`."""
     return b"%d:%s" % (len(octets), octets)
 
 

@@ -6,6 +6,7 @@ core.register_action("spki_connection", { "tcp-req" }, function(txn)
     local answer = core.httpclient():get{ url = "http://spki-authd/", dst = "unix@/run/spki-authd/socket", timeout = 5000, headers = {
         ["x-original-method"] = { "GET" }, ["x-original-uri"] = { "/rsync/" }, ["x-original-host"] = { SITE },
         ["x-real-ip"] = { txn.sf:src() }, ["x-client-cert"] = { txn.sc:base64(txn.sf:ssl_c_der()) } } }
+    -- (a yes is status 200 with exactly one X-Spki-Answer, which is `yes`)
     local decisions = answer and answer.headers and answer.headers["x-spki-answer"]
     local is_yes = decisions and answer.status == 200 and decisions[0] == "yes" and decisions[1] == nil
     if is_yes then txn:set_var("txn.spki_connection", "yes") end

@@ -20,6 +20,7 @@ core.register_action("spki", { "http-req" }, function(txn)
         ["authorization"] = values(headers, "authorization"), ["x-spki-sequence"] = values(headers, "x-spki-sequence"),
         ["signature"] = values(headers, "signature"), ["signature-input"] = values(headers, "signature-input"),
         ["x-spki-public-key"] = values(headers, "x-spki-public-key"), ["content-digest"] = values(headers, "content-digest") } }
+    -- (a yes is status 200 with exactly one X-Spki-Answer, which is `yes`)
     local decisions = answer and answer.headers and answer.headers["x-spki-answer"]
     local is_yes = decisions and answer.status == 200 and decisions[0] == "yes" and decisions[1] == nil
     if is_yes then

@@ -131,7 +131,8 @@ class Service:
         self.access_list, self.verifier = read(canonical(access_list)), spki_http.Verifier(NAME)
 
     def ask(self, method, target, fields, moment):
-        """The case (`sexp.Value`), the status and the answer of `spki check`. All but the moment, which is written as NOON, is from outside.
+        """The case (`sexp.Value`), and the status and the answer of `spki check` for it. The client sends all but `moment`, a date in the form of
+        NOON.
 
         Raises `spki_http.Refused` if the request proves no key, and `ValueError` for another method and for a sequence that is too long or is none.
         """

@@ -56,9 +56,10 @@ def keys_of_agent() -> list[bytes]:
 
 
 class AgentSigner:
-    """Signs by an SPKI key that the agent holds. Raises BadKey if the agent does not hold it, or if SSH has no such key."""
+    """Signs by an SPKI key that the agent holds."""
 
     def __init__(self, key: Value) -> None:
+        """Raises BadKey if the agent does not hold the key, which is a public one, or if SSH has no such key."""
         public = public_of(key)
         if public is None:
             raise BadKey("a key in a form that ssh-agent does not know")

@@ -20,7 +20,7 @@ DATE_FORMAT = "%Y-%m-%d_%H:%M:%S"
 
 
 def headed(value: Value, *heads: bytes) -> bool:
-    """Whether a value is a list with one of these heads."""
+    """Whether a value is a list that begins with one of these strings."""
     return isinstance(value, list) and bool(value) and value[0] in heads
 
 
@@ -231,7 +231,7 @@ Holder = tuple[bytes, ...]
 
 
 def holder_of(principal: Value, names: Iterable[Value], keys: Keys) -> Holder:
-    """The holder that a principal and the names behind it are: a hash of one of `keys` is this key."""
+    """The holder, as a tuple for comparing, that a principal and the names behind it are. A hash of one of `keys` is the same holder as this key."""
     return keys.text_of(principal)[1], *map(canonical, names)
 
 

@@ -152,7 +152,7 @@ def text_at(path: str, read_as: str = "") -> tuple[bytes, Node]:
 
 
 def value_of(path: str, kind: str) -> Value:
-    """The value of a file, which must be of a kind: acl, sequence, case."""
+    """The value of a file, which must be of a kind: acl, sequence, case. Raises Refused for another one, or if a service would refuse it."""
     _, node = text_at(path, f"refused {kind}")
     # (a case is read as one, since a refusal of it may name this part)
     if node.head != kind.encode():

@@ -70,7 +70,7 @@ class Node:
 
     @property
     def value(self) -> Value:
-        """The value without its places."""
+        """The value without its places, as `sexp` has it: `bytes`, a pair with a display hint, or a list."""
         if self.members is not None:
             return [member.value for member in self.members]
         body = self.body or b""
@@ -81,7 +81,7 @@ class Wrong(Exception):
     """Why a text is refused: the kind of fault as `spki` names it, the offset of its place, a remark, and further places with remarks."""
 
     def __init__(self, kind: str, at: int, why: str, others: Iterable[Place] = (), shown_at: int | None = None) -> None:
-        """`kind`, `at`, `why` and `others` are these four, in this order."""
+        """`kind` is the kind of fault as `spki` names it, `at` the offset of its place, `why` a remark, and `others` are further places."""
         super().__init__(kind, at, why)
         self.kind, self.at, self.why, self.others = kind, at, why, list(others)
         self.shown_at = shown_at

@@ -98,7 +98,7 @@ def public_of(key: Value) -> Public | None:
 
 
 def kind_of(key: Value) -> str:
-    """What a key is, for people to read."""
+    """What kind of key an SPKI key is, for people to read: as "Ed25519", "ECDSA NIST P-256" or "RSA 3072", where the number is that of the bits."""
     match key:
         case [_, [b"ecc", [b"curve", b"Ed25519"], *_]]:
             return "Ed25519"
@@ -127,7 +127,7 @@ def value_of_numbers(r: int, s: int, octets: int = HALF) -> Value:
 
 
 class FileSigner:
-    """Signs by a private key that was read from a file."""
+    """Signs by a private key that was read from a file. `key` is the public one. Making one raises BadKey for a kind or length that is not used."""
 
     def __init__(self, private: Private) -> None:
         self.private, self.key = private, key_of(private.public_key())
@@ -146,7 +146,7 @@ class FileSigner:
 
 
 def verifies(key: Value, message: bytes, value: Value) -> bool:
-    """Whether a value is a signature of a message by an SPKI key."""
+    """Whether `value`, a list `(sig-val ..)`, is a valid signature of the octets of a message by an SPKI key."""
     from spki_verify import verify_texts
     return verify_texts(key=canonical(key), message=message, value=canonical(value))
 
@@ -240,8 +240,8 @@ def public_part(octets: bytes) -> bytes | None:
 
 
 def split_string(octets: bytes) -> tuple[bytes, bytes]:
-    """The first string of some octets, which SSH writes behind its length, and the octets after it. Raises BadKey if it is cut off. Its text is for
-    an answer of ssh-agent; `public_part`, which reads a file, says something else instead."""
+    """The first string of some octets, which SSH writes behind its length in four octets, and the octets after it. Raises BadKey if it is cut off,
+    with a text for an answer of ssh-agent; `public_part`, which reads a file, catches it and says something else."""
     end = 4 + int.from_bytes(octets[:4], "big")
     if len(octets) < max(end, 4):
         raise BadKey("ssh-agent sent an answer that is not whole")
@@ -280,8 +280,11 @@ def read_private(octets: bytes, asking: Asking) -> Private:
             is_asked = True
             private = load(octets, asking())
     except (ValueError, TypeError, ArithmeticError, UnsupportedAlgorithm) as fault:
-        raise BadKey(NEEDS_BCRYPT if "bcrypt" in str(fault) else "this is not the passphrase of the key, or the file is damaged" if is_asked
-                     else f"no private key that can be read: was it copied to its end? And {USED}") from None
+        if "bcrypt" in str(fault):
+            raise BadKey(NEEDS_BCRYPT) from None
+        if is_asked:
+            raise BadKey("this is not the passphrase of the key, or the file is damaged") from None
+        raise BadKey(f"no private key that can be read: was it copied to its end? And {USED}") from None
     # (raises BadKey for a kind or length that is not used)
     key_of(private.public_key())
     return cast("Private", private)

@@ -74,6 +74,7 @@ def may_be_secret(text: bytes) -> bool:
 
 def has_private_key(word: bytes) -> bool:
     """Whether a word of a command has a private key in it."""
+    # (a key in JSON, a JWK, has a member "kty", and its private part is the member "d")
     return PRIVATE.search(word) is not None or b'"kty"' in word and b'"d"' in word
 
 
@@ -163,7 +164,7 @@ def read_case(node: Node) -> None:
 
 
 def read_outline(node: Node) -> None:
-    """Tests that a case has its parts, by their heads. Raises Wrong."""
+    """Tests that a case has its parts, by their heads and in their order. Raises Wrong if not."""
     read_part("case", partial(Members, head=b"case", what="the text"), node)
     parts = node.rest
     for place, head in enumerate(PARTS):

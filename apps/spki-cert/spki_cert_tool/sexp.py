@@ -18,7 +18,7 @@ def read(octets: bytes) -> Value:
 
 
 def canonical(value: Value) -> bytes:
-    """The canonical text of a value."""
+    """The canonical text of a value, the only form that is hashed and signed: `(1:a2:bc)` for `[b"a", b"bc"]`."""
     if isinstance(value, list):
         return b"(" + b"".join(map(canonical, value)) + b")"
     if isinstance(value, tuple):
@@ -36,7 +36,7 @@ def string_on_one_line(octets: bytes) -> str:
 
 
 def on_one_line(value: Value) -> str:
-    """A value in advanced form, on one line."""
+    """A value in advanced form, the form for writing by hand, on one line."""
     if isinstance(value, list):
         return f"({' '.join(map(on_one_line, value))})"
     if isinstance(value, tuple):

@@ -34,10 +34,10 @@ def but_is(node: Node, *heads: bytes) -> str:
 
 
 class Members:
-    """The members of a list after its head. `left` has those that are not read yet, and `next` takes the first of them. Making one raises Wrong for a
-    value that is no list with this head; `what` is what must have it, in words for the remark."""
+    """The members of a list after its head. `left` has those that are not read yet, and `next` takes the first of them."""
 
     def __init__(self, node: Node, head: bytes, what: str) -> None:
+        """Raises Wrong for a value that is no list with this head. `what` is what must have it, in words for the remark."""
         if node.head != head:
             raise shape_fault(node, f"{what} must be {but_is(node, head)}")
         self.node, self.left = node, node.rest
@@ -239,7 +239,7 @@ def read_certificate(node: Node) -> None:
 
 
 def read_digest_of_row(node: Node) -> None:
-    """Reads the hash in a row. Raises Wrong unless it is one by SHA-256."""
+    """Reads the hash in a row, which says that a signature is valid. Raises Wrong unless it is one by SHA-256."""
     if read_hash(node) != b"sha256":
         raise Wrong("HashAlg", node.begin, "the hash of a row is by sha256")
 

@@ -72,10 +72,10 @@ class Row:
 
 
 class Store:
-    """A store in a schema of a database, with an open connection. `settings` are those of libpq, as `host=/run/postgresql dbname=acl`. What asks the
-    database raises `psycopg.Error` if that fails."""
+    """A store in a schema of a database, with an open connection. What asks the database raises `psycopg.Error` if that fails."""
 
     def __init__(self, settings: str, schema: str = "spki") -> None:
+        """Connects. `settings` are those of libpq, as `host=/run/postgresql dbname=acl`. Raises Wrong for a schema that is no plain name."""
         if not NAME.match(schema):
             raise Wrong(f"{schema!r} is no name of a schema: small letters, digits and _, at most 41")
         self.settings, self.schema = settings, schema
@@ -106,7 +106,7 @@ class Store:
         self.connection.close()
 
     def statement(self, text: str) -> sql.Composed:
-        """A statement with the name of the schema before each table: `{entries}` is one."""
+        """The statement `text`, in which a table is written as `{entries}`, with the table's name in the schema."""
         return sql.SQL(text).format(**{table: sql.Identifier(self.schema, table)
                                        for table in ("entries", "ended", "chains", "changes", "state", "heartbeat", "imports")})
 
@@ -143,7 +143,7 @@ class Store:
         self.rows("INSERT INTO {entries} (text) SELECT * FROM unnest(%b::bytea[])", texts)
 
     def remove(self, number: int) -> bool:
-        """Removes an entry. Returns whether it was there."""
+        """Removes an entry by its number. Returns whether it was there, and this account may remove it."""
         return bool(self.rows("DELETE FROM {entries} WHERE number = %s RETURNING number", number))
 
     def end(self, certificate: bytes, remark: str) -> bool:
@@ -151,9 +151,9 @@ class Store:
         return bool(self.rows("INSERT INTO {ended} (certificate, remark) VALUES (%s, %s) ON CONFLICT DO NOTHING RETURNING 1", certificate, remark))
 
     def beat(self, seconds: float = 3.0) -> int:
-        """Increases the number of the heartbeat, and returns it. Raises OperationalError if that fails, or takes longer than so many seconds. The
-        server is not told to cancel it then, since a change that waits for a replica would count at once. A beat that waits so keeps others waiting,
-        which give up after BEAT_WAITS."""
+        """Increases the number of the heartbeat, and returns it. Raises OperationalError if that fails, or takes longer than so many seconds. It is
+        not cancelled then: a change that waits for a replica would be committed without the replica. Such a beat has the lock of the row, so further
+        beats fail after BEAT_WAITS milliseconds."""
         text = f"SET LOCAL lock_timeout = {BEAT_WAITS}; UPDATE {{heartbeat}} SET number = number + 1, moment = clock_timestamp() RETURNING number"
         return int(value_of(self.connection.pgconn, self.statement(text).as_string(self.connection).encode(), seconds))
 

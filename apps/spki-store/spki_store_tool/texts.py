@@ -69,8 +69,8 @@ def entries_in(text: mmap.mmap | bytes, begin: int = 0) -> Iterator[tuple[bytes,
 
 @contextlib.contextmanager
 def open_list(path: str) -> Iterator[mmap.mmap | bytes]:
-    """Opens a file for the block, which gets the text of its list in canonical form. A file of at most 1 MiB may have any of the three forms. Raises
-    Wrong for a text in none of them, or a longer stream, and OSError."""
+    """Opens a file for the block, which gets the text of its list. A text of at most 1 MiB may have any of the three forms, and is made canonical. A
+    longer file is mapped and given as it is. Raises Wrong for a short text in none of the forms, or a longer stream, and OSError."""
     with open(path, "rb") as file:
         if os.fstat(file.fileno()).st_size <= MOST:
             text = file.read(MOST + 1)
