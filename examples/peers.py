@@ -82,7 +82,7 @@ def there_and_back(write, read, forms, text):
 
 
 def printed(octets):
-    """A canonical form as it is printed: its octets, or their number from 24 on. None is a text that was refused."""
+    """A canonical form as it is printed: its octets, or from 24 octets on only their number. None is that of a text that was refused."""
     if octets is None:
         return "refused"
     return repr(octets)[2:-1] if len(octets) < 24 else f"{len(octets)} octets"

@@ -142,7 +142,8 @@ class ByLibrary(Engine):
     def lines(self, question, command):
         """The lines of the command `check`, `explain` or `reduce` for a question. Raises `Refused`."""
         def mark_and_answer(asked):
-            """Marks the signatures that count as valid, and returns what the method of the command's name returns, which for `check` is `decide`."""
+            """Marks the signatures of an opened question that count as valid. Returns what its method for the command returns: for `check` that is
+            `decide`, and otherwise the method of the command's name."""
             for place in range(len(asked)):
                 if place not in question.refused_signatures:
                     asked.mark(place)

@@ -83,7 +83,8 @@ class Worker:
         return whole | {"notice": f"{late} took longer than {self.seconds} seconds and was stopped. A shorter text takes less."}, False
 
     def end(self):
-        """Ends the process, and the programs that it runs, and waits for that. Does nothing the second time, when its number may be another's."""
+        """Ends the process, and the programs that it runs, and waits for that. Does nothing the second time, when another process may have its
+        number."""
         with self.lock:
             if self.is_ended:
                 return

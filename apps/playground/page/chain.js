@@ -42,6 +42,7 @@ export function stepsInWords(chain) {
 
 /** The box of a step as `element`, and its `height` in pixels. It is as wide as its texts need, at most `width` pixels. */
 function box(step, width) {
+  // (the numbers beside the names are pixels, chosen by eye: letters touch no frame, and a box is at least 92 wide)
   const kind = step.shape === "request" ? "mono" : "name";
   const lines = wrap(step.label, width - 2 * PAD - 2, kind, MOST_LINES_OF_LABEL);
   const notes = step.note ? [step.note] : step.shape === "list" ? [step.whole] : [];
