@@ -157,6 +157,7 @@ def requests(story):
     must answer, or None if the request proves a key. All are by the key pairs of `story`, a `Story`."""
     alice, bob, carol = story.alice, story.bob, story.carol
     good = asked_by(carol, READ)
+    # (another one, with a nonce of its own, that is changed in what follows)
     method, target, fields = asked_by(carol, READ)
     yield "Carol signs her request", good, None
     yield "the same comes again, and its nonce is used up", good, "nonce-seen"
@@ -164,12 +165,14 @@ def requests(story):
     yield "Bob shows Carol's key and signs by his own", asked_by(bob, READ, named=carol), "invalid-signature"
     yield "Carol signed it for another service", asked_by(carol, READ, name="other.example"), "invalid-signature"
     yield "the path is another", (method, target + "x", fields), "invalid-signature"
+    # (PUT may have a body, whose digest must be signed)
     yield "reading was signed, and writing is asked for", ("PUT", target, fields), "body-without-digest"
     yield "the certificates are others", (method, target, {**fields, "X-Spki-Sequence": in_braces("(sequence (key x))")}), "invalid-signature"
     without_sequence = {field: value for field, value in fields.items() if field != "X-Spki-Sequence"}
     yield "the certificates are left out", (method, target, without_sequence), "absent-field"
-    other = base64.b64encode(spki_http.octets_of(carol.sign(canonical(story.to_carol)))).decode()
-    yield "the signature is Carol's, and of a certificate", (method, target, {**fields, "Signature": f"spki=:{other}:"}), "invalid-signature"
+    of_certificate = base64.b64encode(spki_http.octets_of(carol.sign(canonical(story.to_carol)))).decode()
+    signed_certificate = {**fields, "Signature": f"spki=:{of_certificate}:"}
+    yield "the signature is Carol's, and of a certificate", (method, target, signed_certificate), "invalid-signature"
     yield "there is no signature", (method, target, {}), "absent"
 
 

@@ -76,8 +76,8 @@ def write_at_once(stream: TextIO | None, text: str | bytes) -> None:
 
 
 def put(text: str | bytes) -> None:
-    """Writes to standard output, if there is something to write. Raises Failed, which has no line where the reader of a pipe has ended: the user has
-    ended it, as by `| head`."""
+    """Writes to standard output, if there is something to write. Raises Failed, with a line that says why. It has no line, so nothing is told, if the
+    reader of a pipe has ended, as `head` does once it has its lines."""
     try:
         if text:
             write_at_once(sys.stdout, text)

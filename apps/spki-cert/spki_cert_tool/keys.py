@@ -200,7 +200,7 @@ def pieces_of(octets: bytes) -> list[bytes]:
 
 
 def no_passphrase() -> bytes:
-    """An `asking` for callers that only look at keys: raises BadKey instead of asking for a passphrase."""
+    """The argument `asking` of `read_public` for callers that only look at keys: raises BadKey instead of asking for a passphrase."""
     raise BadKey(ENCRYPTED)
 
 

@@ -148,5 +148,5 @@ def tries_lacked(tag: Value | None, tries: list[Value]) -> Iterator[str]:
 
 
 def text_of(value: Value) -> bytes:
-    """A value in advanced form with line breaks, for people to read, as a file has it."""
+    """The octets of a file with a value: in advanced form, with line breaks, for people to read."""
     return laid_out(value).encode() + b"\n"

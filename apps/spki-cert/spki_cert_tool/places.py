@@ -69,6 +69,7 @@ def foreign(text: bytes) -> str | None:
 
 def may_be_secret(text: bytes) -> bool:
     """Whether a text is perhaps a private key, in any form."""
+    # (a text of FOREIGN may be one of another program, as of age or PuTTY)
     return SECRET.search(text) is not None or foreign(text) is not None
 
 
