@@ -49,7 +49,7 @@ static void answer(bool writes, const char *folder, const char *path, const char
         printf("%.*s\n", (int)length, content);
 }
 
-/* Answers each line of standard input. The exit status is 0 at its end, 1 for a line that is too long, 2 for wrong words or no access list. */
+/* Answers each line of standard input. The exit status is 0 at its end, 1 for a line that is too long, 2 for wrong arguments or no access list. */
 int main(int count, char **given)
 {
     static char list[1 << 20], key[MOST], sequence[MOST], line[MOST], asked[2 * MOST], last[2 * MOST];

@@ -1,5 +1,8 @@
 /* http_request.h says what it is for. Nothing is copied but the key, the digest and the signed text.
  *
+ * By RFC 9421 a request has the fields `Signature-Input: spki=("@method" "x-a" ..);created=1;..` and `Signature: spki=:BASE64:`. Here `spki` is the
+ * label, the strings name the components that the signature covers, parts of the request as its method or a field, and parameters follow.
+ *
  * A function that returns `const char *` returns null or the name of a refusal, unless its comment says otherwise. */
 #include "http_request.h"
 
@@ -184,7 +187,7 @@ static const char *read_label(struct spki_text value, struct cursor *in)
     return is_text(name, "spki") ? NULL : "other-label";
 }
 
-/* The name of the refusal of what follows the first member, or null if nothing does. */
+/* Null if nothing follows what was read. Otherwise the name of the refusal: a comma begins a second signature, and all else is malformed. */
 static const char *expect_end(struct cursor in)
 {
     if (in.at == in.end)
@@ -500,7 +503,8 @@ static const char *read_digest(struct spki_text value, struct http_proof *proof)
     return is_read && proof->digest_length == length ? NULL : "bad-digest";
 }
 
-/* Checks that fields on which the answer depends are covered, and reads the digest of the body. Returns null, or the name of the refusal. */
+/* Checks that the signature covers the fields on which the answer depends, if they are there, and the digest of a body, which it reads into the
+ * proof. Returns null, or the name of the refusal. */
 static const char *check_fields(const struct http_request *request, const struct input *input, struct http_proof *proof)
 {
     const char *const names[] = {chained, sequence, body_digest};

@@ -119,7 +119,7 @@ export class Answer {
     answer.more ? htmlElement("li", {}, answer.more === 1 ? "and 1 more entry" : `and ${answer.more} more entries`) : "");
   }
 
-  /** Lists the rights that remain. */
+  /** Lists the rights that remain of the entries, each with who holds it. Hides the list if the answer has none of them yet. */
   showRights(answer) {
     const rights = answer.rights ?? [];
     byId("rights-card").hidden = !answer.rights;

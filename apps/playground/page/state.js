@@ -10,9 +10,9 @@ let waitTimer;
 /** The elements of a part, by its name in PARTS. */
 const elements = (name) => document.querySelectorAll(PARTS[name]);
 
-/** Marks all parts as those of an earlier text, which dims them. After WAITING milliseconds those that are still marked are hidden, and `waited` is
- * called if the verdict is one of them. */
-export function outdate(waited) {
+/** Marks all parts as those of an earlier text, which dims them. After WAITING milliseconds those that are still marked are hidden, and `whenSlow`
+ * is called if the verdict is one of them. */
+export function outdate(whenSlow) {
   clearTimeout(waitTimer);
   for (const name of Object.keys(PARTS)) {
     elements(name).forEach((element) => element.classList.add("old"));
@@ -20,7 +20,7 @@ export function outdate(waited) {
   waitTimer = setTimeout(() => {
     document.querySelectorAll(".old").forEach((element) => element.classList.add("blank"));
     if (byId("verdict").matches(".old")) {
-      waited();
+      whenSlow();
     }
   }, WAITING);
 }

@@ -7,7 +7,8 @@ const DAY = 86400, STEPS = 1000;
 // The seconds of the first and the last moment of a calendar.
 const FIRST = Date.UTC(1000, 0, 1) / 1000, LAST = Date.UTC(9999, 11, 31, 23, 59, 59) / 1000;
 
-/** The seconds from 1970 to `YYYY-MM-DD HH:MM:SS` in UTC. A date that the calendar does not have is a near one, and another text is NaN. */
+/** The seconds from 1970 to a moment in UTC: `YYYY-MM-DD HH:MM:SS`, also with `T` for the space or without seconds. A date that the calendar does not
+  * have is a near one, and another text is NaN. */
 function secondsOf(moment) {
   const [, ...parts] = /^(\d+)-(\d+)-(\d+).(\d+):(\d+)(?::(\d+))?/.exec(moment) ?? [];
   // (by setters, since `Date.UTC` takes the years 0 to 99 as 1900 to 1999)
