@@ -32,7 +32,7 @@ MEANINGS = {
 
 
 class Shape(NamedTuple):
-    """What arrows begin and end at: a subject, which has no colour, or the access list or the request, which has one. `lines` are its text."""
+    """What an arrow begins or ends at: a subject, which has no colour, or the access list or the request, which have one. `lines` are its text."""
 
     lines: list[str]
     colour: str = ""
