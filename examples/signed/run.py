@@ -191,6 +191,7 @@ def unasked(story):
     """Yields the sequences that the service refuses before it asks `spki check`: a remark, and the sequence as octets in canonical form."""
     good = signed(story.to_carol, story.bob)
     yield "the sequence is too long", sexp.canonical([b"sequence", bytes(MOST_SHOWN)])
+    # (with the two of Alice it is one more than MOST_CERTIFICATES)
     yield "there are too many certificates", canonical(story.sequence(good * (MOST_CERTIFICATES - 1)))
     yield "there are two sequences", canonical(story.sequence(good)) + b"(8:sequence)"
     yield "the sequence is a string", b"3:abc"

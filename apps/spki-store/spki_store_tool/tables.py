@@ -173,7 +173,7 @@ class Store:
     def found(self, principals: list[bytes]) -> list[tuple[int, bytes]]:
         """The number and the text of each entry whose principal is one of these digests, which must differ, in the order of the numbers."""
         digests = [principal for principal in principals if len(principal) in LENGTHS]
-        # (each length has an index of its own)
+        # (no principal has another length, and each length has an index of its own)
         query = " UNION ALL ".join(f"SELECT number, text FROM {{entries}} WHERE octet_length(principal) = {len(digest)} AND principal = %s"
                                    for digest in digests)
         return self.rows(f"{query} ORDER BY number", *digests) if digests else []

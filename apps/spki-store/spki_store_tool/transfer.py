@@ -56,7 +56,8 @@ def import_list(store: Store, path: str, is_shown: bool) -> tuple[int, int]:
             if is_done:
                 raise Wrong(f"{path}: this list was imported before, {before} entries: `spki-store import --again` adds them once more")
         progress, count = Progress(len(text), before, is_shown), before
-        for batch in batches(((entry, len(entry[0])) for entry in entries_in(text, offset)), MOST_AT_ONCE):
+        # (an item of a batch is an entry and the offset behind it)
+        for batch in batches(((item, len(item[0])) for item in entries_in(text, offset)), MOST_AT_ONCE):
             texts, end = [entry for entry, _ in batch], batch[-1][1]
             if fault := fault_of(texts):
                 raise Wrong(f"{path}: entry {count + fault[0] + 1}: {fault[1]}")
