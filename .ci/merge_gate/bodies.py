@@ -18,18 +18,18 @@ NAME_GONE = re.compile(r"has no field|is not in scope|has no `|was not admitted"
 
 
 def path_of(file: str, lines: list[str], at: int, name: str) -> str:
-    """The path of the function whose head is line `at`, from 0, which no other function of its crate has: before its name the type, the trait and
-    the trait's argument of its `impl`, or else its module."""
+    """The path by which the toolchain knows a function: `Tag::meet` in `impl Tag`, `AnswerFromFault::from` in `impl From<Fault> for Answer`, and with
+    its module elsewhere, `intersection::meet`. `file` is its path in the crate, `lines` its text. The head is line `at`, from 0, with the name."""
     if lines[at].startswith(" "):
-        impl = IMPL.match([line for line in lines[:at] if line[:1].strip()][-1])
-        if impl:
+        unindented = [line for line in lines[:at] if line[:1].strip()]
+        if impl := IMPL.match(unindented[-1]):
             return f"{impl[3]}{impl[1] or ''}{impl[2] or ''}::{name}"
     modules = file.removeprefix("src/").removesuffix(".rt").split("/")
     return "::".join([*(module for module in modules if module not in ("lib", "main")), name])
 
 
 def function_around(file: str, lines: list[str], number: int) -> str | None:
-    """The path of the function that the line of a number, from 0 on, is in. None if it is in none. A function ends with a `}` below its head."""
+    """The path (`path_of`) of the function that line `number`, from 0, is in. None if it is in none. A function ends with a `}` below its head."""
     for at in range(number, -1, -1):
         head = HEAD.match(lines[at])
         if head:
@@ -53,18 +53,18 @@ def functions_of(folder: str, texts: dict[str, str]) -> list[str]:
     for file, text in texts.items():
         with open(os.path.join(folder, file), encoding="utf-8") as old:
             changed |= functions_changed(file, old.read(), text) if file.startswith("src/") else {None}
-    return [] if None in changed else sorted(it for it in changed if it)
+    return [] if None in changed else sorted(path for path in changed if path)
 
 
 def refuses(crate: str, path: str, said: str) -> bool:
-    """Whether the lines `said` of a check mean that the contract of the function of this path itself is unproved: not only that of what it calls, and
-    not only because a proof file names what is gone. A contract rests on those of other functions, and not on their bodies, so each function's line
-    is its own verdict."""
+    """Whether a check shows that the contract of the function `path` itself is unproved: not only that of what it calls, and not only because a proof
+    file names what is gone. `said` is the check's output. A line `fn CRATE::PATH: VERDICT` there is a verdict on this function alone, since a proof
+    rests on the contracts of other functions, and not on their bodies."""
     name = path.rpartition("::")[2]
     verdicts = re.findall(rf"^fn {crate}::(?:\S+::)?{name}: (.*)$", said, re.MULTILINE)
     errors = re.findall(rf"^(?:\./)?proofs/(?:[\w+]+/)*{name}/\S*: error.*$", said, re.MULTILINE)
     are_gone = bool(errors) and all(NAME_GONE.search(error) for error in errors)
-    return any("did not prove" in verdict or verdict.startswith("not proved") and not are_gone for verdict in verdicts)
+    return any("did not prove" in verdict or (verdict.startswith("not proved") and not are_gone) for verdict in verdicts)
 
 
 def path_of_edit(crate: Any, name: str) -> str:
@@ -109,8 +109,8 @@ def batches(bodies: list[Body]) -> list[list[Body]]:
 
 
 def merged(folder: str, bodies: list[Body]) -> dict[str, str]:
-    """The files of the crate in a folder that wrong bodies of different functions change, with their texts after all of them. An edit leaves the
-    number of lines as it is."""
+    """The files of the crate in a folder that wrong bodies of different functions change, with their texts after all of them. No edit changes the
+    number of lines, and no two change the same line: so of each line the text that differs from the old one is taken, if any does."""
     texts = {}
     for file in {file for body in bodies for file in body.texts}:
         with open(os.path.join(folder, file), encoding="utf-8") as old:
@@ -121,9 +121,9 @@ def merged(folder: str, bodies: list[Body]) -> dict[str, str]:
 
 
 def tried(crate: Any, paths: list[str], over: str) -> Iterator[tuple[bool, str]]:
-    """Tries the wrong bodies in files. First only the functions that they change are checked, beginning with the proofs that the folder `over` keeps.
-    If that does not show that one is refused, as where it changes something else, the whole crate is checked with it alone. Yields of each whether
-    it is refused, as it must be, and the line to print."""
+    """Tries the wrong bodies in files. First only the functions that they change are checked. The folder `over` keeps proofs from one check for the
+    next. If that does not show that one is refused, as where it changes something else, the whole crate is checked with it alone. Yields for each
+    whether it is refused, as it must be, and the line to print."""
     bodies = [body_of(path, crate.folder) for path in paths]
     refused = set()
     for group in batches(bodies):

@@ -17,15 +17,15 @@ SEED = re.compile(r"^\d+ cases, seed ([0-9a-f]{8}): ", re.MULTILINE)
 
 
 def try_bodies(names: list[str], counts: Counts, sums: dict[str, str]) -> None:
-    """Tries wrong bodies of wrong/, over the libraries that `rt ci` has left. A name is CRATE/NAME, or a crate, for all of it. `sums` has what
-    `records.sum_of` was of crates before `rt ci` proved them: if all of one are refused, this is its record."""
+    """Tries wrong bodies of wrong/, over the libraries that `rt ci` has left. A name is CRATE/NAME, or a crate, for all of its. `sums` has what
+    `records.sum_of` returned for crates before `rt ci` proved them: if all wrong bodies of one are refused, this becomes its record."""
     crates = toolchain.crates(*(name.partition("/")[0] for name in names))
     lacking = {it.name for crate in crates.values() for it in crate.below() if not os.path.isdir(it.rlib)}
     if lacking:
         return counts.add(False, f"no wrong body was tried, since rt ci has not left the libraries {', '.join(sorted(lacking))}")
 
     def verdicts(crate: Any) -> tuple[Any, list[tuple[bool, str]]]:
-        """A crate, and of each of its wrong bodies that are tried whether it is refused, and the line about it."""
+        """Tries the wrong bodies of a crate. Returns the crate, and for each of them whether it is refused, and the line about it."""
         own = [name for name in names if name.partition("/")[0] == crate.name]
         chosen = bodies.paths_of(crate) if crate.name in own else [bodies.path_of_edit(crate, name) for name in own]
         with tempfile.TemporaryDirectory(prefix="trials-") as over:
@@ -76,13 +76,13 @@ def main(about: str) -> int:
     parser = argparse.ArgumentParser(description=about)
     parser.add_argument("names", nargs="*", metavar="NAME", help="a crate whose wrong bodies are tried, or with --alone also CRATE/WRONG-BODY")
     parser.add_argument("--alone", action="store_true", help="prove nothing first, and write no record: take the libraries that `rt ci` left")
-    given, counts = parser.parse_args(), Counts()
-    if given.alone and not given.names:
+    options, counts = parser.parse_args(), Counts()
+    if options.alone and not options.names:
         parser.error("--alone takes names")
-    if given.alone:
-        try_bodies(given.names, counts, {})
-    elif given.names:
-        try_all(given.names, counts)
+    if options.alone:
+        try_bodies(options.names, counts, {})
+    elif options.names:
+        try_all(options.names, counts)
     else:
         run_all(counts)
     return counts.end()

@@ -34,7 +34,7 @@ def promises(crate: Any) -> Iterator[str]:
 
 
 def sum_of(crate: Any) -> str:
-    """The checksum of these, in hexadecimal."""
+    """The SHA-256 checksum of what `promises` yields for a crate, in hexadecimal digits."""
     return hashlib.sha256("\0".join(promises(crate)).encode()).hexdigest()
 
 
@@ -43,12 +43,12 @@ def path_of(crate: Any) -> str:
     return os.path.join(crate.folder, "wrong", "tried")
 
 
-def write(crate: Any, of: str) -> None:
-    """Records that all wrong bodies of a crate were tried and refused, against what has the checksum `of`."""
+def write(crate: Any, checksum: str) -> None:
+    """Records that all wrong bodies of a crate were tried and refused, while `sum_of` the crate was this checksum."""
     with open(path_of(crate), "w", encoding="utf-8") as file:
-        file.write(of + "\n")
+        file.write(checksum + "\n")
 
 
 def is_right(crate: Any) -> bool:
-    """Whether a crate has a record, and it is that of its present promises and wrong bodies."""
+    """Whether a crate has a record, and its checksum is that of the present promises and wrong bodies."""
     return os.path.exists(path_of(crate)) and read(path_of(crate)).strip() == sum_of(crate)

@@ -22,8 +22,8 @@ class Counts:
         self.failed += not is_passed
 
     def add_log(self, output: str, status: int, has_counts: bool = True) -> None:
-        """Counts the output of a command that ended with this status, by its last line 'N passed, M failed'. A command without this line
-        has failed. But if it never writes one (`has_counts` is false), its status says whether it passed."""
+        """Counts the output of a command that ended with this status, by its last line 'N passed, M failed'. A command without this line has failed,
+        and so has one whose status is not 0. If a command never writes the line (`has_counts` is false), the status alone says whether it passed."""
         counts = LAST.match(output.rstrip("\n").rpartition("\n")[2])
         passed, failed = (int(counts[1]), int(counts[2])) if counts else (int(not has_counts and status == 0), int(has_counts))
         self.passed += passed

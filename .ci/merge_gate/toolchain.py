@@ -33,12 +33,12 @@ def rt_module() -> Any:
     sys.dont_write_bytecode = True
     path = os.path.realpath(shutil.which("rt") or sys.exit("rt is not in the path"))
     loader = importlib.machinery.SourceFileLoader("rt", path)
-    made = sys.modules["rt"] = types.ModuleType("rt")
-    made.__file__ = path
-    loader.exec_module(made)
-    os.environ.pop(made.rtlib.ALLOW_C, None)
-    made.rtlib.guarded()
-    return made
+    module = sys.modules["rt"] = types.ModuleType("rt")
+    module.__file__ = path
+    loader.exec_module(module)
+    os.environ.pop(module.rtlib.ALLOW_C, None)
+    module.rtlib.guarded()
+    return module
 
 
 def crates(*names: str) -> dict[str, Any]:
@@ -57,8 +57,8 @@ def applied(path: str, folder: str) -> tuple[dict[str, str], str]:
 
 
 def check_of(crate: Any, texts: dict[str, str], only: list[str], over: str) -> str:
-    """What a check of the functions `only` says of a crate with other texts. Empty if it does not judge them: it did not end, or a text could
-    not be read. The check begins with what the folder `over` has, and keeps there what it proves."""
+    """The output of a check of the functions `only`, given by their paths, of a crate with other texts. Empty if it does not judge them: a text could
+    not be read, or its status is neither 0 (all proved) nor 1. It begins with what the folder `over` has, and keeps there what it proves."""
     ran = rt_module().checked(crate, texts, [*ONE, *(f"--only={path}" for path in only)], over)
     is_read = not any(rt_module().unread(line, texts) for line in ran.stdout.split("\n"))
     return ran.stdout if is_read and ran.returncode in (0, 1) else ""
@@ -78,13 +78,13 @@ def remove_kept_libraries() -> None:
 
 
 def give_libraries(names: set[str]) -> None:
-    """Puts the libraries of crates in their places, with all those below each, as `rt ci` has kept them of the same files. With names it works on a
-    copy, and leaves none here."""
+    """Puts the libraries of these crates, and of all below each, into their folders, as `rt ci` has kept them for the present files. It is needed
+    behind `rt ci NAME ..`, which works on a copy of the crates and leaves no libraries in these folders."""
     chosen = crates(*names).values() if names else ()
     rt_module().Crate.cuts_libraries = True
-    kept = rt_module().Kept(chosen, False)
+    kept = rt_module().Kept(chosen, anew=False)
     for crate in chosen:
         shutil.rmtree(os.path.join(crate.folder, "out", "rlib"), ignore_errors=True)
         os.makedirs(os.path.join(crate.folder, "out"), exist_ok=True)
-        if kept.give(crate, False, kept.key(crate)):
+        if kept.give(crate, tests=False, key=kept.key(crate)):
             kept.is_built(crate)
