@@ -1,11 +1,10 @@
 #!/usr/bin/env python3
 """Compares the library for C programs, and the built program, with the model in `model/` on generated texts.
 
-The model is a second implementation, in Python: it was written from docs/FORMATS.md and not from the sources of the program. Each case
-is a command and a text of `generators/`; of `check_accepted` also a text with rows. Some cases are questions to a guard, a few ask for a
-string inside a value, and a few are calls of the library that are misuse, or nearly. The library answers each case, by a few processes
-that load it, and the program itself at least a tenth of them. Status and answer must be those of the model, octet by octet. In some cases
-the library gets a buffer that is too small.
+The model is a second implementation, in Python: it was written from docs/FORMATS.md and not from the sources of the program. Each case is a command
+and a text of `generators/`; of `check_accepted` also a text with rows. Some cases are questions to a guard, a few ask for a string inside a value,
+and a few are calls of the library that are misuse, or nearly. The library answers each case, by a few processes that load it, and the program itself
+at least a tenth of them. Status and answer must be those of the model, octet by octet. In some cases the library gets a buffer that is too small.
 
 A case depends on the seed and its number alone. A case that differs is made smaller and printed; `--first NUMBER --cases 1` with the
 same seed repeats it. The tables at the end say how often each row of the document's tables came. With 20,000 cases or more it is a failure
@@ -14,8 +13,7 @@ if a row never came, or if the program answered less than a tenth of them. `test
 Needs a C compiler, which makes a shared object of the library in a temporary folder; with --program-alone there is no library, and the
 program answers each text. The last line counts the commands and what is asked of guards, strings and calls that are misuse as one each,
 and the tests of the run as a whole: the rows that came, the part of the program.
-Usage: tests/differential.py [--cases N] [--seed S] [--first NUMBER] [--jobs J] [--program-alone] [PROGRAM [LIBRARY]]
-"""
+Usage: tests/differential.py [--cases N] [--seed S] [--first NUMBER] [--jobs J] [--program-alone] [PROGRAM [LIBRARY]]"""
 import argparse
 import ctypes
 import multiprocessing
@@ -130,7 +128,7 @@ class Library:
         return "the library writes behind its answer" if buffer[needed:].strip(b"\0") else None
 
     def fault_with_small_buffer(self, asked: Question, wanted: Answer) -> str | None:
-        """What is wrong where the buffer has one octet less than the answer, None if nothing is. There is no such buffer for an empty answer."""
+        """What is wrong where the buffer has one octet less than the answer, None if nothing is. An empty answer has no such buffer."""
         length = len(wanted[1])
         if not length or self.ask(asked, length - 1) == (too_small(), length, length * b"\0"):
             return None
@@ -208,8 +206,8 @@ class Comparison:
 
 
 def work(comparison: Comparison, numbers: range, at: MutableSequence[int], job: int, results: Connection) -> None:
-    """Compares the cases of these numbers, in a process of its own, and keeps the present number in `at[job]`. Sends to `results` the numbers of the
-    cases that differ, the counts of the rows, and how many cases the program answered. A case that takes over SECONDS ends it: nothing is sent."""
+    """Compares the cases of these numbers, in a process of its own, and keeps the present number in `at[job]`. Sends to `results` which cases differ,
+    how often each row of the model was reached, and how many cases the program answered. A case that takes over SECONDS ends it: nothing is sent."""
     coverage.reset_counts()
     differ = []
     for number in numbers:
@@ -223,9 +221,10 @@ def work(comparison: Comparison, numbers: range, at: MutableSequence[int], job: 
 
 
 def compare(comparison: Comparison, first: int, cases: int, jobs: int) -> tuple[list[int], list[int], Counter]:
-    """Compares so many cases from the number `first` on, in `jobs` processes. Returns the numbers of the cases that differ, the numbers of those that
-    ended their process, and how often each row came, by its table and name. A process that ended reports neither its other cases nor its rows."""
-    # (the number of the case that each process is at)
+    """Compares so many cases from the number `first` on, in `jobs` processes. Returns the numbers of the cases that differ, those of the cases that
+    ended their process, and how often each row of the model was reached, by the title of its table and its name. A process that ended reports neither
+    its other cases nor its rows."""
+    # (the number of the case that each process is at: each takes every `jobs`-th number, so the mean of all says how many cases are done)
     at = multiprocessing.Array("q", jobs)
     workers = []
     for job in range(jobs):
@@ -254,7 +253,7 @@ def compare(comparison: Comparison, first: int, cases: int, jobs: int) -> tuple[
 
 def lines_of_case(comparison: Comparison, number: int) -> str:
     """The lines about a case that differs: the smallest one that was found to differ too, and what is wrong with that one."""
-    least = smaller(question(comparison.seed, number), lambda it: comparison.fault(it, number) is not None)
+    least = smaller(question(comparison.seed, number), lambda candidate: comparison.fault(candidate, number) is not None)
     return f"case {number}: {least!r:.4000}\n    {comparison.fault(least, number)}"
 
 
@@ -286,7 +285,7 @@ def comparison_of(program: str, archive: str | None, folder: str, seed: str) -> 
 
 
 def arguments() -> argparse.Namespace:
-    """What the command line asks for."""
+    """The words of the command line, parsed."""
     parser = argparse.ArgumentParser(description="Compares the library and the program with the model on generated texts.")
     parser.add_argument("--cases", type=positive, default=20_000)
     parser.add_argument("--seed", default=secrets.token_hex(4))
@@ -314,24 +313,24 @@ def faults_of_run(cases: int, rows: Counter, by_program: int) -> list[str]:
 
 def main() -> int:
     """Compares all cases, and prints what differs and the tables. Returns 1 if anything is wrong, else 0."""
-    asked, begun = arguments(), time.monotonic()
-    archive = None if asked.program_alone else asked.library
-    for name in (asked.program, *([archive] if archive else [])):
+    options, begun = arguments(), time.monotonic()
+    archive = None if options.program_alone else options.library
+    for name in (options.program, *([archive] if archive else [])):
         if not os.path.exists(name):
             sys.exit(f"{name} is not there: tests/run builds it")
-    print(f"{asked.cases} cases from {asked.first} on, seed {asked.seed}", flush=True)
+    print(f"{options.cases} cases from {options.first} on, seed {options.seed}", flush=True)
     with tempfile.TemporaryDirectory() as folder:
-        comparison = comparison_of(asked.program, archive, folder, asked.seed)
-        differ, ended, rows = compare(comparison, asked.first, asked.cases, min(asked.jobs, asked.cases))
+        comparison = comparison_of(options.program, archive, folder, options.seed)
+        differ, ended, rows = compare(comparison, options.first, options.cases, min(options.jobs, options.cases))
         print(*tables(rows), sep="\n")
         print("".join(f"{lines_of_case(comparison, number)}\n" for number in differ[:SHOWN]), end="")
-    print("".join(f"{line_of_ended(asked.seed, number)}\n" for number in ended), end="")
-    faults = faults_of_run(asked.cases, rows, comparison.by_program)
+    print("".join(f"{line_of_ended(options.seed, number)}\n" for number in ended), end="")
+    faults = faults_of_run(options.cases, rows, comparison.by_program)
     print(*faults, sep="\n", end="\n" if faults else "")
-    print(f"{asked.cases} cases, seed {asked.seed}: {len(differ)} differ, {len(ended)} do not end, the program answered "
+    print(f"{options.cases} cases, seed {options.seed}: {len(differ)} differ, {len(ended)} do not end, the program answered "
           f"{comparison.by_program}; {time.monotonic() - begun:.0f} seconds")
-    failed = len({question(asked.seed, number).command for number in [*differ, *ended]}) + len(faults)
-    # (of each command, of rows apart, of each call for guards, of calls and of strings; and the two tests of the run)
+    failed = len({question(options.seed, number).command for number in [*differ, *ended]}) + len(faults)
+    # (one for each command, for `check_accepted`, for each call of a guard, for misuse and for strings; and the two tests of the run)
     print(f"{len(COMMANDS) + 1 + len(WISHES) + 2 + 2 - failed} passed, {failed} failed")
     return 1 if failed else 0
 
