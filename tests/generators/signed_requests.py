@@ -53,7 +53,7 @@ def in_base64(octets: bytes) -> str:
 
 @dataclass
 class Key:
-    """A key pair: the canonical text of the public key, the value of `alg` for it, and the function that returns its signature of a message."""
+    """A key pair: the canonical text of the public key, the value of the parameter `alg` for it, and the function that signs a message with it."""
 
     text: bytes
     algorithm: str
@@ -61,28 +61,28 @@ class Key:
 
 
 def ed25519(private: Ed25519PrivateKey) -> Key:
-    """The key of the table for a private key of Ed25519."""
+    """The `Key` of a private key of Ed25519."""
     octets = private.public_key().public_bytes(Encoding.Raw, PublicFormat.Raw)
     return Key(b"(10:public-key(3:ecc(5:curve7:Ed25519)(5:flags5:eddsa)(1:q%s)))" % string(octets), "ed25519", private.sign)
 
 
 def ecdsa(private: ec.EllipticCurvePrivateKey, bits: int, digest: SHA256 | SHA384) -> Key:
-    """The key of the table for a private key of ECDSA on the curve NIST P-`bits`. It hashes by `digest`, and signs as r and s side by side."""
+    """The `Key` of a private key of ECDSA on the curve NIST P-`bits`. It hashes by `digest`. Its signature is r and s side by side (RFC 9421)."""
     def sign(message: bytes) -> bytes:
-        return b"".join(it.to_bytes(bits // 8, "big") for it in decode_dss_signature(private.sign(message, ec.ECDSA(digest))))
+        return b"".join(number.to_bytes(bits // 8, "big") for number in decode_dss_signature(private.sign(message, ec.ECDSA(digest))))
     octets = private.public_key().public_bytes(Encoding.X962, PublicFormat.UncompressedPoint)
     return Key(b"(10:public-key(3:ecc(5:curve10:NIST P-%d)(1:q%s)))" % (bits, string(octets)), f"ecdsa-p{bits}-sha{bits}", sign)
 
 
 def rsa2048(private: rsa.RSAPrivateKey) -> Key:
-    """The key of the table for a private key of RSA of 2,048 bits. Its modulus has an octet 00 in front, as a key's text requires."""
+    """The `Key` of a private key of RSA of 2,048 bits. Its modulus has 257 octets, with an octet 00 in front, as a key's text requires."""
     n = private.public_key().public_numbers().n
     text = b"(10:public-key(3:rsa(1:n%s)(1:e3:\1\0\1)))" % string(n.to_bytes(257, "big"))
     return Key(text, "rsa-v1_5-sha256", lambda message: private.sign(message, padding.PKCS1v15(), SHA256()))
 
 
 def test_key() -> Ed25519PrivateKey:
-    """The key of the RFC's appendix B."""
+    """The private key `test-key-ed25519` of RFC 9421, appendix B.1.4."""
     private = load_der_private_key(TEST_KEY, None)
     assert isinstance(private, Ed25519PrivateKey)
     return private
@@ -151,15 +151,18 @@ def value_of(request: Request, name: str) -> str:
     path, mark, query = request.target.partition("?")
     derived = {"@method": request.method, "@authority": request.authority.lower(), "@path": path, "@query": "?" + query, "@status": "200",
                "@target-uri": f"https://{request.authority}{path}{mark}{query}", "@scheme": "https", "@request-target": request.target}
-    return derived[name] if name.startswith("@") else ", ".join(value for field_name, value in lines_of(request) if field_name.lower() == name)
+    values = (value for field_name, value in lines_of(request) if field_name.lower() == name)
+    return derived[name] if name.startswith("@") else ", ".join(values)
 
 
 def signed(request: Request) -> Fields:
-    """The fields Signature-Input and Signature, by which a request is signed."""
+    """The fields Signature-Input and Signature, by which a request is signed. The signature base, which is what the key signs, has a line for each
+    component between the parentheses of the parameters, and one for the parameters (RFC 9421, section 2.5)."""
     parameters = parameters_of(request)
-    names = [it.split('"')[1] for it in parameters[1:].partition(")")[0].split(" ") if it]
+    names = [part.split('"')[1] for part in parameters[1:].partition(")")[0].split(" ") if part]
     lines = [f'"{name}": {value_of(request, name)}' for name in names] + [f'"@signature-params": {parameters}']
-    return [("Signature-Input", f"spki={parameters}"), ("Signature", f"spki=:{in_base64(request.key.sign(chr(10).join(lines).encode()))}:")]
+    signature = request.key.sign("\n".join(lines).encode())
+    return [("Signature-Input", f"spki={parameters}"), ("Signature", f"spki=:{in_base64(signature)}:")]
 
 
 def escaped(text: str) -> str:
@@ -172,8 +175,8 @@ LINES: list[str] = []
 
 
 def row(name: str, gives: str, sent: Request, signature: Optional[Fields] = None, again: Optional[int] = None) -> None:
-    """Adds a row to LINES. `gives` is the verdict that a verifier must return. `signature` are the fields of the signature that are sent: by default
-    those of `sent` itself. `again`: the same request was valid so many seconds before."""
+    """Adds the lines of a row to LINES. `gives` is what a verifier must answer, `valid` or a refusal. `signature` are the fields Signature-Input and
+    Signature that are sent: by default those of `sent` itself. `again`: the same request came so many seconds before, and was valid."""
     signature = signed(sent) if signature is None else signature
     LINES.extend([f"row {name}", f"on {escaped(f'{sent.method}|{sent.target}|{sent.authority}|{sent.now}')}"])
     LINES.extend(f"field {escaped(f'{field_name}: {value}')}" for field_name, value in [*lines_of(sent), *signature])
@@ -199,8 +202,8 @@ WHOLE = Request(components=("@method", "@authority", "@target-uri", KEY))
 
 
 def valid() -> None:
-    """What is valid."""
-    more = [f"x-{it}" for it in range(27)]
+    """Requests that are valid."""
+    more = [f"x-{number}" for number in range(27)]
     for name, request in {
         "Ed25519": GET, "ECDSA": Request(key=CURVE), "ECDSA with P-384": Request(key=LONGER), "RSA": Request(key=MODULUS), "target-uri": WHOLE,
         "ECDSA with P-384 and a body": replace(POST, key=LONGER), "a body with its digest": POST,
@@ -212,7 +215,7 @@ def valid() -> None:
         "components in another order": Request(components=PLAIN[::-1]), "certificates that are left": LEAVE,
         "certificates that are left, of which the digest alone is known": replace(LEAVE, body=None),
         "certificates that are left by P-384": replace(LEAVE, key=LONGER),
-        "32 components": Request(fields=[(it, "1") for it in more], components=(*PLAIN, *more)),
+        "32 components": Request(fields=[(name, "1") for name in more], components=(*PLAIN, *more)),
     }.items():
         row(name, "valid", request)
     row("an empty query is none", "valid", replace(GET, target="/foo?"), signed(Request(target="/foo")))
@@ -229,18 +232,19 @@ def valid() -> None:
 
 
 def changed_requests() -> None:
-    """What is changed on the way."""
+    """Requests that are changed after they were signed."""
+    # (`get` is another method than `GET`, and all but GET and HEAD need a digest of the body)
+    row("a method in small letters", "body-without-digest", replace(GET, method="get"), signed(GET))
     for name, sent in {
-        "another method": replace(GET, method="HEAD"), "a method in small letters": replace(GET, method="get", fields=[digest("")]),
-        "another path": replace(GET, target="/bar?param=Value&Pet=dog"), "a path in capitals": replace(GET, target="/FOO?param=Value&Pet=dog"),
+        "another method": replace(GET, method="HEAD"), "another path": replace(GET, target="/bar?param=Value&Pet=dog"),
+        "a path in capitals": replace(GET, target="/FOO?param=Value&Pet=dog"), "no query any more": replace(GET, target="/foo"),
         "a slash at the end": replace(GET, target="/foo/?param=Value&Pet=dog"), "two slashes": replace(GET, target="//foo?param=Value&Pet=dog"),
         "a segment of a dot": replace(GET, target="/./foo?param=Value&Pet=dog"),
         "a letter in percent-encoding": replace(GET, target="/%66oo?param=Value&Pet=dog"),
-        "another query": replace(GET, target="/foo?param=Value&Pet=cat"), "no query any more": replace(GET, target="/foo"),
-        "a longer query": replace(GET, target="/foo?param=Value&Pet=dog&x=1"),
+        "another query": replace(GET, target="/foo?param=Value&Pet=cat"), "a longer query": replace(GET, target="/foo?param=Value&Pet=dog&x=1"),
         "parameters of the query in another order": replace(GET, target="/foo?Pet=dog&param=Value"),
     }.items():
-        row(name, "body-without-digest" if name == "a method in small letters" else "invalid-signature", replace(sent, fields=[]), signed(GET))
+        row(name, "invalid-signature", sent, signed(GET))
     row("digits of percent-encoding in small letters", "invalid-signature", Request(target="/%7efoo"), signed(Request(target="/%7Efoo")))
     row("a query with target-uri", "invalid-signature", replace(WHOLE, target="/foo?"), signed(replace(WHOLE, target="/foo")))
     row("http's port in target-uri", "invalid-signature", WHOLE, signed(replace(WHOLE, authority="example.com:80")))
@@ -287,7 +291,7 @@ def changed_bodies() -> None:
 
 
 def changed_certificates() -> None:
-    """Certificates that are left at the service, changed."""
+    """Certificates that a client leaves at the service by PUT, changed."""
     row("other certificates left", "other-digest", replace(LEAVE, body=CHAIN[:-2] + "=}"), signed(LEAVE))
     row("no certificates left", "other-digest", replace(LEAVE, body=""), signed(LEAVE))
     row("other certificates left, with their digest", "invalid-signature", replace(LEAVE, fields=[digest("(sequence)")], body="(sequence)"),
@@ -360,10 +364,9 @@ def changed_inputs() -> None:
     sent("components changed in order", "invalid-signature", text.replace('"@method" "@authority"', '"@authority" "@method"'))
     sent("another value of a parameter", "invalid-signature", text.replace("sFzj", "tFzj"))
     sent("an earlier end", "invalid-signature", text.replace(f"expires={NOW + 300}", f"expires={NOW + 299}"))
-    sent("parameters changed in order", "invalid-signature", bare.join(["spki=", ""]).replace(';tag="spki"', "").replace(
-        ";created", ';tag="spki";created'))
+    sent("parameters changed in order", "invalid-signature", text.replace(';tag="spki"', "").replace(";created", ';tag="spki";created'))
     for name in PLAIN:
-        row(f"{name} left out", "missing-component", Request(components=tuple(it for it in PLAIN if it != name)))
+        row(f"{name} left out", "missing-component", Request(components=tuple(other for other in PLAIN if other != name)))
     row("no components", "missing-component", Request(components=()))
     row("path alone beside target-uri", "valid", Request(components=(*WHOLE.components, "@path")))
     row("a component twice", "component-twice", Request(components=(*PLAIN, "@path")))
@@ -408,7 +411,7 @@ def changed_parameters() -> None:
         "a hash with more behind it": f"{alice}0", "a hash between signs": f"#{alice}#", "nothing": "",
         "a hash in base64": in_base64(hashlib.sha256(ALICE.text).digest()), "a hash by SHA-512": hashlib.sha512(ALICE.text).hexdigest(),
         "a hash by SHA-1": hashlib.sha1(ALICE.text).hexdigest(), "the hash of the key's transport form": hash_of(in_braces(ALICE.text).encode()),
-        "the hash of the point alone": hash_of(ALICE.text[-35:-3]),
+        "the hash of the point alone": hash_of(ALICE.text[-35:-3]),  # (its 32 octets are before the last three parentheses)
     }.items():
         row(f"{name} for a keyid", "other-key", Request(keyid=value))
     for algorithm in ("rsa-v1_5-sha256", "hmac-sha256", "ecdsa-p256-sha256", "rsa-pss-sha512", "ED25519", "none", ""):
@@ -438,6 +441,7 @@ def changed_keys() -> None:
         "a key with bits behind its end": "{%s%s==}" % (padded[:-3], chr(ord(padded[-3]) + 1)), "an empty key": "", "an empty key in braces": "{}",
         "a hash in hexadecimal digits for a key": hash_of(ALICE.text), "a key with a parameter": f"{alice};a=1", "a key in quotes": f'"{alice}"',
     }.items():
+        # (some values are texts of MODULUS, and the others of ALICE or of no key)
         row(name, "bad-key", Request(keys=(value,), keyid=hash_of(MODULUS.text) if padded[:-3] in value else None))
     for name, shown in {
         "a hash for a key": b"(4:hash6:sha25632:%s)" % hashlib.sha256(ALICE.text).digest(), "a key of another algorithm":
@@ -471,7 +475,7 @@ def other_keys() -> None:
 
 
 def rsa_key_of(octets: int) -> bytes:
-    """A key of RSA whose modulus has so many octets."""
+    """The canonical text of an RSA key whose modulus has so many octets, each of them 7F."""
     return b"(10:public-key(3:rsa(1:n%s)(1:e3:\1\0\1)))" % string(b"\x7f" * octets)
 
 
@@ -530,7 +534,7 @@ def changed_ecdsa() -> None:
         "in DER": encode_dss_signature(r, s), "with numbers 00": bytes(96), "with numbers of 32 octets": numbers[:32] + numbers[48:80],
         "with numbers of 49 octets": b"\0" + numbers[:48] + b"\0" + numbers[48:],
         "with the order for r": ORDER_384.to_bytes(48, "big") + numbers[48:],
-        "of the other order": numbers[48:] + numbers[:48], "of another digest": BY_SHORT_DIGEST.sign(longer_text.encode()),
+        "of the other order": numbers[48:] + numbers[:48], "of another message": LONGER.sign(b"another message"),
     }.items():
         row_of_signature(f"P-384 {name}", "invalid-signature", longer, longer_text, f":{in_base64(octets)}:")
     other = numbers[:48] + (ORDER_384 - s).to_bytes(48, "big")
@@ -539,7 +543,7 @@ def changed_ecdsa() -> None:
     row("P-384 sent again", "nonce-seen", longer, again=0)
     row("sent again at once", "nonce-seen", GET, again=0)
     row("sent again in its window", "nonce-seen", replace(GET, now=NOW + 299), again=299)
-    row("sent again with another path", "nonce-seen", Request(now=NOW + 1), again=1)
+    row("sent again a second later", "nonce-seen", Request(now=NOW + 1), again=1)
     row("sent again after its window", "expired", replace(GET, now=NOW + 300), again=200)
     row("ECDSA sent again", "nonce-seen", curve, again=0)
 
