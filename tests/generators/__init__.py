@@ -12,5 +12,4 @@
 | `asked`, `questions` | the kinds of questions; a question by a seed and a number |
 | `smaller` | a smaller question that still shows a difference |
 
-Everything is made from a `random.Random`, so a seed and a number give the same text again.
-"""
+Everything is made from a `random.Random`, so a seed and a number give the same text again."""

@@ -4,7 +4,7 @@ from dataclasses import dataclass
 
 @dataclass(frozen=True)
 class Question:
-    """A command and a text. `check_accepted` has the text of the rows beside it."""
+    """A command and a text. For `check_accepted`, `rows` is the text of the accepted signatures, which stand beside the case."""
 
     command: str
     text: bytes
@@ -25,7 +25,7 @@ class Call:
 
 @dataclass(frozen=True)
 class StringQuestion:
-    """A text in canonical form, or nearly, and the path to a string inside it. `command` is the name of all such calls."""
+    """A text in canonical form, or nearly, and a path into it: the number of a member, from 0, for each list. `command` names all such calls."""
 
     text: bytes
     path: tuple[int, ...]

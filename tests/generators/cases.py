@@ -21,14 +21,14 @@ FAULTY = 0.025
 
 @dataclass
 class Subject:
-    """A subject of the chain: a key, or behind it the names of a name that this key defines."""
+    """A subject of the chain: a key, or with `names` the name `(name KEY NAME ..)`, whose first NAME this key defines."""
 
     key: Value
     names: list[bytes] = field(default_factory=list)
 
 
 def word(name: str) -> Value:
-    """A word of a structure."""
+    """A keyword of an S-expression, such as `cert`, as a string without a display hint."""
     return Atom(name.encode())
 
 
@@ -54,7 +54,7 @@ class Builder:
     # ---- parts
 
     def principal(self, key: Value, by_hash: float = 0.3) -> Value:
-        """A key, or with the chance `by_hash` a hash of it."""
+        """A key, or with the chance `by_hash` a hash of it, which may have a field `(uri x)`, and by a small chance a wrong digest."""
         if self.rng.random() >= by_hash:
             return key
         algorithm = self.rng.choice((b"sha1", b"sha256", b"sha256", b"sha512"))
@@ -73,10 +73,10 @@ class Builder:
         return (word("name"), *principal, *map(Atom, subject.names))
 
     def window(self) -> list[Value]:
-        """The fields of a validity that mostly holds the moment."""
+        """The fields of a window that mostly contains the moment: some of `(not-before ..)` and `(not-after ..)`, or `(valid ..)` with them."""
         limits: list[Value] = []
-        for head in ("not-before", "not-after"):
-            fitting = [it for it in MOMENTS if (it <= self.moment if head == "not-before" else it >= self.moment)]
+        earlier, later = [it for it in MOMENTS if it <= self.moment], [it for it in MOMENTS if it >= self.moment]
+        for head, fitting in (("not-before", earlier), ("not-after", later)):
             if self.rng.random() < 0.25:
                 limits.append((word(head), Atom(self.rng.choice(MOMENTS if self.wrong(0.2) else fitting))))
         if self.rng.random() < 0.3:
@@ -113,25 +113,26 @@ class Builder:
         issuer = subject.key if not self.wrong() else self.rng.choice(self.keys)
         principal = self.principal(issuer)
         self.hashed += [issuer] if principal != issuer else []
-        # (a name must be defined, else an authorization goes on; by chance it is the other way)
+        # (a subject that is a name needs a certificate that defines it, a key one that passes a right on; by chance it is the other way)
         defines = bool(subject.names) != self.wrong()
-        given = self.next_subject(0.15 if defines else 0.35)
+        following = self.next_subject(0.15 if defines else 0.35)
         ignored = ("display", "issuer-info", "subject-info", "comment")
         version: list[Value] = [(word("version"), Atom(b"0"))] if self.wrong(0.08) else []
-        follows: Value = (word("subject"), self.subject(given, issuer))
+        subject_field: Value = (word("subject"), self.subject(following, issuer))
         if defines:
             name = subject.names[0] if subject.names and not self.wrong() else self.rng.choice(NAMES)
-            needed = [*version, (word("issuer"), (word("name"), principal, Atom(name))), follows]
+            needed = [*version, (word("issuer"), (word("name"), principal, Atom(name))), subject_field]
             fields = self.fields(*needed, propagate=self.wrong(0.01), ignored=ignored)
-            given.names += subject.names[1:]
+            following.names += subject.names[1:]
         else:
-            needed = [*version, (word("issuer"), principal), follows, self.tag()]
+            needed = [*version, (word("issuer"), principal), subject_field, self.tag()]
             fields = self.fields(*needed, propagate=not is_last and not self.wrong(0.04), ignored=ignored)
         self.sign((word("cert"), *fields), issuer)
-        return given
+        return following
 
     def sign(self, certificate: Value, key: Value) -> None:
-        """Adds a certificate with its signature, and the row that says that it was verified."""
+        """Adds a certificate with its signature by a key, and the row that says that the signature was verified. By a small chance the certificate,
+        its digest, the signer or the row is wrong, or the row is missing."""
         if self.wrong():
             certificate = mutated(certificate, self.rng)
         octets = canonical(certificate)
@@ -196,9 +197,9 @@ class Builder:
 
 
 def with_rows_apart(case: Value, rng: random.Random) -> tuple[Value, Value]:
-    """A case and all its rows, which are a value of their own. The case keeps all, all but one, or the first."""
+    """A case, and its list `(accepted ROW ..)` as a value of its own. The list that stays in the case has no row, all rows, or all but the last."""
     assert isinstance(case, tuple)
-    rows = case[2]
-    assert isinstance(rows, tuple)
-    inside = rng.choice((rows[:1], rows, rows[:-1]))
-    return (*case[:2], inside, *case[3:]), rows
+    accepted = case[2]
+    assert isinstance(accepted, tuple)
+    inside = rng.choice((accepted[:1], accepted, accepted[:-1]))
+    return (*case[:2], inside, *case[3:]), accepted

@@ -3,7 +3,7 @@ import random
 from dataclasses import dataclass, replace
 from typing import Union
 
-from model.guard import ALLOWED, FIRST_SECOND, HIGHEST, LAST_SECOND, MISUSES, OPENED, USUAL, WISHES, Limits
+from model.guard import ALLOWED, FIRST_SECOND, HIGHEST, LAST_SECOND, MISUSES, OPEN, OPENED, STRICT, USUAL, WISHES, Limits
 from model.values import Atom, Value, canonical
 
 from .asked import Call, Question, StringQuestion
@@ -20,9 +20,9 @@ STRINGS = (b"", b"ftp", b"x) (at ", b"1:a", b"\x00\xff", b"(", b"a.o read")
 
 @dataclass(frozen=True)
 class GuardQuestion:
-    """A question to a guard: what is wanted, the list, the parts, the rows that the verifier looks into, the policy and the limits.
-    Where there are strings or seconds, they stand in the place of the text. The oddity is what is misuse in the calls, or which pointer is
-    null that may be; mostly it is empty."""
+    """A question to a guard: `guard decide`, `guard explain` or `guard reduce`, the list, the parts, the rows that the verifier looks into, the
+    policy and the limits. Where there are strings of the request or seconds of the moment, they stand in the place of the text. `oddity` names what
+    is misuse in the calls, or which pointer is null that may be. Mostly it is empty."""
 
     command: str
     acl: bytes
@@ -50,10 +50,11 @@ def guard_question(rng: random.Random) -> GuardQuestion:
     key, request, moment = (part[1] for part in case[4:7] if isinstance(part, tuple))
     strings = strings_of(request, rng)
     wish = rng.choice(list(WISHES))
-    return GuardQuestion(
-        "guard " + wish, part_text(acl, rng), part_text(sequence, rng), part_text(key, rng), part_text(request, rng),
-        part_text(moment, rng), canonical(rows), strings, rng.choice(SECONDS) if rng.random() < 0.15 else None, int(len(case) != 8),
-        limits_for(wish, rng))
+    # (a case has seven members with its head, and `(policy strict)` may be an eighth)
+    policy = STRICT if len(case) == 8 else OPEN
+    return GuardQuestion("guard " + wish, part_text(acl, rng), part_text(sequence, rng), part_text(key, rng), part_text(request, rng),
+                         part_text(moment, rng), canonical(rows), strings, rng.choice(SECONDS) if rng.random() < 0.15 else None, policy,
+                         limits_for(wish, rng))
 
 
 def limits_for(wish: str, rng: random.Random) -> Limits:
@@ -66,7 +67,8 @@ def limits_for(wish: str, rng: random.Random) -> Limits:
 
 
 def with_oddity(question: GuardQuestion, rng: random.Random, oddity: str) -> GuardQuestion:
-    """The question with an oddity, a row of MISUSES or ALLOWED: for four of them the policy or a limit is wrong, others are made in the calls."""
+    """The question with an oddity, the name of a row of MISUSES or ALLOWED. For four of them its policy or a limit is set wrong here. The others are
+    made in the calls (harness/guard_door.py)."""
     policy = rng.choice((2, 3, 255, 2**31, 2**32 - 1)) if oddity == NO_POLICY else question.policy
     octets = rng.choice((HIGHEST.octets + 1, 2**63, 2**64 - 1)) if oddity == OCTETS_ABOVE else USUAL.octets
     nodes = rng.choice((HIGHEST.nodes + 1, 2**63, 2**64 - 1)) if oddity == NODES_ABOVE else USUAL.nodes

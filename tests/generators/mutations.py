@@ -125,7 +125,7 @@ def some_place(value: Value, rng: random.Random) -> Path:
 
 
 def part(value: Value, path: Path) -> Value:
-    """The part of a value at a place."""
+    """The part of a value at a path."""
     for number in path:
         assert isinstance(value, tuple)
         value = value[number]
@@ -143,7 +143,7 @@ def replaced(value: Value, path: Path, parts: tuple[Value, ...]) -> Value:
 
 
 def with_near_form(value: Value, rng: random.Random) -> Value:
-    """A value in which one structure is replaced by a form of NEARLY for its head, or if it has none a part by one of LISTS."""
+    """A value in which one list is replaced by a form of NEARLY for its head. If no list has such a head, some part is replaced by one of LISTS."""
     heads = [(path, head) for path in places(value) if (head := head_of(part(value, path))) in NEARLY]
     if not heads:
         return replaced(value, some_place(value, rng), (rng.choice(LISTS),))
@@ -168,7 +168,8 @@ def with_faulty_first(value: Value, rng: random.Random) -> Value | None:
 
 
 def mutated(value: Value, rng: random.Random) -> Value:
-    """A value that mostly differs from the given one at one place. By chance that place is a structure, a first member, or any part."""
+    """A value that mostly differs from the given one at one place. By chance a faulty member is put behind a head, a list becomes a form of NEARLY,
+    or any part is changed: left out, doubled, replaced, followed by one of LISTS, put into a list, or changed inside."""
     kind = rng.random()
     if kind < 0.15 and (faulty := with_faulty_first(value, rng)):
         return faulty
@@ -215,8 +216,8 @@ def changed_list(old: tuple[Value, ...], rng: random.Random) -> Value:
 def changed_octets(text: bytes, rng: random.Random) -> bytes:
     """A text with one octet changed, dropped, doubled, put in or swapped with the next one."""
     at = rng.randrange(len(text) + 1)
-    before, old, following, new = text[:at], text[at:at + 1], text[at + 1:], bytes([rng.choice(OCTETS)])
-    return before + rng.choice((new + following, following, 2 * old + following, new + old + following, following[:1] + old + following[1:]))
+    before, old, rest, new = text[:at], text[at:at + 1], text[at + 1:], bytes([rng.choice(OCTETS)])
+    return before + rng.choice((new + rest, rest, 2 * old + rest, new + old + rest, rest[:1] + old + rest[1:]))
 
 
 def changed_length(text: bytes, rng: random.Random) -> bytes:
@@ -225,7 +226,7 @@ def changed_length(text: bytes, rng: random.Random) -> bytes:
     if not lengths:
         return changed_octets(text, rng)
     digits = rng.choice(lengths)
-    length = int(digits[0][:9])
+    length = int(digits[0][:9])  # (SNIPPETS have longer ones)
     new = rng.choice((b"%d" % (length + 1), b"%d" % max(0, length - 1), b"0" + digits[0], b"%d" % (length + 10**rng.choice((1, 2, 9, 19))),
                       digits[0] + b" "))
     return text[:digits.start()] + new + text[digits.end():]

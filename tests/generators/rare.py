@@ -11,7 +11,7 @@ EVERY = 20_000
 
 
 def too_long(rng: random.Random) -> bytes:
-    """A text of one octet too many, or of just as many as are read."""
+    """A string as a text of one octet too many, or of just as many as are read. Its length, of seven digits, and the colon are 8 of them."""
     return b"%d:" % (LONGEST - 8) + (LONGEST - 8 + rng.choice((0, 1, 1, 1, 1))) * b"a"
 
 
@@ -21,12 +21,13 @@ def too_long_in_braces(rng: random.Random) -> bytes:
 
 
 def text_that_grows(rng: random.Random) -> bytes:
-    """A text within the limit whose canonical form has one octet too many, or just as many as are read: 4 octets `[a]b` are 8 there."""
+    """A text within the limit whose canonical form has one octet too many, or just as many as are read: 4 octets `[a]b` are 8 there. The octets `b`
+    at the end lengthen the last of these strings."""
     return b"(" + 131_071 * b"[a]b" + (7 if rng.randrange(8) else 6) * b"b" + b")"
 
 
 def many_strings(kind: bytes, count: int) -> Value:
-    """A tag of `count` nodes of the kind `list` or `set`, with the same string in all places. A list and its head are two nodes, a set is one."""
+    """A tag of `count` nodes: a `list` or a `set`, as `kind` says, of equal strings. A list and its head are two nodes, a set is one."""
     head = (Atom(b"f"),) if kind == b"list" else (Atom(b"*"), Atom(b"set"))
     return (*head, *(count - (2 if kind == b"list" else 1)) * (Atom(b"x"),))
 
@@ -61,7 +62,7 @@ class LargeTags(Builder):
         return chance >= 0.1 and super().wrong(chance)
 
     def tag(self) -> Value:
-        """A field with a large tag."""
+        """A field with a tag of 1,000 or 1,001 nodes, of which two have a product near the limit of 1,000,000, or of 1,025, one more than is read."""
         return (Atom(b"tag"), many_strings(b"list", self.rng.choice((1000, 1000, 1001, 1001, 1025 if self.wrong(0.5) else 1001))))
 
 
@@ -74,7 +75,7 @@ class GrowingTags(LargeTags):
         self.left = [many_strings(b"set", rng.choice((101, 102))), many_strings(b"list", rng.choice((100, 101)))]
 
     def tag(self) -> Value:
-        """The tags of the two certificates, and then that of each entry."""
+        """A field with the next tag: first those of the two certificates, which are in `left`, then a set of 100 nodes for each entry."""
         return (Atom(b"tag"), self.left.pop(0) if self.left else many_strings(b"set", 100))
 
     def next_subject(self, name_chance: float) -> Subject:

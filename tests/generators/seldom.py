@@ -16,7 +16,7 @@ from .guards import ODDITIES, Asked, GuardQuestion, with_oddity
 from .mutations import FIRST, NEARLY, SNIPPETS, part, places, replaced
 from .rare import many_strings
 
-# makes the question of one number (`questions.question`)
+# A maker returns the question of one number (`questions.question`). What it leaves to chance, it takes from the random numbers.
 Maker = Callable[[random.Random], Asked]
 OF_CASES = ("check", "explain", "reduce", "check_accepted")
 KEY, OTHER = (advanced.read(b"(public-key (test %s))" % name) for name in (b"a", b"b"))
@@ -121,7 +121,7 @@ def to_guard_oddly(question: GuardQuestion, oddity: str) -> Maker:
 
 
 def makers_of_texts() -> Iterator[Maker]:
-    """Makers of texts with each snippet, in each form."""
+    """Makers of texts for some command: each snippet alone, in a list, and in braces."""
     for snippet in (*SNIPPETS, (DEEPEST + 1) * b"(", DEEPEST * b"("):
         yield to_some_command(snippet)
         yield to_some_command(b"(a " + snippet + b")")
@@ -146,8 +146,9 @@ def makers_of_guards() -> Iterator[Maker]:
     for wish in WISHES:
         question = guard_question_of(case_of_two_lists(4, 4), wish)
         yield from (always(replace(question, limits=Limits(nodes=nodes))) for nodes in (15, 16))
-        # 4 nodes, each times 32, 15 for 4 nodes, 3 tags and 3 octets
+        # (the work is 392: for each of 4 nodes 32, 15 times 4 nodes, 3 nodes without the head, 3 octets)
         yield from (always(replace(question, limits=Limits(work=work))) for work in (391, 392))
+        # (`entry 1 grants` and the end of its line are 15 octets)
         yield from (always(replace(question, limits=Limits(answer=answer))) for answer in (1, 12, 15, 16, 17, 1000))
         yield always(guard_question_of(case_of_two_lists(1000, 1001), wish))
         yield from (always(replace(question, acl=acl)) for acl in (b"acl", b'(acl (version "1"))', b"(acl (version [0:]1:0))"))

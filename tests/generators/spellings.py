@@ -37,7 +37,9 @@ def in_braces(octets: bytes, rng: random.Random) -> bytes:
 
 def with_less_padding(body: bytes, rng: random.Random) -> bytes:
     """Base64, by chance without some or all of its padding."""
-    return body[:-1] if body.endswith(b"=") and rng.random() < 0.3 else body.rstrip(b"=") if rng.random() < 0.2 else body
+    if body.endswith(b"=") and rng.random() < 0.3:
+        return body[:-1]
+    return body.rstrip(b"=") if rng.random() < 0.2 else body
 
 
 def with_whitespace(body: bytes, rng: random.Random) -> bytes:
@@ -63,15 +65,20 @@ def advanced(value: Value, rng: random.Random, wild: float) -> bytes:
     for member in value:
         text = advanced(member, rng, wild)
         run_together = before[-1] in TOKEN_OCTETS and text[0] in TOKEN_OCTETS
-        pieces.append(rng.choice(SPACES) if run_together and rng.random() < wild else b" " if before != b"(" and rng.random() > wild
-                      else b" " if run_together else spaces(rng))
-        pieces.append(text)
+        if run_together and rng.random() < wild:
+            space = rng.choice(SPACES)
+        elif before != b"(" and rng.random() > wild:
+            space = b" "
+        else:
+            space = b" " if run_together else spaces(rng)
+        pieces += [space, text]
         before = text
     return b"".join((*pieces, spaces(rng, wild / 5), b")"))
 
 
 def string(octets: bytes, rng: random.Random, wild: float) -> bytes:
-    """A string in one of the ways of advanced form. `wild` is the chance that it is not written as it would be printed."""
+    """A string in one of the ways of advanced form: a token, hexadecimal digits, base64, quotes, or its length, `:` and its octets. `wild` is the
+    chance that it is not written as it would be printed."""
     if rng.random() >= wild:
         if TOKEN.fullmatch(octets):
             return octets
@@ -91,11 +98,11 @@ def string(octets: bytes, rng: random.Random, wild: float) -> bytes:
 
 def mixed_case(digits: bytes, rng: random.Random) -> bytes:
     """Hexadecimal digits of lower case, of upper case or of both."""
-    return rng.choice((digits, digits.upper(), bytes(rng.choice((it, *bytes([it]).upper())) for it in digits)))
+    return rng.choice((digits, digits.upper(), bytes(rng.choice((digit, *bytes([digit]).upper())) for digit in digits)))
 
 
 def quoted(octets: bytes, rng: random.Random) -> bytes:
-    """A string in quotes, with escapes by chance."""
+    """A string in quotes, by chance with escapes, and with escaped line ends, which add nothing to it."""
     pieces = []
     for octet in octets:
         if octet in b'"\\' or octet in LETTERS or rng.random() < 0.15:
@@ -108,7 +115,7 @@ def quoted(octets: bytes, rng: random.Random) -> bytes:
 
 
 def rejoined(pieces: list[bytes]) -> bytes:
-    """The pieces side by side. A raw line end that would lengthen an escaped one before it is written as an escape."""
+    """The pieces side by side. A raw CR or LF behind an escaped line end is written as an escape: a backslash with CR LF is one line end."""
     text = b""
     for piece in pieces:
         if piece in (b"\n", b"\r") and text.endswith((b"\\\n", b"\\\r")):

@@ -43,7 +43,7 @@ def tag_for(allowed: Value, rng: random.Random, depth: int = 3) -> Value:
 
 
 def near(body: bytes, rng: random.Random) -> bytes:
-    """A string, or by chance one near it."""
+    """A string, or by chance one that is an octet longer or shorter, or differs in its last octet."""
     if rng.random() < 0.85:
         return body
     return rng.choice((body + b"\xff", body[:-1], body + b"a", body[:-1] + bytes([(body[-1] + 1) % 256]) if body else b"a"))
@@ -65,7 +65,7 @@ def range_for(body: bytes, rng: random.Random) -> Value:
 
 
 def tag(rng: random.Random, depth: int = 2) -> Value:
-    """Any written tag."""
+    """A written tag of any kind. The less `depth` is, the fewer lists and sets are inside one another."""
     kind = rng.random()
     if kind < 0.05:
         return STAR
@@ -79,26 +79,27 @@ def tag(rng: random.Random, depth: int = 2) -> Value:
 
 
 def pair(rng: random.Random) -> tuple[Value, Value]:
-    """Two tags, which mostly have a request in common."""
+    """Two written tags, which mostly have a request in common."""
     if rng.random() < 0.05:
-        return strings_tag_for(body := rng.choice(STRINGS), rng), strings_tag_for(body, rng)
+        body = rng.choice(STRINGS)
+        return strings_tag_for(body, rng), strings_tag_for(body, rng)
     if rng.random() < 0.12:
         return two_sets(rng)
-    asked = request(rng)
-    first = tag_for(asked, rng)
+    common = request(rng)
+    first = tag_for(common, rng)
     if rng.random() < 0.08:
         return first, first
     if rng.random() < 0.2:
-        asked = changed_request(asked, rng)
-    return first, tag_for(asked, rng) if rng.random() < 0.85 else tag(rng)
+        common = changed_request(common, rng)
+    return first, tag_for(common, rng) if rng.random() < 0.85 else tag(rng)
 
 
 def two_sets(rng: random.Random) -> tuple[Value, Value]:
-    """Two sets with tags for the same requests, in some order each."""
-    asked = [request(rng, 1) for _ in range(rng.choice((2, 2, 3, 3, 4, 12)))]
+    """Two written sets with tags for the same requests, in some order each."""
+    requests = [request(rng, 1) for _ in range(rng.choice((2, 2, 3, 3, 4, 12)))]
     sets = []
     for _ in range(2):
-        members = [tag_for(it, rng, 1) if rng.random() < 0.5 else it for it in asked]
+        members = [tag_for(each, rng, 1) if rng.random() < 0.5 else each for each in requests]
         members += [tag(rng, 1)] if rng.random() < 0.3 else []
         rng.shuffle(members)
         sets.append((*NOTHING, *members))
