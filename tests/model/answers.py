@@ -1,7 +1,6 @@
 """The lines and exit statuses of the commands, and of decisions by rows apart (sections "The program", "The library for C programs").
 
-An answer is a pair: the exit status, and what the program writes. `X.count_use(row)` counts a row of a table of the document.
-"""
+An answer is a pair: the exit status, and what the program writes. `X.count_use(row)` counts a row of a table of the document."""
 from collections.abc import Callable
 from contextlib import AbstractContextManager
 
@@ -44,7 +43,7 @@ class ModelDisagrees(Exception):
 
 
 class Refused(Exception):
-    """The words behind `refused`."""
+    """Why a text is refused: the words behind `refused` in the line."""
 
 
 # ---- the commands
@@ -85,16 +84,18 @@ def refusal(row: str, words: object) -> Refused:
 
 def too_large(command: str, why: TooLarge) -> Refused:
     """The Refused to raise where a tag is too large. Its row in REFUSALS says whether a guard's lower limit is the cause."""
-    by = "" if not why.is_of_guard else ", by a guard's work" if why.is_work else ", by a guard's product"
-    return refusal(f"TooLarge: {command}{by}", "TooLarge")
+    limit = "work" if why.is_work else "product"
+    return refusal(f"TooLarge: {command}" + (f", by a guard's {limit}" if why.is_of_guard else ""), "TooLarge")
 
 
 def answer_of_text(command: str, text: bytes) -> Answer:
-    """The answer of a command to a text. Raises Refused."""
+    """The answer of a command to a text, whose status is not that of a refusal: for that it raises Refused."""
     if command in ("canonical", "advanced", "transport"):
         value = read_text(text, within_limit=False)
         LINES.count_use(command)
-        return YES, canonical(value) if command == "canonical" else (printed if command == "advanced" else transport)(value) + b"\n"
+        if command == "canonical":
+            return YES, canonical(value)
+        return YES, (printed(value) if command == "advanced" else transport(value)) + b"\n"
     if command == "intersect":
         return YES, intersect(read_text(text))
     case = read_case(text)

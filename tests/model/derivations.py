@@ -1,10 +1,9 @@
 """Whether some derivation grants a request, by trying every bracketing (RFC 2693, sections 6.3 and 6.4).
 
-This is the meaning of an answer, apart from how one is computed: a tree over the entry and all certificates in their order, each inner
-node being one of the RFC's rules. A tag counts as the set of its requests, and a window as the set of its moments. So the request has
-to be in every tag of the tree, and the moment in every window. No tags are intersected, and there is no limit. The left fold of
-`reduction` has to say the same.
-"""
+This is the meaning of an answer, apart from how one is computed: a tree over the entry and all certificates in their order, in which each inner node
+is made by one of the RFC's rules. A tag counts as the set of its requests, and a window as the set of its moments. So the request has to be in every
+tag of the tree, and the moment in every window. No tags are intersected, and there is no limit. The left fold of `reduction` has to say the same."""
+import itertools
 from collections.abc import Iterator
 from dataclasses import dataclass
 
@@ -58,14 +57,15 @@ def node_of(step: Tuple) -> Node:
 
 
 def roots(leaves: list[Node], strict: bool) -> set[Node]:
-    """The roots of all trees over the leaves in their order. `within[a, b]` has those over the leaves from a up to b."""
+    """The roots of all trees over the leaves in their order. `within[a, b]` has those over the leaves from a up to, and without, b."""
     count = len(leaves)
     within: dict[tuple[int, int], set[Node]] = {(at, at + 1): {leaf} for at, leaf in enumerate(leaves)}
     for length in range(2, count + 1):
         for begin in range(count - length + 1):
             end = begin + length
-            within[begin, end] = {root for middle in range(begin + 1, end) for left in within[begin, middle] for right in within[middle, end]
-                                  for root in rules(left, right, strict)}
+            halves = [(within[begin, middle], within[middle, end]) for middle in range(begin + 1, end)]
+            pairs = itertools.chain.from_iterable(itertools.product(lefts, rights) for lefts, rights in halves)
+            within[begin, end] = {root for left, right in pairs for root in rules(left, right, strict)}
     return within[0, count]
 
 

@@ -20,7 +20,6 @@ LIMITS = Rows("intersection, limits", [
     for case in ("none", "one is missing", "another string", "equal strings, strict and not", "equal strings and words")])
 REFUSED = Rows("intersection, refused", ["TooLarge", "the product is 1,000,000"])
 
-
 # What the context `limited` sets: the most that a product of nodes may be, and how much work is left, None without a limit.
 most_product = MOST_PRODUCT
 most_work: int | None = None

@@ -1,8 +1,7 @@
 """What docs/FORMATS.md says of answers beside the tables, tried on the model's own answers.
 
 What is written is read again as the same value, as far as it is within the limits of what is read. An intersection contains a request
-exactly if both tags do: the rules and the sets of requests are two sections of the document, and this compares them.
-"""
+exactly if both tags do: the rules and the sets of requests are two sections of the document, and this compares them."""
 from collections.abc import Callable, Iterable
 
 from . import forms, tags

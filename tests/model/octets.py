@@ -19,11 +19,8 @@ def past_whitespace(text: bytes, at: int) -> int:
 
 
 def from_base64(body: bytes) -> bytes | None:
-    """The octets that a body of base64 means (RFC 4648), None if it is no base64.
-
-    The body consists of symbols, `=` and whitespace, which is ignored. Some or all of the padding may be left out. Bits that the last
-    symbol has to spare are zero.
-    """
+    """The octets that a body of base64 means (RFC 4648), None if it is no base64. The body consists of symbols, `=` and whitespace, which is ignored.
+    Some or all of the padding may be left out. Bits that the last symbol has to spare must be zero."""
     parts = BODY.fullmatch(body.translate(None, WHITESPACE))
     if not parts:
         NO_BASE64.count_use("a symbol behind padding")
@@ -40,5 +37,6 @@ def from_base64(body: bytes) -> bytes | None:
     if base64.b64encode(octets).rstrip(b"=") != symbols:
         NO_BASE64.count_use("spare bits")
         return None
-    PADDING.count_use("none is wanted" if not padding_length else "whole" if len(padding) == padding_length else "in part" if padding else "left out")
+    given = "whole" if len(padding) == padding_length else "in part" if padding else "left out"
+    PADDING.count_use(given if padding_length else "none is wanted")
     return octets

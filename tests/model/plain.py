@@ -1,4 +1,4 @@
-"""Values as Python has them: a string is `bytes`, a string with a display hint a pair of `bytes`, a list a `list`."""
+"""Plain values, of Python's own types: a string is `bytes`, a string with a display hint a pair of `bytes` (hint, string), a list a `list`."""
 from typing import Any
 
 from . import canonical as forms
@@ -8,29 +8,29 @@ from .values import Atom, Value
 
 
 def plain(value: Value) -> Any:
-    """A value as Python has it."""
+    """The plain value of a value of the model."""
     if isinstance(value, Atom):
         return value.body if value.hint is None else (value.hint, value.body)
     return [plain(member) for member in value]
 
 
-def value_of(own: Any) -> Value:
-    """The value of what Python has: the inverse of `plain`."""
-    if isinstance(own, list):
-        return tuple(map(value_of, own))
-    return Atom(own[1], own[0]) if isinstance(own, tuple) else Atom(own)
+def value_of(plain_value: Any) -> Value:
+    """The value of the model of a plain value: the inverse of `plain`."""
+    if isinstance(plain_value, list):
+        return tuple(map(value_of, plain_value))
+    return Atom(plain_value[1], plain_value[0]) if isinstance(plain_value, tuple) else Atom(plain_value)
 
 
 def read(text: bytes) -> Any:
-    """The value of a canonical text."""
+    """The plain value of a canonical text. Raises FormFault if the text is not one."""
     return plain(forms.read(text))
 
 
-def canonical(it: Any) -> bytes:
-    """The canonical text of a value."""
-    return values.canonical(value_of(it))
+def canonical(plain_value: Any) -> bytes:
+    """The canonical text of a plain value."""
+    return values.canonical(value_of(plain_value))
 
 
-def on_one_line(it: Any) -> str:
-    """The printed text of a value."""
-    return printed(value_of(it)).decode()
+def on_one_line(plain_value: Any) -> str:
+    """The printed text of a plain value, which has no line breaks."""
+    return printed(value_of(plain_value)).decode()

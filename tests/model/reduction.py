@@ -1,7 +1,6 @@
 """What an entry and the certificates become, joined from the left (section "Evidence and decision"; RFC 2693, 6.3 and 6.4).
 
-What a join costs is the row "work" of section "Questions to a guard".
-"""
+What a join costs is the row "work" of section "Questions to a guard"."""
 from .coverage import Rows
 from .evidence import Authorization, Definition, Tuple, names
 from .intersection import counting_work, intersection, spend_work

@@ -1,7 +1,6 @@
 """Keys, hashes, names, dates, entries, certificates, sequences (section "Keys, hashes, dates, entries, certificates").
 
-Each reader takes a value, and gives what it says or raises the first fault in reading order.
-"""
+Each reader takes a value, and gives what it says or raises the first fault in reading order."""
 import hashlib
 import re
 from collections.abc import Callable, Iterable

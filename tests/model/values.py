@@ -1,7 +1,6 @@
 """Values, and their canonical texts (RFC 9804, section 6.2).
 
-A value is a string, which is an `Atom`, or a list, which is a tuple of values.
-"""
+A value is a string, which is an `Atom`, or a list, which is a tuple of values."""
 from dataclasses import dataclass
 from typing import TypeGuard, Union
 
