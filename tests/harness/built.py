@@ -30,27 +30,27 @@ def existing(path: str) -> str:
 
 
 def program() -> str:
-    """The program that is tested."""
+    """The path of the program that is tested. Raises FileNotFoundError if it is not built."""
     return existing(os.environ.get("SPKI_TEST_PROGRAM", PROGRAM))
 
 
 def library() -> str:
-    """The static library that is tested."""
+    """The path of the static library that is tested. Raises FileNotFoundError if it is not built."""
     return existing(os.environ.get("SPKI_TEST_LIBRARY", LIBRARY))
 
 
 def shared() -> str:
-    """The shared library that is tested."""
+    """The path of the shared library that is tested. Raises FileNotFoundError if it is not built."""
     return existing(library().removesuffix(".a") + ".so")
 
 
 def arm() -> str:
-    """The static library for ARM that is tested. The shared one lies beside it."""
+    """The path of the static library for ARM that is tested. The shared one is beside it. Raises FileNotFoundError if it is not built."""
     return existing(os.path.join(os.path.dirname(library()), ARM, "libspki_c.a"))
 
 
 class OfProgram(unittest.TestCase):
-    """Tests of the program."""
+    """The base of tests of the program: `program` is its path."""
 
     program: str
 
@@ -60,7 +60,7 @@ class OfProgram(unittest.TestCase):
 
 
 class OfLibrary(OfProgram):
-    """Tests of the library. They have the program too, whose answers some compare with those of the library."""
+    """The base of tests of the library: `library` and `shared` are the paths of both kinds. Some compare its answers with those of the program."""
 
     library: str
     shared: str

@@ -1,9 +1,8 @@
 """What the rows of docs/PROOFS.md cite: functions, clauses of their contracts, and definitions that these clauses lead to.
 
-A cell has phrases, one behind the other with `;`. A phrase names functions, then clauses, and in parentheses definitions, as in
-"`decide`, `exact` (`IsDecision`)": each clause must be in the contract of one of the functions before it, and each definition must be
-cited by such a contract, or by a definition that it leads to. A phrase that names no function, such as "the readers' `named`", is about
-all functions of the crates of its section."""
+A cell has phrases, one behind the other with `;`. A phrase names functions, then clauses, and in parentheses definitions, as in "`decide`, `exact`
+(`IsDecision`)": each clause must be in the contract of one of the functions before it, and each definition must be cited by such a contract, or by a
+definition that it leads to. A phrase that names no function, such as "the readers' `named`", is about all functions of the crates of its section."""
 import re
 from collections.abc import Iterable, Iterator
 
@@ -43,7 +42,7 @@ class Sources:
                 self.contracts.setdefault(name, [])
         for path in specs:
             for name, body in DEFINITION.findall(text_of(path)):
-                self.cited.setdefault(name, set()).update(WORD.findall(body), [])
+                self.cited.setdefault(name, set()).update(WORD.findall(body))
 
     def contracts_of(self, name: str) -> list[str] | None:
         """The contracts of the functions with a name, [] for a type. Where no function has the name with the type before it, those of all functions
@@ -62,21 +61,21 @@ class Sources:
         """A line for each name of a cell that is not where the cell says. A phrase, up to a semicolon, has functions and then names of their clauses;
         the definitions in parentheses are those to which these contracts lead. `default` are the contracts of the crates of its section: those of a
         phrase without a function. Behind the word `calls` or `readers` each name is a clause."""
-        # (is_closed: a clause was named, so the next function begins a new list)
-        contracts, is_closed, is_inside, is_of_all = default, True, False, False
+        # `contracts` are those of the functions named last. Behind a clause (is_closed) the next function begins a new list of them.
+        contracts, is_closed, is_in_parentheses, are_all_clauses = default, True, False, False
         for mark, word, name in re.findall(r"([();])|\b(calls?|readers)\b|`([\w:-]+)`", cell):
-            called = None if is_of_all else self.contracts_of(name)
+            named = None if are_all_clauses else self.contracts_of(name)
             if mark:
-                is_inside = mark == "(" or is_inside and mark == ";"
-                if mark == ";" and not is_inside:
-                    contracts, is_closed, is_of_all = default, True, False
+                is_in_parentheses = mark == "(" or is_in_parentheses and mark == ";"
+                if mark == ";" and not is_in_parentheses:
+                    contracts, is_closed, are_all_clauses = default, True, False
             elif word:
-                is_of_all = True
-            elif is_inside:
+                are_all_clauses = True
+            elif is_in_parentheses:
                 if not self.leads_to(contracts, name):
                     yield f"no contract leads to {name}"
-            elif called is not None and (contracts is default or not has_clause(contracts, name)):
-                contracts, is_closed = (called if is_closed else [*contracts, *called]), False
+            elif named is not None and (contracts is default or not has_clause(contracts, name)):
+                contracts, is_closed = (named if is_closed else [*contracts, *named]), False
             elif not has_clause(contracts, name) and name not in OF_LANGUAGE:
                 yield f"no clause {name}"
             else:
@@ -85,7 +84,8 @@ class Sources:
 
 def unclaimed(page: str, header: str, source: str) -> Iterator[str]:
     """A line for each function `spki_c_..` of a source that no row of the page's section `spki_c` has, and for each call of a header for C that calls
-    no such function of its own name and that the words before the rows do not explain. All three are paths."""
+    no such function of its own name and that the words before the rows do not explain: by its whole name, or by an end of it that begins with `_`.
+    All three are paths."""
     section = next(rows for head, rows in SECTION.findall(text_of(page)) if head == "`spki_c`")
     introduction, _, rows = section.partition("\n|")
     exports = set(re.findall(r"^\w[\w *]*\b(spki_c_\w+)\(", text_of(source), re.MULTILINE))
@@ -103,7 +103,7 @@ def has_clause(contracts: list[str], name: str) -> bool:
 
 
 def faults(page: str, sources: Sources) -> Iterator[str]:
-    """A line for each name that the rows of a page cite wrongly."""
+    """A line for each name that a row of a page cites, and that is not in the sources where the row says. `page` is a path."""
     for head, rows in SECTION.findall(text_of(page)):
         crates = re.findall(r"`(\w+)`", head) or list(sources.of_crate)
         default = [contract for crate in crates for contract in sources.of_crate.get(crate, [])]

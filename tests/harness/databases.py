@@ -28,7 +28,7 @@ SETTINGS = {"listen_addresses": "", "fsync": "off", "max_connections": "100", "w
 
 
 def program(name: str) -> str:
-    """The path of a program of the server, which Debian keeps outside of the path."""
+    """The path of a program of PostgreSQL, of the installed version whose folder is last by name. Debian has them in no folder of PATH."""
     return sorted(glob.glob(f"/usr/lib/postgresql/*/bin/{name}"))[-1]
 
 
@@ -127,7 +127,7 @@ class Server:
         return replica
 
     def source(self, primary: Server) -> str:
-        """The settings of libpq by which this replica follows its primary, which knows it by the name of its folder."""
+        """The settings of libpq by which this replica follows its primary. There the replica has the name of its folder."""
         return f"host={primary.host} user=postgres application_name={os.path.basename(self.folder)}"
 
     def promote(self) -> None:

@@ -12,7 +12,7 @@ SECONDS = 1800
 
 
 def settings(library: str) -> dict[str, str]:
-    """The environment of a command that links this library."""
+    """The environment of a `go` command that links this library and uses no network. The flag `-D` makes Go link again if the library has changed."""
     with open(library, "rb") as file:
         digest = hashlib.sha256(file.read()).hexdigest()
     return {**os.environ, "GOCACHE": os.path.join(TESTS, "out", "go"), "GOFLAGS": "-mod=mod", "GOPROXY": "off", "GOENV": "off", "GOWORK": "off",

@@ -17,7 +17,7 @@ from model.values import Atom
 ROOM = 64
 # so many structures have more octets than an array can have
 MANY = 2**60
-# a place near the end of what a number can be: as a negative one it is -271
+# a place far past all signatures: with the count of those that are listed, at most 16, it is up to 2^64 - 255, so it still has 64 bits
 NEAR_MOST = 2**64 - 255 - 16
 # What stands for the signatures of a question that the library lists wrongly: no question has it.
 LISTED_WRONGLY: list[Signed] = [(b"", b"", b"")]
@@ -78,8 +78,8 @@ def parts_of(question: GuardQuestion) -> Parts:
 
 
 class GuardDoor:
-    """The calls for guards, of a library that is loaded. The `oddity` of a question is what is wrong or null in its calls: a row of MISUSES or
-    ALLOWED of model/guard.py, or empty."""
+    """The calls for guards, of a library that is loaded. A `handle` points to a guard, and `asked` to a question that it has opened. The `oddity` of
+    a question is what is wrong or null in its calls: a row of MISUSES or ALLOWED of model/guard.py, or empty."""
 
     def __init__(self, loaded: ctypes.CDLL) -> None:
         # (of `spki_asked_granted` and `spki_asked_possible`; empty if nothing was decided)
@@ -126,20 +126,18 @@ class GuardDoor:
         wanted_answer, wanted_signatures = wanted
         if answered != wanted_answer:
             return f"the guard answers {answered[0]} {answered[1][:300]!r}"
-        if self.truths and self.truths != self.wanted_truths(question, answered):
-            return f"whether it is granted and whether it is possible are said to be {self.truths}"
-        if self.truths and self.until != guard.until(question.acl, parts_of(question), question.policy, question.limits, answered):
-            return f"a decision holds until {self.until}"
+        if self.truths:
+            asked_of_model = question.acl, parts_of(question), question.policy, question.limits
+            if self.truths != (answered[0] == GRANTED, guard.is_possible(*asked_of_model)):
+                return f"whether it is granted and whether it is possible are said to be {self.truths}"
+            if self.until != guard.until(*asked_of_model, answered):
+                return f"a decision holds until {self.until}"
         if listed is None or answered[0] == MISUSED or listed == wanted_signatures:
             return None
         return f"the guard lists {len(listed)} signatures, or others than the model"
 
-    def wanted_truths(self, question: GuardQuestion, answered: Answer) -> tuple[bool, ...]:
-        """What `truths` must be: whether the answer is a yes, and whether the model says that it can be one."""
-        return answered[0] == GRANTED, guard.is_possible(question.acl, parts_of(question), question.policy, question.limits)
-
     def fault_with_small_buffer(self, question: GuardQuestion) -> str | None:
-        """What is wrong where the buffer has one octet less than the answer, None if nothing is."""
+        """What is wrong where a call's buffer has one octet less than its line or answer, None if nothing is."""
         handle, asked = c_void_p(), c_void_p()
         try:
             is_right = self.refuses_small_buffers(question, handle, asked)
@@ -170,8 +168,9 @@ class GuardDoor:
             return (self.signature(at, 0, place), b""), None
         listed = self.signatures(asked)
         if odd in guard.MARKED:
-            past, far, _ = guard.MARKED
-            return (self.mark(None if odd not in (past, far) else asked, len(listed) if odd == past else NEAR_MOST + len(listed)), b""), listed
+            past, _, no_question = guard.MARKED
+            place = len(listed) if odd == past else NEAR_MOST + len(listed)
+            return (self.mark(None if odd == no_question else asked, place), b""), listed
         self.mark_valid(question, asked, listed)
         answered = self.answer(question, None if odd == "no opened question" else asked)
         if question.command == "guard decide" and odd not in guard.ANSWERED:
@@ -197,15 +196,15 @@ class GuardDoor:
     def open_question(self, question: GuardQuestion, handle: c_void_p, asked: c_void_p, room: int) -> Answer:
         """What `spki_guard_ask` answers, with a buffer of `room` octets for the line. `asked` gets the opened question."""
         line, needed, odd = ctypes.create_string_buffer(room + 1), c_size_t(), question.oddity
-        parts = asked_of(question)
-        given = None if odd == "no question" else byref(parts)
+        structure = asked_of(question)
+        pointer = None if odd == "no question" else byref(structure)
         place = None if odd == "no place for the question" else byref(asked)
         buffer = None if odd == "a buffer for a line that is null with a length" else line
-        status = self.ask(None if odd == "no guard" else handle, given, place, buffer, room, byref(needed))
+        status = self.ask(None if odd == "no guard" else handle, pointer, place, buffer, room, byref(needed))
         return status, line.raw[:needed.value]
 
     def signatures(self, asked: c_void_p) -> list[Signed]:
-        """The signatures of an opened question, or LISTED_WRONGLY."""
+        """The signatures of an opened question. LISTED_WRONGLY if one cannot be had, its octets are wrong, or there is one behind the last."""
         signatures = []
         for place in range(self.count(asked)):
             signature = Listed()
@@ -260,7 +259,8 @@ def signed_at(listed: Listed) -> Signed:
 
 def asked_of(question: GuardQuestion) -> Asked:
     """A question as `struct spki_question`, with what its oddity changes."""
-    request, moment = b"" if question.strings is not None else question.request, b"" if question.seconds is not None else question.moment
+    request = b"" if question.strings is not None else question.request
+    moment = b"" if question.seconds is not None else question.moment
     asked = Asked(ctypes.sizeof(Asked), *map(text_of, (question.sequence, question.key, request)), moment=text_of(moment))
     if question.strings is not None:
         # an array of no strings has an address too

@@ -20,7 +20,8 @@ OTHERS, BY_WORD = ("python3-venv",), {"Python": "python3", "Go 1.": "golang-go",
 
 
 def packages_of(page: str) -> list[str]:
-    """The packages of Debian that the text of a page names: in backticks, or as words if it has no backticks."""
+    """The packages of Debian that the text of a page names: in backticks, or as words if it has no backticks, as a page of the manual."""
+    # (a page of the manual has `\-` for a hyphen)
     words = re.findall(r"`([^`\n]+)`", page) or re.split(r"[^\w.+-]+", page.replace("\\-", "-"))
     packages = {*(need.package for need in needs.NEEDS), *OTHERS}
     return sorted(packages & set(words) | {package for word, package in BY_WORD.items() if word in page})
@@ -46,7 +47,7 @@ def output_on_machine(packages: list[str], clone: str, by_root: str, script: str
                  f'chroot "$1" chown -R {USER}: /home/{USER}',
                  f'chroot "$1" env -i HOME=/root PATH={PATH}:/usr/sbin:/sbin sh -c "cd /home/{USER}/clone && . /by-root" {into}',
                  f'chroot --userspec={USER}:{USER} "$1" {bare} sh -c "cd ~/empty && . /script" {into} || true']
-        # (apt-get installs what a package recommends, too)
+        # (a script that fails says so in its output. apt-get installs what a package recommends, too)
         words = ["mmdebstrap", "--quiet", "--variant=apt", '--aptopt=Apt::Install-Recommends "true"', f"--include={','.join(packages)}",
                  *(f"--customize-hook={it}" for it in hooks), release(), "/dev/null"]
         status, log = output_of(*words, seconds=SECONDS)

@@ -98,7 +98,7 @@ def pages() -> list[str]:
 
 
 def is_command(line: str) -> bool:
-    """Whether a line begins with a command of FIRST, with a program of this repository, or with one that is built into a folder `out`."""
+    """Whether a line, behind any `(`, begins with a command of FIRST, a program of this repository, or one that is built into a folder `out`."""
     first = line.lstrip("( ").split(" ")[0]
     path = os.path.join(TOP, first.removeprefix("./"))
     return first in FIRST or "/out/" in first or "/" in first and os.path.isfile(path) and os.access(path, os.X_OK)
@@ -128,7 +128,7 @@ def in_backticks(text: str) -> Iterator[str]:
 
 
 def commands_of(page: str) -> Iterator[Command]:
-    """The commands of a page."""
+    """The commands of a page, of Markdown or of the manual. The escapes that stand for characters in a manual are replaced."""
     text = text_of(page)
     if not page.endswith(".md"):
         blocks = (textwrap.dedent(block).replace("\\-", "-").replace("\\(aq", "'").replace("\\(ga", "`") for block in UNFILLED.findall(text))

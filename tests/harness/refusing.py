@@ -17,8 +17,8 @@ NAMES = ("memory", "read", "write")
 
 @dataclass
 class Ended:
-    """How a run ended: its status and outputs, how many requests of each kind of NAMES it made, how many of all were refused, and how many
-    of those for memory came before the first read."""
+    """How a run ended: its status (negative: the signal that ended it) and outputs. After `Program.run` also how many requests of each kind of NAMES
+    it made, how many of all were refused, and how many of those for memory came before the first read."""
 
     status: int
     out: bytes
@@ -44,7 +44,8 @@ def compiled(folder):
 
 
 def descriptor_of(text):
-    """A descriptor from which a text is read, which the caller closes: of a pipe if the text fits into one, so that writing ends, else of a file."""
+    """A descriptor from which a text, given as bytes, is read. The caller closes it. It is of a pipe if the text fits into one, so that writing does
+    not wait for a reader, and otherwise of a file."""
     if len(text) <= PIPE:
         reader, writer = os.pipe()
         os.write(writer, text)
@@ -57,7 +58,8 @@ def descriptor_of(text):
 
 
 def ended(child, out=b""):
-    """Waits for a run, which is killed after SECONDS, and returns how it ended: its output is `out` and what its pipe still has, if it has one."""
+    """Waits for a run, a `subprocess.Popen`, and returns how it ended. It is killed after SECONDS. Its output is `out`, which was read already, and
+    what its pipe still has, if it has one."""
     try:
         rest, err = child.communicate(timeout=SECONDS)
     except subprocess.TimeoutExpired:
@@ -67,7 +69,7 @@ def ended(child, out=b""):
 
 
 def read_to_end(reader):
-    """Reads a descriptor to its end and closes it."""
+    """Reads a descriptor to its end and closes it. Returns the octets."""
     pieces = []
     while piece := os.read(reader, 1 << 20):
         pieces.append(piece)
@@ -82,11 +84,11 @@ class Program:
         self.path, self.library = path, library
 
     def run(self, command, text, before=(), **plan):
-        """A run under refuse.c. The plan has its settings: `memory=3` refuses the third request for memory, and `memory="3.."` all from there on.
-        `before` is a program that starts the run, with its words."""
+        """A run under refuse.c. The plan has the settings of refuse.c, in lower case: `memory=3` refuses the third request for memory, `memory="3.."`
+        all from there on. `before` are the words of a program that starts the run, as valgrind."""
         environment = {"LD_PRELOAD": self.library, "REFUSE_IN": self.path, "PATH": os.environ["PATH"]}
         environment |= {f"REFUSE_{name.upper()}": str(value) for name, value in plan.items()}
-        ends = [os.pipe() for _ in range(3)]
+        ends = [os.pipe() for _ in range(3)]  # (for both outputs, and on descriptor 3 for the report of refuse.c)
         places = [(descriptor_of(text), 0)] + [(writer, place) for place, (_, writer) in enumerate(ends, 1)]
         words = [*before, self.path, command]
         child = os.posix_spawnp(words[0], words, environment, file_actions=[(os.POSIX_SPAWN_DUP2, *place) for place in places])
@@ -98,25 +100,25 @@ class Program:
         status = os.waitstatus_to_exitcode(os.waitpid(child, 0)[1])
         return Ended(status, out, err, dict(zip(NAMES, counts[::2])), sum(counts[1::2]), before_reads)
 
-    def started(self, command, reader, writer, **how):
-        """Starts the program on two descriptors, and closes the one that it reads. `how` are settings of `subprocess.Popen`. Returns the process."""
-        child = subprocess.Popen([self.path, command], stdin=reader, stdout=writer, stderr=subprocess.PIPE, **how)
+    def started(self, command, reader, writer, **settings):
+        """Starts the program on two descriptors, and closes its input here. `settings` are those of `subprocess.Popen`. Returns the process."""
+        child = subprocess.Popen([self.path, command], stdin=reader, stdout=writer, stderr=subprocess.PIPE, **settings)
         os.close(reader)
         return child
 
-    def limited(self, command, text, what, most):
-        """A run for which the system limits a resource to `most`. `what` is a constant, as `resource.RLIMIT_AS`. The run writes into a file."""
+    def limited(self, command, text, resource_number, most):
+        """A run for which the system limits a resource, such as `resource.RLIMIT_AS`, to `most`, in the unit of setrlimit. It writes into a file."""
         with tempfile.TemporaryFile() as out:
-            child = self.started(command, descriptor_of(text), out, preexec_fn=lambda: self.limit(what, most))
-            how = ended(child)
+            child = self.started(command, descriptor_of(text), out, preexec_fn=lambda: self.limit(resource_number, most))
+            run = ended(child)
             out.seek(0)
-            return replace(how, out=out.read())
+            return replace(run, out=out.read())
 
     @staticmethod
-    def limit(what, most):
-        """Limits a resource of this process, and has a full file be an error and no signal."""
+    def limit(resource_number, most):
+        """Limits a resource of this process. A write past the limit of a file's size is then an error: the signal that would end it is ignored."""
         signal.signal(signal.SIGXFSZ, signal.SIG_IGN)
-        resource.setrlimit(what, (most, most))
+        resource.setrlimit(resource_number, (most, most))
 
     def redirected(self, command, words):
         """A run by the shell. `words` are the redirections behind the command, as `>&-`. Without one its input is empty."""
@@ -124,7 +126,8 @@ class Program:
         return ended(subprocess.Popen(shell, stdin=subprocess.DEVNULL, stdout=subprocess.PIPE, stderr=subprocess.PIPE))
 
     def reader_gone(self, command, text, taken, dies):
-        """A run whose output is closed after `taken` octets, or at its end if there are fewer. `dies`: the signal of a closed pipe ends it."""
+        """A run whose output is closed after `taken` octets, or at its end if there are fewer. `dies`: SIGPIPE, the signal of a closed pipe, ends it.
+        Otherwise it is ignored there, as in this process, and the write is an error."""
         reader, writer = os.pipe()
         if taken == 0:
             os.close(reader)
@@ -154,6 +157,6 @@ class Program:
             child = self.started(command, descriptor_of(text), writer)
             os.close(writer)
             return replace(ended(child), out=read_to_end(reader))
-        how = ended(self.started(command, reader, subprocess.PIPE))
+        run = ended(self.started(command, reader, subprocess.PIPE))
         os.close(writer)
-        return how
+        return run

@@ -19,13 +19,14 @@ ARGUMENTS = 8
 PARTS = ("sequence", "key", "request", "moment")
 # A longer text, or more strings, are misuse: no octet of them is read.
 MOST_OCTETS, MOST_WORDS = 1 << 22, 2000
+# The type of what `byref` returns, and the base of all types of ctypes that are one number or pointer: ctypes has no public names for them.
 REFERENCE: Any = type(byref(c_int()))
 SIMPLE: Any = c_int.__mro__[1]
 
 
-def numbers(*of: int) -> bytes:
-    """The octets of numbers, 64 bits each and the lowest octet first, as `relay.c` reads them."""
-    return struct.pack(f"<{len(of)}Q", *(number % 2**64 for number in of))
+def numbers(*values: int) -> bytes:
+    """The octets of numbers, 64 bits each and the lowest octet first, as `relay.c` reads them. A negative number is its two's complement."""
+    return struct.pack(f"<{len(values)}Q", *(value % 2**64 for value in values))
 
 
 class Request:
@@ -45,10 +46,10 @@ class Request:
         return len(self.blocks) - 1
 
     def give(self, value: Any, kind: Any) -> None:
-        """Adds an argument of a call. `kind` is the type to which ctypes would convert the value."""
+        """Adds an argument: a number, 0 for null, or the address of a block. `kind` is the type to which ctypes would convert the value."""
         is_pointer = not issubclass(kind, SIMPLE)
         if isinstance(value, REFERENCE):
-            self.lend(cast(Any, value)._obj)
+            self.lend(cast(Any, value)._obj)  # (what `byref` refers to)
         elif isinstance(value, (Array, Structure)) or is_pointer and value is not None:
             self.lend(value)
         elif isinstance(value, bytes):
@@ -69,6 +70,7 @@ class Request:
         for name in PARTS:
             self.text(block, getattr(Asked, name).offset, getattr(asked, name))
         if asked.words:
+            # (an array of no strings has an address too, so one is copied, as of an array that is too long)
             count = max(1, asked.word_count if asked.word_count <= MOST_WORDS else 0)
             words = self.block(string_at(addressof(asked.words.contents), count * sizeof(Text)))
             self.links.append((block, Asked.words.offset, words))
@@ -79,10 +81,11 @@ class Request:
         return block
 
     def text(self, block: int, place: int, text: Text) -> None:
-        """Adds a block with the octets of a text, or one for more than MOST_OCTETS, and a link to it at its pointer in a block. Null stays null."""
+        """Adds a block with the octets of a text, and a link to it from the place of its pointer in `block`. Null stays null."""
         at = c_void_p.from_address(addressof(text)).value
         if at:
-            self.links.append((block, place, self.block(string_at(at, text.length if text.length <= MOST_OCTETS else 1))))
+            length = text.length if text.length <= MOST_OCTETS else 1
+            self.links.append((block, place, self.block(string_at(at, length))))
 
     def octets_for(self, call: int) -> bytes:
         """The request as `relay.c` reads it, with the number of the call."""

@@ -52,7 +52,7 @@ def short_name(test: unittest.TestCase) -> str:
 
 
 def goes_by(test: unittest.TestCase, name: str) -> bool:
-    """Whether a name of the command line means a test: it is that of the test, of its table, class or module, or the path of its module."""
+    """Whether a name of the command line means a test: it is that of the test, of its table, its class or its module, or the path of its module."""
     name = name.removeprefix(f"{os.path.relpath(SUITE)}{os.sep}").removesuffix(".py").removeprefix("suite.").removeprefix("test_")
     module, class_name = module_of(test).removeprefix("test_"), type(test).__qualname__
     names = (short_name(test), test.id().removeprefix("suite.test_"), module, f"{module}.{class_name}", class_name)
@@ -92,8 +92,8 @@ class Result(unittest.TestResult):
         self.add(test, "it passes, and it is marked as one that fails")
 
     def add(self, test, text: str) -> None:
-        """Adds a fault of a test, behind those that it has. `test` may stand for a class whose setup failed. If `is_fast` was true, no further test
-        of this part begins."""
+        """Adds a fault of a test, behind those that it has already. Where the setup of a class failed, `test` is unittest's object for the class. If
+        `is_fast` was true, no further test of this part begins."""
         name = short_name(test) if isinstance(test, unittest.TestCase) else str(test)
         self.outcome.failed[name] = self.outcome.failed.get(name, "") + text.rstrip() + "\n"
         if self.failfast:

@@ -162,8 +162,9 @@ def build(language, source, room, library):
 
 
 def fault_of_snippet(language, snippet, room, program, library):
-    """What is wrong with a snippet, None if nothing is. In its program of PROGRAMS it must grant the request of examples/delegation.sexp to the key
-    of this case, and deny it to another. `room` is a folder to build in, `program` is `spki`, which reads the case, `library` the static library."""
+    """What is wrong with a snippet, None if nothing is. In its program of PROGRAMS it must grant a request to the key of examples/delegation.sexp, by
+    the access list and the sequence of this case, and deny it to another key. `language` is a key of PROGRAMS, `snippet` its text, `room` a folder to
+    build in, `program` the path of `spki`, which reads the case, and `library` that of the static library."""
     words = build(language, PROGRAMS[language].replace("SNIPPET", textwrap.indent(snippet, "    ").rstrip("\n")), room, library)
     if words is None:
         return f"the snippet in {language} is not compiled"
@@ -171,8 +172,8 @@ def fault_of_snippet(language, snippet, room, program, library):
         _, access_list, _, sequence, (_, key), *_ = read(run(program, "canonical", file.read())[1])
     settings = {**os.environ, "PYTHONPATH": PYTHON, "SPKI_LIBRARY": library.removesuffix(".a") + ".so"}
     for holder, wanted in zip((key, [b"public-key", [b"test", b"c"]]), ANSWERS[language]):
-        given = [on_one_line(value) for value in (access_list, sequence, holder)]
-        done = subprocess.run([*words, *given], stdout=subprocess.PIPE, stderr=subprocess.STDOUT, text=True, env=settings, timeout=SECONDS)
+        texts = [on_one_line(value) for value in (access_list, sequence, holder)]
+        done = subprocess.run([*words, *texts], stdout=subprocess.PIPE, stderr=subprocess.STDOUT, text=True, env=settings, timeout=SECONDS)
         if (done.returncode, done.stdout) != (0, wanted):
-            return f"the snippet in {language}, of {given[-1]}: status {done.returncode}, {done.stdout!r}, and not {wanted!r}"
+            return f"the snippet in {language}, of {texts[-1]}: status {done.returncode}, {done.stdout!r}, and not {wanted!r}"
     return None

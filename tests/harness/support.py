@@ -1,8 +1,7 @@
 """What the scripts of tests/, bench/ and examples/ share: where the programs are, how one is run, and how S-expressions are read and
 written, by the model.
 
-A service that takes over `examples/signed/` does not need this module: `tools.py` there and `apps/spki-cert/spki_cert_tool/` stand by themselves.
-"""
+A service that takes over `examples/signed/` does not need this module: `tools.py` there and `apps/spki-cert/spki_cert_tool/` stand by themselves."""
 import base64
 import importlib.machinery
 import importlib.util
@@ -34,15 +33,15 @@ __all__ = ["ARM", "BENCH", "COMMANDS", "EXAMPLES", "LIBRARY", "ON_ARM", "PROGRAM
 
 
 def positive(text: str) -> int:
-    """The number 1 or more that a word of a command line is: a type for argparse. Raises ValueError if it is none."""
+    """The number that a word of a command line is, at least 1: a type for argparse. Raises ValueError for any other word."""
     if int(text) < 1:
         raise ValueError(text)
     return int(text)
 
 
 def given_program(place=1):
-    """The path of the program that is the argument of this script at a place, from 1, or the built one if there are fewer. Ends the script if the
-    program is not there."""
+    """The path of the program that word `place` of this script's command line names, from 1, or of the built one if there are fewer words. Ends the
+    script if the program is not there."""
     program = os.path.abspath(sys.argv[place] if len(sys.argv) > place else PROGRAM)
     if not os.access(program, os.X_OK):
         sys.exit(f"{program} is not there: build it by rt run in crates/spki")
@@ -50,7 +49,7 @@ def given_program(place=1):
 
 
 def run(program, command, text, seconds=SECONDS):
-    """The exit status of a command of the program on a text, and its standard output. Raises TimeoutExpired after so many seconds."""
+    """The exit status of a command of the program on a text (bytes), and its standard output (bytes). Raises TimeoutExpired after so many seconds."""
     done = subprocess.run([program, command], input=text, stdout=subprocess.PIPE, stderr=subprocess.DEVNULL, timeout=seconds)
     return done.returncode, done.stdout
 

@@ -12,8 +12,8 @@ MOST_ROWS, EXPORTED = 25, "spki_c_"
 
 
 def bodies_of(paths: Iterable[str]) -> dict[str, list[str]]:
-    """The texts of the functions of these files, from head to last line, each by its name and by its path: its type or module, and its name. A name
-    has several texts if several functions have it."""
+    """The texts of the functions of these files, from the head on, each by its name and by its path, as `path_of` returns it: its type or module, and
+    its name. A name has several texts if several functions have it."""
     bodies: dict[str, list[str]] = {}
     for path in paths:
         lines = text_of(path).split("\n")
@@ -32,8 +32,8 @@ def is_called(name: str, body: str) -> bool:
 
 
 def faults(page: str, bodies: dict[str, list[str]]) -> Iterator[str]:
-    """A line for each fault of the tables of calls on a page: a function or a call that the sources lack, a row that no row before leads to, or a
-    table of another form."""
+    """A line for each fault of the tables of calls on a page: a function or a call that the sources lack, a row whose function no row before calls,
+    or a table of another form. `bodies` is what `bodies_of` returns."""
     tables = TABLE.findall(text_of(page))
     if not tables:
         yield f"{page} has no table of calls"

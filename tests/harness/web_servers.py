@@ -24,7 +24,7 @@ SOCKET_OF_LUA = "/usr/lib/*/lua/5.3/socket/unix.so"
 
 
 class Behind(served.Site):
-    """A site behind one of the web servers."""
+    """A site behind one of the web servers, which asks spki-authd before it answers."""
 
     # As the daemon calls the server, the form of a certificate there, and what it needs beside nginx's example.
     name, form = "", "base64-der"
@@ -90,7 +90,6 @@ class Nginx(Behind):
         "error pages": [("loopback.conf", "http {\n", f"proxy_intercept_errors on; error_page 401 403 {ERRORS} =200 {SORRY};\n")],
         "a cache": [("loopback.conf", "http {\n", "proxy_cache_path {room}/tmp/cache keys_zone=site:1m; proxy_cache site; proxy_cache_valid any 1h;"
                      "proxy_cache_key $host; proxy_ignore_headers Cache-Control Expires Set-Cookie Vary X-Accel-Expires;\n")]}
-
     hole = [("files.conf", "location / {\n", "auth_request off;\n")]
     on_port = [("files.conf", "server unix:{room}/run/socket;", "server 127.0.0.1:{port};"),
                ("files.conf", "proxy_pass http://spki_authd/;", "proxy_pass https://spki_authd/; proxy_ssl_verify on; proxy_ssl_name spki-authd;"
@@ -116,7 +115,6 @@ class Caddy(Behind):
         "templates": [("Caddyfile", SITE, "templates\n")], "a choice of files": [("Caddyfile", SITE, "try_files {path} /web/index.html\n")],
         "a folder of its own": [("Caddyfile", SITE, "file_server /secret/*\n")], "all files": [("Caddyfile", SITE, "file_server browse\n")],
         "the root of all": [("Caddyfile", SITE, "root * {room}/files\nfile_server\n")]}
-
     hole = [("Caddyfile", "\troute {\n", "respond *.css 404\n")]
     on_port = [("Caddyfile", "forward_auth unix/{room}/run/socket {\n", "forward_auth https://127.0.0.1:{port} {\ntransport http {\n"
                 "tls_trusted_ca_certs {room}/etc/authd.crt\ntls_server_name spki-authd\n}\n"),
@@ -151,7 +149,6 @@ class HAProxy(Behind):
         "rules before": [("haproxy.cfg", "frontend files\n", "    http-request set-var(txn.other) str(yes)\n    option http-ignore-probes\n")],
         "a first lock that fails": [("haproxy.cfg", "frontend files\n", "    http-request allow\n")],
         "a Lua that fails": [("spki.lua", "function(txn)\n", "    local nothing = txn.none.nothing\n")]}
-
     hole = [("haproxy.cfg", "frontend files\n", "    http-request return status 404 if METH_POST\n")]
     on_port = [("haproxy.cfg", "global\n", "global\n    httpclient.ssl.verify required\n    httpclient.ssl.ca-file {room}/etc/authd.crt\n"),
                ("spki.lua", 'url = "http://spki-authd/", dst = "unix@{room}/run/socket", timeout = 5000, headers = {\n',
@@ -202,7 +199,6 @@ class Apache(Behind):
         "a hook of fixups before": [("spki.lua", LUA, ALLOW), ("main.conf", "# more\n", "LuaHookFixups {room}/etc/spki.lua allow\n")],
         "a hook of access before": [("spki.lua", LUA, ALLOW), ("main.conf", "# more\n", "LuaHookAccessChecker {room}/etc/spki.lua allow\n")],
         "a script that fails": [("spki.lua", "function decide(r)\n", "    local nothing = r.none.nothing\n")]}
-
     hole = [("spki.lua", "function decide(r)\n", "    if r.method == 'DELETE' then return apache2.DECLINED end\n")]
 
     def prepare(self) -> None:
@@ -244,7 +240,7 @@ class Handler(http.server.BaseHTTPRequestHandler):
 
 
 class OfFiles(Handler):
-    """Reads and writes each file that is asked for."""
+    """Reads, writes or deletes the file that is asked for: so a request that should not have come can be seen by the folder."""
 
     def answer(self, status: int, octets: bytes = b"") -> None:
         """Sends an answer, with fields by which a cache may keep it."""
@@ -272,7 +268,7 @@ class OfFiles(Handler):
     do_HEAD, do_POST, do_PATCH, do_OPTIONS, do_MOVE, do_COPY = do_GET, do_PUT, do_PUT, do_GET, do_DELETE, do_PUT
 
     def file(self) -> str:
-        """The path of the file that is asked for, or of one that is not there if a link leads to it."""
+        """The path of the file that is asked for. If a link is on the way to it, the path of a file that does not exist."""
         server = self.server
         assert isinstance(server, FileServer)
         path = os.path.join(server.folder, unquote(self.path.partition("?")[0]).lstrip("/"))
