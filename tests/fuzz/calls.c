@@ -1,6 +1,5 @@
-/* Calls spki.h with parts that are made from fuzzed octets (libFuzzer), and compares the answers: a guard's with those to the case of the same
- * parts, a decision with its explanation, a text with what it is converted to and back. Some calls are made with a request for memory refused
- * first.
+/* Calls spki.h with parts that are made from fuzzed octets (libFuzzer), and compares the answers: a guard's with those to the case of the same parts,
+ * a decision with its explanation, a text with what it is converted to and back. Some calls are made with a request for memory refused first.
  *
  * The library is not instrumented, so libFuzzer is told of each new answer as of a new place in the code. */
 #include "../programs/refusals.h"
@@ -36,7 +35,8 @@ struct answer {
     unsigned char *octets;
 };
 
-/* Tells libFuzzer of an answer: by its status and the letters of its first line, without numbers, which would make many answers of one. */
+/* Tells libFuzzer of an answer: sets the octet of `seen` that a checksum names. It is of the status and of the first 64 octets of the first line
+ * without numbers, which would make many answers of one. */
 static void count(const struct answer *answer)
 {
     uint32_t sum = (uint32_t)answer->status;
@@ -46,7 +46,7 @@ static void count(const struct answer *answer)
     seen[sum % COUNTERS] = 1;
 }
 
-/* A call whose answer goes to a buffer, and what it is called with. */
+/* A function that does a call of spki.h whose answer goes to a buffer. `with` is a structure with the other arguments of this call. */
 typedef enum spki_status call(const void *with, void *buffer, size_t length, size_t *needed);
 
 /* Does a call with a buffer of this size between canaries, with the request for memory `next_refusal` refused. Nothing but the answer may be written,
@@ -55,7 +55,7 @@ static struct answer do_call(call *calls, const void *with, size_t size)
 {
     struct answer answer = {0};
     unsigned char *block = malloc(size + 2 * CANARIES), *buffer = block + CANARIES;
-    size_t written;
+    size_t written; /* how many octets of the buffer are the answer's */
     expect(block != NULL, "no memory");
     memset(block, CANARY, size + 2 * CANARIES);
     memset(buffer, UNTOUCHED, size);
@@ -80,8 +80,8 @@ static int is_line(const struct answer *answer, const char *wanted)
     return answer->length == strlen(wanted) && !memcmp(answer->octets, wanted, answer->length);
 }
 
-/* In one of four cases does a call while one of its requests for memory is refused. If the call came to that request, its answer must be
- * `refused Memory`. */
+/* In one of four cases does a call while one of its requests for memory is refused. If the call made that request, its answer must be
+ * `refused Memory`. It may make fewer: then it is done as usual, and what it opened is left in its place. */
 static void refuse(struct input *in, call *calls, const void *with)
 {
     struct answer answer;
@@ -94,7 +94,7 @@ static void refuse(struct input *in, call *calls, const void *with)
     free(answer.octets);
 }
 
-/* Does a call with a buffer of some size, and once more if it is too small. The caller frees the octets. */
+/* Does a call with a buffer of some size, and once more if that is too small. Returns the answer, whose octets the caller frees. */
 static struct answer answer_of(struct input *in, call *calls, const void *with)
 {
     static const size_t sizes[] = {ROOM, 0, 1, 11};
@@ -144,7 +144,7 @@ static int equals(struct spki_text one, struct spki_text other)
     return one.length == other.length && !memcmp(one.octets, other.octets, one.length);
 }
 
-/* A text as the library takes it. Its octets stay those of `text`. */
+/* A text as the library takes it. The octets are not copied. */
 static struct spki_text lent(const struct text *text)
 {
     return (struct spki_text){text->octets, text->length};
@@ -171,7 +171,8 @@ static void convert(struct input *in, struct text *text)
     free(back.octets);
 }
 
-/* Looks for a string at some path in a text in canonical form. There may be none there, and one must be inside the text. */
+/* Looks for a string at some path in a text in canonical form. If there is none, the call must set a null pointer and the length 0, which are
+ * neither before the call. One that is found must be inside the text. */
 static void find(struct input *in, struct spki_text text)
 {
     size_t path[4], depth = below(in, 5), length = 12345;
@@ -303,7 +304,7 @@ static void explain(struct input *in, struct of_asked *with, const struct answer
     expect(lines.status == SPKI_DONE || is_line(&lines, "refused TooLarge\n"), "no explanation");
     if (lines.status == SPKI_DONE) {
         const unsigned char *found;
-        if (decision->status == SPKI_YES)
+        if (decision->status == SPKI_YES) /* "yes entry 1\n" becomes "entry 1 grants\n": without the first 4 octets and the last */
             snprintf(wanted, sizeof wanted, "%.*s grants\n", (int)decision->length - 5, (const char *)decision->octets + 4);
         found = memmem(lines.octets, lines.length, wanted, strlen(wanted));
         expect((decision->status == SPKI_YES) == (found != NULL), "the explanation says otherwise than the decision");
@@ -329,8 +330,8 @@ static void add(struct input *in, struct text *whole, const char *head, const st
     free(canonical.octets);
 }
 
-/* Decides the case of the same parts, once by rows that are given apart, and once by rows of its own (`own`). Each answer must be that of the guard,
- * unless the tags are too large or the case has no room. */
+/* Decides the case of the same parts, once by accepted signatures (`rows`) that are given apart, and once by the same in the case (`own`). Each
+ * answer must be that of the guard, unless the tags are too large or the case has no room. */
 static void compare(struct input *in, const struct parts *parts, const struct text *rows, enum spki_policy policy, const struct answer *decision)
 {
     static struct text whole[2];
@@ -430,8 +431,9 @@ static void ask(struct input *in, const struct parts *parts, spki_guard *guard, 
     spki_asked_close(asked);
 }
 
-/* Makes parts of one input, spoils some of them, writes each in some form, opens a guard with limits by the input, and asks it. A request or moment
- * whose other form is given to the guard (`others`) is not spoiled: in the case that `compare` makes it must mean the same. */
+/* Makes parts of one input, spoils some of them, writes each in some form, opens a guard and asks it. Each limit is 10,000, which is mostly enough,
+ * or by the input below 1,000. A request or moment that the guard is given as strings or in seconds is not spoiled (`others` is true then): in the
+ * case that `compare` makes, its text must mean the same. */
 int LLVMFuzzerTestOneInput(const uint8_t *data, size_t size)
 {
     static struct parts parts;

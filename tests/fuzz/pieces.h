@@ -185,7 +185,7 @@ static void put_requested(struct input *in, struct text *to)
         end(to);
 }
 
-/* Adds a tag, with lists and sets in one another up to `depth`. At 0 it has none, but may be the request. */
+/* Adds a tag, with up to `depth` lists and sets in one another. At 0 it has none of its own, but may be the list that is the request. */
 static void put_tag(struct input *in, struct text *to, unsigned depth)
 {
     static void (*const kinds[])(struct input *, struct text *) = {put_requested, put_prefix, put_range};

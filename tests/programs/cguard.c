@@ -1,7 +1,6 @@
-/* Asks a guard from C as `spki.h` says: marks of one client and of two, misuse, small buffers, two guards at once, buffers
- * that change once a question is opened, guards that are closed before their questions or beside them, refused memory, and several threads on one
- * guard and on one question. Is linked with --wrap=malloc and --wrap=realloc. Ends with 99 where a call does otherwise, with a line on standard
- * error.
+/* Asks a guard from C as `spki.h` says: marks of one client and of two, misuse, small buffers, two guards at once, buffers that change once a
+ * question is opened, guards that are closed before their questions or beside them, refused memory, and several threads on one guard and on one
+ * question. Is linked with --wrap=malloc and --wrap=realloc. Ends with 99 where a call does otherwise, with a line on standard error.
  *
  * Usage: cguard THREADS REFUSALS LIST SEQUENCE KEY     each of the last three is a text */
 #include "cguard.h"
@@ -27,12 +26,12 @@ static struct spki_signed expect_signature(const spki_asked *asked)
     return signature;
 }
 
-/* The question of `examples/delegation.sexp`: key b shows what key a has signed, and asks for `(ftp)`. */
+/* The question of `examples/delegation.sexp`, in which key b shows what key a has signed, and asks for `(ftp)`: yes if the signature is marked, no if
+ * it is not, and no for another key. A part that cannot be read is refused. */
 static void delegation(const char *list, const char *sequence, const char *key)
 {
     spki_guard *guard = open_guard(list, SPKI_ALLOW_SHA1);
-    struct spki_question question = {.size = sizeof question, .sequence = text(sequence), .key = spki_assume_key(text(key)), .request = text("(ftp)"),
-                                     .seconds = &moment};
+    struct spki_question question = question_of(sequence, key, "(ftp)");
     spki_asked *asked = open_question(guard, &question);
     expect(spki_guard_entries(guard) == 1, "another number of entries");
     expect_signature(asked);
@@ -51,13 +50,13 @@ static void delegation(const char *list, const char *sequence, const char *key)
     spki_guard_close(guard);
 }
 
-/* Numbers that a verifier might return in place of a truth value, such as -255 and 0x101, are no places. Nothing is marked by them. */
+/* Numbers that a verifier might return in place of a truth value, such as -255 and 0x101, are no places. Nothing is marked by them. Marking needs no
+ * memory: until_refusal = 1 would refuse the first request for it. */
 static void wrong_places(const char *list, const char *sequence, const char *key)
 {
     static const size_t none[] = {1, 2, 255, 0x101, (size_t)-1, (size_t)-255, SIZE_MAX / 2 + 1};
     spki_guard *guard = open_guard(list, SPKI_ALLOW_SHA1);
-    struct spki_question question = {.size = sizeof question, .sequence = text(sequence), .key = spki_assume_key(text(key)), .request = text("(ftp)"),
-                                     .seconds = &moment};
+    struct spki_question question = question_of(sequence, key, "(ftp)");
     spki_asked *asked = open_question(guard, &question);
     for (size_t at = 0; at < sizeof none / sizeof *none; at++) {
         expect(spki_asked_mark(asked, none[at]) == SPKI_MISUSED, "a place that the question does not have is marked");
@@ -82,7 +81,7 @@ struct client {
     bool is_valid;
 };
 
-/* Asks for a client again and again, and marks what is valid. */
+/* The start of a thread: asks for a client (`given`) again and again, and marks its signature if it is valid. */
 static void *serve(void *given)
 {
     const struct client *client = given;
@@ -102,12 +101,8 @@ static void two_clients(const char *list, const char *sequence, const char *key,
 {
     static const char forged[] = "(sequence (cert (issuer (public-key (test a))) (subject (public-key (test c))) (tag (*))) (signature (hash sha256 "
                                  "#b0c7e53153c3b09dad60263b3b4738aa1ae756cc4642305bcf4fdc4114ff0d5d#) (public-key (test a)) forged))";
-    struct client good = {open_guard(list, SPKI_ALLOW_SHA1), {.size = sizeof good.question, .sequence = text(sequence),
-                                                              .key = spki_assume_key(text(key)), .request = text("(ftp)"), .seconds = &moment}, true};
-    struct client bad = good;
-    bad.question.sequence = text(forged);
-    bad.question.key = spki_assume_key(text("(public-key (test c))"));
-    bad.is_valid = false;
+    struct client good = {open_guard(list, SPKI_ALLOW_SHA1), question_of(sequence, key, "(ftp)"), true};
+    struct client bad = {good.guard, question_of(forged, "(public-key (test c))", "(ftp)"), false};
     spki_asked *first = open_question(good.guard, &good.question), *second = open_question(bad.guard, &bad.question);
     expect(spki_asked_mark(first, 0) == SPKI_DONE, "no mark");
     expect(spki_asked_granted(first) && !spki_asked_granted(second), "a mark counts for another question");
@@ -126,12 +121,11 @@ static void two_clients(const char *list, const char *sequence, const char *key,
     "(cert (issuer (public-key (test a))) (subject (public-key (test a))) (propagate) (tag (*))) (signature (hash sha256 " \
     "#b26a73c3cdcb26bbb71fa21531b5b6a1745fc316ddfcf53862a174f5dccebfb6#) (public-key (test a)) sig)"
 
-/* Two equal signatures are two places. Only both marks are a yes. */
+/* Two equal signatures of a question are listed at two places. The answer is yes only if both are marked. */
 static void equal_signatures(const char *list)
 {
     spki_guard *guard = open_guard(list, SPKI_ALLOW_SHA1);
-    struct spki_question question = {.size = sizeof question, .sequence = text("(sequence " OWN " " OWN ")"),
-                                     .key = spki_assume_key(text("(public-key (test a))")), .request = text("(ftp)"), .seconds = &moment};
+    struct spki_question question = question_of("(sequence " OWN " " OWN ")", "(public-key (test a))", "(ftp)");
     for (size_t place = 0; place < 2; place++) {
         unsigned char line[64];
         size_t needed;
@@ -144,21 +138,13 @@ static void equal_signatures(const char *list)
     spki_guard_close(guard);
 }
 
-/* A text that is copied to `room`, which the caller changes as soon as the question is opened. */
-static struct spki_text copy_text(const char *octets, char *room)
-{
-    return (struct spki_text){strcpy(room, octets), strlen(octets)};
-}
-
-/* Marks belong to the question that was opened, whatever becomes of its buffers, its guard and other questions. */
+/* Marks belong to the question that was opened, whatever becomes of its buffers (`rooms`, which are overwritten), its guard and other questions. */
 static void one_question(const char *list, const char *sequence, const char *key)
 {
     char rooms[2][4096];
     spki_guard *guard = open_guard(list, SPKI_ALLOW_SHA1), *other = open_guard("(acl)", SPKI_ALLOW_SHA1);
-    struct spki_question question = {.size = sizeof question, .sequence = copy_text(sequence, rooms[0]), .request = text("(ftp)"), .seconds = &moment,
-                                     .key = spki_assume_key(copy_text(key, rooms[1]))};
-    struct spki_question empty = {.size = sizeof empty, .sequence = text("(sequence)"), .key = spki_assume_key(text(key)), .request = text("(ftp)"),
-                                  .seconds = &moment};
+    struct spki_question question = question_of(strcpy(rooms[0], sequence), strcpy(rooms[1], key), "(ftp)");
+    struct spki_question empty = question_of("(sequence)", key, "(ftp)");
     spki_asked *asked = open_question(guard, &question), *none = open_question(guard, &empty), *elsewhere = open_question(other, &question);
     unsigned char line[256];
     size_t needed;
@@ -200,7 +186,7 @@ static void parts_given_twice(const spki_guard *guard, struct spki_question ques
     expect_decision(guard, &question, 0, SPKI_MISUSED, "");
 }
 
-/* Requests by their strings: no octets of a string become another string. */
+/* Requests that are given as strings: no octets in a string, such as a space, `)) (x` or `4:read`, begin another string. */
 static void requests_by_strings(void)
 {
     spki_guard *guard = open_guard("(acl (entry (public-key (test b)) (tag (cache (* prefix /cache/team1/) read))))", SPKI_STRICT);
@@ -246,7 +232,7 @@ static void requests_by_strings(void)
 /* Lists, policies, limits and pointers by which no guard is opened, beside some by which one is. */
 static void refused_lists(void)
 {
-    spki_guard *guard = (spki_guard *)&until_refusal;
+    spki_guard *guard = (spki_guard *)&until_refusal; /* (not null, so that it is seen that a call sets null) */
     struct spki_limits high = SPKI_HIGHEST_LIMITS, unsized = SPKI_USUAL_LIMITS;
     unsigned char buffer[64];
     size_t needed = 12345;
@@ -326,7 +312,7 @@ static void usual_limits(void)
     spki_guard_close(guard);
 }
 
-/* What spki_string finds, and does not. */
+/* What spki_string finds in a key by a path, the number of a member in each list on the way, and what it does not find. */
 static void octets_of_strings(void)
 {
     static const char good[] = "(10:public-key(16:rsa-pkcs1-sha256(1:e3:abc)(1:n[1:b]2:ok)))";
@@ -377,7 +363,8 @@ static enum spki_status answer_by(int call, const spki_asked *asked, unsigned ch
     }
 }
 
-/* In each call about a question the request for memory with this number, from 1, is refused. After that the call must answer as it should. */
+/* In each call about a question the request for memory with this number, from 1, is refused. Then the call must answer `refused Memory`, and when it
+ * is repeated without that, as usual. If it makes fewer requests, it must answer as usual at once. */
 static void refuse_in_calls(const spki_guard *guard, const struct spki_question *question, size_t request)
 {
     unsigned char line[256];
@@ -434,7 +421,7 @@ struct shared {
     spki_asked *asked;
 };
 
-/* Asks a guard, and decides a question that other threads decide too. */
+/* The start of a thread: asks a guard, and decides a question that other threads decide too. `given` is a struct shared. */
 static void *ask_at_once(void *given)
 {
     const struct shared *shared = given;
@@ -454,8 +441,7 @@ static void *ask_at_once(void *given)
 /* Threads with small stacks ask one guard, and decide one question. */
 static void threads(size_t count)
 {
-    struct spki_question question = {.size = sizeof question, .sequence = text("(sequence)"), .key = spki_assume_key(text("(public-key (test b))")),
-                                     .request = text("x"), .seconds = &moment};
+    struct spki_question question = question_of("(sequence)", "(public-key (test b))", "x");
     struct shared shared = {open_guard("(acl (entry (public-key (test c)) (tag (*))) (entry (public-key (test b)) (tag (*))))", SPKI_STRICT), NULL};
     pthread_t each[MOST_THREADS];
     pthread_attr_t small;
@@ -470,7 +456,7 @@ static void threads(size_t count)
     spki_guard_close(shared.guard);
 }
 
-/* Decides a question of its own and closes it. */
+/* The start of a thread: decides an opened question of its own (`given`) and closes it. */
 static void *decide_and_close(void *given)
 {
     spki_asked *asked = given;
@@ -486,8 +472,7 @@ static void *decide_and_close(void *given)
 /* A guard is closed while other threads decide the questions that were opened with it, and close them. */
 static void close_guard_beside(size_t count)
 {
-    struct spki_question question = {.size = sizeof question, .sequence = text("(sequence)"), .key = spki_assume_key(text("(public-key (test b))")),
-                                     .request = text("x"), .seconds = &moment};
+    struct spki_question question = question_of("(sequence)", "(public-key (test b))", "x");
     spki_guard *guard = open_guard("(acl (entry (public-key (test b)) (tag (*))))", SPKI_STRICT);
     pthread_t each[MOST_THREADS];
     for (size_t i = 0; i < count; i++)
@@ -497,25 +482,27 @@ static void close_guard_beside(size_t count)
         pthread_join(each[i], NULL);
 }
 
+/* The last second of the year 9999: no later moment can be asked. */
+#define LAST_SECOND INT64_C(253402300799)
+
 /* A decision that is kept holds till the least window ends, and no second longer. */
 static void kept_decisions(void)
 {
     static const struct { const char *list; int64_t until; } rows[] = {
         {"(acl (entry (public-key (test b)) (tag (*))))", INT64_MAX},
         {"(acl (entry (public-key (test b)) (tag (*)) (not-after \"2026-06-30_23:59:59\")))", 1782863999},
-        {"(acl (entry (public-key (test b)) (tag (*)) (not-after \"9999-12-31_23:59:59\")))", 253402300799}};
+        {"(acl (entry (public-key (test b)) (tag (*)) (not-after \"9999-12-31_23:59:59\")))", LAST_SECOND}};
     for (size_t row = 0; row < sizeof rows / sizeof *rows; row++) {
         spki_guard *guard = open_guard(rows[row].list, SPKI_STRICT);
-        int64_t now = moment;
-        struct spki_question question = {.size = sizeof question, .sequence = text("(sequence)"), .request = text("(ftp)"), .seconds = &now,
-                                         .key = spki_assume_key(text("(public-key (test b))"))};
+        struct spki_question question = question_of("(sequence)", "(public-key (test b))", "(ftp)");
         spki_asked *asked = open_question(guard, &question);
         unsigned char line[64];
         const struct spki_decision kept = spki_asked_decide(asked, line, sizeof line, NULL);
         spki_asked_close(asked);
         expect(kept.status == SPKI_YES && kept.until == rows[row].until, "another last second");
-        for (int later = 0; later < 2 && rows[row].until < 253402300799; later++) {
-            now = rows[row].until + later;
+        for (int later = 0; later < 2 && rows[row].until < LAST_SECOND; later++) {
+            const int64_t now = rows[row].until + later;
+            question.seconds = &now;
             asked = open_question(guard, &question);
             expect(spki_holds_at(kept, now) == !later && spki_asked_granted(asked) == !later, "a yes ends before its last second, or after it");
             spki_asked_close(asked);

@@ -29,6 +29,13 @@ static struct spki_text text(const char *octets)
     return (struct spki_text){octets, strlen(octets)};
 }
 
+/* A question at `moment`, of a key that counts as proved. The three are texts. */
+static struct spki_question question_of(const char *sequence, const char *key, const char *request)
+{
+    return (struct spki_question){.size = sizeof(struct spki_question), .sequence = text(sequence), .key = spki_assume_key(text(key)),
+                                  .request = text(request), .seconds = &moment};
+}
+
 /* Whether octets are those of a C string. */
 static int is_text(const void *octets, size_t length, const char *wanted)
 {
@@ -64,12 +71,12 @@ static enum spki_status decide(const spki_asked *asked, unsigned char *buffer, s
     return decision.status;
 }
 
-/* Opens a question, marks its first `marks` signatures and decides it. The status and the line must be these, those of a refusal if the question
- * cannot be opened. */
+/* Opens a question, marks its first `marks` signatures as valid and decides it. The status and the line must be these. If the question cannot be
+ * opened, they are those of opening it. */
 static void expect_decision(const spki_guard *guard, const struct spki_question *question, size_t marks, enum spki_status status, const char *line)
 {
     unsigned char buffer[64];
-    spki_asked *asked = (spki_asked *)&until_refusal;
+    spki_asked *asked = (spki_asked *)&until_refusal; /* (not null, so that it is seen that a call sets null) */
     size_t needed = 12345;
     enum spki_status actual = spki_guard_ask(guard, question, &asked, buffer, sizeof buffer, &needed);
     expect((actual == SPKI_DONE) == (asked != NULL), "a question without a handle, or a handle without a question");

@@ -108,7 +108,7 @@ static void ask_refused(const struct question *asked, size_t most)
     free(buffer);
 }
 
-/* Asks without a buffer, then with one that is large enough, whose answer is kept, then with others. */
+/* Asks without a buffer, then with one of the length that was needed, whose answer is kept, then with smaller and larger ones. */
 static void answer(struct question *asked)
 {
     if (ask(asked, NULL, 0, &asked->length) != SPKI_TOO_SMALL || !asked->length)
@@ -121,7 +121,7 @@ static void answer(struct question *asked)
     ask_with(asked, asked->length + 40);
 }
 
-/* Asks all questions, from the one at a place on. */
+/* The start of a thread: asks all questions, from the one at a place (a size_t) on. */
 static void *ask_all(void *place)
 {
     size_t first = *(size_t *)place;

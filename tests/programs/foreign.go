@@ -1,5 +1,5 @@
 // A client whose certificate for TLS is of another key than the one it holds, which the programs of OpenSSL refuse to be.
-// Usage: go run foreign.go ADDRESS CERTIFICATE OWN-CERTIFICATE OWN-KEY
+// Usage: go run foreign.go ADDRESS CERTIFICATE OWN-CERTIFICATE OWN-KEY. Prints what the server answers to a request, or the error of the connection.
 package main
 
 import (

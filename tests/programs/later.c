@@ -86,9 +86,10 @@ static enum spki_status ask(size_t *question)
 
 int main(void)
 {
+    /* (the fields of spki.h in order: size, octets, certificates, words ..; size, sequence, key ..) */
     size_t limits[7 + MORE] = {0, 70000, 0, 5}, question[12 + MORE] = {0, (size_t)"(sequence)", 10, (size_t)"key", 3};
     for (size_t more = 0; more <= MORE; more++) {
-        size_t unknown = more > LATER ? more - LATER : 0;
+        size_t unknown = more > LATER ? more - LATER : 0; /* fields that spki.c does not know: it must refuse them unless they are 0 */
         limits[0] = LIMITS + more * sizeof more;
         question[0] = QUESTION + more * sizeof more;
         CHECK(open_guard(limits) == SPKI_DONE && limits_seen.octets == 70000 && !limits_seen.certificates && limits_seen.words == 5);
@@ -103,6 +104,7 @@ int main(void)
             limits[7 + LATER + at] = question[12 + LATER + at] = 0;
         }
     }
+    /* (too small, no multiple of a field, and over the 4,096 octets that spki.c takes for a structure) */
     const size_t wrong[] = {0, 1, sizeof(size_t), LIMITS - sizeof(size_t), LIMITS - 1, LIMITS + 1, 4104, SIZE_MAX, SIZE_MAX - 7};
     for (size_t place = 0; place < sizeof wrong / sizeof *wrong; place++) {
         limits[0] = wrong[place];

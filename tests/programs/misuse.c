@@ -63,12 +63,10 @@ static void expect_misused_question(const struct spki_question *question, const 
 /* A question that the guard grants. */
 static struct spki_question good_question(void)
 {
-    struct spki_question question = {.size = sizeof question, .sequence = text("(sequence)"), .key = spki_assume_key(text("(public-key (test b))")),
-                                     .request = text("x"), .seconds = &moment};
-    return question;
+    return question_of("(sequence)", "(public-key (test b))", "x");
 }
 
-/* Each call with a text that is not lent whole. */
+/* Each call with an invalid text, one of `wrong`, must be misuse. */
 static void wrong_texts(struct spki_text invalid)
 {
     const void *octets = &invalid;
@@ -80,7 +78,7 @@ static void wrong_texts(struct spki_text invalid)
     expect(!octets, "spki_string: text");
 }
 
-/* Questions with such a text, and with such a list of strings. */
+/* A question with an invalid text, one of `wrong`, as a part or a string, or with its pointer and count for the strings, must be misuse. */
 static void wrong_parts(struct spki_text invalid)
 {
     struct spki_question question = good_question();
@@ -101,7 +99,7 @@ static void wrong_parts(struct spki_text invalid)
     expect_misused_question(&question, "spki_guard_ask: strings");
 }
 
-/* Each call with a wrong buffer: null or the right one, with the length of such a text. */
+/* Each call with an invalid buffer must be misuse: null where `invalid`, one of `wrong`, is null, else the right one, with that length. */
 static void wrong_buffers(struct spki_text invalid)
 {
     struct spki_question question = good_question();
@@ -118,7 +116,7 @@ static void wrong_buffers(struct spki_text invalid)
     expect_misused_unwritten(spki_asked_reduce(asked, to, invalid.length, &needed).status, "spki_asked_reduce: buffer");
 }
 
-/* Limits and questions with a wrong size, and limits that are too high. */
+/* Limits and questions with a wrong size, and limits that are too high, must be misuse. */
 static void wrong_sizes(void)
 {
     struct spki_limits limits[] = {SPKI_USUAL_LIMITS, SPKI_USUAL_LIMITS, SPKI_USUAL_LIMITS, SPKI_USUAL_LIMITS, SPKI_USUAL_LIMITS,
@@ -131,16 +129,15 @@ static void wrong_sizes(void)
     limits[3].nodes = SPKI_MOST_NODES + 1;
     limits[4].octets = SIZE_MAX;
     limits[5].work = SPKI_MOST_WORK + 1;
-    for (size_t place = 0; place < sizeof limits / sizeof *limits; place++) {
+    for (size_t place = 0; place < sizeof limits / sizeof *limits; place++)
         expect_no_guard(spki_guard_open("(acl)", 5, SPKI_STRICT, &limits[place], &no_guard, BUFFER), "spki_guard_open: limits");
-    }
     for (size_t place = 0; place < sizeof sizes / sizeof *sizes; place++) {
         question.size = sizes[place];
         expect_misused_question(&question, "spki_guard_ask: the size of the question");
     }
 }
 
-/* Numbers that have no meaning: commands, policies, places of signatures, paths that are too long. */
+/* Numbers that have no meaning must be misuse: commands, policies, places of signatures, paths that are too long. */
 static void wrong_numbers(void)
 {
     static const size_t path[1];
@@ -157,7 +154,7 @@ static void wrong_numbers(void)
     expect(!octets, "spki_string: path");
 }
 
-/* Handles and places of results that are null. */
+/* Handles and places of results that are null must be misuse, and so must a moment or a request that is given in two ways. */
 static void nulls(void)
 {
     struct spki_question question = good_question(), twice = question;
@@ -185,7 +182,7 @@ static void nulls(void)
     expect_misused_question(&twice, "spki_guard_ask: two requests");
 }
 
-/* A question in place of a guard, and a guard in place of a question. */
+/* A question in place of a guard, and a guard in place of a question, must be misuse, and must not be closed. */
 static void other_kinds(void)
 {
     struct spki_question question = good_question();
@@ -207,7 +204,7 @@ static void other_kinds(void)
     expect(spki_guard_entries(guard) == 1 && spki_asked_granted(asked), "a close of another kind");
 }
 
-/* What may be null: what has no octets, `needed`, limits. */
+/* What may be null, and is no misuse: a pointer to no octets, `needed`, the limits. */
 static void allowed(void)
 {
     static const size_t path[1];

@@ -63,7 +63,7 @@ static int decisions()
     return 0;
 }
 
-// An opened question keeps its text, outlives its guard and a move, and is granted once its signature is marked.
+// An opened question keeps a copy of its text, outlives its guard and a move, and is granted once its signature is marked.
 static int opened_question()
 {
     auto guard = std::make_unique<spki::guard>(list);
@@ -100,7 +100,7 @@ static int two_clients()
     return 0;
 }
 
-// Two equal signatures are two places.
+// Two equal signatures of a question are listed at two places. The answer is yes only if both are marked.
 static int equal_signatures()
 {
     const std::string own = "(cert (issuer (public-key (test a))) (subject (public-key (test a))) (propagate) (tag (*)))"
@@ -118,7 +118,7 @@ static int equal_signatures()
     return 0;
 }
 
-// A decision holds till the least window ends, and no second longer. The clock has no time behind 2262.
+// A decision holds until the first of its windows ends, and no second longer. The clock counts nanoseconds, so it has no time after 2262.
 static int decisions_that_are_kept()
 {
     using std::chrono::seconds;
@@ -138,7 +138,7 @@ static int decisions_that_are_kept()
     return 0;
 }
 
-// Nothing is verified where no signature could help.
+// No signature is verified if the answer would be no even if all were valid.
 static int impossible_requests()
 {
     spki::guard guard(list);
@@ -149,7 +149,7 @@ static int impossible_requests()
     return 0;
 }
 
-// What has given its handle away is no guard and no question. A key that was moved away is still the key.
+// A guard or question that was moved away has no handle: it has no members, and its calls are misuse. A key that was moved away is still the key.
 static int handles_given_away()
 {
     spki::guard guard(list);
@@ -168,7 +168,7 @@ static int handles_given_away()
     return 0;
 }
 
-// What is refused throws the line that says why.
+// A list or question that is refused throws spki::refused with the line that says why.
 static int refusals()
 {
     spki::guard guard(list);
@@ -206,7 +206,7 @@ static int literals()
     return 0;
 }
 
-// Threads ask one guard and one question, and each ends a question of its own, while the guard ends.
+// Threads ask one guard and one question, 20 times each, and then each ends a question of its own, while the guard ends: so each counts 21 grants.
 static int threads()
 {
     auto guard = std::make_unique<spki::guard>(list);

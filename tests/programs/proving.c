@@ -1,29 +1,13 @@
 /* Proves requests by examples/c/http_request.c. Reads strings from standard input, each as LENGTH:OCTETS, for each request: the method, the
- * authority, the target, the time, how long before the same came or an empty string, `1` if it has a body that no field says or an empty string, the
- * number of fields, and the name and the value of each.
- * Writes a line for each: the refusal or `valid`, and behind it the digest of the body. */
+ * authority, the target, the time (seconds since 1970), how many seconds before the same came or an empty string, `1` if it has a body that no field
+ * says or an empty string, the number of fields, and the name and the value of each. Writes a line for each: the refusal or `valid`, and behind it
+ * the digest of the body in hexadecimal digits. */
 #include "http_request.h"
-
-#include <stdio.h>
-#include <stdlib.h>
+#include "read_string.h"
 
 enum { MOST_FIELDS = 64 };
 /* The strings of a request before its fields. */
 enum { METHOD, AUTHORITY, TARGET, TIME, BEFORE, BODY, FIELD_COUNT, HEAD };
-
-/* Reads LENGTH:OCTETS. An octet 00 that does not count is behind the octets, for atoll. False at the end of the input, and if memory ran out. */
-static bool read_string(struct spki_text *string)
-{
-    size_t length;
-    if (scanf("%zu", &length) != 1 || getchar() != ':')
-        return false;
-    unsigned char *octets = malloc(length + 1);
-    if (!octets || fread(octets, 1, length, stdin) != length)
-        return false;
-    octets[length] = 0;
-    *string = (struct spki_text){octets, length};
-    return true;
-}
 
 /* Reads `count` strings. False if one of them is not there. */
 static bool read_strings(struct spki_text *strings, size_t count)
@@ -41,8 +25,8 @@ static void free_strings(struct spki_text *strings, size_t count)
         free((void *)strings[--count].octets);
 }
 
-/* Writes the line for a request of `count` fields: `head` has its strings before them, and `of_fields` the name and the value of each. A read past
- * `fields` is seen by a sanitizer: its block ends with one more. */
+/* Writes the line for a request of `count` fields: `head` has its strings before them, and `of_fields` the name and the value of each. If the request
+ * has a time before, the same request must be valid at that earlier time. `fields` has room for one more, so that it is never without octets. */
 static void answer(const struct spki_text *head, struct spki_text *of_fields, size_t count)
 {
     const struct spki_text names[] = {SPKI_LITERAL("example.com")};

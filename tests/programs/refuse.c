@@ -24,7 +24,7 @@
     static __typeof__(type) next; \
     if (next == NULL) next = (__typeof__(type))dlsym(RTLD_NEXT, name)
 
-/* The calls of one kind: the first that is refused (0 for none), how many were asked and refused, and whether all behind the first are too. */
+/* The calls of one kind: the number of the first to be refused or 0, how many were made, and refused, and whether all behind the first are too. */
 struct calls {
     unsigned long first, asked, refused;
     int all;
@@ -52,7 +52,7 @@ static void *no_memory(void) {
     return NULL;
 }
 
-/* Reads from a variable which calls are refused: N, or N.. for all from there on. */
+/* Reads from a variable of the environment which calls are refused: N, or N.. for all from there on. */
 static void read_plan(struct calls *calls, const char *name) {
     const char *words = getenv(name);
     if (words == NULL) return;

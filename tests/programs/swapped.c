@@ -20,7 +20,7 @@ enum { THREADS = 4, TURNS = 40 };
 static pthread_rwlock_t lock = PTHREAD_RWLOCK_INITIALIZER;
 static spki_guard *guard;
 
-/* Opens a guard that grants Bob all, or nothing. */
+/* Opens a guard that grants Bob, key b, everything, or one that has no entries and grants nothing. */
 static spki_guard *open_guard(bool grants)
 {
     static const char all[] = "(acl (entry (public-key (test b)) (tag (*))))", none[] = "(acl)";

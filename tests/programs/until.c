@@ -14,7 +14,7 @@ static struct spki_text text(const char *words)
     return (struct spki_text){words, strlen(words)};
 }
 
-/* Decides a question, whose signatures are all valid. Ends the program if it is refused, or its decision differs from its truth value. */
+/* Decides a question, whose signatures are all valid. Ends the program if it is refused, or if spki_asked_granted differs from the decision. */
 static struct spki_decision decide(const spki_guard *guard, const struct spki_question *question)
 {
     unsigned char line[64];

@@ -2,10 +2,9 @@
  * message and the value of a signature, and so on. Writes 1 for each signature that is valid, 0 for each other, and x for one at which the
  * process ended: a child process verifies, and after that another one goes on. */
 #define _DEFAULT_SOURCE
+#include "read_string.h"
 #include "verify.h"
 
-#include <stdio.h>
-#include <stdlib.h>
 #include <sys/mman.h>
 #include <sys/wait.h>
 #include <unistd.h>
@@ -15,21 +14,8 @@ enum { MOST = 65536 };
 
 static struct spki_text strings[3 * MOST];
 
-/* Reads LENGTH:OCTETS. False at the end of the input, and if memory ran out. */
-static bool read_string(struct spki_text *string)
-{
-    size_t length;
-    if (scanf("%zu", &length) != 1 || getchar() != ':')
-        return false;
-    unsigned char *octets = malloc(length + 1);
-    if (!octets || fread(octets, 1, length, stdin) != length)
-        return false;
-    *string = (struct spki_text){octets, length};
-    return true;
-}
-
-/* Verifies the signatures from one place on in a child process, up to its end or to `count`. Sets `answers`, and returns the place behind the last
- * of them. Where the child ends well, a sanitizer says there what it has not freed. */
+/* Verifies the signatures from one place on, up to `count`, in a child process, which sets 1 or 0 for each in `answers`: both share that memory. It
+ * may end before. Returns the first place that is not set. Where the child ends well, a sanitizer says there what it has not freed. */
 static size_t verify_from(size_t place, size_t count, char *answers)
 {
     int status = 0;
