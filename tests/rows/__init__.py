@@ -11,8 +11,7 @@ between them. `any` stands for each of the commands. A line that begins with `;`
 
 and every other octet stands for itself. Of each text that `canonical` converts, what `advanced` and `transport` write must be
 read again as the same canonical form. Each text that `check` refuses `reduce` and `explain` must refuse by the same line; of each
-that it decides, the first entry that `explain` says grants must be the one that `check` names.
-"""
+that it decides, the first entry that `explain` says grants must be the one that `check` names."""
 import os
 import re
 from collections.abc import Iterator
@@ -29,7 +28,7 @@ SHOWN = 1000
 
 
 class Row(NamedTuple):
-    """Where a row stands, a command, a text, and the status and the answer that are wanted."""
+    """A row: its place (`tables/NAME:LINE`), a command, a text, and the exit status and the answer that are expected."""
 
     place: str
     command: str
@@ -61,7 +60,7 @@ def unescaped(field: bytes) -> bytes:
 
 
 def rows_of(table: str) -> Iterator[Row]:
-    """The rows of a table, by its path. A row of `any` is one for each command."""
+    """The rows of a table, by its path. A row of `any` becomes one for each command. Raises ValueError for a line without exactly four fields."""
     with open(table, "rb") as lines:
         for number, line in enumerate(lines, 1):
             line = line.rstrip(b"\n")
@@ -90,7 +89,8 @@ def fault_of(program: str, row: Row) -> str | None:
 
 
 def fault_beside(program: str, row: Row) -> str | None:
-    """What is wrong with what other commands answer to the text of a row, None if nothing is. The row's own answer is right."""
+    """What is wrong with what other commands answer to the text of a row, None if nothing is. `reduce` and `explain` must agree with `check`. What
+    `advanced` and `transport` write of a text must be read as the value that `canonical` writes. The row's own answer is right."""
     if row.command == "check":
         return fault_of_check(program, row)
     if row.command != "canonical" or row.status:

@@ -42,7 +42,7 @@ def changes_of(site: Site, answer: bytes) -> Iterator[str]:
 
 
 def faults_of(site: Site, asked: Asked, must: set[int]) -> list[str]:
-    """What is wrong with the answer to a plain request: a status that is not in `must` (0 stands for no answer), or what `changes_of` finds."""
+    """A line for each fault of the answer to a plain request: a status that is not in `must` (0 stands for no answer), or what `changes_of` finds."""
     who, method, path = asked
     body = "made" if method == "PUT" else ""
     header = f"{method} {path} HTTP/1.1\r\nHost: localhost\r\nConnection: close\r\nContent-Length: {len(body)}\r\n\r\n"
@@ -57,7 +57,7 @@ def statuses(answer: bytes) -> list[int]:
 
 
 def in_braces(value: Any) -> str:
-    """The octets of a sequence, or any octets, as a header has them."""
+    """The canonical text of a sequence, or any octets, in base64 and braces, as a header has them."""
     return "{" + base64.b64encode(value if isinstance(value, bytes) else canonical(value)).decode() + "}"
 
 
@@ -78,8 +78,9 @@ class Attackers:
         self.make_tls_certificates()
 
     def sequences(self) -> dict[str, str]:
-        """The texts for the names that attacks.py has in braces."""
+        """The texts for the names that attacks.py has in braces: sequences in braces, Ann's certificate for TLS and the hash of her key."""
         site = self.site
+        # (`text[-8]` is one of the last octets of the signature's value)
         good = sequence(site, "ann", "ben", READ)
         text = canonical(good)
         values: dict[str, Any] = {
@@ -98,7 +99,7 @@ class Attackers:
         return {**{name: in_braces(value) for name, value in values.items()}, "ann": ann, "key": digest}
 
     def key(self, who: str) -> bytes:
-        """Somebody's key in canonical form."""
+        """The public key of `ann`, `ben` or another, in canonical form."""
         return canonical(signer_at(self.site.at(f"keys/{who}")).key)
 
     def name(self) -> Value:

@@ -55,7 +55,7 @@ def raw(text: str) -> bytes:
 
 
 def of_headers() -> Iterator[Plain]:
-    """A client sends what only the web server may say."""
+    """Requests in which a client sends headers that only the web server may set."""
     for what, *lines in [
             ("Ann's certificate in the server's header", "X-Client-Cert: {ann}"),
             ("the same in lower case", "x-client-cert: {ann}"), ("the same with an underscore", "X_Client_Cert: {ann}"),
@@ -77,7 +77,7 @@ def of_headers() -> Iterator[Plain]:
 
 
 def of_doubled_parts() -> Iterator[Plain]:
-    """Headers twice, two requests in one, and lines that are no header."""
+    """Requests with a header twice, two requests in one, and lines that are no header."""
     shown, basic = "Authorization: SPKI {ben}", "Authorization: Basic YW5uOmFubg=="
     yield "two headers with certificates, the first of another scheme", "ben", request(WEB, basic, shown)
     yield "two headers with certificates, the first of others", "ben", request(WEB, "Authorization: SPKI {ended}", shown)
@@ -181,8 +181,8 @@ LEAVING = "/.well-known/spki-chain"
 
 
 def of_leaving() -> Iterator[Plain]:
-    """The one path that some servers pass on without asking, with a client's headers: nothing is decided there, and no certificates are left without
-    a signature."""
+    """Requests at the one path where a client leaves certificates, and which some servers pass on without asking the daemon first: nothing is decided
+    there, and no certificates are left without a signature."""
     claims = ("X-Original-Method: GET", f"X-Original-URI: {WEB}", "X-Original-Host: localhost", "X-Forwarded-Method: GET", f"X-Forwarded-Uri: {WEB}",
               "X-Forwarded-Host: localhost", "X-Client-Cert: {ann}")
     for method in ("PUT", "GET", "POST", "DELETE", "HEAD", "OPTIONS", "COPY"):

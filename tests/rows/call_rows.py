@@ -22,8 +22,7 @@ commas between them are a row each. Texts and answers are written as in `tables/
                                     the reader's calls, faults, whether it ended, octets left; the writer's calls, faults, whether it was
                                     flushed; and what was written
 
-A refused text's answer is the fault and its message.
-"""
+A refused text's answer is the fault and its message."""
 import os
 import re
 import subprocess
@@ -40,7 +39,7 @@ LINE = b"yes entry 1\n"
 
 
 class CallRow(NamedTuple):
-    """Where a row stands, the name of a call, its texts, and the answer that is wanted."""
+    """A row: its place (`calls/NAME:LINE`), the name of a call, its texts, and the answer that is expected."""
 
     place: str
     call: str
@@ -70,13 +69,13 @@ def tables() -> dict[str, list[CallRow]]:
 
 def answers(program: str, rows: Iterable[CallRow]) -> list[bytes]:
     """What the program answers to rows, in order. Behind them is its status if that is not 0, as where memory ran out for a row or it ended early."""
-    given = b"".join(row.line() for row in rows)
-    done = subprocess.run([program], input=given, stdout=subprocess.PIPE, stderr=subprocess.STDOUT, timeout=SECONDS)
+    lines = b"".join(row.line() for row in rows)
+    done = subprocess.run([program], input=lines, stdout=subprocess.PIPE, stderr=subprocess.STDOUT, timeout=SECONDS)
     return [answer_of(line) for line in done.stdout.split(b"\n")[:-1]] + ([b"ended with %d" % done.returncode] if done.returncode else [])
 
 
 def answer_of(line: bytes) -> bytes:
-    """The octets of a line that has them in hexadecimal digits, or the line itself if it has not, as a message of a fault."""
+    """The octets that a line has in hexadecimal digits, or the line itself if it has other characters, as a message of a fault."""
     try:
         return bytes.fromhex(line.decode())
     except ValueError:
@@ -93,7 +92,7 @@ def first_run() -> bytes:
 
 
 def cut_short() -> Iterator[CallRow]:
-    """Each proper beginning of a text is `Short`, for each reader of its form."""
+    """Calls of each reader of a form on each proper beginning of a text in that form: it is refused as `Short`."""
     for calls, text in ((("decode", "Doc::open"), first_run()), (("read_advanced", "read_any"), ADVANCED), (("read_any",), BRACES)):
         for length in range(len(text)):
             for call in calls:
@@ -109,7 +108,8 @@ def number(value: int) -> bytes:
 
 
 def failing_ends() -> Iterator[CallRow]:
-    """The first run, while the reader fails after each number of octets, and the writer fails or takes nothing more."""
+    """Calls of `run` on the first run: the reader fails after each number of octets (`room`), or the writer does or takes nothing more."""
+    # (the answers are those that the head of this file describes for `run`; 3 is the status where reading or writing fails)
     text = first_run()
     for room in range(len(text) + 1):
         wanted = b"3, %d 1 false %d, 0 0 false;" % (room + 1, len(text) - room)

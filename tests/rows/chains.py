@@ -24,7 +24,7 @@ def digest(text, alg="sha256"):
 
 
 def key(letter):
-    """A key, as it is written."""
+    """The key that is named by a letter, as it is written."""
     return f"(public-key (test {letter}))"
 
 
@@ -33,9 +33,9 @@ def cert(issuer, subject, fields="(propagate) (tag (*))"):
     return f"(cert (issuer {issuer}) (subject {subject}) {fields})"
 
 
-def signed(certificate, signer, value="sig", of=None):
-    """A certificate and its signature. `of` is the text that the signature has the digest of, by default the certificate."""
-    return f"{certificate} (signature {digest(of or certificate)} {signer} {value})"
+def signed(certificate, signer, value="sig", message=None):
+    """A certificate and its signature, as written. `message` is the text of which the signature has the digest: by default the certificate."""
+    return f"{certificate} (signature {digest(message or certificate)} {signer} {value})"
 
 
 def row(certificate, signer, value="sig"):
@@ -44,7 +44,7 @@ def row(certificate, signer, value="sig"):
 
 
 def rows_and_items(*pairs):
-    """The rows and the items of certificates, each given with its signer."""
+    """The rows and the items of certificates, each given with its signer: two texts, the members of the accepted list and of the sequence."""
     return " ".join(row(*pair) for pair in pairs), " ".join(signed(*pair) for pair in pairs)
 
 
@@ -56,6 +56,11 @@ def case(entries, rows="", items="", asks=key("d"), request="(ftp)", at=NOW, pol
 def entry(letter, fields="(propagate) (tag (*))"):
     """An entry for the key of a letter. `fields` is the text behind its subject."""
     return f"(entry {key(letter)} {fields})"
+
+
+def numbered(count):
+    """The strings n0, n1 and so on, so many, with spaces between."""
+    return " ".join(f"n{place}" for place in range(count))
 
 
 YES, NO = (0, "yes entry 1\n"), (1, "no\n")
@@ -72,14 +77,15 @@ CHAIN = [(key("a"), key("b")), (key("b"), key("c")), (key("c"), key("d"))]
 
 
 def chain(changed=None, how=None):
-    """The rows and the items of the chain. The certificate at the place `changed`, if given, fails a test of evidence: `how` says which."""
+    """The rows and the items of CHAIN, as `rows_and_items`. The certificate at the place `changed`, from 0, fails the test of evidence that `how`
+    names. If none is given, all pass."""
     rows, items = [], []
     for place, (issuer, subject) in enumerate(CHAIN):
         fails = how if place == changed else None
         certificate = cert(digest(issuer) if fails == "key not shown" else issuer, subject)
         signer = key("x") if fails == "signer differs" else issuer
         other = cert(issuer, key("x")) if fails == "digest differs" else None
-        items.append(signed(certificate, signer, of=other))
+        items.append(signed(certificate, signer, message=other))
         if fails != "not accepted":
             rows.append(row(certificate, issuer))
     return " ".join(rows), " ".join(items)
@@ -120,12 +126,8 @@ def sizes():
     """Yields (name, text, what `check` answers): products of nodes from both sides of 1,000,000, and an entry before and behind a larger one. A set
     of N strings has N + 1 nodes, so 999 and 1,000 strings make 1,000 * 1,001. Equal strings are all kept: 99 and 99 leave 9,801, so 9,802 nodes.
     Times the 102 nodes of 101 strings that is 999,804, and times 103 it is 1,009,606."""
-    def set_of(count):
-        """A set of so many different strings."""
-        return "(* set " + " ".join(f"n{place}" for place in range(count)) + ")"
-
-    shown = rows_and_items((cert(key("a"), key("d"), f"(tag {set_of(1000)})"), key("a")))
-    large, small = entry("a", f"(propagate) (tag {set_of(999)})"), entry("a", "(propagate) (tag n0)")
+    shown = rows_and_items((cert(key("a"), key("d"), f"(tag (* set {numbered(1000)}))"), key("a")))
+    large, small = entry("a", f"(propagate) (tag (* set {numbered(999)}))"), entry("a", "(propagate) (tag n0)")
     yield "too large", case(large + small, *shown, request="n0"), refused("TooLarge")
     yield "granted before too large", case(small + large, *shown, request="n0"), YES
     for third, answer in ((101, YES), (102, refused("TooLarge"))):
@@ -259,7 +261,7 @@ GRANTS, NONE = (0, "entry 1 grants\n"), (1, "no entries\n")
 
 
 def five(subject, fields="(tag (*))"):
-    """What `reduce` answers to a case of one entry that is not stopped: the authorization for a subject. `fields` is the text behind the subject."""
+    """What `reduce` answers to a case of one entry whose chain does not stop: the authorization for a subject. `fields` is the text behind it."""
     return 0, f"entry 1 (five (subject {subject}) {fields})\n"
 
 
@@ -331,7 +333,7 @@ def explained_evidence():
     c1, c2, by_hash = cert(a, b, "(tag (*))"), cert(b, c, "(tag (*))"), cert(digest(a), b, "(tag (*))")
     rows, items = rows_and_items((c1, a))
     for name, shown, why in (("no key shown", signed(by_hash, a), "KeyNotShown"), ("signed by another", signed(by_hash, b) + a, "SignerDiffers"),
-                             ("digest of another text", signed(by_hash, a, of=c1) + a, "DigestDiffers")):
+                             ("digest of another text", signed(by_hash, a, message=c1) + a, "DigestDiffers")):
         yield f"hash issuer: {name}", case(entry("a"), row(by_hash, a), shown, b), (1, f"item 1 {why}\n"), (1, f"item 1 {why}\n")
     first, later = (1, "item 1 NotAccepted\n"), (1, "item 4 NotAccepted\n")
     yield "not accepted", case(entry("a"), "", items, b), first, first

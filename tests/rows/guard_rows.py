@@ -103,7 +103,7 @@ def of_verifiers() -> Iterator[CallRow]:
 
 
 def reduced_sets(tag: str) -> tuple[bytes, bytes]:
-    """A case of an entry for a set and a certificate for a tag, and its rows."""
+    """A case of an entry for the set of read and write and of a certificate for a tag, and the text of its rows."""
     certificate = cert(KA, KB, f"(tag {tag})")
     text = case(entry("a", "(propagate) (tag (* set read write))"), row(certificate, KA), signed(certificate, KA))
     return text, rows_of(text)
@@ -139,20 +139,20 @@ def of_revoked_keys() -> Iterator[CallRow]:
 
 def parts_of(text: bytes) -> list[bytes]:
     """The texts of a case's list [0], sequence [1], key [2], request [3] and moment [4], and its policy [5], `open` or `strict`."""
-    value = members_of(text)
-    parts = [value[1], value[3], *(part[1] for part in value[4:7])]
-    return [*map(written, parts), b"strict" if len(value) > 7 else b"open"]
+    members = members_of(text)
+    parts = [members[1], members[3], *(part[1] for part in members[4:7])]
+    return [*map(written, parts), b"strict" if len(members) > 7 else b"open"]
 
 
 def answer_of(wish: str, parts: list[bytes], rows: bytes) -> tuple[guard.Answer, list[guard.Signed]]:
     """What the model answers to the parts of a case (`parts_of`) by the text of its rows, and the signatures that it lists. `wish` is `decide`,
     `explain` or `reduce`."""
-    asked = guard.Parts(*parts[1:5])
-    return guard.answer(wish, parts[0], asked, cases.read_rows(forms.read(rows)), int(parts[5] == b"open"), guard.USUAL, "")
+    question, policy = guard.Parts(*parts[1:5]), guard.OPEN if parts[5] == b"open" else guard.STRICT
+    return guard.answer(wish, parts[0], question, cases.read_rows(forms.read(rows)), policy, guard.USUAL, "")
 
 
 def in_debug(wish: str, answer: bytes) -> bytes:
-    """The lines of an answer as `test_one_call` writes the result of the call: as a value of the language, or of `reduce` in canonical form."""
+    """The lines of an answer as `test_one_call` writes the result: as a value of Rattle, such as `Yes(1)`, or for `reduce` in canonical form."""
     if wish == "decide":
         return b"No" if answer == b"no\n" else b"Yes(%s)" % answer.split()[2]
     if answer.startswith(b"item "):
@@ -164,7 +164,7 @@ def in_debug(wish: str, answer: bytes) -> bytes:
 
 
 def reason(line: bytes) -> bytes:
-    """What an explanation says of an entry, written as a value of the language."""
+    """What a line of an explanation says of an entry, as a value of Rattle: `Stopped { .. }`, `Grants`, or the word of the line."""
     stop = re.fullmatch(rb"item (\d+) (\w+)", line)
     return b"Stopped { item: %s, cause: %s }" % stop.groups() if stop else line.replace(b"grants", b"Grants")
 
@@ -190,7 +190,7 @@ def questions() -> Iterator[tuple[str, bytes]]:
 
 
 def of_questions() -> Iterator[CallRow]:
-    """Each worked example, as a case and as a question to a guard of its list, whose parts are in each form."""
+    """Each example of `questions`, as a case and as a question to a guard of its list, whose parts are in each form."""
     for name, text in questions():
         rows, parts = rows_of(text), parts_of(text)
         for wish, call in (("decide", "decide"), ("explain", "explain"), ("reduce", "reduce_case")):
@@ -202,22 +202,25 @@ def of_questions() -> Iterator[CallRow]:
 
 
 def of_question(place: str, wish: str, parts: list[bytes], rows: bytes, answer: bytes, listed: list[guard.Signed]) -> Iterator[CallRow]:
-    """The rows of one question, by each call that can be asked it. `answer` and `listed` are the model's lines and signatures."""
-    at, asked, marks, result = (parts[0], parts[5], b"", b""), tuple(parts[1:5]), marks_of(rows, listed), in_debug(wish, answer)
-    yield CallRow(f"{place} {wish}", f"PreparedQuestion::{wish}", (*at, *asked, rows), result)
-    yield CallRow(f"{place} {wish}_by", f"PreparedQuestion::{wish}_by", (*at, *asked, marks), result)
+    """The rows of one question, by each call that can answer it. `parts` are as `parts_of` returns them, `rows` is the text of the accepted
+    signatures, and `answer` and `listed` are the lines and the signatures of the model."""
+    opening, question, marks, result = (parts[0], parts[5], b"", b""), tuple(parts[1:5]), marks_of(rows, listed), in_debug(wish, answer)
+    yield CallRow(f"{place} {wish}", f"PreparedQuestion::{wish}", (*opening, *question, rows), result)
+    yield CallRow(f"{place} {wish}_by", f"PreparedQuestion::{wish}_by", (*opening, *question, marks), result)
     if wish == "reduce":
-        yield CallRow(f"{place} reduce_into", "PreparedQuestion::reduce_into", (*at, *asked, marks), result)
+        yield CallRow(f"{place} reduce_into", "PreparedQuestion::reduce_into", (*opening, *question, marks), result)
     verdict = b"Done" if is_done(answer) else b"No"
-    yield CallRow(f"{place} {wish} in lines", "answer_opened", (*at, wish.encode(), *asked, marks), verdict + b" " + answer)
+    yield CallRow(f"{place} {wish} in lines", "answer_opened", (*opening, wish.encode(), *question, marks), verdict + b" " + answer)
     if wish == "decide":
-        is_possible = guard.is_possible(parts[0], guard.Parts(*asked), int(parts[5] == b"open"), guard.USUAL)
+        policy = guard.OPEN if parts[5] == b"open" else guard.STRICT
+        is_possible = guard.is_possible(parts[0], guard.Parts(*question), policy, guard.USUAL)
         for call in ("PreparedQuestion::is_possible", "OwnedQuestion::is_possible"):
-            for given in sorted({marks, b""}):
-                yield CallRow(f"{place} {call}, {len(given)} marks", call, (*at, *asked, given), b"yes" if is_possible else b"no")
-        yield CallRow(f"{place} other marks", "answer_opened", (*at, b"decide", *asked, marks + b"1"), b"other marks")
-        yield CallRow(f"{place} opened", "OwnedQuestion::decide_by", (*at, *asked, marks), result)
-        yield CallRow(f"{place} signed", "OwnedQuestion::signed", (*at, *asked), b"".join(part + b"\n" for one in listed for part in one))
+            for some_marks in sorted({marks, b""}):
+                yield CallRow(f"{place} {call}, {len(some_marks)} marks", call, (*opening, *question, some_marks), b"yes" if is_possible else b"no")
+        yield CallRow(f"{place} other marks", "answer_opened", (*opening, b"decide", *question, marks + b"1"), b"other marks")
+        yield CallRow(f"{place} opened", "OwnedQuestion::decide_by", (*opening, *question, marks), result)
+        texts = b"".join(text + b"\n" for signed_texts in listed for text in signed_texts)
+        yield CallRow(f"{place} signed", "OwnedQuestion::signed", (*opening, *question), texts)
 
 
 def is_done(answer: bytes) -> bool:

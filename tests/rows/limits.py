@@ -1,7 +1,7 @@
 """Texts at the limits from both sides, with the answers that docs/FORMATS.md has for them."""
 from harness.support import braced
 from rows import chains
-from rows.chains import NO, YES, case, cert, entry, key, octets_of, refused, rows_and_items
+from rows.chains import NO, YES, case, cert, entry, key, numbered, octets_of, refused, rows_and_items
 
 MOST_OCTETS, MOST_DEPTH, MOST_NODES = 1048576, 64, 1024
 FORMS = ("canonical", "advanced", "braces")
@@ -14,13 +14,9 @@ def strings(count, each="a"):
     return " ".join([each] * count)
 
 
-def numbered(count):
-    """The strings n0, n1 and so on, so many, with spaces between."""
-    return " ".join(f"n{place}" for place in range(count))
-
-
 def one_string(size, form):
-    """A text of `size` octets with one string, in a form of FORMS, and the canonical form of the string."""
+    """A text of `size` octets with one string, in a form of FORMS, and the canonical form of the string. Spaces behind it fill the last octets."""
+    # (how many octets of the string fit: beside its length and colon, two quotes, or two braces around base64, which has 4 octets for 3)
     room = {"canonical": size - len(f"{size}:"), "advanced": size - 2, "braces": (size - 2) // 4 * 3 - len(f"{size}:")}[form]
     octets = b"x" * room
     canonical = b"%d:%s" % (room, octets)
@@ -87,13 +83,14 @@ def deep_parts():
 
 def nodes():
     """Yields (name, command, text, answer): tags of 1,024 nodes, and of one more, wherever a tag may be."""
-    for how in ("* set", "x"):
-        fits, larger = (f"({how} {strings(MOST_NODES - 1 - (how == 'x') + more)})" for more in (0, 1))
+    for head in ("* set", "x"):
+        # (a set is one node beside its members, a list with its head two)
+        fits, larger = (f"({head} {strings(MOST_NODES - 1 - (head == 'x') + more)})" for more in (0, 1))
         yield "the first tag", "intersect", f"(intersect {fits} (*))", (0, fits + "\n")
         yield "the second tag", "intersect", f"(intersect (*) {fits})", (0, fits + "\n")
         yield "the first tag", "intersect", f"(intersect {larger} (*))", refused("tag 1 TooManyNodes")
         yield "the second tag", "intersect", f"(intersect (*) {larger})", refused("tag 2 TooManyNodes")
-        request = "a" if how == "* set" else fits
+        request = "a" if head == "* set" else fits
         for tag, in_entry, in_certificate in ((fits, YES, YES), (larger, refused("acl 1 Tag TooManyNodes"), refused("sequence 1 Tag TooManyNodes"))):
             shown = rows_and_items((cert(key("a"), key("d"), f"(tag {tag})"), key("a")))
             yield "an entry's tag", "check", case(entry("a", f"(tag {tag})"), asks=key("a"), request=request), in_entry

@@ -7,8 +7,8 @@ NOTHING = b"(* set)"
 
 
 def sets():
-    """The members of each set."""
-    return [()] + [(one,) for one in MEMBERS] + list(product(MEMBERS, MEMBERS))
+    """The members of each set, as a tuple of written tags: none, one or two."""
+    return [()] + [(member,) for member in MEMBERS] + list(product(MEMBERS, MEMBERS))
 
 
 def written(members):
@@ -17,7 +17,7 @@ def written(members):
 
 
 def normal_form(members):
-    """A set with these members, none of them a set, in normal form: a set of one member is that member."""
+    """A set with these members, none of them a set, as it is written in normal form: a set of one member is that member."""
     return members[0] if len(members) == 1 else written(members)
 
 

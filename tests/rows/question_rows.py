@@ -34,7 +34,7 @@ PART = {"Acl": "access list", "Sequence": "sequence", "Key": "key", "Request": "
 
 
 def of_refused_parts() -> Iterator[CallRow]:
-    """A case and a guard refuse the same parts for the same faults (case-faults)."""
+    """A case and a guard refuse the same parts for the same faults: those of REFUSED, in advanced and in canonical form."""
     for place, (parts, part, item, kind) in enumerate(REFUSED, 1):
         texts = [octets_of(text) for text in parts]
         text = canonical(b"(case %s (accepted) %s (key %s) (request %s) (at %s))" % tuple(texts))
@@ -49,6 +49,7 @@ def of_refused_part(place: str, texts: list[bytes], part: str, item: int | None,
     """The rows in which a guard refuses the texts of a list, sequence, key, request and moment, for the fault of one of them: `part`, a key
     of PART. `item` and `kind` are the fault, as in REFUSED."""
     fault, message = f"CertFault {{ item: {item}, kind: {kind} }}", f"item {item}: {TEXT_OF[kind]}"
+    # (a fault `Tag(EmptyList)` is `Tag EmptyList` in a line)
     guard, words = (texts[0], b"open", b"", b""), kind.replace("(", " ").replace(")", "")
     if part == "Acl":
         yield CallRow(place, "Guard::read", guard, f"Acl(Acl({fault})): access list: {message}".encode())
@@ -65,12 +66,13 @@ def of_refused_part(place: str, texts: list[bytes], part: str, item: int | None,
 
 
 def list_of(tag: bytes, fields: bytes = b"") -> bytes:
-    """A list with an entry for KA, which has a tag and further fields."""
+    """The canonical text of a list with an entry for KA, which has a tag and further fields, given as canonical texts."""
     return group(string("acl"), group(string("entry"), A, group(string("tag"), tag), fields))
 
 
 def row_by_strings(place: str, listed: bytes, seconds: int, words: tuple[bytes, ...], answer: bytes, octets: bytes = b"") -> CallRow:
-    """A row of a question of KA to a list, by strings and at a moment in seconds. `octets` is the limit, empty for none."""
+    """A row of a question of KA to a guard of the list `listed`, by strings (`words`) and at a moment in seconds since 1970. `octets` is the limit of
+    octets as a number in digits, empty for none."""
     return CallRow(f"calls/words:{place}", "Guard::ask", (listed, b"open", octets, b"", A, number(seconds), *words), answer)
 
 
@@ -129,7 +131,7 @@ LENGTHS = [((b"a",), 3), ((b"a", b"bc"), 9), ((b"0123456789",), 13), ((b"0123456
 def of_limits() -> Iterator[CallRow]:
     """A question of as many octets as may be, and of more; and products of nodes, which do not limit a decision."""
     for words, length in LENGTHS:
-        for octets, answer in ((60 + length, b"Yes(1)"), (59 + length, TOO_LONG), (0, TOO_LONG)):
+        for octets, answer in ((60 + length, b"Yes(1)"), (59 + length, TOO_LONG), (0, TOO_LONG)):  # (12 + 26 + 22 are 60)
             yield row_by_strings(f"octets {length} {octets}", list_of(b"(1:*)"), 0, words, answer, number(octets))
     text = sets_case()
     yield CallRow("calls/limits:sets", "decide", (text, rows_of(text)), b"Yes(1)")
@@ -164,7 +166,7 @@ def sets_case() -> bytes:
 
 
 def of_strings_in_chains() -> Iterator[CallRow]:
-    """A chain that a case refuses as TooLarge with 102 strings. A guard's decision intersects nothing (limits)."""
+    """A chain that as a case is refused as TooLarge with 102 strings or more. A guard decides it, since its decision intersects nothing."""
     tag = f"(tag (* set{' a' * 99}))"
     for third in (101, 102, 1_023):
         first, second = cert(KA, KB, f"(propagate) {tag}"), cert(KB, KC, f"(tag (* set{' a' * third}))")

@@ -17,8 +17,8 @@ FUNCTIONS = {"c": ("static const char *row_{}(void)\n{{", "    ", "}"), "cpp": (
 # The program behind the functions, and one of its calls: each writes the number of a row and what came of it.
 MAINS = {
     "c": ("int main(void)\n{\n", '    printf("%d %s\\n", {0}, row_{0}());\n', "    return 0;\n}\n"),
-    "cpp": ("#include <cstdio>\nstatic void call(int place, const char *(*row)())\n{\n    const char *met = \"is refused\";\n    try {\n"
-            "        met = row();\n    } catch (const std::exception &) {\n    }\n    std::printf(\"%d %s\\n\", place, met);\n}\n"
+    "cpp": ("#include <cstdio>\nstatic void call(int place, const char *(*row)())\n{\n    const char *result = \"is refused\";\n    try {\n"
+            "        result = row();\n    } catch (const std::exception &) {\n    }\n    std::printf(\"%d %s\\n\", place, result);\n}\n"
             "int main()\n{\n",
             "    call({0}, row_{0});\n", "    return 0;\n}\n"),
     "rust": ("fn main() {\n", '    println!("{0} {{}}", row_{0}().unwrap_or("is refused"));\n', "}\n"),
@@ -29,7 +29,7 @@ MAINS = {
 
 @dataclass(frozen=True)
 class Row:
-    """A wrong use: its language and place in the file, its outcome, `said`, which the compiler must print, or empty, its name and its code."""
+    """A wrong use in a language: its place in the file, from 0, its outcome, a pattern of what the compiler must print, or "", its name and code."""
 
     language: str
     place: int
@@ -55,7 +55,7 @@ def parts_of(language: str) -> tuple[str, list[Row]]:
 
 
 def program_of(shared: str, rows: list[Row]) -> tuple[str, dict[int, Row]]:
-    """The text of a program with these rows, and the row of each of its line numbers that is in one."""
+    """The text of a program with these rows, and the row of each line of the program that is in one, by the number of the line, from 1."""
     text, lines = shared + "\n", {}
     for row in rows:
         first = text.count("\n") + 1
