@@ -120,7 +120,7 @@ class Library:
     def fault_of_answer(self, asked: Question, wanted: Answer) -> str | None:
         """What is wrong with the answer to a text, None if nothing is. `wanted` is what the model answers, with the status of the program."""
         wanted = of_library(asked.command, wanted)
-        status, needed, buffer = self.ask(asked, len(wanted[1]) + 8)
+        status, needed, buffer = self.ask(asked, len(wanted[1]) + 8)  # (8 octets more than the answer, which must stay zeros)
         if status == TOO_SMALL:
             status, needed, buffer = self.ask(asked, needed)
         if (status, buffer[:needed]) != wanted:
@@ -308,7 +308,7 @@ def faults_of_run(cases: int, rows: Counter, by_program: int) -> list[str]:
     never, is_whole = unreached(rows), cases >= WHOLE_COVERAGE
     tests = [(f"never came: {'; '.join(never)}", is_whole and never),
              (f"the program answered {by_program} cases, less than a tenth", is_whole and by_program < PROGRAM_SHARE * cases)]
-    return [what for what, is_found in tests if is_found]
+    return [text for text, is_found in tests if is_found]
 
 
 def main() -> int:

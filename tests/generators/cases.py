@@ -91,8 +91,8 @@ class Builder:
         return (word("tag"), tags.tag_for(self.request, self.rng) if not self.wrong() else tags.tag(self.rng))
 
     def fields(self, *needed: Value, propagate: bool, ignored: tuple[str, ...]) -> list[Value]:
-        """Fields in some order: the needed ones, by chance a validity, `(propagate)` if `propagate` is true, and by chance fields with the heads
-        `ignored`, which every reader of a certificate or an entry skips."""
+        """Fields in some order: the needed ones, by chance a window of time, `(propagate)` if `propagate` is true, and by chance fields with the
+        heads `ignored`, which the reader of the entry or certificate skips."""
         fields = [*needed, *self.window()]
         if propagate:
             fields.append((word("propagate"),))

@@ -7,7 +7,7 @@ from dataclasses import replace
 from model import advanced
 from model.answers import COMMANDS
 from model.calls import LONGEST_TEXT
-from model.guard import LAST_SECOND, WISHES, Limits
+from model.guard import LAST_SECOND, STRICT, WISHES, Limits
 from model.values import DEEPEST, LONGEST, Atom, Value, canonical, head_of
 
 from . import spellings
@@ -89,7 +89,7 @@ def guard_question_of(case: Value, wish: str) -> GuardQuestion:
     assert isinstance(case, tuple)
     acl, rows, sequence = map(canonical, case[1:4])
     key, request, moment = (canonical(it[1]) for it in case[4:7] if isinstance(it, tuple))
-    return GuardQuestion(f"guard {wish}", acl, sequence, key, request, moment, rows, None, None, 0)
+    return GuardQuestion(f"guard {wish}", acl, sequence, key, request, moment, rows, None, None, STRICT)
 
 
 # ---- makers
@@ -129,7 +129,7 @@ def makers_of_texts() -> Iterator[Maker]:
 
 
 def makers_of_cases() -> Iterator[Maker]:
-    """Makers of cases that are not quite right, of such rows, and of tags that are too large."""
+    """Makers of cases with a fault, of cases beside rows with a fault, and of tags whose intersection is too large or nearly so."""
     for number, value in enumerate(everything_nearly()):
         yield to_command(OF_CASES[number % len(OF_CASES)], value)
     for text in ROWS:

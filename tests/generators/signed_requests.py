@@ -166,9 +166,9 @@ def signed(request: Request) -> Fields:
 
 
 def escaped(text: str) -> str:
-    """A text as the lines of the table have it."""
+    """A text with the escapes of the table, in printable ASCII alone. Its characters are octets, as of Latin-1."""
     text = text.replace("\\", "\\\\").replace("\t", "\\t").replace("\n", "\\n").replace("\r", "\\r")
-    return "".join(it if " " <= it <= "~" else f"\\x{ord(it):02x}" for it in text)
+    return "".join(character if " " <= character <= "~" else f"\\x{ord(character):02x}" for character in text)
 
 
 LINES: list[str] = []
@@ -284,8 +284,8 @@ def changed_bodies() -> None:
     for name, value in {
         "a digest by MD5": "md5=:XrY7u+Ae7tCTyyK7j1rNww==:", "a digest that is too short": "sha-256=:XrY7u+Ae7tCTyyK7j1rNww==:",
         "SHA-512 of 32 octets": f"sha-512=:{body}:", "two digests": f"sha-256=:{body}:, sha-256=:{body}:", "an empty digest": "",
-        "a digest in quotes": f'sha-256="{body}"', "a digest without padding": f"sha-256=:{body[:-1]}:", "a digest with a parameter":
-        f"sha-256=:{body}:;a", "a digest's algorithm in capitals": f"SHA-256=:{body}:",
+        "a digest in quotes": f'sha-256="{body}"', "a digest without padding": f"sha-256=:{body[:-1]}:",
+        "a digest with a parameter": f"sha-256=:{body}:;a", "a digest's algorithm in capitals": f"SHA-256=:{body}:",
     }.items():
         row(name, "bad-digest", replace(POST, fields=[("Content-Digest", value)]))
 
@@ -444,10 +444,10 @@ def changed_keys() -> None:
         # (some values are texts of MODULUS, and the others of ALICE or of no key)
         row(name, "bad-key", Request(keys=(value,), keyid=hash_of(MODULUS.text) if padded[:-3] in value else None))
     for name, shown in {
-        "a hash for a key": b"(4:hash6:sha25632:%s)" % hashlib.sha256(ALICE.text).digest(), "a key of another algorithm":
-        b"(10:public-key(3:dsa(1:p1:\5)))", "a key of P-521": LONGER.text.replace(b"P-384", b"P-521"), "a key with text behind it":
-        ALICE.text + b"(1:a)", "a key and a comment": ALICE.text[:-1] + b"(7:comment1:a))", "a length with a zero in front":
-        ALICE.text.replace(b"32:", b"032:"), "a key of 4,098 characters": rsa_key_of(3028),
+        "a hash for a key": b"(4:hash6:sha25632:%s)" % hashlib.sha256(ALICE.text).digest(),
+        "a key of another algorithm": b"(10:public-key(3:dsa(1:p1:\5)))", "a key of P-521": LONGER.text.replace(b"P-384", b"P-521"),
+        "a key with text behind it": ALICE.text + b"(1:a)", "a key and a comment": ALICE.text[:-1] + b"(7:comment1:a))",
+        "a length with a zero in front": ALICE.text.replace(b"32:", b"032:"), "a key of 4,098 characters": rsa_key_of(3028),
     }.items():
         row(name, "bad-key", Request(keys=(in_braces(shown),), keyid=hash_of(shown)))
 

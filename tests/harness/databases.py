@@ -114,7 +114,7 @@ class Server:
         return subprocess.run(words, stdout=subprocess.DEVNULL, stderr=subprocess.DEVNULL, check=False).returncode == 0
 
     def kill(self) -> None:
-        """Ends the server at once. It finishes no statement, and closes no connection in good order."""
+        """Ends the server at once, by SIGQUIT: so it finishes no statement, and closes no connection in good order."""
         if self.process is not None:
             self.process.send_signal(signal.SIGQUIT)
             self.process.wait()

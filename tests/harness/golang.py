@@ -20,9 +20,9 @@ def settings(library: str) -> dict[str, str]:
             "CGO_LDFLAGS": f"'-L{os.path.dirname(library)}'"}
 
 
-def go(folder: str, words: list[str], library: str, given: bytes | None = None, **more: str) -> subprocess.CompletedProcess[bytes]:
-    """Runs `go` in a folder, with a static library to link, some input, and more variables of the environment. Returns how it ended or failed."""
-    return subprocess.run(["go", *words], cwd=folder, input=given, stdout=subprocess.PIPE, stderr=subprocess.PIPE, timeout=SECONDS,
+def go(folder: str, words: list[str], library: str, stdin: bytes | None = None, **more: str) -> subprocess.CompletedProcess[bytes]:
+    """Runs `go` in a folder, with a static library to link, octets for its input, and more variables of the environment. Returns how it ended."""
+    return subprocess.run(["go", *words], cwd=folder, input=stdin, stdout=subprocess.PIPE, stderr=subprocess.PIPE, timeout=SECONDS,
                           env={**settings(library), **more})
 
 

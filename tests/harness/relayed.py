@@ -91,8 +91,8 @@ class Request:
         """The request as `relay.c` reads it, with the number of the call."""
         blocks = b"".join(numbers(len(octets)) + octets for octets in self.blocks)
         links = b"".join(numbers(*link) for link in self.links)
-        given = b"".join(numbers(*argument) for argument in [*self.arguments, *[(False, 0)] * (ARGUMENTS - len(self.arguments))])
-        return numbers(len(self.blocks)) + blocks + numbers(len(self.links)) + links + numbers(call) + given
+        arguments = b"".join(numbers(*argument) for argument in [*self.arguments, *[(False, 0)] * (ARGUMENTS - len(self.arguments))])
+        return numbers(len(self.blocks)) + blocks + numbers(len(self.links)) + links + numbers(call) + arguments
 
 
 class Call:
@@ -103,19 +103,19 @@ class Call:
         self.argtypes: list[Any] = []
         self.restype: Any = c_int
 
-    def decided(self, *given: Any) -> Decision:
+    def decided(self, *arguments: Any) -> Decision:
         """What `spki_asked_decide` returns. A call by `relay.c` returns one number, so it writes the last second of the decision to an address that
         is added to the arguments."""
         until, call = c_int64(), Call(self.relayed, self.number)
         call.argtypes = [*self.argtypes, POINTER(c_int64)]
-        return Decision(call(*given, byref(until)), until.value)
+        return Decision(call(*arguments, byref(until)), until.value)
 
-    def __call__(self, *given: Any) -> Any:
+    def __call__(self, *arguments: Any) -> Any:
         """Has the other machine do the call with these arguments, copies back what it has written, and returns what it returns."""
         if self.restype is Decision:
-            return self.decided(*given)
+            return self.decided(*arguments)
         request = Request()
-        for value, kind in zip(given, self.argtypes, strict=True):
+        for value, kind in zip(arguments, self.argtypes, strict=True):
             request.give(value, kind)
         returned, blocks = self.relayed.relay(self.number, request)
         for block, value in request.written:

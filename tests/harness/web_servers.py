@@ -163,7 +163,7 @@ class HAProxy(Behind):
         self.behind = FileServer(self.at("run/files/socket"), self.at("files"))
 
     def replaced(self, text: str) -> str:
-        """The text of a file of the example for this site: HAProxy listens on its port, waits 1 s at most for a client, and keeps its user."""
+        """The text of a file of the example for this site: HAProxy listens on its port, and waits 1 s at most for a client."""
         text = re.sub("(?m)^    (user|group) .*\n", "", super().replaced(text))
         text = text.replace("timeout http-request 10s", "timeout http-request 1s").replace("timeout client 10s", "timeout client 1s")
         return text.replace("bind :443", f"bind 127.0.0.1:{self.port}")
@@ -229,7 +229,7 @@ class Handler(http.server.BaseHTTPRequestHandler):
     protocol_version = "HTTP/1.1"
 
     def send_head(self, status: int, *lines: str) -> None:
-        """Sends the head of an answer, with these lines."""
+        """Sends the head of an answer, with these lines `NAME: VALUE`."""
         self.send_response(status)
         for line in lines:
             self.send_header(*line.split(": "))

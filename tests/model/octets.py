@@ -37,6 +37,6 @@ def from_base64(body: bytes) -> bytes | None:
     if base64.b64encode(octets).rstrip(b"=") != symbols:
         NO_BASE64.count_use("spare bits")
         return None
-    given = "whole" if len(padding) == padding_length else "in part" if padding else "left out"
-    PADDING.count_use(given if padding_length else "none is wanted")
+    used = "whole" if len(padding) == padding_length else "in part" if padding else "left out"
+    PADDING.count_use(used if padding_length else "none is wanted")
     return octets

@@ -80,8 +80,8 @@ class Attackers:
     def sequences(self) -> dict[str, str]:
         """The texts for the names that attacks.py has in braces: sequences in braces, Ann's certificate for TLS and the hash of her key."""
         site = self.site
-        # (`text[-8]` is one of the last octets of the signature's value)
         good = sequence(site, "ann", "ben", READ)
+        # (`text[-8]` is one of the last octets of the signature's value)
         text = canonical(good)
         values: dict[str, Any] = {
             "ben": good, "ended": sequence(site, "ann", "ben", READ, days=-1, begins=-2), "early": sequence(site, "ann", "ben", READ, begins=5),

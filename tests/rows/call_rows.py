@@ -52,7 +52,7 @@ class CallRow(NamedTuple):
 
 
 def rows_of(table: str) -> Iterator[CallRow]:
-    """The rows of a table."""
+    """The rows of a table in CALLS, by its name. A row with the names of several calls becomes one for each of them."""
     with open(os.path.join(CALLS, table), "rb") as lines:
         for number, line in enumerate(lines, 1):
             line = line.rstrip(b"\n")
@@ -108,7 +108,7 @@ def number(value: int) -> bytes:
 
 
 def failing_ends() -> Iterator[CallRow]:
-    """Calls of `run` on the first run: the reader fails after each number of octets (`room`), or the writer does or takes nothing more."""
+    """Calls of `run` on the first run, in which the reader or the writer fails after `room` octets, or the writer takes no more of them."""
     # (the answers are those that the head of this file describes for `run`; 3 is the status where reading or writing fails)
     text = first_run()
     for room in range(len(text) + 1):

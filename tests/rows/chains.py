@@ -170,8 +170,8 @@ def long_lists_of_tags():
         return case(entries, *rows_and_items((first, key("a")), (second, key("b"))), request="n")
 
     over, granted = entry("a", '(propagate) (tag n) (not-after "2023-12-31_23:59:59")'), entry("a", "(propagate) (tag n)")
-    one, copies = "(* set n " + " ".join(f"a{i}" for i in range(999)) + ")", f"(* set {'n ' * 1000})"
-    yield "eight entries of which one member is left, and one that grants", behind(over * 8 + granted, one), (0, "yes entry 9\n")
+    different, copies = "(* set n " + " ".join(f"a{i}" for i in range(999)) + ")", f"(* set {'n ' * 1000})"
+    yield "eight entries of which one member is left, and one that grants", behind(over * 8 + granted, different), (0, "yes entry 9\n")
     yield "nine entries of which 1,000 members are left", behind(over * 9, copies), refused("TooLarge")
     yield "nine entries of which nothing is left", behind(entry("a", "(propagate) (tag m)") * 9, copies), NO
 
@@ -293,7 +293,7 @@ def explained():
 
 
 def explained_windows():
-    """Cases as those of `explained`, in which a window decides."""
+    """Yields (name, text, what `reduce` answers, what `explain` answers): cases in which a window of time decides."""
     a, b, c = key("a"), key("b"), key("c")
     alone = f"(entry {a} (tag (*)) (not-after \"2024-12-31_23:59:59\"))"
     lacks = 1, "entry 1 WindowLacks\n"
@@ -315,7 +315,7 @@ def explained_windows():
 
 
 def explained_names():
-    """Cases as those of `explained`, with names."""
+    """Yields (name, text, what `reduce` answers, what `explain` answers): cases with names of keys."""
     a, b, c = key("a"), key("b"), key("c")
     friends, bob = f"(cert (issuer (name {a} friends)) (subject {b}))", f"(cert (issuer (name {b} bob)) (subject {c}))"
     of_friends = f"(entry (name {a} friends bob) (tag (*)))"
@@ -328,7 +328,7 @@ def explained_names():
 
 
 def explained_evidence():
-    """Cases as those of `explained`, with certificates that fail a test of evidence, and cases with no entry or with two."""
+    """Yields (name, text, what `reduce` answers, what `explain` answers): certificates that fail a test of evidence, and no entry or two entries."""
     a, b, c = key("a"), key("b"), key("c")
     c1, c2, by_hash = cert(a, b, "(tag (*))"), cert(b, c, "(tag (*))"), cert(digest(a), b, "(tag (*))")
     rows, items = rows_and_items((c1, a))
@@ -352,7 +352,7 @@ def answer_of_check(lines):
 
 
 def rows():
-    """The fields of each row: its place, command, text, status and answer."""
+    """Yields the place, the command, the text, the status and the answer of each row."""
     for examples in (chains, windows_and_tags, moments, policies, order, sizes, long_lists, long_lists_of_tags, malformed):
         for name, text, (status, answer) in examples():
             yield f"chains:{name}", "check", text.encode(), status, answer.encode()

@@ -39,7 +39,7 @@ def signed_wrongly(certificate: str) -> str:
 
 
 def case_by_hash(behind: str, is_changed: bool = False) -> bytes:
-    """A case with a certificate whose issuer is the hash of KA. `behind` are further items, as KA. `is_changed`: the digest is wrong."""
+    """A case with a certificate whose issuer is the hash of KA. `behind`: the text of further items, as KA. `is_changed`: its digest is wrong."""
     hashed = cert(chains.digest(KA), KB, "(tag (*))")
     return case(ALL, row(hashed, KA), (signed_wrongly(hashed) if is_changed else signed(hashed, KA)) + behind)
 
@@ -112,12 +112,12 @@ def reduced_sets(tag: str) -> tuple[bytes, bytes]:
 def of_separate_rows() -> Iterator[CallRow]:
     """Decisions by separate rows. A fault of the case is said before one of the rows."""
     text, rows = delegation(row(C1, KA), KA), canonical(f"(accepted {row(C1, KA)})")
-    for name, given, listed, wanted in [
+    for name, case_text, rows_text, wanted in [
         ("row", text, rows, b"Done yes entry 1\n"), ("no row", text, b"(accepted)", b"No no\n"),
         ("no case, no rows", b"(", b")", b"Refused refused form Short\n"), ("another case", b"(a)", b")", b"Refused refused case Shape\n"),
         ("no rows", first_run(), b")", b"Refused refused rows Bad 0\n"), ("other rows", first_run(), b"(a)", b"Refused refused rows Shape\n"),
     ]:
-        yield CallRow(f"calls/rows:{name}", "check_accepted", (given, listed), wanted)
+        yield CallRow(f"calls/rows:{name}", "check_accepted", (case_text, rows_text), wanted)
 
 
 # ---- callers that accept no signature of a revoked key
@@ -170,7 +170,7 @@ def reason(line: bytes) -> bytes:
 
 
 def questions() -> Iterator[tuple[str, bytes]]:
-    """The names and texts of the worked examples of cases."""
+    """Yields (name, canonical text) of cases, in groups: in each the request, the entries, the rows or the items of the sequence vary."""
     yield "first-run", first_run()
     for request in ("(ftp)", "(ftp host dir)", "(ftp host)", "ftp", "(http host)"):
         yield f"shorter-request {request}", case(HOST, asks=KA, request=request)
@@ -197,8 +197,8 @@ def of_questions() -> Iterator[CallRow]:
             (_, answer), listed = answer_of(wish, parts, rows)
             yield CallRow(f"calls/questions:{name}: {call}", call, (text, rows), in_debug(wish, answer))
             for form, in_form in SHAPES.items():
-                given = [*map(in_form, parts[:5]), parts[5]]
-                yield from of_question(f"calls/questions:{name}: {form}", wish, given, rows, answer, listed)
+                parts_in_form = [*map(in_form, parts[:5]), parts[5]]
+                yield from of_question(f"calls/questions:{name}: {form}", wish, parts_in_form, rows, answer, listed)
 
 
 def of_question(place: str, wish: str, parts: list[bytes], rows: bytes, answer: bytes, listed: list[guard.Signed]) -> Iterator[CallRow]:

@@ -138,7 +138,7 @@ def work():
 
 
 def rows():
-    """The fields of each row: its place, command, text, status and answer."""
+    """Yields the place, the command, the text, the status and the answer of each row."""
     for rows_of in (lengths, longer_in_canonical_form, lists_in_lists, deep_parts, nodes, products, work):
         for name, command, text, (status, answer) in rows_of():
             yield f"limits: {name}", command, octets_of(text), status, octets_of(answer)

@@ -41,8 +41,8 @@ def of_refused_parts() -> Iterator[CallRow]:
         fault = kind if item is None else f"CertFault {{ item: {item}, kind: {kind} }}"
         message = TEXT_OF[kind] if item is None else f"item {item}: {TEXT_OF[kind]}"
         yield CallRow(f"calls/parts:{place}: case", "Case::read", (text,), f"Case({part}({fault})): {PART[part]}: {message}".encode())
-        for form, given in (("advanced", texts), ("canonical", [*map(canonical, texts)])):
-            yield from of_refused_part(f"calls/parts:{place}: {form}", given, part, item, kind)
+        for form, texts_in_form in (("advanced", texts), ("canonical", [*map(canonical, texts)])):
+            yield from of_refused_part(f"calls/parts:{place}: {form}", texts_in_form, part, item, kind)
 
 
 def of_refused_part(place: str, texts: list[bytes], part: str, item: int | None, kind: str) -> Iterator[CallRow]:
@@ -115,8 +115,8 @@ def of_seconds() -> Iterator[CallRow]:
         for limit, answer in ((date, b"Yes(1)"), (b"1971-01-01_00:00:00", b"No")):
             listed = list_of(b"(1:*)", group(string("not-before"), string(limit)) + group(string("not-after"), string(limit)))
             yield row_by_strings(f"seconds {seconds} {answer.decode()}", listed, seconds, (b"a",), answer)
-            given = (listed, b"open", b"", b"", NOTHING, A, b"1:a", string(date), b"")
-            yield CallRow(f"calls/words:text {seconds} {answer.decode()}", "PreparedQuestion::decide_by", given, answer)
+            arguments = (listed, b"open", b"", b"", NOTHING, A, b"1:a", string(date), b"")
+            yield CallRow(f"calls/words:text {seconds} {answer.decode()}", "PreparedQuestion::decide_by", arguments, answer)
     for seconds in NO_DATES:
         yield row_by_strings(f"no date {seconds}", list_of(b"(1:*)"), seconds, (b"a",), b"Ask(Moment(BadDate)): moment: not a date")
 
@@ -139,24 +139,24 @@ def of_limits() -> Iterator[CallRow]:
     # tags of 5 and of 4 nodes are intersected
     for nodes, explained in ((1_000_000, b"[Grants]"), (20, b"[Grants]"), (19, b"Decision(TooLarge): the tags are too large"),
                              (0, b"Decision(TooLarge): the tags are too large")):
-        given = (parts[0], b"open", b"", number(nodes), *parts[1:5], b"1")
-        yield CallRow(f"calls/limits:nodes {nodes}", "PreparedQuestion::explain_by", given, explained)
+        arguments = (parts[0], b"open", b"", number(nodes), *parts[1:5], b"1")
+        yield CallRow(f"calls/limits:nodes {nodes}", "PreparedQuestion::explain_by", arguments, explained)
         for call in ("PreparedQuestion::decide_by", "PreparedQuestion::grant_by"):
-            yield CallRow(f"calls/limits:nodes {nodes}: {call}", call, given, b"Yes(1)")
+            yield CallRow(f"calls/limits:nodes {nodes}: {call}", call, arguments, b"Yes(1)")
     yield from of_strings_in_chains()
     yield from of_counts()
 
 
 def of_counts() -> Iterator[CallRow]:
-    """By the default limits a question has 16 certificates and 64 strings, and without limits it may have more."""
+    """By the default limits a question may have 16 certificates and 64 strings, also in lists inside the request. Without limits it may have more."""
     listed, item = f"(acl (entry {KA} (propagate) (tag (*))))".encode(), signed(cert(KA, KB, "(tag (*))"), KA)
     for count, strings, refusal in ((16, 64, None), (17, 64, "Certificates"), (17, 65, "Certificates"), (16, 65, "Words")):
         asked_for = (f"(sequence {item * count})".encode(), KB.encode(), f"({'a ' * (strings - 2)}(a b))".encode(), NOW)
         # (no: behind the first certificate the chain needs one of B, and all are issued by A)
         by_default = b"Refused refused question TooMany%s\n" % refusal.encode() if refusal else b"No no\n"
         for limits, answer in ((b"usual", by_default), (b"", b"No no\n")):
-            given = (listed, b"strict", limits, b"", b"decide", *asked_for, b"1" * count)
-            yield CallRow(f"calls/limits:{count} certificates, {strings} strings, {limits.decode()}", "answer_opened", given, answer)
+            arguments = (listed, b"strict", limits, b"", b"decide", *asked_for, b"1" * count)
+            yield CallRow(f"calls/limits:{count} certificates, {strings} strings, {limits.decode()}", "answer_opened", arguments, answer)
 
 
 def sets_case() -> bytes:
@@ -172,8 +172,8 @@ def of_strings_in_chains() -> Iterator[CallRow]:
         first, second = cert(KA, KB, f"(propagate) {tag}"), cert(KB, KC, f"(tag (* set{' a' * third}))")
         sequence = f"(sequence {signed(first, KA)} {signed(second, KB)})".encode()
         for request, answer in ((b"a", b"Yes(1)"), (b"b", b"No")):
-            given = (f"(acl (entry {KA} (propagate) {tag}))".encode(), b"open", b"", b"", sequence, KC.encode(), request, NOW, b"11")
-            yield CallRow(f"calls/limits:{third} strings, {request.decode()}", "PreparedQuestion::decide_by", given, answer)
+            arguments = (f"(acl (entry {KA} (propagate) {tag}))".encode(), b"open", b"", b"", sequence, KC.encode(), request, NOW, b"11")
+            yield CallRow(f"calls/limits:{third} strings, {request.decode()}", "PreparedQuestion::decide_by", arguments, answer)
 
 
 # Strings that KA requests, and the first entry that grants each of them under the open and under the strict policy.
