@@ -149,7 +149,7 @@ static int impossible_requests()
     return 0;
 }
 
-// A guard or question that was moved away has no handle: it has no members, and its calls are misuse. A key that was moved away is still the key.
+// A guard or question that was moved away counts 0, a question is a no, and other calls are misuse. A key that was moved away is still the key.
 static int handles_given_away()
 {
     spki::guard guard(list);

@@ -24,7 +24,7 @@
     static __typeof__(type) next; \
     if (next == NULL) next = (__typeof__(type))dlsym(RTLD_NEXT, name)
 
-/* The calls of one kind: the number of the first to be refused or 0, how many were made, and refused, and whether all behind the first are too. */
+/* The calls of one kind: the first to be refused (counted from 1, or 0), how many were made, how many refused, and whether all behind it are too. */
 struct calls {
     unsigned long first, asked, refused;
     int all;
