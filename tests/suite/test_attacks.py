@@ -2,7 +2,7 @@
 its example's lines alone, and with lines for error pages or a cache, as other sites have them; and each of these again while the daemon is stopped.
 A row passes if the status is one that must come, no file's content is sent, and no file is changed.
 
-The gate runs a tenth of the rows, always the same, and SPKI_TEST_LONG all of them."""
+The gate, `.ci/run`, runs a tenth of the rows, always the same, and SPKI_TEST_LONG all of them."""
 import hashlib
 import os
 import re
@@ -19,18 +19,18 @@ STOPPED = "stopped, "
 
 
 def is_chosen(row: str, share: int = 10) -> bool:
-    """Whether the row with this name is run: in the long tests each is, in the gate about one in `share`, chosen by the digest of the name."""
+    """Whether the row with this name is run: in the long tests each is, before a merge about one in `share`, chosen by the digest of the name."""
     return built.IS_LONG or hashlib.sha256(row.encode()).digest()[0] % share == 0
 
 
 def columns_of(kind: type[web_servers.Behind]) -> list[str]:
-    """The columns of the table that a server has: `plain`, `stopped`, and those whose lines are in `kind.sites`. Debian's Caddy has no cache."""
+    """The columns of a server: `plain`, `stopped`, and those for whose name `kind.sites` has configuration lines. Debian's Caddy has no cache."""
     return [column for column in COLUMNS if column in ("plain", "stopped") or column.removeprefix(STOPPED) in kind.sites]
 
 
 def rows_of(kind: type[web_servers.Behind], column: str) -> list[tuple[str, attacks.Attack]]:
-    """The rows of a column: names and attacks. Each column has the same attacks, under names of its own, without those that the server rightly
-    grants."""
+    """The rows of a column, each as the row's name and the attack. Each column has the same attacks, under names that begin with the server and the
+    column. `attacks.GRANTED` has those that a server grants by right: they are left out."""
     return [(f"{kind.name}, {column}: {each.what}", each) for each in attacks.all_attacks() if (kind.name, each.what) not in attacks.GRANTED]
 
 
@@ -51,7 +51,7 @@ class Pages(unittest.TestCase):
             self.assertIn(page.removeprefix("apps/spki-authd/"), text_of("apps/spki-authd/README.md"))
 
     def test_rows(self) -> None:
-        """Each server has at least 600 rows, and each row a name of its own."""
+        """Each server has at least 600 rows, so none is lost unseen, and no two rows have the same name."""
         for kind in web_servers.SERVERS:
             names = [name for column in columns_of(kind) for name, _ in rows_of(kind, column)]
             self.assertGreaterEqual(len(names), 600, kind.name)
@@ -68,10 +68,10 @@ class Table(unittest.TestCase):
 
     @classmethod
     def setUpClass(cls) -> None:
+        """Starts the site, with a link for the attack on /web/link/plan.txt. `form` is how the server passes a certificate to the daemon."""
         cls.site = cls.kind()
         cls.addClassCleanup(cls.site.end)
         cls.sender = attackers.Attackers(cls.site, cls.site.form)
-        # (the attack on /web/link/plan.txt follows it)
         os.symlink("../secret", cls.site.at("files/web/link"))
 
     def check_ann(self) -> None:
@@ -98,16 +98,16 @@ class Table(unittest.TestCase):
             self.assertNotIn('"answer":"failed"', self.site.text("log/authd.log"))
 
     def check_attack(self, each: attacks.Attack, is_stopped: bool) -> None:
-        """The answer to an attack must have one of its statuses; while the daemon is stopped also 403 or an error of the server, and not 401.
-        Where there is no answer, the status is 0. No file may be sent or changed."""
+        """Each HTTP status in the answer to an attack must be in `each.must`. While the daemon is stopped it may also be 403, 500, 502 or 503, and
+        must not be 401. Where there is no answer, the status is 0. No file may be sent or changed."""
         answer = self.site.answer(each.who, self.sender.filled(each.octets))
         must = (each.must | attacks.DENIED) - {401} | attacks.WITHOUT_DAEMON if is_stopped else each.must
         self.assertLessEqual(set(attackers.statuses(answer) or [0]), must, answer)
         self.assertEqual(list(attackers.changes_of(self.site, answer)), [])
 
     def check_sites(self) -> None:
-        """With the lines of each other site in its files, the server grants nothing that the daemon denies; and while the daemon is stopped, nothing.
-        A site whose own lines fail, as its name says, may deny Ann too. The gate runs a third of the sites."""
+        """`kind.sites` has configuration lines that other sites use, by name. With each of them the server grants nothing that the daemon denies, and
+        nothing at all while the daemon is stopped. Lines named `.. that fails` may deny Ann too. The gate runs a third of them."""
         for name, more in self.kind.sites.items():
             if not is_chosen(f"{self.kind.name}, {name}", 3):
                 continue
@@ -163,7 +163,7 @@ class Table(unittest.TestCase):
                 impostor.server_close()
 
     def check_denied(self, asked: list[attackers.Asked], statuses: set[int]) -> None:
-        """No request may be granted: each must have one of these statuses, and no file may be sent or changed."""
+        """Each request, as (client, method, path), must get one of these statuses, none of which is a grant. No file may be sent or changed."""
         for each in asked:
             self.assertEqual(attackers.faults_of(self.site, each, statuses), [])
 
@@ -205,7 +205,7 @@ class Caddy(Table):
             self.assertEqual(attackers.faults_of(self.site, ("robot", method, "/web/out/main.js"), {403}), [])
 
     def test_index_of_a_folder(self) -> None:
-        """A folder is not found by its name alone: its index file has another path, which nobody has decided."""
+        """A folder's path gets 404, also if the folder has an index file: that has another path, about which Caddy has not asked the daemon."""
         self.site.restart_with([])
         self.site.write("files/web/out/index.html", "an index")
         self.addCleanup(os.remove, self.site.at("files/web/out/index.html"))
@@ -222,6 +222,6 @@ class Apache(Table):
     """Apache reads and writes files."""
 
     def test_delete_of_a_folder(self) -> None:
-        """A folder is not deleted by its name without a last `/`, nor for a client that Debian's settings except from such redirections."""
+        """DELETE of a folder without a last `/` is redirected. `redirect-carefully`, here set for all clients, would turn that off and delete it."""
         self.site.restart_with([("main.conf", "# more\n", "BrowserMatch ^ redirect-carefully\n")])
         self.assertEqual(attackers.faults_of(self.site, ("ann", "DELETE", "/web/out"), {301}), [])

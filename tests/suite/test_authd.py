@@ -13,15 +13,15 @@ import threading
 import unittest
 import urllib.parse
 from collections.abc import Callable, Iterator, Sequence
+from concurrent.futures import ThreadPoolExecutor
 
 from harness import built, golang, needs, served
 from harness.support import output_of, room_for, text_of, waits_for
 from suite import test_go
 from suite.test_go import Daemon, OverSocket, Person
 
-# How many requests are granted, asked by so many threads; how often the daemon is restarted; the seconds after which
-# what hangs is ended.
-GRANTS, THREADS = (100_000, 4) if built.IS_LONG else (2_000, 4)
+# How many requests are granted, asked by so many threads; how often the daemon is restarted; the seconds after which what hangs is ended.
+GRANTS, THREADS = 100_000 if built.IS_LONG else 2_000, 4
 RESTARTS = 20 if built.IS_LONG else 4
 UNITS = [os.path.join(golang.DAEMON, name) for name in ("spki-authd.service", "spki-authd.socket")]
 SECONDS = 600
@@ -46,15 +46,13 @@ def asked_by_many(asks: Callable[[], Sequence[object]]) -> Iterator[list[object]
             except Exception as why:
                 answers.append(repr(why))
 
-    threads = [threading.Thread(target=ask_until_end) for _ in range(THREADS)]
-    for each in threads:
-        each.start()
-    try:
-        yield answers
-    finally:
-        ends.set()
-        for each in threads:
-            each.join()
+    with ThreadPoolExecutor(THREADS) as pool:
+        for _ in range(THREADS):
+            pool.submit(ask_until_end)
+        try:
+            yield answers
+        finally:
+            ends.set()
 
 
 class OfDaemon(test_go.OfGo):
@@ -74,8 +72,8 @@ class OfDaemon(test_go.OfGo):
 
     @contextlib.contextmanager
     def daemon(self, *before: str, **more: object) -> Iterator[Daemon]:
-        """A context with a daemon, which must start, and end with status 0. `before` are the words of a command that starts its program, and `more`
-        are fields of its configuration."""
+        """A context with a daemon, which must start, and end with status 0. `before` are the words of a command that starts its program, such as
+        `prlimit --fsize=5000`, and `more` are fields of its configuration."""
         with tempfile.TemporaryDirectory() as room:
             daemon = Daemon(room, self.daemon_program, self.access_list, *before, **more)
             try:
@@ -89,8 +87,7 @@ class OfDaemon(test_go.OfGo):
 
     def start_again(self, daemon: Daemon) -> None:
         """Starts a daemon that a test has ended, since the context `daemon` ends it once more."""
-        daemon.process = subprocess.Popen([self.daemon_program, "-config", daemon.config], stdout=subprocess.DEVNULL,
-                                          stderr=subprocess.PIPE)
+        daemon.process = subprocess.Popen([self.daemon_program, "-config", daemon.config], stdout=subprocess.DEVNULL, stderr=subprocess.PIPE)
         self.assertEqual(daemon.message()["event"], "started")
 
     def headers(self, target: str = "/web/a") -> dict[str, str]:
@@ -113,9 +110,8 @@ class OfDaemon(test_go.OfGo):
 
     @staticmethod
     def lines(path: str) -> list[str]:
-        """The lines of a file that end, without their ends: not one that is half written."""
-        with open(path, encoding="utf-8") as file:
-            return file.read().split("\n")[:-1]
+        """The lines of a file, without their line feeds. A last line that has no line feed yet is left out: it may be half written."""
+        return text_of(path).split("\n")[:-1]
 
 
 @needs.needs("openssl", "import cryptography")
@@ -123,14 +119,11 @@ class Log(OfDaemon):
     """A grant has its line in the log of grants, and nothing else is needed for an answer."""
 
     def test_each_grant_has_its_line(self) -> None:
+        """THREADS threads ask for GRANTS grants. The log of grants gets as many lines, and standard output, which has denials, gets none."""
         with self.daemon() as daemon:
-            statuses: list[int] = []
-            threads = [threading.Thread(target=lambda: statuses.extend(self.ask_often(daemon.socket, GRANTS // THREADS, self.headers())))
-                       for _ in range(THREADS)]
-            for each in threads:
-                each.start()
-            for each in threads:
-                each.join()
+            with ThreadPoolExecutor(THREADS) as pool:
+                answered = pool.map(lambda _: self.ask_often(daemon.socket, GRANTS // THREADS, self.headers()), range(THREADS))
+            statuses = [status for of_thread in answered for status in of_thread]
             self.assertEqual((len(statuses), set(statuses)), (GRANTS, {200}))
             lines = [json.loads(line) for line in self.lines(daemon.grants)]
             self.assertEqual((len(lines), {line["answer"] for line in lines}), (GRANTS, {"yes"}))
@@ -138,15 +131,14 @@ class Log(OfDaemon):
 
     @needs.needs("prlimit")
     def test_full_disk(self) -> None:
-        """Once the log of grants takes no more octets, at a limit of 5,000, each request gets 503, and each line in the log is whole. Once there is
-        room again, requests are granted again."""
+        """The daemon's files may have 5,000 octets, fewer than 40 lines have. Once the log of grants is full, each request gets 503, and each line in
+        the log is whole. Once there is room again, requests are granted again."""
         with self.daemon("prlimit", "--fsize=5000") as daemon:
             statuses = self.ask_often(daemon.socket, 40, self.headers())
             granted = statuses.count(200)
             self.assertEqual(statuses, [200] * granted + [503] * (40 - granted))
             self.assertTrue(0 < granted < 40)
-            with open(daemon.grants, encoding="utf-8") as file:
-                text = file.read()
+            text = text_of(daemon.grants)
             self.assertEqual((text[-1], len([json.loads(line) for line in text.splitlines()])), ("\n", granted))
             status, _, errors = daemon.run("-health")
             self.assertEqual((status, "takes no lines" in errors), (1, True))
@@ -154,8 +146,8 @@ class Log(OfDaemon):
             self.assertEqual(self.ask_often(daemon.socket, 1, self.headers()), [200])
 
     def test_reader_that_hangs(self) -> None:
-        """Nobody reads the pipe to which the daemon writes its denials; later the pipe has no reader. 3,000 denials of over 500 octets fill it. Each
-        request is answered, each grant has its line in the log of grants, and the lines that are lost are counted."""
+        """Nobody reads the pipe to which the daemon writes its denials; later the pipe has no reader. 3,000 denials of over 500 octets, of paths that
+        begin with `//`, fill it. Each request is answered, each grant has its line in the log of grants, and the lines that are lost are counted."""
         with self.daemon() as daemon:
             daemon.process.terminate()
             daemon.process.wait()
@@ -191,6 +183,7 @@ class Log(OfDaemon):
             daemon.process.stderr = None
 
     def test_two_daemons_with_one_log(self) -> None:
+        """A second daemon, whose configuration differs by the socket alone, refuses to start: it would write the same log of grants."""
         with self.daemon() as daemon:
             other = f"{daemon.config}.other"
             Daemon.write(other, text_of(daemon.config).replace(daemon.socket, f"{daemon.socket}2"))
@@ -217,7 +210,7 @@ class Log(OfDaemon):
 
 
 class Manager:
-    """What a service manager does for a daemon: it opens the socket, hands it over, and receives messages of what the daemon does."""
+    """What a service manager, as systemd, does for a daemon: it opens the socket, hands it over, and receives messages of what the daemon does."""
 
     def __init__(self, daemon: Daemon) -> None:
         self.daemon = daemon
@@ -251,14 +244,19 @@ class Manager:
         self.messages.close()
 
 
+def ended_daemon(room: str, program: str, access_list: str) -> Daemon:
+    """A daemon that has run once and ended, so that its configuration, list and logs are in the folder `room`."""
+    daemon = Daemon(room, program, access_list)
+    daemon.process.terminate()
+    daemon.process.communicate()
+    return daemon
+
+
 @contextlib.contextmanager
 def managed(program: str, access_list: str) -> Iterator[Manager]:
-    """A context with a manager, whose daemon has run once and ended: its configuration, list and logs are there."""
+    """A context with a manager, whose daemon has run once and ended."""
     with tempfile.TemporaryDirectory() as room:
-        daemon = Daemon(room, program, access_list)
-        daemon.process.terminate()
-        daemon.process.communicate()
-        manager = Manager(daemon)
+        manager = Manager(ended_daemon(room, program, access_list))
         try:
             yield manager
         finally:
@@ -302,8 +300,8 @@ class Started(OfDaemon):
             self.assertEqual(len(self.lines(manager.daemon.grants)), len(statuses))
 
     def test_another_socket(self) -> None:
-        """The daemon refuses to start if the socket that is handed over is not the one that its configuration names, or if everyone may write to
-        it."""
+        """The daemon refuses to start if the socket that is handed over is not the one that its configuration names, or if everyone may write to it.
+        A shell hands it over as systemd does: as the open file 3, and with these two variables."""
         for is_other, reason in ((False, "everyone may write"), (True, "hands over")):
             with managed(self.daemon_program, self.access_list) as manager:
                 if is_other:
@@ -320,9 +318,7 @@ class Started(OfDaemon):
     def test_socket_activation(self) -> None:
         """systemd's own program starts the daemon at the first request, which is answered."""
         with tempfile.TemporaryDirectory() as room:
-            daemon = Daemon(room, self.daemon_program, self.access_list)
-            daemon.process.terminate()
-            daemon.process.communicate()
+            daemon = ended_daemon(room, self.daemon_program, self.access_list)
             words = ["systemd-socket-activate", "-l", daemon.socket, self.daemon_program, "-config", daemon.config]
             with open(daemon.log, "ab") as log:
                 process = subprocess.Popen(words, stdout=log, stderr=log)
@@ -342,7 +338,8 @@ class Started(OfDaemon):
 
     @needs.needs("unshare", "ss")
     def test_queue(self) -> None:
-        """Where /proc has no /proc/sys, as under ProcSubset=pid, as many connections wait in the system's queue as elsewhere."""
+        """A daemon from which systemd's setting ProcSubset=pid hides /proc/sys cannot read the system's limit for queues of connections. Its queue is
+        as long as that of any other daemon: 4,096, or the limit if that is lower."""
         with self.daemon() as daemon:
             other = os.path.join(os.path.dirname(daemon.config), "other")
             text = text_of(daemon.config).replace(daemon.socket, other).replace(daemon.grants, f"{other}.log")
@@ -353,8 +350,7 @@ class Started(OfDaemon):
                 assert process.stderr is not None
                 self.assertIn(b"started", process.stderr.readline())
                 self.assertEqual(self.queue(other), self.queue(daemon.socket))
-                with open("/proc/sys/net/core/somaxconn", encoding="ascii") as file:
-                    self.assertEqual(self.queue(other), min(4096, int(file.read())))
+                self.assertEqual(self.queue(other), min(4096, int(text_of("/proc/sys/net/core/somaxconn"))))
             finally:
                 process.kill()
                 process.communicate()
@@ -370,9 +366,7 @@ class Started(OfDaemon):
         """`-test`, which checks the configuration and starts nothing, refuses a group for the socket that the daemon's
         user is not in. Root may choose any group, so if the test is run by root, the program runs as another user."""
         with tempfile.TemporaryDirectory() as room:
-            daemon = Daemon(room, self.daemon_program, self.access_list)
-            daemon.process.terminate()
-            daemon.process.communicate()
+            daemon = ended_daemon(room, self.daemon_program, self.access_list)
             for path, mode in ((room, 0o777), (daemon.config, 0o644), (daemon.list, 0o644), (daemon.ended, 0o644), (daemon.grants, 0o666)):
                 os.chmod(path, mode)
             program = shutil.copy(self.daemon_program, os.path.join(room, "program"))
@@ -514,8 +508,7 @@ class Units(unittest.TestCase):
         """systemd accepts both files. They name /bin/true here in the place of the daemon, which need not be installed."""
         with tempfile.TemporaryDirectory() as room:
             for path in UNITS:
-                with open(os.path.join(room, os.path.basename(path)), "w", encoding="utf-8") as file:
-                    file.write(text_of(path).replace("/usr/local/bin/spki-authd", "/bin/true"))
+                Daemon.write(os.path.join(room, os.path.basename(path)), text_of(path).replace("/usr/local/bin/spki-authd", "/bin/true"))
             names = [os.path.join(room, os.path.basename(path)) for path in UNITS]
             done = subprocess.run(["systemd-analyze", "verify", *names], stdout=subprocess.PIPE, stderr=subprocess.STDOUT, text=True)
             self.assertEqual((done.returncode, done.stdout), (0, ""))
