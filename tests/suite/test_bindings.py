@@ -31,7 +31,7 @@ from typing import NamedTuple
 from harness import built, needs
 from harness.support import EXAMPLES, TESTS, TOP, canonical, on_one_line, output_of, read, run, string, tables_here, text_of
 from model import answers as model
-from rows import chains, rows_of
+from rows import Row, chains, rows_of
 
 CRATE, RUST, PYTHON = (os.path.join(TOP, *words) for words in (["crates", "spki_c"], ["bindings", "rust"], ["bindings", "python"]))
 # The calls of a guard, and the command of the program that gives the same lines.
@@ -44,9 +44,9 @@ HELGRIND = ("valgrind", "--tool=helgrind", "--quiet", "--error-exitcode=98")
 
 
 class Asked(NamedTuple):
-    """A question to a guard, and the lines that are wanted. `command` is a key of COMMANDS, and `is_strict` whether hashes by SHA-1 name no key. The
-    request is a text or its strings, and the moment a text or seconds since 1970. `accepted` has the key, message and value of each valid signature.
-    `limits` is `highest` or the usual ones."""
+    """A question to a guard, and the expected lines, `wanted`. `command` is a key of COMMANDS, and `is_strict` says whether hashes by SHA-1 name no
+    key. The request is a text or its strings, and the moment a text or seconds since 1970. `accepted` has the key, message and value of each valid
+    signature. `limits` is `highest` or the usual ones."""
 
     name: str
     command: str
@@ -66,32 +66,33 @@ class Asked(NamedTuple):
 
 def questions(program) -> list[Asked]:
     """The questions of all cases of the tables and of chains.py. The name of each is the place of the first row that has its case."""
-    rows = [row for table in tables_here() for row in rows_of(table)] + list(chains.rows())
-    rows = [row for row in rows if row[1] in COMMANDS.values() and not row[4].startswith(NO_CASE)]
+    rows = [row for table in tables_here() for row in rows_of(table)] + [Row(*fields) for fields in chains.rows()]
+    rows = [row for row in rows if row.command in COMMANDS.values() and not row.answer.startswith(NO_CASE)]
     with ThreadPoolExecutor(os.cpu_count()) as pool:
-        texts = pool.map(lambda row: run(program, "canonical", row[2])[1], rows)
+        texts = pool.map(lambda row: run(program, "canonical", row.text)[1], rows)
         # (reversed, so that of several rows with one case the first one names it)
-        cases = {text: row[0] for text, row in reversed(list(zip(texts, rows)))}
+        cases = {text: row.place for text, row in reversed(list(zip(texts, rows)))}
         by_case = pool.map(lambda case: list(questions_of(program, *case)), cases.items())
         return [asked for of_case in by_case for asked in of_case]
 
 
 def accepted_by(rows, sequence):
-    """What the rows of a case accept, each as key, message and value. The message is the certificate of the sequence that has the row's digest."""
+    """The signatures that rows `(by KEY (hash sha256 DIGEST) VALUE)` accept, each as the octets of its key, message and value. The message is the
+    certificate among the items of `sequence` that has the digest."""
     certificates = [canonical(item) for item in sequence if isinstance(item, list) and item[:1] == [b"cert"]]
     messages = {hashlib.sha256(text).digest(): text for text in certificates}
-    return tuple((canonical(key), messages[digest[2]], canonical(value)) for _, key, digest, value in rows if digest[2] in messages)
+    return tuple((canonical(key), messages[digest], canonical(value)) for _, key, (_, _, digest, *_), value in rows if digest in messages)
 
 
 def words_of(request):
-    """The strings of a request, None if it has lists inside or is a list of fewer than two strings."""
+    """The strings by which a guard takes a request: one for a string. None for a list that has lists inside or has fewer than two strings."""
     if isinstance(request, bytes):
         return (request,)
-    return tuple(request) if isinstance(request, list) and len(request) > 1 and all(isinstance(it, bytes) for it in request) else None
+    return tuple(request) if isinstance(request, list) and len(request) > 1 and all(isinstance(each, bytes) for each in request) else None
 
 
 def seconds_of(moment):
-    """The seconds of a moment since 1970. None if it is earlier, if no calendar has it, or if it is no date at all."""
+    """The seconds since 1970 of a moment, such as b"2024-01-01_00:00:00". None if it is earlier, if no calendar has it, or if it is no date."""
     try:
         date = datetime.strptime(moment.decode(), "%Y-%m-%d_%H:%M:%S")
         seconds = int(date.replace(tzinfo=timezone.utc).timestamp())
@@ -106,6 +107,7 @@ def questions_of(program, text, name) -> Iterator[Asked]:
     case, line = read(text), run(program, "check", text)[1]
     if line.startswith(b"refused") and line != TOO_LARGE:
         case[2] = [b"accepted"]
+    # (an eighth member, behind the moment, is `(policy strict)`)
     access_list, rows, sequence, (_, key), (_, request), (_, moment) = case[1:7]
     texts = canonical(access_list), canonical(sequence), canonical(key)
     accepted = accepted_by(rows[1:], sequence[1:])
@@ -121,13 +123,13 @@ def questions_of(program, text, name) -> Iterator[Asked]:
 
 
 def decided_by_model(text):
-    """What the model decides of a case that is too large for `check`: a guard decides it."""
+    """The line that the model in Python answers to a case that is too large for `check`. A guard has no such limit, and must answer the same."""
     case = model.read_case(text)
     return model.decide(case, case.rows)[1]
 
 
 def faults_of_answers(asked, answers):
-    """A text with each wrong answer to the questions, empty if all are right."""
+    """A text with each wrong answer to the questions, empty if all are right. `asked` are of type Asked, and `answers` their lines as octets."""
     if len(answers) != len(asked):
         return f"{len(answers)} answers to {len(asked)} questions"
     faults = [(each, answer) for each, answer in zip(asked, answers) if answer != each.wanted]
@@ -233,19 +235,19 @@ class Words(unittest.TestCase):
                              [word.lower() for word in [*words, "Other"]], kind)
 
     def test_names_of_the_guide(self):
-        """Each name of the guide's table of calls is in the sources of its language: one that begins with `_` is the end of a longer one."""
+        """Each name in the guide's table of calls is in the sources of its language, or ends one there if it begins with `_`. `true` is no name."""
         sources = (["crates/spki_c/spki.h"], glob.glob("bindings/rust/src/*.rs", root_dir=TOP),
                    glob.glob("bindings/python/spki/*.py", root_dir=TOP), glob.glob("bindings/go/**/*.go", root_dir=TOP, recursive=True))
         texts = ["".join(map(text_of, paths)) for paths in sources]
         rows = re.search(r"^\| What \| C \| Rust \| Python \| Go \|\n\|[-|]*\n((?:\|.*\n)+)", text_of("docs/GUIDE.md"), re.MULTILINE)[1]
-        missing = [(name, row) for row in rows.splitlines() for it, cell in zip(texts, row.split("|")[2:])
-                   for name in re.findall(r"\b(?!true)\w+", " ".join(re.findall(r"`([^`]*)`", cell))) if not re.search(rf"(\b|(?=_)){name}\b", it)]
-        self.assertEqual(missing, [])
+        cells = [(text, cell) for row in rows.splitlines() for text, cell in zip(texts, row.split("|")[2:])]
+        named = [(text, name) for text, cell in cells for code in re.findall(r"`([^`]*)`", cell) for name in re.findall(r"\b(?!true)\w+", code)]
+        self.assertEqual([name for text, name in named if not re.search(rf"(\b|(?=_)){name}\b", text)], [])
         self.assertGreater(rows.count("\n"), 15)
 
     def test_highest_limits(self):
         """The bindings have the numbers of the header for the highest limits and the usual answer. Of the usual limits, 65,536 and 2,000,000, no
-        binding has a copy."""
+        binding has a copy. Tests, examples and the code for HTTP are not searched: these numbers may be limits of their own there."""
         header = dict(re.findall(r"^#define SPKI_((?:MOST_|USUAL_ANSWER)\w*) (\d+)$", text_of("crates/spki_c/spki.h"), re.MULTILINE))
         for path, line in (("bindings/rust/spki-sys/src/lib.rs", r"^pub const (MOST_\w+|USUAL_\w+): usize = ([\d_]+);$"),
                            ("bindings/python/spki/_library.py", r"^(MOST_\w+|USUAL_\w+) = ([\d_]+)$")):
@@ -277,7 +279,7 @@ class Binding(built.OfLibrary):
         must deny it to Bob too if the signature is Alice's for another certificate. Alice's key is of each kind in turn."""
         from spki_cert_tool import keys
         for kind in keys.KINDS:
-            alice, bob, carol = (keys.FileSigner(keys.new_private(it)) for it in (kind, keys.P256, keys.ED25519))
+            alice, bob, carol = (keys.FileSigner(keys.new_private(each)) for each in (kind, keys.P256, keys.ED25519))
             issuer = keys.principal_of(alice.key)
             access_list = [b"acl", [b"entry", issuer, [b"propagate"], [b"tag", [b"ftp"]]]]
             certificate = [b"cert", [b"issuer", issuer], [b"subject", bob.key], [b"tag", [b"ftp"]]]
@@ -316,6 +318,7 @@ class InPython(Binding):
         self.assertEqual(done.returncode, 0, done.stdout)
 
     def test_questions(self):
+        """The module answers each question as the program does."""
         sys.path.append(PYTHON)
         spki = importlib.import_module("spki")
         asked = all_questions(self.program)
@@ -350,12 +353,12 @@ class InPython(Binding):
     @needs.needs("import pip", "import setuptools", "import wheel")
     def test_wheel_of_an_sdist(self):
         """An sdist, a source package, is made where there is no module `wheel`. pip makes a wheel of it, with the library that SPKI_LIBRARY names. A
-        path that is not whole, or of no file, is refused."""
+        relative path, or one of no file, is refused there."""
         with tempfile.TemporaryDirectory() as room:
             source = os.path.join(room, "source")
             shutil.copytree(PYTHON, source, ignore=shutil.ignore_patterns("build", "*.egg-info", "__pycache__"))
-            hidden = "import runpy, sys; sys.modules['wheel'] = sys.modules['wheel.bdist_wheel'] = None; sys.argv = ['setup.py', '-q', 'sdist']"
-            status, output = output_of(sys.executable, "-W", "ignore", "-c", f"{hidden}; runpy.run_path('setup.py')", cwd=source, seconds=SECONDS)
+            no_wheel = "import runpy, sys; sys.modules['wheel'] = sys.modules['wheel.bdist_wheel'] = None; sys.argv = ['setup.py', '-q', 'sdist']"
+            status, output = output_of(sys.executable, "-W", "ignore", "-c", f"{no_wheel}; runpy.run_path('setup.py')", cwd=source, seconds=SECONDS)
             self.assertEqual(status, 0, output)
             sdist, = glob.glob(os.path.join(source, "dist", "*.tar.gz"))
             words = ["-m", "pip", "wheel", "-q", "--no-build-isolation", "--no-index", "--no-deps", "--wheel-dir", room, sdist]
@@ -395,7 +398,7 @@ class InC(Binding):
 class InCpp(Binding):
     """The header for C++."""
 
-    def check_owners(self, flags, *by):
+    def check_owned_handles(self, flags, *by):
         """`owned.cpp` must compile with these flags and find nothing wrong. `by` is a command that runs it, as words."""
         with tempfile.TemporaryDirectory() as room:
             program, source = os.path.join(room, "owned"), os.path.join(TESTS, "programs", "owned.cpp")
@@ -403,15 +406,15 @@ class InCpp(Binding):
             self.assertEqual(output_of("g++", *words, "-o", program, source, self.library, seconds=SECONDS), (0, ""))
             self.assertEqual(output_of(*by, program, seconds=SECONDS), (0, ""))
 
-    def test_owners(self):
-        self.check_owners(["-fsanitize=address,undefined"])
+    def test_owned_handles(self):
+        self.check_owned_handles(["-fsanitize=address,undefined"])
 
     @needs.needs("valgrind")
-    def test_owners_under_helgrind(self):
-        self.check_owners([], *HELGRIND)
+    def test_owned_handles_under_helgrind(self):
+        self.check_owned_handles([], *HELGRIND)
 
     def test_answers_that_are_no_bool(self):
-        """A verifier that returns a number is not compiled."""
+        """A verifier must return a bool: one that returns a number or a string is not compiled."""
         for answer, is_compiled in (("true", True), ("-1", False), ('"no"', False)):
             text = f"""#include <spki.hpp>
                        void asks(spki::asked &asked) {{ asked.verify([](const spki::signature &) {{ return {answer}; }}); }}"""
@@ -474,7 +477,7 @@ class InRust(Binding):
 
     @needs.needs("valgrind")
     def test_threads_under_helgrind(self):
-        """Threads decide by one guard and one question, and free them. helgrind finds no access to memory that is not ordered."""
+        """Four threads take 100 decisions each by one guard, and free it. helgrind finds no access to memory that is not ordered."""
         self.cargo("build", "--quiet", "--example", "threads")
         words = [*HELGRIND, f"--suppressions={TESTS}/programs/rust.supp", os.path.join(RUST, "out", "debug", "examples", "threads")]
         self.assertEqual(output_of(*words, seconds=SECONDS), (0, "400 granted\n"))
@@ -492,7 +495,7 @@ class InRust(Binding):
                          env={**others, "CARGO_TARGET_DIR": room, "CARGO_NET_OFFLINE": "true", **settings})
 
     def test_folders_without_a_library(self):
-        """Folders without the library that is asked for, and answers of pkg-config, end the build. A folder that has it is taken afterwards."""
+        """If a folder lacks the library, or pkg-config does not know it, a message ends the build. Then folders that have it are taken."""
         with tempfile.TemporaryDirectory() as room, tempfile.TemporaryDirectory() as empty:
             for settings, words in (({"SPKI_LIB_DIR": empty}, f"there is no libspki_c.a or libspki_c.so in {empty}"),
                                     ({"SPKI_LIB_DIR": empty, "SPKI_SHARED": "1"}, f"there is no libspki_c.so in {empty}"),
