@@ -21,15 +21,15 @@ class Bounds(unittest.TestCase):
         cls.slowest = loaded(os.path.join(BENCH, "slowest.py"))
 
     def test_table(self) -> None:
-        """The page has exactly the bounds of the bench."""
+        """The table of docs/PERFORMANCE.md has exactly the rows of the bench, and the page the seconds for each GB that a command writes."""
         section = text_of("docs/PERFORMANCE.md").split("## The texts that take longest\n")[1].split("\n## ")[0]
         table = [line for line in section.splitlines() if line.startswith("| ")]
         self.assertEqual(table, ["| Call | Time | Memory |", *self.slowest.rows()])
         self.assertIn(f"For each GB that is written a command takes {self.slowest.SECONDS_AN_OCTET * 1e9:g} s more.", section)
 
     def test_named_texts(self) -> None:
-        """A call begins with each of the words of a named text. The text made for the first of these calls is no larger
-        than the call allows. Except for `intersect` its list gets at most 4,096 octets, so that the test is fast."""
+        """A row of NAMED, a text that was slow once, names its calls by how their names begin: each beginning is that of a call. The text made for
+        the first call is no larger than the call allows. Except for `intersect` its list gets at most 4,096 octets, so that the test is fast."""
         for named in self.slowest.NAMED:
             for word in named.words:
                 self.assertTrue([call for call in self.slowest.CALLS if call.what.startswith(word)], (named.what, word))
@@ -40,7 +40,7 @@ class Bounds(unittest.TestCase):
             self.assertLessEqual(sum(map(len, texts.parts()[1:])), min(call.asked, named.asked), named.what)
 
     def test_the_search_is_repeated(self) -> None:
-        """50 changes by chance of a recipe, which says how a text is made, give the same recipe for the same seed."""
+        """A recipe says how a text is made. 50 random changes of one give the same recipe both times, since the seed is the same."""
         recipes = sys.modules["recipes"]
         last_recipes = []
         for _ in range(2):

@@ -7,7 +7,7 @@ import unittest
 from typing import TYPE_CHECKING
 
 from harness import built, golang, needs
-from harness.support import EXAMPLES, TOP, canonical, room_for
+from harness.support import EXAMPLES, TOP, canonical, room_for, text_of
 
 if TYPE_CHECKING:
     from spki_cert_tool.sexp import Value
@@ -33,7 +33,7 @@ class Caches(built.OfLibrary):
         self.room = room_for(self)
 
     def check_cache(self, *words: str) -> None:
-        """The cache that the command `words` starts must answer Bob as LINES says, and deny all to Carol, for whom Alice's certificate is not. It
+        """The cache that the command `words` starts must answer Bob as LINES says, and deny all to Carol, since Alice's certificate is for Bob. It
         must deny all to Bob too if Alice's signature is of another certificate."""
         from spki_cert_tool import keys
         alice, bob, carol = (keys.FileSigner(keys.new_private(kind)) for kind in (keys.P256, keys.ED25519, keys.ED25519))
@@ -50,7 +50,7 @@ class Caches(built.OfLibrary):
             self.assertEqual(answers, [wanted if name == "bob" else "denied" for _, wanted in LINES], name)
 
     def answers(self, words: tuple[str, ...], name: str, *parts: "Value") -> list[str]:
-        """Starts a cache by `words` in a new folder `name`, with an access list, a key and a sequence (`parts`). Returns what it answers to LINES."""
+        """Starts a cache by `words` in a new folder `name`. `parts` are an access list, a key and a sequence. Returns a line for each of LINES."""
         folder = os.path.join(self.room, name)
         os.makedirs(os.path.join(folder, "files", "builds"))
         paths = [os.path.join(folder, part) for part in ("acl", "key", "sequence")]
@@ -58,7 +58,7 @@ class Caches(built.OfLibrary):
             with open(path, "wb") as file:
                 file.write(canonical(part))
         with open(os.path.join(folder, "files", "secret"), "w", encoding="ascii") as file:
-            file.write("nobody's")
+            file.write("no right contains this path")
         command = [*words, paths[0], os.path.join(folder, "files"), *paths[1:]]
         done = subprocess.run(command, input="".join(f"{line}\n" for line, _ in LINES), capture_output=True, text=True, timeout=SECONDS,
                               env={**os.environ, "PYTHONPATH": PYTHON, "SPKI_LIBRARY": self.shared})
@@ -100,6 +100,5 @@ class Lengths(unittest.TestCase):
     def test_lines(self) -> None:
         """No file of FILES has more lines with text than its number there."""
         for path, most in FILES.items():
-            with open(path, encoding="utf-8") as file:
-                count = sum(bool(line.strip()) for line in file)
+            count = sum(bool(line.strip()) for line in text_of(path).splitlines())
             self.assertLessEqual(count, most, path)

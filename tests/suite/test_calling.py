@@ -1,9 +1,8 @@
 """Compares the pages for callers, crates/*/CALLING.md, with the sources.
 
-The paragraph before a block of code ends with the block's file: the block stands word for word in that file of crates/test_callers, which
-the gate proves. A call is a public function, or a method of a type or a trait. Each call that the library's lib.rt passes on to callers is named in
-the row of its file in the table of calls, or is a law of a file that has a row. Nothing else is named in a row. Each block and each call is a
-test."""
+The paragraph before a block of code ends with the block's file: the block is word for word in that file of crates/test_callers, which is proved.
+A call is a public function, or a method of a type or a trait. Each call that the library's lib.rt passes on to callers, by `pub use`, is named in the
+row of its file in the table of calls, or is a law of a file that has a row. Nothing else is named in a row. Each block and each call is a test."""
 import functools
 import glob
 import os
@@ -56,14 +55,14 @@ def calls_in(source):
 
 @functools.cache
 def calls_at(crate):
-    """The public calls of a crate's sources, each as three: its file, the type or trait that has it, None for a function, and its name."""
+    """The public calls of a crate's sources, each as a triple: its file; the type or trait that has it, or None for a function; its name."""
     paths = [os.path.relpath(file, ROOT) for file in glob.glob(os.path.join(ROOT, "crates", crate, "src", "*.rt"))]
     return [(path, owner, name) for path in paths for owner, name in calls_in(text_of(path))]
 
 
 def calls_of(crate, item):
-    """Yields the calls that a `pub use` of an item of a crate passes on: those of a type or a trait, in any file, or the function. Each is three: its
-    file, its name there, and its name as callers write it. The names are the same here, and `calls` puts modules before the second one."""
+    """Yields the calls that a `pub use` of an item of a crate passes on: those of a type or a trait, in any file, or the function. Each is a triple:
+    its file, its name there, and its name as callers write it. The names are the same here, and `calls` puts modules before the second one."""
     for path, owner, name in calls_at(crate):
         if owner == item:
             yield path, f"{owner}::{name}", f"{owner}::{name}"
@@ -73,7 +72,7 @@ def calls_of(crate, item):
 
 def calls(crate, module="lib"):
     """Yields the calls that a module passes on: what its `pub use` lines name, also of other crates; its own functions, if it is not `lib`; and those
-    of its public modules. Each is three: its file, its name there, and its name as callers write it, such as `laws::one_value`."""
+    of its public modules. Each is a triple: its file, its name there, and its name as callers write it, such as `laws::one_value`."""
     path = f"crates/{crate}/src/{module}.rt"
     source = text_of(path)
     for origin, items in re.findall(r"^pub use ([\w:]+)::(\{[^}]*\}|\w+);", source, re.MULTILINE):
@@ -90,8 +89,7 @@ def calls(crate, module="lib"):
 
 
 def is_law(name):
-    """Whether a call is a law, a proved statement about definitions: its name begins with a module of laws, such as `laws::` or `line_laws::`. A page
-    need not name each law."""
+    """Whether a call is a law, a proved statement about definitions: its name begins with a module of laws, such as `laws::` or `line_laws::`."""
     return re.match(r"\w*laws::", name) is not None
 
 
@@ -99,13 +97,14 @@ def is_law(name):
 
 
 def checks(crate):
-    """Yields the checks of a page as pairs: what each is about, and what is wrong, or None if nothing is."""
+    """Yields the checks of a crate's page as pairs of texts: what each is about, and what is wrong, or None. A block of code must be in its file. The
+    row of a file must have each call of it that lib.rt passes on, except for laws, and no other call."""
     page = page_of(crate)
     blocks = BLOCK.findall(page)
     yield "the blocks", None if 2 * len(blocks) == len(re.findall(r"^```", page, re.MULTILINE)) else "one of them has no file"
     for path, block in blocks:
         is_there = path.startswith("crates/test_callers/") and f"\n{block}" in text_of(path)
-        yield f"the block of {path}", None if is_there else "does not stand in the file"
+        yield f"the block of {path}", None if is_there else "is not in the file"
     rows = {path_in(crate, path): set(re.findall(r"`([^`]+)`", named)) for path, named in ROW.findall(page)}
     passed_on = {(path, public_name) for path, _, public_name in calls(crate)}
     for path, public_name in sorted(passed_on):
@@ -120,7 +119,7 @@ class Pages(unittest.TestCase):
 
 
 def made_test(crate: str, about: str, fault: str | None) -> Callable[[Pages], None]:
-    """Returns a test of a check. It fails unless `fault` is None: else this says what is wrong with what `about` names on a crate's page."""
+    """Returns the test of a check. It fails unless `fault` is None. Otherwise `fault` says what is wrong with `about`, a part of the crate's page."""
     return lambda self: self.assertIsNone(fault, f"crates/{crate}/CALLING.md: {about} {fault}")
 
 

@@ -25,13 +25,13 @@ BY_CERTIFICATE = "calls/questions:second-entry 1 (public-key (test b)):"
 
 
 def all_rows() -> dict[str, list[CallRow]]:
-    """The rows of each class."""
+    """The rows of each class of tests, by its name. A table in calls/ gives a class, and each of MAKERS too."""
     return {name.capitalize(): rows for name, rows in call_rows.tables().items()} | {name: list(make()) for name, make in MAKERS.items()}
 
 
 def examples() -> list[CallRow]:
-    """Of each call a row whose texts are read, and one whose texts are refused: that with the longest answer, or a grant by a certificate. They are
-    for test_hostile.py, which refuses the requests of these calls for memory."""
+    """For each call two rows at most: the best by `rank` whose texts are read, and the best whose texts are refused. test_hostile.py repeats these
+    calls while allocations fail."""
     best: dict[tuple[str, bool], CallRow] = {}
     for row in (row for rows in all_rows().values() for row in rows if is_example(row)):
         kind = row.call, FAULT.match(row.answer) is not None
@@ -41,7 +41,7 @@ def examples() -> list[CallRow]:
 
 
 def rank(row: CallRow) -> tuple[bool, int]:
-    """How good an example a row is, greater being better: a grant by a certificate before all others, and then the length of the answer."""
+    """How good an example a row is, as a key for sorting. A grant by a certificate is the best, and then a longer answer is better."""
     return row.place.startswith(BY_CERTIFICATE), len(row.answer)
 
 
@@ -65,7 +65,7 @@ class OfCalls(unittest.TestCase):
         cls.answers = dict(zip(cls.rows, call_rows.answers(built.existing(cls.path), cls.rows.values())))
 
     def check_row(self, name: str) -> None:
-        """The answer to a row is the one that is wanted."""
+        """Fails with the row's texts if the program's answer to the row of this name is not the row's own, expected answer."""
         row, answer = self.rows[name], self.answers.get(name, b"no answer")
         if answer != row.answer:
             texts = "\n".join(f"text   {shown(text)}" for text in row.texts)
@@ -85,7 +85,7 @@ def made_class(name: str, rows: Iterable[CallRow], path: str) -> type:
 
 
 def add_classes() -> None:
-    """Adds the classes to this module, those of the second compiler's program where it is there."""
+    """Adds the classes to this module: those for the program, and those for the second compiler's program if that has been built."""
     rows = all_rows()
     for ending, path in (("", built.ONE_CALL), ("BySecondCompiler", built.ONE_CALL_BY_RATTLE)):
         if ending and not os.path.exists(path):
