@@ -80,7 +80,7 @@ def counting() -> Iterator[None]:
 
 
 def key(name: str, octets: int = 1) -> Any:
-    """A public key whose value is the name, so many times. The name is one letter in most keys, so the value has `octets` octets then."""
+    """A public key whose value is the name, repeated `octets` times. If the name is one letter, the value has so many octets."""
     return [b"public-key", [b"test", name.encode() * octets]]
 
 
@@ -127,7 +127,7 @@ def entries_for_a_long_key(parts: int) -> bytes:
     """An entry for a long key, at most 8 for its hash, which are compared with each other, and many for other keys. The long key must not be made
     canonical for each of those."""
     long = key("k", 60 * parts)
-    entries: Any = [[b"entry", it, [b"tag", [b"t%d" % at]]] for at, it in enumerate([long] + [hash_of(long)] * min(parts, 8))]
+    entries: Any = [[b"entry", subject, [b"tag", [b"t%d" % at]]] for at, subject in enumerate([long] + [hash_of(long)] * min(parts, 8))]
     others: Any = [[b"entry", key(f"o{at}"), [b"tag", [b"ftp"]]] for at in range(parts)]
     return canonical([b"acl", *entries, *others])
 
@@ -142,10 +142,10 @@ CHECKED = [members_behind_a_long_line, entries_that_ended, long_display, hashes_
 
 @needs.needs("import cryptography")
 class OfCheck(unittest.TestCase):
-    """`spki-cert check`, which reads a text, says what is probably a mistake, and verifies; and what `entry` does with a list."""
+    """`spki-cert check`, which reads a text, says what is probably a mistake, and verifies signatures; and what `entry` does with a list."""
 
-    def check_growth(self, work: Callable[[int], None]) -> None:
-        """`work(parts)`, which returns None, must take less than MOST_TIMES as many steps for TIMES as many parts."""
+    def check_growth(self, work: Callable[[int], object]) -> None:
+        """`work(parts)` is called for FEW parts and for TIMES as many. The second call must take less than MOST_TIMES as many steps."""
         steps = []
         for parts in (FEW, FEW * TIMES):
             with counting():
@@ -162,20 +162,20 @@ class OfCheck(unittest.TestCase):
             texts = {parts: Text(make(parts)) for parts in (FEW, FEW * TIMES)}
             read = checking.remarks_on_key_file if make is keys_in_lines else lambda path, octets: checking.remarks_on_text(path, octets, NOW)
             with self.subTest(make.__name__):
-                self.check_growth(lambda parts: read("text", texts[parts]) and None)
+                self.check_growth(lambda parts: read("text", texts[parts]))
 
     def test_removed_entries(self) -> None:
         """`list_without` removes all entries for a key, here each second one, in one pass through the list."""
         from spki_cert_tool import making
         entry, other = (b"\n (entry %s (tag (ftp)))" % canonical(key(name)) for name in "ab")
         lists = {parts: Text(b"(acl" + (entry + other) * parts + b")") for parts in (FEW, FEW * TIMES)}
-        self.check_growth(lambda parts: making.list_without(key("a"), lists[parts]) and None)
+        self.check_growth(lambda parts: making.list_without(key("a"), lists[parts]))
         text, gone = making.list_without(key("a"), lists[FEW])
         self.assertEqual((text, len(gone)), (b"(acl" + other * FEW + b")", FEW))
 
     def test_compared_entries(self) -> None:
-        """The tag of a new entry is compared with those of the list until the work is MOST_PRODUCTS: with a high bound each tag is, member by
-        member, and with the bound 0 none."""
+        """`warnings_of_list` compares the tag of a new entry with the tags in the list until the work exceeds MOST_PRODUCTS. With a high bound it
+        compares all 30, each of 60 members, and with the bound 0 none. An empty `Keys` knows that two keys differ."""
         from spki_cert_tool import certificates, making, tag_words
         wide: Any = [b"*", b"set", *[b"%03d" % at for at in range(60)]]
         listed = canonical([b"acl", *[[b"entry", key("a"), [b"tag", wide]]] * 30])
@@ -205,7 +205,7 @@ class OfMessages(unittest.TestCase):
         self.assertIsNone(tag_words.lacks([b"*", b"range", b"alpha", b"ge", b"a"], long))
 
     def test_long_words(self) -> None:
-        """For a misspelt word of more than 60 octets no similar word is looked for, which would take long."""
+        """For a misspelt word of more than 60 octets no similar word is looked for, since that would take long. 20 times `tah` are 60 octets."""
         from spki_cert_tool import forms
         self.assertEqual([forms.suggestion(b"tah" * times, [b"tag" * times]) != "" for times in (1, 20, 21)], [True, True, False])
 
@@ -215,12 +215,12 @@ class OfAsk(unittest.TestCase):
     """The search of `spki-cert ask` for chains of certificates, which counts its steps itself."""
 
     def search(self, pairs, entries, holder, most=20_000):
-        """The chains that are found from entries to the key `holder`, and the object that counts steps. `pairs` are the issuers and subjects of the
-        certificates, `entries` the subjects of the entries, and `most` is the bound of steps."""
+        """The list of chains that are found from entries to the key `holder`, and the object that counts steps. `pairs` has the issuer and subject of
+        each certificate, `entries` the subject of each entry, and `most` is the bound of steps."""
         from spki_cert_tool import certificates
         signed = [certificates.Signed(certificates.terms_of(certificate(*pair)), b"", 1) for pair in pairs]
         steps = certificates.Steps(most)
-        listed = [certificates.terms_of([b"entry", it, [b"tag", [b"*"]]]) for it in entries]
+        listed = [certificates.terms_of([b"entry", subject, [b"tag", [b"*"]]]) for subject in entries]
         return list(certificates.chains(listed, signed, certificates.Keys(), holder, steps)), steps
 
     def test_steps(self) -> None:
@@ -243,18 +243,18 @@ class OfAsk(unittest.TestCase):
             self.assertEqual((chains, steps.is_cut, steps.left < 0), ([], True, True))
 
     def test_long_keys(self) -> None:
-        """A search compares the digests of keys, 32 octets, and not the keys, however long they are. The canonical text of a key that is added is
-        made once."""
+        """A search compares the digests of keys, 32 octets, and not the keys, however long they are: `holder_of` returns the digest, and after it
+        the canonical text of each name, here `1:n`. The canonical text of a key that is added is made once."""
         from spki_cert_tool import certificates
         long, keys = key("k", 10_000), certificates.Keys()
         keys.add(long)
-        self.assertEqual([len(it) for it in certificates.holder_of(hash_of(long), [b"n"], keys)], [32, 3])
+        self.assertEqual([len(part) for part in certificates.holder_of(hash_of(long), [b"n"], keys)], [32, 3])
         self.assertEqual(certificates.holder_of(hash_of(long), [], keys), certificates.holder_of(long, [], keys))
         self.assertIs(keys.text_of(hash_of(long)), keys.text_of(hash_of(long)))
 
     def test_many_keys_of_a_file(self) -> None:
-        """After the first MOST_KEYS keys of a file, here 3, a last remark says that no more are looked at, and what to do. The keys are faulty, so
-        each has a remark too."""
+        """After the first MOST_KEYS keys of a file, here 3, a last remark says that no more are looked at, and what to do. It is placed after the
+        third key, in column 23. The keys are faulty, so each has a remark too."""
         from spki_cert_tool import checking
         with tempfile.TemporaryDirectory() as room, mock.patch.object(checking, "MOST_KEYS", 3):
             path = os.path.join(room, "keys.pub")
@@ -262,4 +262,4 @@ class OfAsk(unittest.TestCase):
                 file.write(keys_in_lines(5))
             kind, remarks = checking.remarks_on(path, NOW)
         self.assertEqual((kind, len(remarks), remarks[-1].text), ("5 public keys", 4, "only the first 3 of these keys are looked at: split the file"))
-        self.assertEqual([(it.line, it.column) for it in remarks], [(1, 1), (2, 1), (3, 1), (3, 23)])
+        self.assertEqual([(remark.line, remark.column) for remark in remarks], [(1, 1), (2, 1), (3, 1), (3, 23)])

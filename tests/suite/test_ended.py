@@ -161,7 +161,7 @@ class Ends(Case):
                 self.assertEqual("--digest is compared with no certificate" in output, "--digest" in words)
 
     def test_forms(self) -> None:
-        """A file in another form of the same value has the same digest."""
+        """A certificate has the same digest in each form of S-expressions: `own` in the advanced one, and the last of `second` in braces."""
         for name, octets in (("advanced", self.octets("own")), ("braces", self.run_here("show", "--braces", "second")[1].encode())):
             with self.subTest(name=name):
                 self.write(ENDED, sealed())
@@ -192,7 +192,7 @@ class Ends(Case):
         self.assertEqual(self.rows(), self.digests)
 
     def test_undo(self) -> None:
-        """`--undo` takes out all digests that are named, or none if one of them has not ended."""
+        """`--undo` takes out all digests that are named, and names the command for the daemon; or none if one of them is not in the file."""
         others = ["# M\xfcller", "", f"{A} # 2026-01-01", f"{B}"]
         self.write(ENDED, sealed(*others, self.digests[1]))
         before = self.octets(ENDED)
@@ -251,7 +251,7 @@ class Ends(Case):
         self.assertEqual(sorted(self.rows()), [f"{number:064x}" for number in range(WRITERS)])
 
     def test_changed_before_the_lock(self) -> None:
-        """What another writer puts there between opening and locking is not lost."""
+        """If another writer replaces the file after it was opened and before it is locked, what that wrote is not lost."""
         def change_and_lock(handle: int, how: int) -> None:
             if self.rows() == []:
                 self.write(ENDED, sealed(A))
@@ -263,14 +263,14 @@ class Ends(Case):
         self.assertEqual(self.rows(), [A, self.digests[0]])
 
     def test_locked(self) -> None:
-        """A writer that keeps the file locked ends the next one with a fault after SECONDS_TO_LOCK, here none, and does not hang it."""
+        """While another program keeps the file locked, the command waits at most SECONDS_TO_LOCK, here 0, and then fails."""
         with files.locked(self.at(ENDED)), mock.patch.object(files, "SECONDS_TO_LOCK", 0):
             output = self.end("first", wanted=2)
         self.assertIn("another program has locked it", output)
         self.check_unchanged(sealed(), output)
 
     def test_full_disk(self) -> None:
-        """If the new file cannot be written, the old one stays, and no other file is left."""
+        """If a step of writing the new file fails, the old one stays, and no other file is left."""
         for name in ("os.fsync", "os.replace", "os.fchown", "os.listxattr"):
             with self.subTest(name=name), mock.patch(name, side_effect=OSError(28, "No space left on device")):
                 output = self.end("first", wanted=3)
@@ -278,7 +278,7 @@ class Ends(Case):
                 self.check_unchanged(sealed(), output)
 
     def test_full_output(self) -> None:
-        """If only the output cannot be written, the status says so, and nothing denies that the file is written."""
+        """If only standard output cannot be written, the status is 3, and no message says that nothing was written, since the file was."""
         class Full(io.StringIO):
             def flush(self) -> None:
                 raise OSError(28, "No space left on device")
@@ -360,7 +360,7 @@ class Refuses(Case):
                 self.assertEqual((state_of(path), [name for name in os.listdir(room) if name.startswith(".")]), (before, []))
 
     def test_missing_file(self) -> None:
-        """A wrong name of the file makes no new one, which no daemon would read."""
+        """If the name of the file is wrong, no new file is made: no daemon would read it."""
         for words in (["first"], ["--list"], ["--adopt"], ["--undo", "first"]):
             status, output = self.run_here("end", "--ended", "other", *words)
             self.assertEqual((status, os.path.exists(self.at("other"))), (2, False), output)
@@ -412,10 +412,11 @@ class OfLibrary(Case):
     """The digests are those of what the library lists to be verified, which the daemon looks up."""
 
     def test_messages(self) -> None:
+        # (a program that prints the SHA-256 of each message that the library lists for a sequence, in the file of its first argument)
         asks = ("import hashlib, sys, spki; guard = spki.Guard(b'(acl)');"
                 "key = spki.ProvenKey.assume(spki.canonical(open(sys.argv[2], 'rb').read()));"
                 "asked = guard.ask(spki.Question(open(sys.argv[1], 'rb').read(), key, words=(b'files',), moment=b'\"2026-03-01_12:00:00\"'));"
-                "print(*(hashlib.sha256(it.message).hexdigest() for it in asked.signatures()), sep='\\n')")
+                "print(*(hashlib.sha256(signature.message).hexdigest() for signature in asked.signatures()), sep='\\n')")
         self.write("key", self.run_here("key", "ann.pub")[1].encode())
         settings = {**os.environ, "SPKI_LIBRARY": built.shared(), "PYTHONPATH": os.path.join(TOP, "bindings", "python")}
         status, output = output_of(sys.executable, "-c", asks, "second", "key", cwd=self.room, env=settings)
@@ -429,7 +430,7 @@ class Page(unittest.TestCase):
     """What the operator's page says."""
 
     def test_no_digest_is_cut_out_of_text(self) -> None:
-        """Certificates are ended by the command, and never by a text that their issuers wrote."""
-        commands_of = [first for kind, first, _ in test_guide.steps_of_markdown(text_of("docs/OPERATING.md")) if kind == "command"]
-        self.assertEqual([it for it in commands_of if re.search(r">+ *etc/ended|sed .*sha256", it)], [])
-        self.assertTrue(any("spki-cert end " in it for it in commands_of))
+        """The page ends certificates by `spki-cert end`. No command writes to the file by itself, or cuts a digest out of text that issuers wrote."""
+        lines = [first for kind, first, _ in test_guide.steps_of_markdown(text_of("docs/OPERATING.md")) if kind == "command"]
+        self.assertEqual([line for line in lines if re.search(r">+ *etc/ended|sed .*sha256", line)], [])
+        self.assertTrue(any("spki-cert end " in line for line in lines))
