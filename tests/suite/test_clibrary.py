@@ -2,7 +2,7 @@
 
 `clibrary.c` asks each question with no buffer, with one of no octets, with one octet too few, with enough and with more, between canaries, with
 failing allocations, and then from several threads with 256 KiB of stack each: every command on each file of `examples/`, the rows of the tables, and
-cases whose rows of accepted signatures stand apart. It asks both libraries, each also under AddressSanitizer and valgrind.
+cases whose rows of accepted signatures are a text of their own (`rows apart`). It asks both libraries, each also under AddressSanitizer and valgrind.
 `cguard.c` opens guards and asks them: right and wrong marks, too small buffers, requests by strings, failing allocations, one guard from several
 threads. `misuse.c` makes each call with each argument wrong. They too use each library, also under AddressSanitizer, valgrind and helgrind. No
 allocation of the shared library fails, since it calls the C library itself.
@@ -14,9 +14,8 @@ ten minutes. There spki.c is under AddressSanitizer too.
 
 The libraries for ARM are asked short questions and open guards too, in an emulator.
 
-The symbols of both libraries must be the calls that the header declares and no others, and what they need a few functions of the C
-library. `linked.c` is compiled as C11 and as C++17, with all warnings, and linked with either library; and with two copies of the static
-one."""
+The symbols of both libraries must be the calls that the header declares and no others. They may need only a few functions of the C library.
+`linked.c` is compiled as C11 and as C++17, with all warnings, and linked with either library; and with two copies of the static one."""
 import functools
 import os
 import re
@@ -24,6 +23,7 @@ import shutil
 import subprocess
 import tempfile
 import unittest
+from collections import namedtuple
 from concurrent.futures import ThreadPoolExecutor
 
 from harness import built, needs
@@ -55,8 +55,9 @@ VALGRIND = ["valgrind", "--quiet", "--leak-check=full", "--show-leak-kinds=all",
 HELGRIND = ["valgrind", "--tool=helgrind", "--quiet", "--error-exitcode=98"]
 FUZZED = ["clang", "-g", "-O1", "-Wall", "-Wextra", "-Werror", "-fsanitize=fuzzer,address,undefined", "-fno-sanitize-recover=all", "-D_GNU_SOURCE"]
 FUZZ_SECONDS = 600
-MOMENT = "2024-01-01_00:00:00"
 NO_ROWS = b"(accepted)"
+# The questions of files, of tables and of rows apart: three lists of pairs of a question and the wanted answer.
+Questions = namedtuple("Questions", "files tables apart")
 
 
 def as_library(command, answer):
@@ -94,25 +95,24 @@ def questions_of_tables():
 
 
 def rows_apart(program, answered):
-    """Yields three questions for each case that the program decides, with the wanted answers: its rows apart, beside the case without rows and beside
-    the whole case; and no rows beside the whole case, whose own rows must not count then. `answered` are pairs of a question and its answer."""
+    """Yields three questions for each case that the program decides, with the wanted answers. The rows, which list its valid signatures, are a text
+    of their own: beside the case without rows; beside the whole case; and no rows beside the whole case, whose own rows must not count then.
+    `answered` are pairs of a question and its answer."""
     cases = {text for (_, command, text, _), (status, _) in answered if COMMANDS[command] == "check" and status in (NO, GRANTED)}
     for text in sorted(cases, key=lambda each: (len(each), each)):
-        whole = read(run(program, "canonical", text)[1])
-        rows = canonical(whole[2])
-        bare = canonical([*whole[:2], [b"accepted"], *whole[3:]])
-        with_rows, without = (as_library(COMMANDS.index("check"), run(program, "check", it)) for it in (text, bare))
+        word, access_list, accepted, *others = read(run(program, "canonical", text)[1])
+        rows, bare = canonical(accepted), canonical([word, access_list, [b"accepted"], *others])
+        with_rows, without = (as_library(COMMANDS.index("check"), run(program, "check", each)) for each in (text, bare))
         name = text[:60]
         yield (f"rows apart of {name}", CHECK_ACCEPTED, bare, rows), with_rows
         yield (f"own rows beside rows apart of {name}", CHECK_ACCEPTED, text, rows), with_rows
         yield (f"own rows alone of {name}", CHECK_ACCEPTED, text, NO_ROWS), without
 
 
-def worked_rows():
+def questions_by_hand():
     """Yields questions on the case of examples/delegation.sexp, with the wanted answers, worked out by hand: its rows are apart, changed, or not
     readable. `bare` is the case without its rows. Each question has a name, the text of a case, and a text of rows."""
-    with open(os.path.join(EXAMPLES, "delegation.sexp"), "rb") as file:
-        case = file.read()
+    case = text_of("examples/delegation.sexp").encode()
     at, end = case.index(b"(accepted"), case.index(b"\n (sequence")
     rows, bare = case[at:end], case[:at] + NO_ROWS + case[end:]
     first = rows[len(b"(accepted "):-1]
@@ -137,7 +137,7 @@ def worked_rows():
         ("rows with a tilde", bare, b"(accepted ~)", (2, b"refused rows Bad 10\n")),
         ("too many octets of rows", bare, long, (2, b"refused rows TooLong\n")),
         ("rows too deep", bare, b"(" * 65 + b")" * 65, (2, b"refused rows TooDeep\n")),
-        ("rows in braces", bare, b"{KDg6YWNjZXB0ZWQp}", no),
+        ("rows in braces: `(8:accepted)` in base64", bare, b"{KDg6YWNjZXB0ZWQp}", no),
         ("a text that is no case", b"(case)", rows, (2, b"refused case Shape\n")),
         ("no text", b"", rows, (2, b"refused form Short\n")),
         ("a case too long", bare + b" " * 1048576, rows, (2, b"refused form TooLong\n")),
@@ -185,14 +185,12 @@ def soname_of(shared):
 
 def calls_of_header():
     """The names of the functions that spki.h declares."""
-    with open(os.path.join(CRATE, "spki.h"), encoding="ascii") as header:
-        return set(CALL.findall(header.read()))
+    return set(CALL.findall(text_of("crates/spki_c/spki.h")))
 
 
-def worked_question():
+def parts_of_example():
     """The texts of the access list, the sequence and the key in the case of examples/delegation.sexp."""
-    with open(os.path.join(EXAMPLES, "delegation.sexp"), encoding="ascii") as file:
-        case = file.read()
+    case = text_of("examples/delegation.sexp")
     at = [case.index(f"({part}") for part in ("acl", "accepted", "sequence", "key", "request")]
     return [case[at[0]:at[1]].strip(), case[at[2]:at[3]].strip(), case[at[3]:at[4]].strip()[len("(key "):-1]]
 
@@ -203,17 +201,17 @@ def rpath_to(shared):
 
 
 @functools.cache
-def asked_of(program):
-    """Three lists: the questions of the files, of the tables and of rows apart, each with the wanted answer. They are made once for all tests.
-    `program` is the path of `spki`."""
+def all_questions(program):
+    """All questions with the wanted answers, made once for all tests. `program` is the path of `spki`."""
     files, tables = questions_of_files(program), list(questions_of_tables())
-    return files, tables, list(rows_apart(program, files + tables))
+    return Questions(files, tables, list(rows_apart(program, files + tables)))
 
 
-def short_of(program):
-    """For slow ways of asking: the questions of files and of rows apart that have at most SHORT octets, and a few others, with the wanted answers."""
-    files, _, apart = asked_of(program)
-    return [each for each in files + apart if len(each[0][2]) + len(each[0][3]) <= SHORT] + list(worked_rows())[:8]
+def short_questions(program):
+    """For slow ways of asking: the questions of files and of rows apart that have at most SHORT octets, and 8 others, with the wanted answers."""
+    asked = [*all_questions(program).files, *all_questions(program).apart]
+    short = [((name, number, text, rows), wanted) for (name, number, text, rows), wanted in asked if len(text + rows) <= SHORT]
+    return short + list(questions_by_hand())[:8]
 
 
 # ---- the tests
@@ -281,7 +279,7 @@ class OfC(built.OfLibrary):
     def check_guards(self, library, *more, by=(), threads=THREADS, refusals=0):
         """Guards must do as the header says (`cguard.c`, in so many threads and with so many requests for memory refused in turn), and misuse must be
         seen (`misuse.c`). `library` is `static` or `shared`, `more` are options of the compiler, and `by` is a command that runs each program."""
-        self.check_program("cguard.c", library, *more, by=by, words=[str(threads), str(refusals), *worked_question()])
+        self.check_program("cguard.c", library, *more, by=by, words=[str(threads), str(refusals), *parts_of_example()])
         self.check_program("misuse.c", library, *more, by=by)
 
 
@@ -321,29 +319,29 @@ class Answers(OfC):
     questions."""
 
     def test_files(self):
-        self.check_answers(asked_of(self.program)[0], "static", threads=THREADS, refusals=REFUSALS)
+        self.check_answers(all_questions(self.program).files, "static", threads=THREADS, refusals=REFUSALS)
 
     def test_tables(self):
-        self.check_answers(asked_of(self.program)[1], "static", threads=THREADS, refusals=REFUSALS)
+        self.check_answers(all_questions(self.program).tables, "static", threads=THREADS, refusals=REFUSALS)
 
     def test_rows_apart(self):
-        self.check_answers(asked_of(self.program)[2], "static", threads=THREADS, refusals=REFUSALS)
+        self.check_answers(all_questions(self.program).apart, "static", threads=THREADS, refusals=REFUSALS)
 
-    def test_worked_rows(self):
-        self.check_answers(list(worked_rows()), "static", threads=THREADS, refusals=REFUSALS)
+    def test_questions_by_hand(self):
+        self.check_answers(list(questions_by_hand()), "static", threads=THREADS, refusals=REFUSALS)
 
     def test_shared(self):
-        self.check_answers(short_of(self.program), "shared")
+        self.check_answers(short_questions(self.program), "shared")
 
 
 class UnderAddressSanitizer(OfC):
     """The answers to short questions of each library, under AddressSanitizer."""
 
     def test_static(self):
-        self.check_answers(short_of(self.program), "static", *SANITIZED, refusals=REFUSALS)
+        self.check_answers(short_questions(self.program), "static", *SANITIZED, refusals=REFUSALS)
 
     def test_shared(self):
-        self.check_answers(short_of(self.program), "shared", *SANITIZED)
+        self.check_answers(short_questions(self.program), "shared", *SANITIZED)
 
 
 @needs.needs("valgrind")
@@ -351,7 +349,7 @@ class StaticUnderValgrind(OfC):
     """The answers of the static library to short questions, under valgrind."""
 
     def test_answers(self):
-        self.check_answers(short_of(self.program), "static", by=VALGRIND, refusals=REFUSALS)
+        self.check_answers(short_questions(self.program), "static", by=VALGRIND, refusals=REFUSALS)
 
 
 @needs.needs("valgrind")
@@ -359,7 +357,7 @@ class SharedUnderValgrind(OfC):
     """The answers of the shared library to short questions, under valgrind."""
 
     def test_answers(self):
-        self.check_answers(short_of(self.program), "shared", by=VALGRIND)
+        self.check_answers(short_questions(self.program), "shared", by=VALGRIND)
 
 
 class Guards(OfC):
@@ -402,7 +400,7 @@ int main(void)
             "(signature (hash sha256 #{}#) (public-key (test a)) sig)")
 
     def test_sample(self):
-        """The sample compiles with PARTS in it, and grants: 39 certificates are by a for itself, and the last one gives the right to b."""
+        """The sample compiles with PARTS in it, without the remarks behind its code, and grants: 39 certificates by a are for a, the last for b."""
         lines = self.SAMPLE.search(text_of("crates/spki_c/spki.h"))[1].splitlines()
         sample = "\n".join(re.sub(r"(\.\.\.\)?|;) {2,}\w.*", r"\1", line[7:]) for line in lines)
         for old, new in self.PARTS.items():
@@ -482,10 +480,10 @@ class Structures(unittest.TestCase):
             done = subprocess.run([os.path.join(room, "later")], stdout=subprocess.PIPE, text=True, timeout=SECONDS)
             self.assertEqual((done.returncode, done.stdout), (0, ""))
 
-    def test_of_other_headers(self):
+    def test_structures_of_other_headers(self):
         self.check_structures()
 
-    def test_by_a_later_library(self):
+    def test_library_with_a_later_header(self):
         self.check_structures(*self.LATER)
 
 
@@ -533,10 +531,10 @@ class OnArm(OfC):
         self.check_symbols(self.shared, "--dynamic")
 
     def test_static(self):
-        self.check_answers(short_of(self.program), "static", refusals=REFUSALS)
+        self.check_answers(short_questions(self.program), "static", refusals=REFUSALS)
 
     def test_shared(self):
-        self.check_answers(short_of(self.program), "shared")
+        self.check_answers(short_questions(self.program), "shared")
 
     def test_guards_of_static(self):
         self.check_guards("static", refusals=REFUSALS)
@@ -546,14 +544,14 @@ class OnArm(OfC):
 
 
 def add_ways():
-    """Adds the tests of Guards: with each library, by itself and under each tool. Of the shared library no request for memory is refused: it calls
-    the C library itself."""
+    """Adds the tests of Guards: with each library, by itself and under each tool. No allocation of the shared library fails, since it calls the C
+    library itself. A default of a lambda keeps the value of this turn of the loop."""
     valgrind = needs.needs("valgrind")
     for library, refused in (("static", REFUSALS), ("shared", 0)):
-        ways = {"": lambda self, it=library, most=refused: self.check_guards(it, refusals=most),
-                "_under_address_sanitizer": lambda self, it=library, most=refused: self.check_guards(it, *SANITIZED, refusals=most),
-                "_under_valgrind": valgrind(lambda self, it=library, most=refused: self.check_guards(it, by=VALGRIND, threads=2, refusals=most)),
-                "_under_helgrind": valgrind(lambda self, it=library: self.check_guards(it, by=HELGRIND))}
+        ways = {"": lambda self, kind=library, most=refused: self.check_guards(kind, refusals=most),
+                "_under_address_sanitizer": lambda self, kind=library, most=refused: self.check_guards(kind, *SANITIZED, refusals=most),
+                "_under_valgrind": valgrind(lambda self, kind=library, most=refused: self.check_guards(kind, by=VALGRIND, threads=2, refusals=most)),
+                "_under_helgrind": valgrind(lambda self, kind=library: self.check_guards(kind, by=HELGRIND))}
         for way, test in ways.items():
             setattr(Guards, f"test_{library}{way}", test)
 
