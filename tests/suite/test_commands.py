@@ -49,7 +49,7 @@ def copy_files(folder: str, files: Iterable[str]) -> None:
 
 
 def put_built(folder: str) -> None:
-    """Puts the program and the library where `rt run` and `archive.py` leave them."""
+    """Copies the program and the libraries into `folder`, a copy of the repository, to where the build (`rt run` and `archive.py`) leaves them."""
     for path, usual in ((built.program(), PROGRAM), (built.library(), LIBRARY), (built.shared(), LIBRARY.removesuffix(".a") + ".so")):
         place = os.path.join(folder, os.path.relpath(usual, TOP))
         os.makedirs(os.path.dirname(place), exist_ok=True)
@@ -70,7 +70,7 @@ def faults_in(lines: list[str], output: str) -> list[str]:
     for number, line in enumerate(lines):
         answer, status = answers[number] if number < len(answers) else (parts[-1], -1)
         remark = REMARK.search(line)
-        if status != STATUSES.get(line, 0) or remark and remark[1] != answer.strip():
+        if status != STATUSES.get(line, 0) or (remark and remark[1] != answer.strip()):
             faults.append(f"$ {line}\nended with {status}, and wrote\n{answer}")
     return faults
 
@@ -101,7 +101,7 @@ class InACopy(built.OfLibrary):
 
     def check_lines(self, folder: str, page: str, lines: list[str]) -> None:
         """Commands of a page must end with status 0, or that of STATUSES, and write what their remarks say. They run in a folder, after those that
-        BEFORE has for the page."""
+        BEFORE has for the page. What these write precedes the first END, and is not looked at."""
         output = self.output(folder, BEFORE.get(page, "") + f"echo '{END}' 0\n" + script_of(lines))
         self.assertEqual(faults_in(lines, STATUS.split(output, maxsplit=1)[-1]), [])
 
@@ -109,7 +109,7 @@ class InACopy(built.OfLibrary):
         """The commands of examples/README.md that NOT_RUN does not leave out, each block in a shell of its own."""
         for block in page_commands.indented_blocks(text_of("examples/README.md")):
             commands = [Command("examples/README.md", "indented", line) for line in block.splitlines()]
-            lines = [it.line for it in commands if not any(page_commands.covers(row, it) for row in NOT_RUN)]
+            lines = [command.line for command in commands if not any(page_commands.covers(row, command) for row in NOT_RUN)]
             with self.subTest(block):
                 self.check_lines(os.path.join(self.room, "clone"), "examples/README.md", lines)
 
@@ -125,12 +125,12 @@ class InACopy(built.OfLibrary):
         os.mkdir(inputs)
         # (no command: this makes only what BEFORE makes)
         self.check_lines(inputs, "help", [])
-        for number, it in enumerate(page_commands.commands_of_help()):
-            with self.subTest(it.line):
-                folder, written = os.path.join(self.room, f"help-{number}"), re.search(r" (?:-o|entry .* --acl) (\S+)", it.line)
+        for number, line in enumerate(command.line for command in page_commands.commands_of_help()):
+            with self.subTest(line):
+                folder, written = os.path.join(self.room, f"help-{number}"), re.search(r" (?:-o|entry .* --acl) (\S+)", line)
                 shutil.copytree(inputs, folder)
                 before = "mkdir ~/.ssh; ssh-keygen -q -t ed25519 -N '' -f ~/.ssh/id_ed25519" + (f"; rm -f {written[1]}" if written else "")
-                self.check_lines(folder, "", [before, it.line])
+                self.check_lines(folder, "", [before, line])
 
 
 # ---- on machines that have what a page names
@@ -165,8 +165,7 @@ def put_key(room: str) -> str:
     subprocess.run(["ssh-keygen", "-q", "-t", "ed25519", "-N", "", "-f", path], check=True)
     lines = ["mkdir -m 700 ~/.ssh", "umask 077"]
     for name in ("id_ed25519", "id_ed25519.pub"):
-        with open(os.path.join(room, name), encoding="utf-8") as file:
-            lines.append(f"cat > ~/.ssh/{name} << 'end'\n{file.read()}end")
+        lines.append(f"cat > ~/.ssh/{name} << 'end'\n{text_of(os.path.join(room, name))}end")
     return "\n".join(lines) + "\n"
 
 
@@ -188,24 +187,25 @@ class OnMachines(built.OfLibrary):
 
     def check_page(self, machine: Machine) -> None:
         """The commands of a page must write what the page says, or, where it says nothing, end with status 0. Those in blocks `console` show what
-        they write; the others are in indented blocks and in backticks."""
+        they write. The others are in indented blocks (`by_user`), and in backticks: those that OF_ROOT or IN_CLONE describes."""
         commands = list(page_commands.commands_of(machine.page))
-        if any(it.kind == "console" for it in commands):
+        if any(command.kind == "console" for command in commands):
             steps = list((test_guide.steps_of_manual if machine.page.endswith(".1") else test_guide.steps_of_markdown)(text_of(machine.page)))
             output = STATUS.split(self.output(machine, "", "".join(test_guide.script(steps))), maxsplit=1)[-1]
             answers = [each.strip("\n") for each in output.split(f"{test_guide.END}\n")]
             self.assertEqual(answers, [*(answer.strip("\n") for kind, _, answer in steps if kind == "command"), ""])
-        by_root = [f"({it.line})" for it in commands if it.kind == "inline" and OF_ROOT.fullmatch(it.line)]
+        inline = [command.line for command in commands if command.kind == "inline"]
+        by_root = [f"({line})" for line in inline if OF_ROOT.fullmatch(line)]
         blocks = page_commands.indented_blocks(text_of(machine.page)) if machine.blocks else ()
         by_user = [[f"timeout 2 {line}" if SERVES.fullmatch(line) else line for line in block.splitlines() if not NOT_ON_MACHINES.fullmatch(line)]
                    for block in blocks]
-        by_user += [[it.line] for it in commands if it.kind == "inline" and IN_CLONE.fullmatch(it.line)]
+        by_user += [[line] for line in inline if IN_CLONE.fullmatch(line)]
         if by_root or by_user:
             self.check_statuses(machine, by_root, by_user)
 
     def check_statuses(self, machine: Machine, by_root: list[str], by_user: list[list[str]]) -> None:
-        """Commands of root, and then blocks of commands of the user, must end with status 0, or that of STATUSES."""
-        begin = "cd ~/clone\n" * (machine.blocks != "on")
+        """Commands of root, then blocks of the user's, must end with status 0 or that of STATUSES. `Machine.blocks` says where a block begins."""
+        begin = "" if machine.blocks == "on" else "cd ~/clone\n"
         script = "cd ~/clone\n" + "".join(begin + script_of(lines) for lines in by_user)
         output = self.output(machine, f"echo '{END}' 0\n" + script_of(by_root), script)
         of_root, of_user = STATUS.split(output, maxsplit=1)[-1].split(machine.page + "\n", maxsplit=1)
@@ -224,7 +224,7 @@ class OfToolchain(unittest.TestCase):
     def first_command(self) -> None:
         """The first command of README compiles the program, which takes more than a minute, and prints the answer that the page says. It becomes
         `test_first_command` in the long tests alone."""
-        line = next(it.line for it in page_commands.commands_of("README.md") if it.kind == "indented")
+        line = next(command.line for command in page_commands.commands_of("README.md") if command.kind == "indented")
         status, output = output_of("sh", "-c", line, cwd=TOP, seconds=3 * SECONDS)
         self.assertEqual((status, "yes entry 1" in output.splitlines()), (0, True), output)
         self.assertIn("prints `yes entry 1`", text_of("README.md"))

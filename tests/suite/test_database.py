@@ -1,9 +1,8 @@
 """Compares decisions by entries in a store, as examples/database/ makes them, with those of a guard of all entries.
 
-- Random lists with entries for keys, hashes and names, and questions with up to three certificates: the answer, the number of the entry
-  and each refusal must be those of the guard of the whole list.
-- Several clients add and remove entries at the same time, and each asks in between: an entry that was added grants, and one that was removed
-  does not.
+- Random lists with entries for keys, hashes and names, and questions with up to three certificates: the answer, the number of the entry and each
+  refusal must be those of the guard of the whole list.
+- Several clients add and remove entries at the same time, and ask in between: an entry that was added grants, and one that was removed does not.
 
 The store is on a server in a temporary folder. `tests/suite/test_store.py` asks the same of the daemon, and kills servers."""
 import hashlib
@@ -43,12 +42,13 @@ def hash_of(value, algorithm="sha256"):
 
 
 def is_right(signature):
-    """The verifier of these tests: a signature is right if its value is `sig`."""
+    """The verifier of these tests: a signature is right if its value is the string `sig`, in canonical form."""
     return signature.value == b"3:sig"
 
 
 def question(sequence, asker, request=REQUEST, moment=NOON):
-    """A question that the key `asker`, a value, asks. `sequence` has its certificates, as a value or as the octets of a text."""
+    """A question that the key `asker`, a value, asks. `sequence` has its certificates, as a value or as the octets of a text. `request` has the
+    strings of the request, and `moment` its date in canonical form."""
     key = spki.ProvenKey.assume(canonical(asker))
     return spki.Question(sequence if isinstance(sequence, bytes) else canonical(sequence), key, words=request, moment=moment)
 
@@ -64,7 +64,7 @@ class Maker:
         self.keys = [key_of(b"k%d" % place) for place in range(KEYS)]
 
     def principal(self, key):
-        """A key, or a hash of it."""
+        """A principal that names a key: the key itself, or a hash of it by SHA-256, SHA-512 or SHA-1."""
         return self.random.choice([key, key, hash_of(key), hash_of(key), hash_of(key, "sha512"), hash_of(key, "sha1")])
 
     def tag(self):
@@ -77,7 +77,7 @@ class Maker:
         return self.random.choice([[], [], [], [[b"not-after", b"2026-02-01_00:00:00"]], [[b"not-before", b"2026-02-01_00:00:00"]]])
 
     def entry(self):
-        """The arguments of `entries.entry`: a principal, fields and names."""
+        """The arguments of `entries.entry` for an entry: its principal and a list of its fields, as canonical texts, and a tuple of names."""
         propagate = [[b"propagate"]] if self.random.random() < 0.8 else []
         names = self.random.choice([(), (), (), (b"friends",), (b"friends", b"bob")])
         fields = [canonical(field) for field in [*propagate, self.tag(), *self.validity()]]
@@ -108,7 +108,7 @@ class Maker:
 
 
 def outcome(decide, asked):
-    """What `decide` returns for a question, the number of an entry or None; or the line of the refusal that it raises."""
+    """What `decide` returns for a question: the number of the entry that grants it, or None for no. If it is refused, the line of the refusal."""
     try:
         return decide(asked)
     except spki.Refused as refusal:
@@ -139,7 +139,7 @@ def agrees_with_whole_list(store, seed, policy):
         decide = decider_by_whole_list(store, policy)
         for _ in range(QUESTIONS // 2):
             asked = maker.question()
-            wanted, answer = outcome(decide, asked), outcome(lambda it: service.decide(it, is_right), asked)
+            wanted, answer = outcome(decide, asked), outcome(lambda each: service.decide(each, is_right), asked)
             if wanted != answer:
                 print(f"seed {seed}: {asked}: {answer}, and of the whole list {wanted}")
                 return False
@@ -227,11 +227,11 @@ class Stores(built.OfLibrary):
         return store
 
     def test_strict(self):
-        self.assertTrue(agrees_with_whole_list(self.connect(), 0, spki.Policy.STRICT))
+        self.assertTrue(agrees_with_whole_list(self.connect(), seed=0, policy=spki.Policy.STRICT))
 
     def test_open(self):
         """Under `ALLOW_SHA1` hashes by SHA-1 name keys too."""
-        self.assertTrue(agrees_with_whole_list(self.connect(), 1, spki.Policy.ALLOW_SHA1))
+        self.assertTrue(agrees_with_whole_list(self.connect(), seed=1, policy=spki.Policy.ALLOW_SHA1))
 
     def test_several_clients(self):
         self.assertEqual(faults_of_clients(self.connect), [])

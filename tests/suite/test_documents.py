@@ -1,12 +1,11 @@
-"""Tests that what the documents name is there: each relative link and its heading, each path of a file or folder of this repository in
-backticks, in a block of commands and in a table, the versions of the manual and of README.md, which are that of the file VERSION, and
-the logic of the toolchain that README.md names, which `rt --version` prints; each definition of docs/DEFINITIONS.md, in the file of its
-row; and each clause that a row of docs/PROOFS.md names, in the function of that row (`claims.py`). The pages have at most the octets that are meant
-for them.
+"""Tests that what the documents name is there: each relative link and its heading, each path of a file or folder of this repository in backticks, in
+a block of commands and in a table, the versions of the manual and of README.md, which are that of the file VERSION, and the logic of the toolchain
+that README.md names, which `rt --version` prints; each definition of docs/DEFINITIONS.md, in the file of its row; and each clause that a row of
+docs/PROOFS.md names, in the function of that row (`claims.py`). README.md, and the pages together, are no longer than their limits.
 
-A path is what begins with a name at the top of the repository, or in the folder of the document, or with `src`, `specs` or `proofs` in the
-page of a crate; and each word in backticks that ends as a file of a kind that is here. A word in capitals stands for any name, and so
-does `*`. What is built, in `out/`, is left out. Each page is a test."""
+A path is what begins with a name at the top of the repository, or in the folder of the document, or with `src`, `specs` or `proofs` in the page of a
+crate; and each word in backticks that ends as a file of a kind that is here. A word in capitals stands for any name, and so does `*`. What is built,
+in `out/`, is left out. Each page is a test."""
 import glob
 import os
 import re
@@ -70,21 +69,22 @@ def words_of(page):
 
 
 def bases(page):
-    """The folders that the paths of a page may begin in."""
+    """The two folders in which a path that a page names may begin: the top of the repository, and the folder of the page."""
     return TOP, os.path.join(TOP, os.path.dirname(page))
 
 
 def dead_paths(page, names):
-    """Yields the paths that a page names and that are not there. `names` are those of all files."""
+    """Yields a text for each path that a page names and that is not there. `names` has the bare names of all files. A word without a folder must be
+    one of them if it ends as a file does. What a command makes, files in out/, and words in capitals, which stand for any name, are left out."""
     written = {name for _, name, _ in FENCED.findall(text_of(page)) if name}
     for word in words_of(page):
         word = re.sub(r"^(?:\.\./|\./)+", "", word.rstrip(".,;:)"))
         if not PATH.match(word) or "out/" in f"{word}/" or ANY.search(word) or word in MADE | written:
             continue
-        first, is_file = word.split("/")[0], word.endswith(KINDS)
+        first, is_bare_file = word.split("/")[0], "/" not in word and word.endswith(KINDS)
         is_path = "/" in word and any(os.path.exists(os.path.join(base, first)) for base in bases(page))
         is_there = any(glob.glob(os.path.join(base, word)) for base in bases(page))
-        if is_path and not is_there or is_file and "/" not in word and not is_there and word not in names:
+        if not is_there and (is_path or is_bare_file and word not in names):
             yield f"the path {word}"
 
 
@@ -101,12 +101,12 @@ def names_in_specs(paths: list[str]) -> set[str]:
 
 
 def below_crates(part: str) -> list[str]:
-    """The files of all crates that a pattern names, without what is built."""
+    """The paths of the files that a pattern such as `src/**/*.rt` matches in the folder of any crate."""
     return glob.glob(os.path.join("crates", "*", part), root_dir=TOP, recursive=True)
 
 
-def undefined() -> Iterator[str]:
-    """The definitions of docs/DEFINITIONS.md that are not in the files of their rows."""
+def missing_definitions() -> Iterator[str]:
+    """Yields `FILES: NAME` for each definition that a row of docs/DEFINITIONS.md names and that is in none of the row's files."""
     for head, rows in claims.SECTION.findall(text_of("docs/DEFINITIONS.md")):
         for files, names in DEFINED.findall(rows):
             paths = [f"crates/{crate}/specs/{file}.antt" for crate in re.findall(r"`(\w+)`", head) for file in files.split(", ")]
@@ -124,13 +124,13 @@ class Documents(unittest.TestCase):
         self.assertIn(f"The version is {version}.", text_of("README.md"))
 
     def test_paths_of_tests(self) -> None:
-        """What scripts and programs name of tests/ is there too."""
+        """Each path below tests/ that any file of the repository names is there, except in an out/, where programs are built."""
         named = re.findall(r"tests/.*", output_of("git", "grep", "-ohE", r"(^|[^A-Za-z0-9_/.-])tests/[a-z][A-Za-z0-9_/.*]*[a-z/]", cwd=TOP)[1])
         self.assertTrue(named)
         self.assertEqual({path for path in named if "/out/" not in path and not glob.glob(os.path.join(TOP, path))}, set())
 
     def test_lengths(self) -> None:
-        """README.md, and the pages of docs/ together with the pages CALLING.md, are no longer than meant. Nobody reads long pages."""
+        """README.md, and the pages of docs/ together with the pages CALLING.md, are no longer than the limits above: nobody reads long pages."""
         lengths = {path: os.path.getsize(path) for pattern in PAGES for path in glob.glob(os.path.join(TOP, pattern), recursive=True)}
         self.assertLessEqual(lengths[os.path.join(TOP, "README.md")], MOST_OF_README)
         self.assertLess(sum(size for path, size in lengths.items() if "/docs/" in path or path.endswith("CALLING.md")), MOST_OF_PAGES)
@@ -140,7 +140,7 @@ class Documents(unittest.TestCase):
         self.assertEqual(set(LOGIC.findall(text_of("README.md"))), set(LOGIC.findall(output_of("rt", "--version")[1])))
 
     def test_definitions(self) -> None:
-        self.assertEqual(list(undefined()), [])
+        self.assertEqual(list(missing_definitions()), [])
 
     def test_claims(self) -> None:
         sources = claims.Sources(below_crates("src/**/*.rt"), below_crates("specs/**/*.antt"))

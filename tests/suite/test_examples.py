@@ -34,7 +34,7 @@ class OfProgram(Example):
 
 @needs.needs("import cryptography", *needs.LIBRARY, *databases.NEEDED)
 class OfDatabase(Example):
-    """The story of a service with a database."""
+    """The story of a service with a database. It must remove the roles of PostgreSQL that it makes."""
 
     def test_story(self) -> None:
         with databases.Server() as server:

@@ -54,17 +54,20 @@ class Bodies(unittest.TestCase):
     """The functions that wrong bodies change."""
 
     def test_function(self) -> None:
+        """The module, which is the name of the file, precedes the name of the function, except in lib.rt."""
         self.assertEqual(functions_changed("n < MOST", "n <= MOST"), {"names::is_it"})
         self.assertEqual(functions_changed("n < MOST", "n <= MOST", "src/lib.rt"), {"is_it"})
 
     def test_method(self) -> None:
+        """The toolchain's name for a method of `impl Display for Name` begins with NameDisplay."""
         self.assertEqual(functions_changed("self.octets.len()", "0"), {"NameDisplay::length"})
 
     def test_no_function(self) -> None:
         self.assertEqual(functions_changed("usize = 3", "usize = 4"), {None})
 
     def test_one_check(self) -> None:
-        """Wrong bodies of functions with different names are tried by one check, of the text with all of them."""
+        """Wrong bodies of functions with different names are tried by one check, of the text with all of them: here 0 and 1. Body 2 changes the
+        function of body 0, so it is in the second batch. Body 3 changes no function, and is in none."""
         with tempfile.TemporaryDirectory() as folder:
             os.mkdir(os.path.join(folder, "src"))
             pathlib.Path(folder, "src/names.rt").write_text(SOURCE, encoding="utf-8")
@@ -80,7 +83,7 @@ class Records(unittest.TestCase):
     """What the deep run has recorded."""
 
     def test_text(self) -> None:
-        """A record is about contracts of functions, ghost members and definitions, and neither about bodies nor about remarks."""
+        """A record is a checksum of contracts and of ghost members, such as views. Other bodies and remarks leave it as it is."""
         def heads(text: str) -> list[str]:
             return [found[0] for pattern in (records.HEAD, records.GHOST) for found in pattern.finditer(records.REMARK.sub("", text))]
 
@@ -98,11 +101,13 @@ class Verdicts(unittest.TestCase):
         return bodies.refuses("low", "names::tried", "\n".join(lines))
 
     def test_refused(self) -> None:
+        """A wrong body is refused if the line of its own function says `not proved`, also if a goal of its proof file is open."""
         self.assertTrue(self.is_refused("fn low::names::other: proved", "fn low::names::tried: not proved"))
         self.assertTrue(self.is_refused("./proofs/names/tried/Answers.antt:10:29: error: `returns-then`: `search`: no proof of `⊥`",
                                         "fn low::names::tried: not proved"))
 
     def test_another_function(self) -> None:
+        """It is not refused if only another function is not proved, even if its own proof needs that one."""
         self.assertFalse(self.is_refused("fn low::names::tried: proved", "fn low::names::other: not proved"))
         self.assertFalse(self.is_refused("fn low::names::tried: needs other, which is not proved"))
 
@@ -117,7 +122,8 @@ class Script(unittest.TestCase):
     """The file that CI runs."""
 
     def test_bash(self) -> None:
-        """Bash runs it, and nothing but the gate: in a text in another language it would run what stands in backticks."""
+        """Bash runs the gate's module, and no command that a remark has in backticks. PATH has only stand-ins: for python3 one that prints its folder
+        and its words, and one for dirname."""
         with tempfile.TemporaryDirectory() as folder:
             for name, line in ("python3", 'echo "$PWD" "$@"'), ("dirname", 'echo "${1%/*}"'):
                 pathlib.Path(folder, name).write_text(f"#!/bin/sh\n{line}\n")
@@ -130,11 +136,12 @@ class NothingToTry(unittest.TestCase):
     """Command lines by which nothing would be tried: such a run must not pass."""
 
     def test_tests(self) -> None:
+        """A run fails if no test has the given name, or if it may use no process (`--jobs 0`)."""
         for name, *words in ("run", "--pages", "-k", "no such test"), ("run", "--as-built", "--jobs", "0"), ("differential.py", "--jobs", "0"):
             self.assertNotEqual(subprocess.run([os.path.join(TESTS, name), *words, "--cases", "9"], capture_output=True).returncode, 0, words)
 
     def test_wrong_bodies(self) -> None:
-        """None is tried without a name, nor where `rt ci` fails: in a crate that is not proved each would be refused."""
+        """No wrong body is tried without a name, nor where `rt ci` fails: in a crate that is not proved each would be refused."""
         with contextlib.redirect_stderr(io.StringIO()), mock.patch.object(sys, "argv", ["deep", "--alone"]):
             self.assertRaises(SystemExit, deep.main, "")
         with contextlib.redirect_stdout(io.StringIO()), mock.patch.object(deep, "run", lambda *_: ("0 passed, 1 failed\n", 1)), \
@@ -192,7 +199,8 @@ class Commands(unittest.TestCase):
         gate = subprocess.Popen([sys.executable, "-c", f"from merge_gate.run import run; run({begun}, 1)"], cwd=os.path.join(TOP, ".ci"),
                                 stdout=subprocess.PIPE, stderr=subprocess.DEVNULL, text=True)
         with gate:
-            process = (gate.stdout or sys.stdin).readline().strip()
+            assert gate.stdout is not None
+            process = gate.stdout.readline().strip()
             gate.terminate()
             waits_for("the command has ended", lambda: is_gone(process))
         self.assertNotEqual(gate.returncode, 0)

@@ -15,7 +15,7 @@ from collections.abc import Iterator
 from typing import Any
 
 from harness import built, golang, needs
-from harness.support import TESTS, TOP, canonical, read
+from harness.support import TESTS, TOP, canonical, read, text_of
 from suite import test_bindings
 
 SPKI_CERT = os.path.join(TOP, "apps", "spki-cert", "spki-cert")
@@ -112,7 +112,7 @@ class Fuzzed(OfGo):
     def test_fuzz(self) -> None:
         for folder, package, name, seconds in FUZZED:
             with self.subTest(name):
-                # (Go 1.19 may lose its worker while it makes an input smaller that is only new)
+                # (1x: one step. Go 1.19 may lose its worker while it minimizes an input that is only new)
                 times = ("-fuzztime", f"{seconds}s", "-fuzzminimizetime", "1x")
                 self.go(folder, "test", "-run", "^$", "-fuzz", f"^{name}$", *times, package)
 
@@ -122,7 +122,7 @@ if not built.IS_LONG:
 
 
 class OverSocket(http.client.HTTPConnection):
-    """A connection to a Unix socket. A program that does not answer for 60 seconds hangs."""
+    """A connection to a Unix socket. If the program there does not answer for 60 seconds, TimeoutError is raised."""
 
     def __init__(self, path: str) -> None:
         super().__init__("daemon", timeout=60)
@@ -206,8 +206,8 @@ class Daemon:
         return done.returncode, done.stdout, done.stderr
 
     def ask(self, who: Person, method: str, target: str, sequence: bytes = b"", path: str = "") -> http.client.HTTPResponse:
-        """The daemon's answer to what a web server asks about a person's request. `path` is that of a socket other than
-        the daemon's own, where a proxy listens."""
+        """The daemon's answer to what a web server asks about a person's request. `target` is the path of the request, and `sequence` a text with the
+        certificates that the person shows. `path` is that of a socket other than the daemon's own, where a proxy listens."""
         headers = {"X-Original-Method": method, "X-Original-URI": target, "X-Client-Cert": urllib.parse.quote(who.certificate)}
         if sequence:
             braced = subprocess.run([built.program(), "transport"], input=sequence, stdout=subprocess.PIPE, check=True).stdout
@@ -223,8 +223,7 @@ class Daemon:
 
     def last_grant(self) -> dict[str, object]:
         """The last line of the log of grants, as an object."""
-        with open(self.grants, encoding="utf-8") as log:
-            return dict(json.loads(log.readlines()[-1]))
+        return dict(json.loads(text_of(self.grants).splitlines()[-1]))
 
 
 @needs.needs("openssl", "import cryptography")
@@ -246,7 +245,7 @@ class Served(OfGo):
             daemon.process.communicate()
 
     def test_keys_of_each_kind(self) -> None:
-        """Alice of each kind of key gives Bob of each kind a right."""
+        """With keys of each kind, Alice gives Bob the right to read /web/. The daemon grants this, and denies or refuses each other request."""
         with tempfile.TemporaryDirectory() as room:
             alices = [Person(room, f"alice-{kind}", kind) for kind in KINDS]
             bobs = [Person(room, f"bob-{kind}", kind) for kind in KINDS]
@@ -266,7 +265,7 @@ class Served(OfGo):
 
     @staticmethod
     def with_wrong_signature(sequence: bytes) -> bytes:
-        """A sequence in whose last signature the last octet differs by a bit."""
+        """The canonical text of a sequence, a text, after one bit of the last signature's last octet is changed."""
         items = value_of(sequence)
         # (a signature is `(signature HASH KEY (sig-val (ALGORITHM .. (NAME NUMBER))))`)
         part = items[-1][3][1][-1]
@@ -274,7 +273,7 @@ class Served(OfGo):
         return canonical(items)
 
     def test_reload(self) -> None:
-        """A list and the digests of ended certificates are read again. What is refused changes nothing."""
+        """At a reload the list and the digests of ended certificates are read again. If the list is refused, the former ones stay."""
         with tempfile.TemporaryDirectory() as room:
             alice, bob = (Person(room, name, "ed25519") for name in ("alice", "bob"))
             text = f"(acl (entry {alice.key} (propagate) (tag (files read))))"

@@ -1,13 +1,12 @@
 """Does what README.md, docs/GUIDE.md and the examples of docs/spki.1 say, each in an empty folder, and compares the answers.
 
-A fenced block `sexp NAME`, `sh NAME` or `python NAME` of README.md and the guide is a file. It is written at its place on the page, and
-cannot be run until a command permits it. If examples/ has a file of this name, it must be the same. A block `c NAME`, `rust NAME` or
-`python NAME` that an example of this name in PROGRAMS has is a quotation: it must be a part of it.
+A fenced block `sexp NAME`, `sh NAME` or `python NAME` of README.md and the guide is a file. It is written at its place on the page, and cannot be
+run until a command permits it. If examples/ has a file of this name, it must be the same. A block `c NAME`, `rust NAME` or `python NAME` that an
+example of this name in PROGRAMS has is a quotation: it must be a part of it.
 
-In a block `console`, and in the manual's blocks, a line that begins with `$ ` is a command of the shell. A line with `> ` continues it.
-The lines up to the next command are what it should write. The commands of a page run unchanged, one after the other in one shell, with
-the program as `spki`, apps/locate as `locate` and apps/spki-cert/spki-cert as `spki-cert`, which has the built library. They run once in `sh`, and
-once in `bash`.
+In a block `console`, and in the manual's blocks, a line that begins with `$ ` is a command of the shell. A line with `> ` continues it. The lines up
+to the next command are what it should write. The commands of a page run unchanged, one after the other in one shell, with the program as `spki`,
+apps/locate as `locate` and apps/spki-cert/spki-cert as `spki-cert`, which has the built library. They run once in `sh`, and once in `bash`.
 
 An indented block below a paragraph that begins with `**C.**`, `**Rust.**`, `**Python.**` or `**Go.**` is a snippet: snippets.py compiles it and runs
 it. The indented command `rt try` of README.md runs in this repository, where it takes about a minute. It is not run again while the crates below the
@@ -70,7 +69,7 @@ def program_of(name):
 
 
 def steps_of_manual(page):
-    """The steps of the text of a manual: the commands in its blocks without filling."""
+    """Yields the steps of the text of a manual page: the commands in its blocks without filling, from `.nf` to `.fi`."""
     for block in re.findall(r"^\.nf\n(.*?)^\.fi$", page, re.MULTILINE | re.DOTALL):
         yield from commands(textwrap.dedent(block).replace("\\-", "-").replace("\\(aq", "'").replace("\\(ga", "`"))
 
@@ -119,8 +118,7 @@ def is_as_in_examples(kind, name, text):
     path = program_of(name) if kind == "quotation" else os.path.join(TOP, "examples", name)
     if not os.path.exists(path):
         return True
-    with open(path, encoding="utf-8") as file:
-        whole = file.read()
+    whole = text_of(path)
     return text in whole if kind == "quotation" else text == whole
 
 
@@ -163,11 +161,11 @@ class Pages(built.OfProgram):
     """The commands, files and quotations of the pages."""
 
     def steps(self, page: str) -> list[tuple[str, str, str]]:
-        """The steps of a page."""
+        """The steps of a page, by its path, as `steps_of_markdown` or `steps_of_manual` yields them."""
         return list((steps_of_manual if page.endswith(".1") else steps_of_markdown)(text_of(page)))
 
     def check_commands(self, page: str, shell: str) -> None:
-        """Each command of a page must write what the page says."""
+        """Each command of a page must write what the page says. One that a shell did not reach, which ended early, writes `nothing`."""
         steps = self.steps(page)
         wanted = [(command, answer) for kind, command, answer in steps if kind == "command"]
         outputs = outputs_of(shell, steps, self.program)
@@ -188,7 +186,7 @@ def files_test(page: str) -> Callable[[Pages], None]:
 
 
 def commands_test(page: str, shell: str) -> Callable[[Pages], None]:
-    """The test of a page's commands in a shell."""
+    """The test of a page's commands in a shell. It is skipped if a tool that the page uses, such as openssl, is missing."""
     test: Callable[[Pages], None] = lambda self: self.check_commands(page, shell)
     text = text_of(page)
     of_library = ["import cryptography", "ssh-keygen", *needs.LIBRARY] if needs_library(re.findall(r"^[$] .*$", text, re.MULTILINE)) else []
