@@ -5,6 +5,7 @@ the same way, on two rows of `calls/`.
 `refuse.c` is compiled by `cc` and preloaded, and lets the chosen calls fail. Each part is a test. It prints the numbers of tasks, runs, refused calls
 and faults. The longest parts are tests only of `tests/run --long`, which `.ci/deep` runs."""
 import os
+import pathlib
 import resource
 import sys
 import time
@@ -16,7 +17,7 @@ from itertools import count
 import rows
 from harness import built, needs
 from harness.refusing import PIPE, Program, compiled
-from harness.support import BENCH, COMMANDS, EXAMPLES, braced, group, loaded, room_for, string, tables_here
+from harness.support import BENCH, COMMANDS, EXAMPLES, braced, group, loaded, room_for, string, tables_here, text_of
 from rows import chains, limits
 from rows.limits import MOST_OCTETS
 from suite import test_calls
@@ -34,8 +35,7 @@ LIMITS = (12, 16, 24, 32, 64, 128)
 MOST_FAULTS = 20
 # Of so many examples one runs under valgrind.
 VALGRIND_STEP = 9
-# How often the program calls `read` before it gives up. It calls `write` as often, and once more for each octet of its
-# answer.
+# How often the program calls `read` before it gives up. It calls `write` as often, and once more for each octet of its answer.
 MOST_ASKS = 2097152
 # What one text may take: seconds, and MiB.
 MOST_SECONDS, MOST_MEMORY = 10, 256
@@ -98,7 +98,7 @@ class Example:
 
 
 def end_of(line):
-    """How a run ends: the status, the output and the errors, by a text with the status and the line of output."""
+    """How a run ends: the status, the output and the errors. `line` has the status, a space and the line of output. There are no errors."""
     status, words = line.split(" ", 1)
     return int(status), words.encode() + b"\n", b""
 
@@ -106,10 +106,9 @@ def end_of(line):
 # ---- examples
 
 def of_files():
-    """Each command on the cases of examples/."""
+    """Yields each command on the cases of examples/, as an Example."""
     for name, lines in FILES.items():
-        with open(os.path.join(EXAMPLES, name), "rb") as file:
-            text = file.read()
+        text = pathlib.Path(EXAMPLES, name).read_bytes()
         canonical = text if name.endswith(".csexp") else chains.canonical(text.decode())
         yield Example(name, "canonical", text, (0, canonical, b""))
         yield Example(name, "transport", text, (0, braced(canonical) + b"\n", b""))
@@ -120,7 +119,7 @@ def of_files():
 
 
 def of_chains():
-    """The cases with certificates, and what other commands write of some."""
+    """Yields the cases of chains.py as examples, and for those of CHAINS what other commands write too."""
     for name, command, text, status, answer in chains.rows():
         yield Example(name, command, text, (status, answer, b""))
         for other, line in CHAINS.get(name.removeprefix("chains:"), {}).items():
@@ -128,14 +127,14 @@ def of_chains():
 
 
 def of_tables():
-    """The rows of the tables."""
+    """Yields the rows of the tables as examples."""
     for table in tables_here():
         for place, command, text, status, answer in rows.rows_of(table):
             yield Example(place, command, text, (status, answer, b""))
 
 
 def of_limits():
-    """The texts at the limits."""
+    """Yields the rows of limits.py as examples: texts just within a limit, and just beyond it."""
     for name, command, text, status, answer in limits.rows():
         yield Example(name, command, text, (status, answer, b""))
 
@@ -146,18 +145,16 @@ def examples_of(*sources, most=MOST_OCTETS * 2):
 
 
 def three_certificates():
-    """A case with three certificates in the three forms."""
+    """The text of a case with three certificates in each form of S-expressions: canonical, advanced, in braces."""
     text = chains.case(chains.entry("a"), *chains.chain())
     canonical = chains.canonical(text)
     return canonical, text.encode(), braced(canonical)
 
 
 def first_run():
-    """The first case of examples/ in the three forms."""
-    with open(os.path.join(EXAMPLES, "first-run.csexp"), "rb") as file:
-        canonical = file.read()
-    with open(os.path.join(EXAMPLES, "texts", "case.sexp"), "rb") as file:
-        return canonical, file.read().rstrip(), braced(canonical)
+    """The text of the first case of examples/ in each form of S-expressions: canonical, advanced, in braces."""
+    canonical = pathlib.Path(EXAMPLES, "first-run.csexp").read_bytes()
+    return canonical, text_of("examples/texts/case.sexp").encode().rstrip(), braced(canonical)
 
 
 def most_work():
@@ -203,12 +200,13 @@ def refused_in_turn(program, example, behind):
     answer = example.answer or whole.answer
     asked, refusals, faults = whole.asked["memory"], 0, []
     first = 1 if example.name == WORDS_REFUSED else whole.before_reads + 1
-    most = asked + 1 - first
-    numbers = [*range(first, asked + 1, 1 if most <= ALL_REQUESTS else most // SOME_REQUESTS), asked + 1]
+    requests = asked + 1 - first
+    step = 1 if requests <= ALL_REQUESTS else requests // SOME_REQUESTS
+    numbers = [*range(first, asked + 1, step), asked + 1]
     for number in numbers:
         ended = program.run(example.command, example.text, memory=f"{number}{behind}")
-        right = ended.answer == MEMORY or (number <= whole.before_reads and ended.answer == answer) if ended.refused else ended.answer == answer
-        if not right or bool(ended.refused) != (number <= asked):
+        allowed = [answer] if not ended.refused else [MEMORY, answer] if number <= whole.before_reads else [MEMORY]
+        if ended.answer not in allowed or bool(ended.refused) != (number <= asked):
             faults.append(f"{example}: request {number}{behind} of {asked} refused: {ended}")
         refusals += ended.refused
     return len(numbers) + 1, refusals, faults
@@ -222,15 +220,15 @@ def call_refused(program, row, behind):
     return refused_in_turn(one_call, Example(row.place, row.call, row.line(), answer), behind)
 
 
-def cut_short(program, command, text, places):
-    """A run of a command on the first octets of a text for each number in `places`, which must refuse it as Short. Returns the number of runs, of
-    refusals, and the faults."""
+def cut_short(program, command, text, lengths):
+    """Runs of a command on the first octets of a text, as many as each number in `lengths` says. Each must refuse them as Short. Returns the number
+    of runs, of refusals, and the faults."""
     faults = []
-    for length in places:
+    for length in lengths:
         ended = program.run(command, text[:length])
         if ended.answer != SHORT:
             faults.append(f"{command} on {length} octets of {text[:16]!r}: {ended}")
-    return len(places), 0, faults
+    return len(lengths), 0, faults
 
 
 def failing_in_turn(program, example, call, error, wanted):
@@ -248,26 +246,26 @@ def failing_in_turn(program, example, call, error, wanted):
     return number, refusals, faults
 
 
-# `wanted` of failing_in_turn: how a run of an example must end whose call of this number fails with an error, or returns 0.
+# `wanted` of failing_in_turn: how a run of an example must end if its Nth call (`number`) fails with an error, or returns 0.
 
 def read_fault(example, number):
-    """How a run must end whose read of this number fails."""
+    """How a run must end if its Nth read (`number`) fails: as a read fault, whichever read it is."""
     return READ_FAULT
 
 
 def write_fault(example, number):
-    """How a run must end whose write of this number fails or takes no octet, after one octet with each write before it."""
+    """How a run must end if its Nth write (`number`) fails or takes no octet: each write before it has taken one octet."""
     return 3, example.answer[1][:number - 1], WRITE_FAULT[2]
 
 
 def asked_again(example, number):
-    """How a run must end whose call of this number is interrupted: as any other, since the call is made again."""
+    """How a run must end if its Nth read or write (`number`) is interrupted: as any other, since the call is made again."""
     return example.answer
 
 
 def ended_early(example, number):
-    """How a run must end whose read of this number returns no octet, after one octet with each read before it: the text is refused as Short, unless
-    it was read as a whole before."""
+    """How a run must end if its Nth read (`number`) returns no octet, which means the end of the text. Each read before it has returned one octet, so
+    the text is refused as Short, unless it was read as a whole before."""
     return SHORT if number <= len(example.text) else example.answer
 
 
@@ -317,8 +315,8 @@ def within_limits(program, example):
 
 
 def with_valgrind(program, example, plan):
-    """One run under valgrind, with the settings of refuse.c in `plan`. Valgrind must find no lost memory, and no forbidden read or write.
-    Returns the number of runs, of refusals, and the faults."""
+    """One run under valgrind, with the settings of refuse.c in `plan`. Valgrind must find no lost memory, and no forbidden read or write. By
+    `nouserintercepts` it leaves the `malloc` of refuse.c in use. Returns the number of runs, of refusals, and the faults."""
     leaks = ["--leak-check=full", "--show-leak-kinds=definite", "--errors-for-leak-kinds=definite", "--error-exitcode=99"]
     words = ["valgrind", "-q", "--soname-synonyms=somalloc=nouserintercepts", *leaks]
     wanted = example.answer or program.run(example.command, example.text).answer
@@ -353,7 +351,7 @@ def calls_refused():
 
 
 def truncation():
-    """Tasks that cut texts short at each octet, and those that put whitespace behind a case."""
+    """Tasks that cut texts short at each octet, 100 lengths a task, and those that put whitespace behind a case."""
     commands = [(command, text) for command in COMMANDS for text in first_run()]
     for command, text in commands + [("check", text) for text in three_certificates()]:
         for start in range(0, len(text), 100):
@@ -387,7 +385,7 @@ def long_answer(members, octets):
 
 
 def long_answers():
-    """Tasks with answers that are longer than a page, to files that are full, and with less memory than they are long."""
+    """Tasks with answers that are longer than a page of memory, 4,096 octets, to files that are full, and with less memory than they are long."""
     text, whole = long_answer(100, 1)
     for most in (0, 4095, 4096, 4097, 12288, len(whole) - 1):
         wanted = 3, whole[:most], WRITE_FAULT[2]
@@ -398,7 +396,8 @@ def long_answers():
 
 
 def pipes_and_files():
-    """Tasks with pipes without a reader, pipes that do not block, files that are full, and texts that come octet by octet."""
+    """Tasks with pipes without a reader, pipes that do not block, files that are full, and texts that come octet by octet. By `dies` a
+    run begins with the usual effect of SIGPIPE, the signal of a pipe without a reader, which would end it: it must report a write fault even so."""
     long = b"(" + b"3:abc" * 200000 + b")"
     whole = first_run()[0]
     for dies in (False, True):
@@ -486,9 +485,9 @@ class Hostile(built.OfProgram):
 
 
 def made_test(part):
-    """The test of a part."""
-    test = needs.needs("valgrind") if part == "under_valgrind" else lambda it: it
-    return test(lambda self: self.check_part(part, PARTS[part]))
+    """The test of a part, by its name in PARTS."""
+    tools = ["valgrind"] if part == "under_valgrind" else []
+    return needs.needs(*tools)(lambda self: self.check_part(part, PARTS[part]))
 
 
 for name in PARTS:
