@@ -143,7 +143,7 @@ def faults_of_answers(asked, answers):
 def text_of_reasons(reasons):
     """The lines of `explain`, without the last line feed, for the reasons that the module gives. Each reason has the
     number of an entry or None, that of an item or None, and a word."""
-    lines = [f"{f'entry {entry} ' if entry else ''}{f'item {item} ' if item else ''}{word}" for entry, item, word in reasons]
+    lines = [" ".join(filter(None, (entry and f"entry {entry}", item and f"item {item}", word))) for entry, item, word in reasons]
     return "\n".join(lines or ["no entries"])
 
 

@@ -176,6 +176,7 @@ class OfKeys(Case):
         self.assertEqual(self.cert("key", "old.pem"), self.cert("key", "key.pem"))
 
     def test_private_keys_of_libgcrypt_are_read(self):
+        """A private key in the form of libgcrypt has the members of the public key, and the secret number `d`."""
         from spki_verify import number
         secret = keys.new_private("p256")
         public = keys.key_of(secret.public_key())

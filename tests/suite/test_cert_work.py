@@ -193,7 +193,7 @@ class OfMessages(unittest.TestCase):
 
     def test_long_requests(self) -> None:
         """`lacks` shows only the first 400 octets of a long request. For a set of 900 strings that lacks it there is one message, and not one for
-        each string."""
+        each string. The message may have 8 octets for each string of the set, and 1,000 more."""
         from spki_cert_tool import tag_words
         long = b"m" * 100_000
         wide: Any = [b"*", b"set", *[b"%03d" % at for at in range(900)]]

@@ -192,7 +192,8 @@ def parts_of_example():
     """The texts of the access list, the sequence and the key in the case of examples/delegation.sexp."""
     case = text_of("examples/delegation.sexp")
     at = [case.index(f"({part}") for part in ("acl", "accepted", "sequence", "key", "request")]
-    return [case[at[0]:at[1]].strip(), case[at[2]:at[3]].strip(), case[at[3]:at[4]].strip()[len("(key "):-1]]
+    access_list, _, sequence, key = (case[begin:end].strip() for begin, end in zip(at, at[1:]))
+    return [access_list, sequence, key.removeprefix("(key ").removesuffix(")")]
 
 
 def rpath_to(shared):

@@ -17,7 +17,7 @@ from typing import NamedTuple
 
 from harness import built, machines, needs, page_commands
 from harness.page_commands import NOT_RUN, Command, tracked
-from harness.support import LIBRARY, PROGRAM, TOP, output_of, text_of
+from harness.support import LIBRARY, PROGRAM, TOP, output_of, room_for, text_of
 from suite import test_guide
 
 SECONDS = 600
@@ -87,8 +87,7 @@ class InACopy(built.OfLibrary):
     @classmethod
     def setUpClass(cls) -> None:
         super().setUpClass()
-        cls.room = tempfile.mkdtemp(prefix="commands-")
-        cls.addClassCleanup(shutil.rmtree, cls.room)
+        cls.room = room_for(cls)
         clone, folders = os.path.join(cls.room, "clone"), ("apps", "bindings/python", "examples", "crates/spki_c")
         copy_files(clone, (path for path in tracked() if path.startswith(folders)))
         put_built(clone)

@@ -251,7 +251,7 @@ class Ends(Case):
         self.assertEqual(sorted(self.rows()), [f"{number:064x}" for number in range(WRITERS)])
 
     def test_changed_before_the_lock(self) -> None:
-        """If another writer replaces the file after it was opened and before it is locked, what that wrote is not lost."""
+        """If another writer replaces the file after it was opened and before it is locked, what the other one wrote is not lost."""
         def change_and_lock(handle: int, how: int) -> None:
             if self.rows() == []:
                 self.write(ENDED, sealed(A))

@@ -34,9 +34,10 @@ class OfProgram(Example):
 
 @needs.needs("import cryptography", *needs.LIBRARY, *databases.NEEDED)
 class OfDatabase(Example):
-    """The story of a service with a database. It must remove the roles of PostgreSQL that it makes."""
+    """The story of a service with a database."""
 
     def test_story(self) -> None:
+        """The story passes, and removes the roles of PostgreSQL that it has made."""
         with databases.Server() as server:
             self.check_example("database/story.py", server.address, SPKI_LIBRARY=built.shared())
             self.assertEqual(server.run("psql", server.address, "-Atc", "SELECT rolname FROM pg_roles WHERE rolname LIKE 'spki%'"), "")

@@ -24,7 +24,7 @@ import unittest
 from collections.abc import Callable, Iterable
 
 from harness import building, built, needs, snippets
-from harness.support import TOP, text_of
+from harness.support import TOP, output_of, text_of
 
 BLOCK = re.compile(r"^```(\w+)(?: (\S+))?\n(.*?)^```$", re.MULTILINE | re.DOTALL)
 SECONDS = 900
@@ -94,10 +94,9 @@ def outputs_of(shell, steps, program):
         for folder, name in (("apps", "locate"), ("apps/spki-cert", "spki-cert")):
             os.symlink(os.path.abspath(os.path.join(TOP, folder, name)), os.path.join(room, "bin", name))
         path = os.path.join(room, "bin") + os.pathsep + os.environ["PATH"]
-        done = subprocess.run([shell], input="".join(script(steps)), cwd=os.path.join(room, "work"),
-                              env={**os.environ, **settings_for_library(steps), "PATH": path},
-                              text=True, stdout=subprocess.PIPE, stderr=subprocess.STDOUT, timeout=SECONDS)
-    return done.stdout.split(f"{END}\n")
+        settings = {**os.environ, **settings_for_library(steps), "PATH": path}
+        output = output_of(shell, text="".join(script(steps)), cwd=os.path.join(room, "work"), env=settings, seconds=SECONDS)[1]
+    return output.split(f"{END}\n")
 
 
 def needs_library(commands_of_page: Iterable[str]) -> bool:
@@ -213,8 +212,7 @@ class Indented(unittest.TestCase):
             return
         for line in OF_TOOLCHAIN:
             self.assertIn(line, commands_of(text_of("README.md")))
-            done = subprocess.run(["sh", "-c", line], cwd=TOP, text=True, stdout=subprocess.PIPE, stderr=subprocess.PIPE,
-                                  timeout=SECONDS_OF_TOOLCHAIN)
+            done = subprocess.run(["sh", "-c", line], cwd=TOP, text=True, capture_output=True, timeout=SECONDS_OF_TOOLCHAIN)
             self.assertEqual(done.stdout, OF_TOOLCHAIN[line], f"$ {line}\n{done.stderr[-1000:]}")
         building.record("README.md's rt try", checksum_of_command())
 
