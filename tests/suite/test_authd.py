@@ -213,6 +213,7 @@ class Manager:
     """What a service manager, as systemd, does for a daemon: it opens the socket, hands it over, and receives messages of what the daemon does."""
 
     def __init__(self, daemon: Daemon) -> None:
+        """Opens the socket that the daemon is to get, and the one to which it sends messages, as systemd's NOTIFY_SOCKET."""
         self.daemon = daemon
         self.socket = socket.socket(socket.AF_UNIX)
         self.socket.bind(daemon.socket)
@@ -510,15 +511,13 @@ class Units(unittest.TestCase):
             for path in UNITS:
                 Daemon.write(os.path.join(room, os.path.basename(path)), text_of(path).replace("/usr/local/bin/spki-authd", "/bin/true"))
             names = [os.path.join(room, os.path.basename(path)) for path in UNITS]
-            done = subprocess.run(["systemd-analyze", "verify", *names], stdout=subprocess.PIPE, stderr=subprocess.STDOUT, text=True)
-            self.assertEqual((done.returncode, done.stdout), (0, ""))
+            self.assertEqual(output_of("systemd-analyze", "verify", *names), (0, ""))
 
     @needs.needs("systemd-analyze")
     def test_exposure(self) -> None:
         """systemd rates what the service may do beyond its work at 6 or less, from 0 to 100."""
-        done = subprocess.run(["systemd-analyze", "security", "--offline=yes", "--threshold=6", UNITS[0]], stdout=subprocess.PIPE,
-                              stderr=subprocess.STDOUT, text=True)
-        self.assertEqual(done.returncode, 0, done.stdout[-300:])
+        status, output = output_of("systemd-analyze", "security", "--offline=yes", "--threshold=6", UNITS[0])
+        self.assertEqual(status, 0, output[-300:])
 
     def test_what_must_be_set(self) -> None:
         """The lines of the units that prevent faults. Without them somebody had to start the service by hand after some

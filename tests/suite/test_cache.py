@@ -7,7 +7,7 @@ import unittest
 from typing import TYPE_CHECKING
 
 from harness import built, golang, needs
-from harness.support import EXAMPLES, TOP, canonical, room_for, text_of
+from harness.support import EXAMPLES, TOP, canonical, output_of, room_for, text_of
 
 if TYPE_CHECKING:
     from spki_cert_tool.sexp import Value
@@ -67,9 +67,8 @@ class Caches(built.OfLibrary):
 
     def compile(self, *words: str, folder: str = TOP, **more: str) -> None:
         """Compiles a cache: runs the command `words` in a folder, with the settings `more` in its environment. It must succeed."""
-        done = subprocess.run(words, cwd=folder, stdout=subprocess.PIPE, stderr=subprocess.STDOUT, text=True, timeout=SECONDS,
-                              env={**os.environ, **more})
-        self.assertEqual(done.returncode, 0, done.stdout)
+        status, output = output_of(*words, cwd=folder, env={**os.environ, **more}, seconds=SECONDS)
+        self.assertEqual(status, 0, output)
 
     @needs.needs("openssl/evp.h")
     def test_c(self) -> None:

@@ -157,6 +157,7 @@ class OfKeys(Case):
 
     @needs.needs("openssl")
     def test_keys_of_pem_are_read_and_written(self):
+        """A private and a public key in PEM give the same SPKI key, and that gives the public key in PEM back."""
         from cryptography.hazmat.primitives.serialization import Encoding, PublicFormat
         for kind in test_go.KINDS:
             self.pem_key("key.pem", kind)
@@ -228,6 +229,7 @@ class OfKeys(Case):
 
     @needs_ssh
     def test_a_new_key_is_read_by_ssh_keygen(self):
+        """`key new` writes a private key, with mode 600, that ssh-keygen reads, or by --pem one in PEM. It replaces no file."""
         for kind in keys.KINDS:
             self.cert("key", "new", "--no-passphrase", "--type", kind, kind)
             self.assertEqual(stat.S_IMODE(os.stat(self.at(kind)).st_mode), 0o600)
@@ -295,6 +297,7 @@ class OfPassphrases(Case):
     @needs_ssh
     @needs.needs("import bcrypt")
     def test_encrypted_keys_of_openssh(self):
+        """ssh-keygen reads the encrypted key that `spki-cert` makes, by the passphrase, and `spki-cert` one that ssh-keygen has encrypted."""
         status, output = self.on_a_terminal(("key", "new", "made"), b"sesame")
         self.assertEqual(status, 0, output)
         self.assertTrue(quiet("ssh-keygen", "-y", "-P", "sesame", "-f", self.at("made")).startswith(b"ssh-ed25519"))
@@ -436,6 +439,7 @@ class OfCertificates(Case):
         self.assertEqual([name for name in os.listdir(self.room) if name.startswith(".spki")], [])
 
     def test_show_says_who_and_until_when(self):
+        """`show` writes who gives whom which right until when, and whether the signature is valid: as text, as JSON, in braces, as a picture."""
         self.sign("--yes", "--until", "2026-06-30", "--propagate", "--comment", "the web", "-o", "c.sexp")
         output = self.cert("show", "--labels", ".", "--at", "2026-03-01", "c.sexp")
         for words in ("alice -> bob", "may delegate", "until 2026-06-30_23:59:59: valid now", f"may {TAG}", "the web", "the signature is valid"):

@@ -27,7 +27,7 @@ from collections import namedtuple
 from concurrent.futures import ThreadPoolExecutor
 
 from harness import built, needs
-from harness.support import COMMANDS, EXAMPLES, ON_ARM, TESTS, TOP, canonical, is_compiled, read, room_for, run, tables_here, text_of
+from harness.support import COMMANDS, EXAMPLES, ON_ARM, TESTS, TOP, canonical, is_compiled, output_of, read, room_for, run, tables_here, text_of
 from rows import rows_of
 from rows.until import ROWS, parts_of
 
@@ -234,6 +234,7 @@ class OfC(built.OfLibrary):
 
     @classmethod
     def setUpClass(cls):
+        """Copies the shared library into the folder of the class, where a link to it has the name by which programs ask the loader."""
         super().setUpClass()
         cls.library, cls.shared = cls.libraries()
         cls.room = room_for(cls)
@@ -413,10 +414,8 @@ int main(void)
         text = self.PROGRAM.replace("SHOWN", f'"(sequence {39 * own}{last})"').replace("SAMPLE", sample)
         program = os.path.join(self.room, "sample")
         words = ["cc", *STRICT, *SANITIZED, "-Wno-overlength-strings", "-I", CRATE, "-x", "c", "-", "-x", "none", "-o", program, self.library]
-        done = subprocess.run(words, input=text, stderr=subprocess.PIPE, text=True, timeout=SECONDS)
-        self.assertEqual((done.returncode, done.stderr), (0, ""), text)
-        done = subprocess.run([program], stdout=subprocess.PIPE, stderr=subprocess.STDOUT, text=True, timeout=SECONDS)
-        self.assertEqual((done.returncode, done.stdout), (0, "granted\n"))
+        self.assertEqual(output_of(*words, text=text, seconds=SECONDS), (0, ""), text)
+        self.assertEqual(output_of(program, seconds=SECONDS), (0, "granted\n"))
 
 
 class Until(OfC):
@@ -444,8 +443,7 @@ class Swapped(OfC):
         """`swapped.c` must end with status 0 and write nothing. `by` is a command that runs it, as words."""
         program = os.path.join(self.room, "swapped")
         self.assertTrue(is_compiled("cc", *STRICT, "-o", program, os.path.join(TESTS, "programs", "swapped.c"), self.library))
-        done = subprocess.run([*by, program], stdout=subprocess.PIPE, stderr=subprocess.STDOUT, text=True, timeout=SECONDS)
-        self.assertEqual((done.returncode, done.stdout), (0, ""))
+        self.assertEqual(output_of(*by, program, seconds=SECONDS), (0, ""))
 
     def test_threads(self):
         self.check_swapping()
@@ -478,8 +476,7 @@ class Structures(unittest.TestCase):
                 file.write(header)
             words = ["cc", *STRICT, *SANITIZED, f"-DLATER={int(bool(changes))}", "-I", room, "-o", os.path.join(room, "later")]
             self.assertTrue(is_compiled(*words, os.path.join(TESTS, "programs", "later.c")), "later.c is not compiled")
-            done = subprocess.run([os.path.join(room, "later")], stdout=subprocess.PIPE, text=True, timeout=SECONDS)
-            self.assertEqual((done.returncode, done.stdout), (0, ""))
+            self.assertEqual(output_of(os.path.join(room, "later"), seconds=SECONDS), (0, ""))
 
     def test_structures_of_other_headers(self):
         self.check_structures()

@@ -140,9 +140,11 @@ class Documents(unittest.TestCase):
         self.assertEqual(set(LOGIC.findall(text_of("README.md"))), set(LOGIC.findall(output_of("rt", "--version")[1])))
 
     def test_definitions(self) -> None:
+        """Each definition that docs/DEFINITIONS.md lists is in the file of its row."""
         self.assertEqual(list(missing_definitions()), [])
 
     def test_claims(self) -> None:
+        """Each clause that a row of docs/PROOFS.md names is in the function of that row."""
         sources = claims.Sources(below_crates("src/**/*.rt"), below_crates("specs/**/*.antt"))
         self.assertEqual(list(claims.faults("docs/PROOFS.md", sources)), [])
 

@@ -81,6 +81,7 @@ class Case(unittest.TestCase):
 
     @classmethod
     def setUpClass(cls) -> None:
+        """Makes the keys, and the files that the class names."""
         cls.room = room_for(cls)
         for who in ("ann", "ben"):
             cls.run_here("key", "new", "--no-passphrase", who)

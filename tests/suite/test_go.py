@@ -15,7 +15,7 @@ from collections.abc import Iterator
 from typing import Any
 
 from harness import built, golang, needs
-from harness.support import TESTS, TOP, canonical, read, text_of
+from harness.support import TESTS, TOP, canonical, output_of, read, text_of
 from suite import test_bindings
 
 SPKI_CERT = os.path.join(TOP, "apps", "spki-cert", "spki-cert")
@@ -46,8 +46,7 @@ class InGo(OfGo):
 
     def test_layout(self) -> None:
         for folder in (golang.MODULE, golang.DAEMON):
-            done = subprocess.run(["gofmt", "-l", "."], cwd=folder, stdout=subprocess.PIPE, text=True, timeout=golang.SECONDS)
-            self.assertEqual((done.returncode, done.stdout), (0, ""))
+            self.assertEqual(output_of("gofmt", "-l", ".", cwd=folder, seconds=golang.SECONDS), (0, ""))
 
     def test_vet(self) -> None:
         for folder in (golang.MODULE, golang.DAEMON):
@@ -57,9 +56,7 @@ class InGo(OfGo):
     def test_lints(self) -> None:
         settings = {**golang.settings(self.library), "XDG_CACHE_HOME": os.path.join(TESTS, "out", "staticcheck")}
         for folder in (golang.MODULE, golang.DAEMON):
-            done = subprocess.run(["go-staticcheck", "./..."], cwd=folder, stdout=subprocess.PIPE, stderr=subprocess.STDOUT, text=True, env=settings,
-                                  timeout=golang.SECONDS)
-            self.assertEqual((done.returncode, done.stdout), (0, ""))
+            self.assertEqual(output_of("go-staticcheck", "./...", cwd=folder, env=settings, seconds=golang.SECONDS), (0, ""))
 
     def test_packages(self) -> None:
         """The module has its path and its packages, and needs no other module."""
@@ -139,6 +136,7 @@ class Person:
     certificate that the person has signed. `key` is the SPKI key as a text, and `digest` the hash of it in hexadecimal digits."""
 
     def __init__(self, room: str, name: str, kind: str) -> None:
+        """Makes the files in the folder `room`. `kind` is one of KINDS."""
         self.path = os.path.join(room, name)
         words = ["openssl", "genpkey", "-algorithm", *KINDS[kind], "-out", self.path]
         subprocess.run(words, check=True, stderr=subprocess.DEVNULL)
@@ -172,6 +170,7 @@ class Daemon:
     grants."""
 
     def __init__(self, room: str, program: str, access_list: str, *before: str, **more: object) -> None:
+        """Writes the files, starts the daemon, and waits for its first message."""
         self.program = program
         self.list, self.ended, self.socket, self.log, self.grants = (os.path.join(room, name) for name in ("acl", "ended", "socket", "log", "grants"))
         self.write(self.list, access_list)
@@ -315,9 +314,8 @@ class Served(OfGo):
             for text, status, line in [("(acl)", 0, "0 entries"), ("(acl (entry))", 1, "refused acl 1 Shape"), ("", 1, "refused form Short")]:
                 path = os.path.join(room, "acl")
                 Daemon.write(path, text)
-                done = subprocess.run([program, "-check", path], stdout=subprocess.PIPE, stderr=subprocess.STDOUT, text=True, timeout=60)
-                self.assertEqual(done.returncode, status)
-                self.assertIn(line, done.stdout)
+                ended, output = output_of(program, "-check", path)
+                self.assertEqual((ended, line in output), (status, True), output)
 
 
 def value_of(text: bytes) -> Any:
