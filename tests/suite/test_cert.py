@@ -811,7 +811,7 @@ int main(int count, char **words)
     @needs.needs("mypy")
     def test_types(self):
         words = ("mypy", "--strict", "-p", "spki_cert_tool", "--cache-dir", os.path.join(TESTS, "out", "mypy-strict"))
-        status, output = output_of(*words, cwd=os.path.join(TOP, "apps", "spki-cert"), seconds=SECONDS)[:2]
+        status, output = output_of(*words, cwd=os.path.join(TOP, "apps", "spki-cert"), seconds=SECONDS)
         self.assertEqual(status, 0, output)
 
     def test_it_is_installed(self):
