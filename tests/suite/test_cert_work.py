@@ -227,10 +227,9 @@ class OfAsk(unittest.TestCase):
         """A chain of 16 certificates takes 16 steps, however many equal entries it begins at. A certificate for a name of 30 strings takes 31.
         `count` and `taken` are the wanted numbers of chains and steps."""
         line = [key(f"k{at}") for at in range(17)]
-        named = [b"name", key("k1"), *[b""] * 30]
-        for pairs, entries, holder, count, taken in [
-                (list(zip(line, line[1:])), [line[0]] * 500, line[16], 1, 16), (list(zip(line, line[1:])), [line[0]], key("x"), 0, 16),
-                ([(line[0], named)], [line[0]], line[1], 0, 31)]:
+        links, name = list(zip(line, line[1:])), [b"name", key("k1"), *[b""] * 30]
+        for pairs, entries, holder, count, taken in [(links, [line[0]] * 500, line[16], 1, 16), (links, [line[0]], key("x"), 0, 16),
+                                                     ([(line[0], name)], [line[0]], line[1], 0, 31)]:
             chains, steps = self.search(pairs, entries, holder)
             self.assertEqual((len(chains), steps.most - steps.left, steps.is_cut), (count, taken, False))
 

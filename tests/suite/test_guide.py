@@ -139,7 +139,8 @@ def snippets_of(page):
 
 def commands_of(page):
     """The indented commands of the text of a page, without those of the first certificate, which tests/suite/test_cert.py runs."""
-    return [line for above, block in indented(page) if not SNIPPET_BELOW.match(above) and "spki-cert" not in block for line in block.splitlines()]
+    blocks = [block for above, block in indented(page) if not SNIPPET_BELOW.match(above) and "spki-cert" not in block]
+    return [line for block in blocks for line in block.splitlines()]
 
 
 def lines_of_first_certificate(page: str) -> list[str]:
