@@ -15,18 +15,17 @@ from harness.support import output_of, text_of
 from harness.support import TOP as ROOT
 from merge_gate import bodies, records, toolchain
 
-WRONG_BODIES = ("crates/*/wrong/*.edit", "crates/*/must-fail/*.edit")
-# A line of an edit that the toolchain reads.
+# The beginning of each line of an edit that the toolchain reads.
 READ = re.compile(r"(file: |old: |new:|$)")
 # A row of CONTRIBUTING.md: a crate, and its wrong bodies in must-fail/.
 LISTED = re.compile(r"^\| `(\w+)` \| (`[\w-]+`(?:, `[\w-]+`)*) \|$", re.MULTILINE)
-# The line that a run without names prints, or one on runs with names.
+# The line on the last run: of all, with its seed, or of the wrong bodies of crates that the command named.
 LINE = re.compile(r"Last run of `\.ci/deep`: commit ([0-9a-f]{12,40}), \d+ passed, 0 failed, "
                   r"(?:wrong bodies only, |(?:.|\n(?!\n))*\b1,000,000 (?:.|\n(?!\n))*\bseed [0-9a-f]{8}\b)")
 
 
 def files_laid_out_wrongly(crate: str) -> str:
-    """The files of a crate that `rt fmt` changes, as it prints them. It works on a copy, since it has no option for only looking."""
+    """The names of the files that `rt fmt`, which cannot only check, changes in a copy of a crate, as it prints them. `crate` is a path."""
     with tempfile.TemporaryDirectory() as room:
         for part in filter(os.path.isdir, (os.path.join(crate, part) for part in ("src", "specs", "proofs"))):
             shutil.copytree(part, os.path.join(room, os.path.basename(part)))
@@ -34,11 +33,12 @@ def files_laid_out_wrongly(crate: str) -> str:
 
 
 def faults_of_wrong_bodies() -> Iterator[str]:
-    """A line for each wrong body that cannot be applied, or that only one of must-fail/ and the list of CONTRIBUTING.md has."""
+    """A line for each wrong body, an edit of a function that its contract must refuse, that cannot be applied, or that only one of must-fail/ and the
+    list of CONTRIBUTING.md has."""
     tried = set()
     for crate in sorted(os.listdir(os.path.join(ROOT, "crates"))):
         folder = os.path.join(ROOT, "crates", crate)
-        for path in (path for pattern in WRONG_BODIES for path in sorted(glob.glob(os.path.join(ROOT, pattern.replace("*", crate, 1))))):
+        for path in sorted(glob.glob(os.path.join(folder, "wrong", "*.edit")) + glob.glob(os.path.join(folder, "must-fail", "*.edit"))):
             why = toolchain.applied(path, folder)[1]
             unread = [line for line in text_of(path).split("\n") if not READ.match(line)]
             if why or unread:
@@ -64,7 +64,7 @@ class Layout(unittest.TestCase):
         self.assertEqual(faults, {}, f"run rt fmt in {', '.join(faults)}")
 
     def test_records(self) -> None:
-        """All wrong bodies of a crate were refused by its present promises. If not, `.ci/deep CRATE` tries them, and writes the record."""
+        """The record of each crate says that its present contracts refuse its wrong bodies. `.ci/deep CRATE` tries them, and writes the record."""
         crates = [crate for crate in toolchain.crates().values() if bodies.paths_of(crate)]
         self.assertEqual([crate.name for crate in crates if not records.is_right(crate)], [], "run .ci/deep with these crates")
 
@@ -73,11 +73,11 @@ class Layout(unittest.TestCase):
         self.assertEqual(faults, [], "\n".join(faults))
 
     def test_links(self) -> None:
-        """`rt ci` refuses links in the repository."""
+        """`rt ci` refuses symbolic links in the repository, which git lists with the mode 120000."""
         self.assertEqual([line for line in git("ls-files", "-s").stdout.splitlines() if line.startswith("120000")], [])
 
     def test_last_deep_run(self) -> None:
-        """In a whole clone the commit must be in the history."""
+        """CONTRIBUTING.md has one line on the last run of `.ci/deep`. Its commit must be in the history, unless the clone is shallow."""
         commits = LINE.findall(text_of("CONTRIBUTING.md"))
         self.assertEqual(len(commits), 1, "CONTRIBUTING.md has not one line on the last run of .ci/deep, as LINE has it")
         if git("rev-parse", "--is-shallow-repository").stdout.strip() != "false":

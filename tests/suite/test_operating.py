@@ -12,7 +12,7 @@ class Operating(unittest.TestCase):
     """The page in a shell."""
 
     def check_page(self, shell: str) -> None:
-        """A shell that runs the commands of the page must write what the page says."""
+        """A shell that runs the commands of the page must write what the page says. END is written after the output of each command."""
         site = served.Site()
         self.addCleanup(site.end)
         steps = list(test_guide.steps_of_markdown(text_of("docs/OPERATING.md")))

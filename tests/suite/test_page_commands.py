@@ -29,9 +29,9 @@ class Lists(unittest.TestCase):
 
     def test_each_row_is_about_a_command(self) -> None:
         """A row whose commands are gone is to be removed."""
-        unused = [row for row in RUN if not any((it.page, it.kind) == (row.page, row.kind) for it in self.commands)]
+        unused = [row for row in RUN if not any((command.page, command.kind) == (row.page, row.kind) for command in self.commands)]
         self.assertEqual(unused, [], "these rows of RUN are about no command: remove them")
-        unneeded = [row for row in NOT_RUN if not any(page_commands.covers(row, it) for it in self.commands)]
+        unneeded = [row for row in NOT_RUN if not any(page_commands.covers(row, command) for command in self.commands)]
         self.assertEqual(unneeded, [], "these rows of NOT_RUN are about no command: remove them")
 
     def test_the_tests_read_their_pages(self) -> None:
@@ -45,16 +45,16 @@ class Lists(unittest.TestCase):
         options behind the command."""
         helps: dict[str, str] = {}
         flags = "".join(text_of(path) for path in tracked() if path.startswith("apps/spki-authd/") and path.endswith(".go"))
-        for it in self.commands:
-            named = re.fullmatch(r"(spki-cert|spki|spki-authd) -?([a-z]+)((?: --[a-z-]+)*)", it.line)
-            if not named or it.kind != "inline":
+        for command in self.commands:
+            named = re.fullmatch(r"(spki-cert|spki|spki-authd) -?([a-z]+)((?: --[a-z-]+)*)", command.line)
+            if not named or command.kind != "inline":
                 continue
             program, word, options = named.groups()
             if program == "spki":
-                self.assertIn(word, COMMANDS, it)
+                self.assertIn(word, COMMANDS, command)
                 continue
             if program == "spki-authd":
-                self.assertIn(f'"{word}"', flags, it)
+                self.assertIn(f'"{word}"', flags, command)
                 continue
             helps[word] = helps.get(word) or page_commands.help_of(word)
-            self.assertEqual([option for option in options.split() if option not in helps[word]], [], it)
+            self.assertEqual([option for option in options.split() if option not in helps[word]], [], command)

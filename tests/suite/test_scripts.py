@@ -48,14 +48,14 @@ class Scripts(unittest.TestCase):
             group = path if not path.endswith(".py") else next((folder for folder in APART if path.startswith(f"{folder}/")), "others")
             groups.setdefault(group, []).append(path)
         for name, paths in groups.items():
-            settings = {**os.environ, "MYPYPATH": ":".join([*[PAGE] * (name == PAGE), *MODULES])}
+            settings = {**os.environ, "MYPYPATH": ":".join([PAGE, *MODULES] if name == PAGE else MODULES)}
             with self.subTest(name):
                 words = ["mypy", "--config-file", os.path.join(TESTS, "mypy.ini"), "--cache-dir", os.path.join(TESTS, "out", "mypy"), *paths]
                 done = subprocess.run(words, cwd=TOP, stdout=subprocess.PIPE, stderr=subprocess.STDOUT, text=True, env=settings)
                 self.assertEqual(done.returncode, 0, done.stdout)
 
     def test_imports(self) -> None:
-        """What is beside the tests imports nothing of theirs but `shared`."""
+        """A script outside of tests/ imports none of the tests' modules but `shared`."""
         theirs = re.compile(r"^ *(from|import) (harness|rows|suite|model|generators)\b", re.MULTILINE)
         self.assertEqual([path for path in scripts() if not path.startswith("tests/") and theirs.search(text_of(path))], [])
 

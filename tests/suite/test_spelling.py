@@ -1,12 +1,11 @@
 """Checks the spelling of documents, comments and scripts by `codespell`, which knows common mistakes. `spelling.words` beside this file has the
 words of the project that codespell takes for mistakes, one a line. It is a long test: its list of words grows with each version."""
 import os
-import subprocess
 import unittest
 from collections.abc import Iterator
 
 from harness import built, needs
-from harness.support import TESTS, TOP
+from harness.support import SECONDS_TO_WAIT, TESTS, TOP, output_of
 
 KINDS = (".md", ".1", ".py", ".rs", ".go", ".rt", ".h", ".c", ".sh")
 WITHOUT_END = ("apps/locate", "tests/run", ".ci/run", ".ci/deep")
@@ -26,8 +25,7 @@ class Spelling(unittest.TestCase):
     def test_spelling(self) -> None:
         files = [path for path in files_here() if path.endswith(KINDS) or path in WITHOUT_END or "/specs/" in path]
         words = ["codespell", "--ignore-words", os.path.join(TESTS, "suite", "spelling.words"), *files]
-        done = subprocess.run(words, cwd=TOP, stdout=subprocess.PIPE, stderr=subprocess.STDOUT, text=True)
-        self.assertEqual((done.returncode, done.stdout), (0, ""))
+        self.assertEqual(output_of(*words, cwd=TOP, seconds=SECONDS_TO_WAIT), (0, ""))
 
 
 if not built.IS_LONG:
