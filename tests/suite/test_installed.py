@@ -12,26 +12,27 @@ import tempfile
 from harness import built, needs
 from harness.support import EXAMPLES, SECONDS, TESTS, TOP, output_of, tables_here, text_of
 
+# The end of a row of tables/: the words behind `refused`, and %n for the line's end.
 REFUSAL = re.compile(r" refused ([A-Za-z0-9 ]+)%n$", re.MULTILINE)
 # Files that are in the folder before, and are not of this project.
 OTHERS = ("lib/libother.so", "bin/other")
 
 
 def files_below(folder: str) -> set[str]:
-    """The files below a folder."""
+    """The paths of all files in a folder and in its folders, relative to it."""
     return {os.path.relpath(os.path.join(at, name), folder) for at, _, names in os.walk(folder) for name in names}
 
 
 def first_group(pattern: str, text: str) -> str:
-    """What the group of a pattern finds first in a text, or an empty text."""
+    """The text of the group in a pattern's first match, or an empty text without a match. `^` and `$` match at each line."""
     match = re.search(pattern, text, re.MULTILINE)
     return match[1] if match else ""
 
 
 def install(program: str, library: str, **settings: str) -> tuple[tempfile.TemporaryDirectory, str]:
-    """Installs by install.sh into a new folder that has the files of OTHERS already, which uninstalling must leave. `settings` are more variables of
-    the environment of install.sh. Returns the folder, and what install.sh wrote. Raises AssertionError if it fails."""
-    prefix = tempfile.TemporaryDirectory(suffix=" it")
+    """Runs install.sh with the paths of a built program and static library. It installs into a new folder that has the files of OTHERS already, which
+    uninstalling must leave. `settings` are more variables of its environment. Returns folder and output. Raises AssertionError if it fails."""
+    prefix = tempfile.TemporaryDirectory(suffix=" with a space")
     for place in OTHERS:
         os.makedirs(os.path.dirname(os.path.join(prefix.name, place)))
         open(os.path.join(prefix.name, place), "w", encoding="ascii").close()
@@ -43,7 +44,7 @@ def install(program: str, library: str, **settings: str) -> tuple[tempfile.Tempo
 
 @needs.needs(*needs.LIBRARY)
 class Installed(built.OfLibrary):
-    """What is installed."""
+    """What is installed: `prefix` is its folder, `page` the path of the manual of spki there, and `output` what install.sh wrote."""
 
     prefix: str
     page: str
@@ -57,7 +58,7 @@ class Installed(built.OfLibrary):
         cls.prefix, cls.page = room.name, os.path.join(room.name, "share", "man", "man1", "spki.1")
 
     def check_linking(self, *linking: str) -> None:
-        """`linked.c` must compile with what is installed, link by these words, and end with 0."""
+        """Compiles `linked.c` with these options for the installed files, and runs it. Both must succeed and print nothing."""
         with tempfile.TemporaryDirectory() as room:
             linked = os.path.join(room, "linked")
             words = ["cc", "-std=c11", "-Wall", "-Wextra", "-Werror", "-o", linked, os.path.join(TESTS, "programs", "linked.c"), *linking]
@@ -82,7 +83,7 @@ class Installed(built.OfLibrary):
 
     @needs.needs("cmake")
     def test_cmake(self) -> None:
-        """CMake finds both libraries where a project asks for no version, or for one up to this one with the same first two numbers."""
+        """CMake finds both libraries, of version 0.2.0, if a project requires no version, or 0.2 or 0.2.0. It finds none for another version."""
         for target, version, is_found in (("spki::spki", "", True), ("spki::spki", "0.2", True), ("spki::static", "0.2.0", True),
                                           ("spki::spki", "0.3", False), ("spki::spki", "0.2.1", False), ("spki::spki", "0.1.9", False)):
             with self.subTest(target=target, version=version), tempfile.TemporaryDirectory() as room:
@@ -97,7 +98,7 @@ class Installed(built.OfLibrary):
                     self.assertEqual(output_of(os.path.join(room, "linked")), (0, ""))
 
     def test_loader(self) -> None:
-        """The last line says how a program finds the shared library, if the loader does not look there. An option is no prefix."""
+        """The last line of install.sh says what to do, since the loader does not search this folder. An option is refused with status 2."""
         self.assertEqual(output_of(os.path.join(TOP, "install.sh"), "--help")[0], 2)
         self.assertIn(f"the loader does not look into {self.prefix}/lib: name the folder in", self.output.splitlines()[-1])
 
@@ -112,7 +113,7 @@ class Installed(built.OfLibrary):
         self.assertEqual(versions, dict.fromkeys(versions, text_of("VERSION").strip()))
 
     @needs.needs("man")
-    def test_warnings_of_the_manual(self) -> None:
+    def test_the_manual_is_shown_without_warnings(self) -> None:
         settings = {**os.environ, "LC_ALL": "C.UTF-8", "MANPAGER": "cat", "MANWIDTH": "80"}
         for page in (self.page, os.path.join(os.path.dirname(self.page), "spki-cert.1")):
             done = subprocess.run(["man", "--warnings", "-l", page], stdout=subprocess.DEVNULL, stderr=subprocess.PIPE, text=True, env=settings,
@@ -131,7 +132,7 @@ class Installed(built.OfLibrary):
 
 @needs.needs(*needs.LIBRARY)
 class Uninstalled(built.OfLibrary):
-    """What is left when it was installed and uninstalled."""
+    """Uninstalling leaves only the files that were there before, wherever LIBDIR has put the libraries."""
 
     def test_files_left(self) -> None:
         for folder in ("/lib/", "lib/x86_64-linux-gnu"):

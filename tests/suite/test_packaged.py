@@ -6,6 +6,7 @@ The packages are compressed less than usual, which takes less time: nothing else
 import hashlib
 import json
 import os
+import pathlib
 import re
 import shutil
 import subprocess
@@ -47,7 +48,7 @@ SETTINGS = {**os.environ, "DPKG_DEB_COMPRESSOR_TYPE": "gzip", "DPKG_DEB_COMPRESS
 
 
 def make_packages(top: str, *words: str, **settings: str) -> tuple[int, str]:
-    """Runs the packages.sh of a folder with these words, and more settings of its environment. Returns its status, and what it writes."""
+    """Runs the packages.sh of the folder `top` with these words, and more settings of its environment. Returns its status, and what it writes."""
     return output_of(os.path.join(top, "packages.sh"), *words, env={**SETTINGS, **settings}, seconds=golang.SECONDS)
 
 
@@ -58,8 +59,7 @@ def sections(path: str) -> list[str]:
 
 def logics(path: str) -> set[bytes]:
     """The words `rattle logic=DIGEST` in a program or a library. The digest is that of the logic by which it was proved."""
-    with open(path, "rb") as file:
-        return set(re.findall(rb"rattle logic=[0-9a-f]{64}", file.read()))
+    return set(re.findall(rb"rattle logic=[0-9a-f]{64}", pathlib.Path(path).read_bytes()))
 
 
 def copy_sources(folder: str) -> str:
@@ -102,9 +102,10 @@ class Packages(built.OfLibrary):
         self.assertEqual(set(self.packages), set(FILES))
 
     def test_files(self) -> None:
-        of_all = ("usr/share/doc/{0}/copyright", "usr/share/doc/{0}/changelog.gz")
-        missing = [f"{name}: {file}" for name, files in FILES.items() for file in (*files, *(it.format(name) for it in of_all))
-                   if not os.path.exists(self.inside(name, file)) and not os.path.islink(self.inside(name, file))]
+        """Each package has its files of FILES, a copyright and a changelog. A link counts also if the file is in another package."""
+        documents = ("usr/share/doc/{0}/copyright", "usr/share/doc/{0}/changelog.gz")
+        missing = [f"{name}: {file}" for name, files in FILES.items() for file in (*files, *(path.format(name) for path in documents))
+                   if not os.path.lexists(self.inside(name, file))]
         self.assertEqual(missing, [])
 
     def test_fields(self) -> None:
@@ -116,31 +117,29 @@ class Packages(built.OfLibrary):
                 self.assertRegex(control, re.compile(f"^{RELATIONS[name]}", re.MULTILINE))
 
     def test_soname(self) -> None:
-        """The library's package has the version of its soname in its name. By its `shlibs`, programs that are linked
-        with the library depend on this package."""
+        """The library's package has the version of its soname in its name. Its `shlibs` makes packages of linked programs depend on it."""
         soname = re.findall(r"SONAME.*\[(.*)\]", output_of("readelf", "-dW", self.shared)[1])
         self.assertEqual(soname, [f"libspki_c.so.{INTERFACE}"])
         self.assertEqual(text_of(self.inside(SHARED, "DEBIAN", "shlibs")), f"libspki_c {INTERFACE} {SHARED} (>= {INTERFACE})\n")
         self.assertEqual(text_of(self.inside(SHARED, "DEBIAN", "triggers")), "activate-noawait ldconfig\n")
 
     def test_program(self) -> None:
-        with open(os.path.join(EXAMPLES, "delegation.sexp"), "rb") as case:
-            answer = run(self.inside("spki", "usr", "bin", "spki"), "check", case.read())
-        self.assertEqual(answer, (0, b"yes entry 1\n"))
+        case = pathlib.Path(EXAMPLES, "delegation.sexp").read_bytes()
+        self.assertEqual(run(self.inside("spki", "usr", "bin", "spki"), "check", case), (0, b"yes entry 1\n"))
 
     def test_daemon(self) -> None:
+        """The daemon has the version, and no path of the folder in which it was built."""
         program = self.inside("spki-authd", "usr", "bin", "spki-authd")
         self.assertEqual(output_of(program, "-version"), (0, f"spki-authd {VERSION}\n"))
-        with open(program, "rb") as file:
-            self.assertNotIn(TOP.encode(), file.read())
+        self.assertNotIn(TOP.encode(), pathlib.Path(program).read_bytes())
 
     def test_stripped(self) -> None:
-        """Nothing is left that is for debuggers. What names the logic by which a program was proved is left."""
+        """Nothing is left that is for debuggers. What names the logic by which a program was proved is left, in the daemon that of the library."""
         for name, place, source in (("spki", "usr/bin/spki", self.program), (SHARED, f"{PLACE}/libspki_c.so.{INTERFACE}", self.shared),
                                     ("libspki-dev", f"{PLACE}/libspki_c.a", self.library), ("spki-authd", "usr/bin/spki-authd", self.library)):
             left = sections(self.inside(name, place))
             with self.subTest(name=name):
-                self.assertEqual([it for it in left if (DEBUG if name == "libspki-dev" else SYMBOLS).match(it)], [])
+                self.assertEqual([section for section in left if (DEBUG if name == "libspki-dev" else SYMBOLS).match(section)], [])
                 self.assertEqual(logics(self.inside(name, place)), logics(source))
 
     def root_with(self, *names: str) -> str:
@@ -157,18 +156,18 @@ class Packages(built.OfLibrary):
         root = self.root_with("libspki-dev", SHARED)
         for prefix in (os.path.join(root, "usr"), root):
             with self.subTest(prefix=prefix), tempfile.TemporaryDirectory() as room:
-                with open(os.path.join(room, "CMakeLists.txt"), "w", encoding="ascii") as file:
-                    file.write("cmake_minimum_required(VERSION 3.13)\nproject(found C)\nset(CMAKE_FIND_USE_CMAKE_SYSTEM_PATH FALSE)\n"
-                               "find_package(spki REQUIRED)\nforeach(name spki static)\nget_target_property(place spki::${name} IMPORTED_LOCATION)\n"
-                               "get_target_property(headers spki::${name} INTERFACE_INCLUDE_DIRECTORIES)\n"
-                               "message(STATUS \"found ${place} ${headers}\")\nendforeach()\n")
+                pathlib.Path(room, "CMakeLists.txt").write_text(
+                    "cmake_minimum_required(VERSION 3.13)\nproject(found C)\nset(CMAKE_FIND_USE_CMAKE_SYSTEM_PATH FALSE)\n"
+                    "find_package(spki REQUIRED)\nforeach(name spki static)\nget_target_property(place spki::${name} IMPORTED_LOCATION)\n"
+                    "get_target_property(headers spki::${name} INTERFACE_INCLUDE_DIRECTORIES)\n"
+                    "message(STATUS \"found ${place} ${headers}\")\nendforeach()\n", encoding="ascii")
                 output = output_of("cmake", "-S", room, "-B", room, f"-DCMAKE_PREFIX_PATH={prefix}")[1]
                 lines = re.findall("^-- found (.*) (.*)$", output, re.MULTILINE)
                 self.assertEqual(len(lines), 2, output)
                 self.assertEqual([path for line in lines for path in line if not os.path.exists(path)], [])
 
     def test_python(self) -> None:
-        """The module of spki-cert finds the library of its version by the loader alone, also beside one of another version."""
+        """The module of spki-cert finds the library of its version by the loader, also beside one with no version in its name: here no library."""
         folder = self.root_with(SHARED)
         shutil.copy(self.inside(SHARED, "DEBIAN", "control"), os.path.join(folder, PLACE, "libspki_c.so"))
         settings = {name: value for name, value in os.environ.items() if name != "SPKI_LIBRARY"}
@@ -183,7 +182,7 @@ class Packages(built.OfLibrary):
         linked, settings = os.path.join(root, "linked"), {**os.environ, "PKG_CONFIG_LIBDIR": os.path.join(root, PLACE, "pkgconfig"),
                                                           "PKG_CONFIG_SYSROOT_DIR": root}
         flags = output_of("pkg-config", "--cflags", "--libs", "spki", env=settings)[1].split()
-        self.assertEqual([it.split("/")[-1] for it in flags], ["include", "x86_64-linux-gnu", "-lspki_c"])
+        self.assertEqual([flag.split("/")[-1] for flag in flags], ["include", "x86_64-linux-gnu", "-lspki_c"])
         words = ("cc", "-o", linked, os.path.join(TESTS, "programs", "linked.c"))
         self.assertEqual(output_of(*words, *flags), (0, ""))
         path = {**os.environ, "LD_LIBRARY_PATH": self.inside(SHARED, PLACE)}
@@ -195,7 +194,7 @@ class Packages(built.OfLibrary):
         """The same sources in another place, and for another user, make the same octets. In the long run Go compiles everything once more."""
         epoch = output_of("git", "log", "-1", "--format=%ct", cwd=TOP)[1].strip()
         name, address = MAINTAINER.rstrip(">").split(" <")
-        with tempfile.TemporaryDirectory(suffix=" it") as room:
+        with tempfile.TemporaryDirectory(suffix=" with a space") as room:
             top, folder = copy_sources(room), os.path.join(room, "made")
             settings = {"SOURCE_DATE_EPOCH": epoch, "DEBFULLNAME": name, "DEBEMAIL": address, "TZ": "Asia/Tokyo", "LC_ALL": "C.UTF-8",
                         "HOME": room, "GOCACHE": os.path.join(room, "go") if built.IS_LONG else GO_CACHE}
@@ -222,6 +221,7 @@ class Packages(built.OfLibrary):
         self.check_lintian("spki-cert", "spki-authd")
 
     def test_sums(self) -> None:
+        """SHA256SUMS has the right digest of each file beside it."""
         self.assertEqual(output_of("sha256sum", "--strict", "--check", "--quiet", "SHA256SUMS", cwd=self.folder), (0, ""))
         listed = {line.split("  ")[1] for line in text_of(os.path.join(self.folder, "SHA256SUMS")).splitlines()}
         self.assertEqual(listed | {"SHA256SUMS"}, set(os.listdir(self.folder)))
@@ -230,29 +230,30 @@ class Packages(built.OfLibrary):
         """The list in SPDX has each package and each file, with the digests of what was unpacked."""
         listed = json.loads(text_of(os.path.join(self.folder, f"spki_{VERSION}.spdx.json")))
         self.assertEqual((listed["spdxVersion"], listed["SPDXID"]), ("SPDX-2.3", "SPDXRef-DOCUMENT"))
-        files = {it["SPDXID"]: it for it in listed["files"]}
-        contained = [(it["spdxElementId"], it["relatedSpdxElement"]) for it in listed["relationships"] if it["relationshipType"] == "CONTAINS"]
-        for package in (it for it in listed["packages"] if "packageFileName" in it):
+        files = {file["SPDXID"]: file for file in listed["files"]}
+        related = {kind: [(each["spdxElementId"], each["relatedSpdxElement"]) for each in listed["relationships"] if each["relationshipType"] == kind]
+                   for kind in ("CONTAINS", "STATIC_LINK")}
+        packages = [package for package in listed["packages"] if "packageFileName" in package]
+        for package in packages:
             name = package["name"]
-            digests = {file["fileName"]: {it["algorithm"]: it["checksumValue"] for it in file["checksums"]}
-                       for owner, it in contained if owner == package["SPDXID"] for file in [files[it]]}
+            own = [files[file] for owner, file in related["CONTAINS"] if owner == package["SPDXID"]]
+            digests = {file["fileName"]: {each["algorithm"]: each["checksumValue"] for each in file["checksums"]} for file in own}
             self.assertEqual(digests, self.digests(name), name)
-            whole = hashlib.sha1("".join(sorted(it["SHA1"] for it in digests.values())).encode()).hexdigest()
-            self.assertEqual(package["packageVerificationCode"]["packageVerificationCodeValue"], whole, name)
-        linked = {(it["spdxElementId"], it["relatedSpdxElement"]) for it in listed["relationships"] if it["relationshipType"] == "STATIC_LINK"}
+            # (as SPDX has it: the SHA-1 of the sorted SHA-1 digests of the files)
+            code = hashlib.sha1("".join(sorted(each["SHA1"] for each in digests.values())).encode()).hexdigest()
+            self.assertEqual(package["packageVerificationCode"]["packageVerificationCodeValue"], code, name)
+        # (each package with proved code names the logic of its proof, and only the daemon has code of Go's)
         proved = {f"SPDXRef-{name}-amd64" for name in FILES if name != "spki-cert"}
-        logic = {it.partition(b"=")[2].decode() for it in logics(self.program)}
-        self.assertEqual({pair for pair in linked if "logic" in pair[1]}, {(name, f"SPDXRef-rattle-logic-{it}") for name in proved for it in logic})
-        self.assertEqual([pair[0] for pair in linked if "SPDXRef-go-" in pair[1]], ["SPDXRef-spki-authd-amd64"])
-        named = {it["packageFileName"] for it in listed["packages"] if "packageFileName" in it}
-        self.assertEqual(named, {os.path.basename(path) for path in self.packages.values()})
+        used = {f"SPDXRef-rattle-logic-{word.partition(b'=')[2].decode()}" for word in logics(self.program)}
+        self.assertEqual({pair for pair in related["STATIC_LINK"] if "logic" in pair[1]}, {(name, logic) for name in proved for logic in used})
+        self.assertEqual({pair[0] for pair in related["STATIC_LINK"] if "SPDXRef-go-" in pair[1]}, {"SPDXRef-spki-authd-amd64"})
+        self.assertEqual({package["packageFileName"] for package in packages}, {os.path.basename(path) for path in self.packages.values()})
 
     def digests(self, name: str) -> dict[str, dict[str, str]]:
         """The SHA-1 and the SHA-256 of each file of an unpacked package, by its path, which begins with `./`."""
         digests: dict[str, dict[str, str]] = {}
         for path in output_of("find", ".", "-name", "DEBIAN", "-prune", "-o", "-type", "f", "-print", cwd=self.inside(name))[1].splitlines():
-            with open(self.inside(name, path), "rb") as file:
-                octets = file.read()
+            octets = pathlib.Path(self.inside(name, path)).read_bytes()
             digests[path] = {"SHA1": hashlib.sha1(octets).hexdigest(), "SHA256": hashlib.sha256(octets).hexdigest()}
         return digests
 
@@ -265,7 +266,8 @@ class Packages(built.OfLibrary):
         for line in ("Source: spki", f"Version: {VERSION}", f"Maintainer: {MAINTAINER}"):
             self.assertIn(f"{line}\n", output)
         packed_items = re.findall(r"^  \* ", text, re.MULTILINE)
-        items = [it for it in re.split(r"\n\n|\n(?=- )", text_of("CHANGELOG.md")) if it.strip() and not it.strip().startswith("#")]
+        # (an item of CHANGELOG.md is a paragraph, or a point of a list)
+        items = [part for part in re.split(r"\n\n|\n(?=- )", text_of("CHANGELOG.md")) if part.strip() and not part.strip().startswith("#")]
         self.assertEqual(len(packed_items), len(items))
 
 
@@ -276,10 +278,9 @@ class Scripts(unittest.TestCase):
     def test_maintainer(self) -> None:
         """Without the name and the address of a maintainer no packages are made."""
         rows: list[tuple[list[str], dict[str, str]]] = [
-            ([], {}), ([], {"DEBFULLNAME": "Ann"}), ([], {"DEBEMAIL": "ann@conguraki.org"}), (["--maintainer", "ann"], {}),
-            (["--maintainer", ""], {}),
-            (["--maintainer", "ann@conguraki.org"], {}), (["--maintainer", "Ann <ann>"], {}), (["--maintainer", "Ann\nX: y <a@conguraki.org>"], {}),
-            (["--maintainer"], {}), (["--maintaner", MAINTAINER], {})]
+            ([], {}), ([], {"DEBFULLNAME": "Ann"}), ([], {"DEBEMAIL": "ann@conguraki.org"}), (["--maintainer"], {}), (["--maintainer", ""], {}),
+            (["--maintainer", "ann"], {}), (["--maintainer", "ann@conguraki.org"], {}), (["--maintainer", "Ann <ann>"], {}),
+            (["--maintainer", "Ann\nX: y <a@conguraki.org>"], {}), (["--maintaner", MAINTAINER], {})]
         for words, settings in rows:
             with self.subTest(words=words, settings=settings), tempfile.TemporaryDirectory() as room:
                 environment = {"PATH": os.environ["PATH"], **settings}
@@ -296,7 +297,7 @@ class Scripts(unittest.TestCase):
             self.assertFalse(os.path.exists(os.path.join(room, "made")))
 
     def test_installing_the_daemon(self) -> None:
-        """The user is made, the folder of the configuration is root's, and nothing is started or enabled."""
+        """The script makes the user, gives the configuration's folder to root, and starts nothing. Its programs only print their words here."""
         with tempfile.TemporaryDirectory() as room:
             for name in ("adduser", "chown", "chmod", "systemctl", "deb-systemd-invoke", "runuser"):
                 with open(os.path.join(room, name), "w", encoding="ascii") as file:
@@ -311,11 +312,10 @@ class Scripts(unittest.TestCase):
     @needs.needs("man")
     def test_manual_of_the_daemon(self) -> None:
         """The manual has each flag of the program, and is shown without a warning."""
-        with open(os.path.join(golang.DAEMON, "main.go"), encoding="utf-8") as file:
-            flags = re.findall(r'flags\.\w*Var\(&[\w.]+, "([\w-]+)"', file.read())
+        flags = re.findall(r'flags\.\w*Var\(&[\w.]+, "([\w-]+)"', text_of(os.path.join(golang.DAEMON, "main.go")))
         page = text_of("docs/spki-authd.8").replace("\\-", "-")
         self.assertTrue(flags)
-        self.assertEqual([it for it in flags if not re.search(rf"-{it}\b", page)], [])
+        self.assertEqual([flag for flag in flags if not re.search(rf"-{flag}\b", page)], [])
         settings = {**os.environ, "LC_ALL": "C.UTF-8", "MANPAGER": "cat", "MANWIDTH": "80"}
         words = ["man", "--warnings", "-l", os.path.join(TOP, "docs", "spki-authd.8")]
         done = subprocess.run(words, stdout=subprocess.DEVNULL, stderr=subprocess.PIPE, text=True, env=settings)
@@ -327,7 +327,7 @@ class PackagesForArm(built.OfLibrary):
     """The packages of the library for ARM."""
 
     def test_libraries(self) -> None:
-        """The code is that of the libraries for ARM."""
+        """With `--arm64` two more packages are made. The code in them is that of the libraries for ARM."""
         with tempfile.TemporaryDirectory() as room:
             status, output = make_packages(TOP, "--maintainer", MAINTAINER, "--arm64", room, self.program, self.library)
             self.assertEqual(status, 0, output)
@@ -337,12 +337,9 @@ class PackagesForArm(built.OfLibrary):
                 self.assertEqual(output_of("dpkg-deb", "-f", package, "Architecture"), (0, "arm64\n"))
                 output_of("dpkg-deb", "-x", package, os.path.join(room, "unpacked"))
                 packed = os.path.join(room, "unpacked", "usr", "lib", "aarch64-linux-gnu", f"libspki_c.{end}")
-                self.assertEqual(self.code(packed, room), self.code(f"{built.arm().removesuffix('a')}{own}", room), end)
+                self.assertEqual(self.code(packed), self.code(f"{built.arm().removesuffix('a')}{own}"), end)
 
-    def code(self, library: str, room: str) -> bytes:
-        """The code of a library for ARM, as objdump writes it to a file in a folder."""
-        to = os.path.join(room, "code")
-        with open(to, "w", encoding="utf-8") as file:
-            subprocess.run(["aarch64-linux-gnu-objdump", "-s", "-j", ".text", library], stdout=file, check=True)
-        with open(to, "rb") as file:
-            return file.read().partition(b"Contents of section")[2]
+    def code(self, library: str) -> bytes:
+        """The code of a library for ARM, as objdump prints it behind the lines with the library's path."""
+        words = ["aarch64-linux-gnu-objdump", "-s", "-j", ".text", library]
+        return subprocess.run(words, stdout=subprocess.PIPE, check=True).stdout.partition(b"Contents of section")[2]
