@@ -125,7 +125,7 @@ LOCATE = loaded(PATH)
 
 
 def locate(text, refusal):
-    """The exit status of `locate` on a text, and what it prints. `refusal` has the words behind `refused` that it is given, or is empty."""
+    """Runs `locate` on a text, with the arguments `refused` and the words of `refusal`, unless this is empty. Returns its exit status and output."""
     with tempfile.NamedTemporaryFile() as file, contextlib.redirect_stdout(io.StringIO()) as out:
         file.write(text.encode())
         file.flush()
@@ -146,7 +146,7 @@ def show_places(wrong, inner, places):
 
 
 def refusal_of_part(name, text):
-    """The line by which the model refuses a part of a question, None if it reads it."""
+    """The line by which the model refuses a part of a question, or None if it reads it. `name` is `acl` or a key of MODEL, and `text` has octets."""
     try:
         if name == "acl":
             guard.open_guard(text, False, guard.USUAL)
@@ -161,8 +161,7 @@ class Refusals(unittest.TestCase):
     """What the tool finds in texts."""
 
     def check_mistake(self, text: str, given: str, wanted: str, place: tuple[int, int], words: str) -> None:
-        """`locate` must show the refusal `wanted` at a line and column, with these words, and no place twice. `given`
-        is the refusal that it gets, or empty."""
+        """`locate`, given the refusal `given` or none, must show the refusal `wanted` at a line and column, with these words, and no place twice."""
         output = locate(text, given)[1]
         first, offsets = output.split("\n")[1] if "\n" in output else "", PLACE.findall(output)
         is_right = f"refused {wanted}\n" in output and first.startswith(f"line {place[0]}, column {place[1]},") and words in output
@@ -180,28 +179,30 @@ class Refusals(unittest.TestCase):
         self.assertEqual(located, refusal, f"{place}: {command}\ntext   {text[:1000]!r}\nwanted {refusal!r}\ncame   {located!r}")
 
     def test_statuses(self) -> None:
-        for text, given, wanted, words in STATUSES:
+        """The exit status is 0 if nothing is wrong, 1 if a place is shown, and 2 if the refusal that `locate` is given is another one."""
+        for text, refusal, wanted, words in STATUSES:
             with self.subTest(text):
-                status, output = locate(text, given)
-                self.assertTrue(status == wanted and words in output, f"{text!r}, given {given!r}: status {status}, wanted {wanted}: {output}")
+                status, output = locate(text, refusal)
+                self.assertTrue(status == wanted and words in output, f"{text!r}, given {refusal!r}: status {status}, wanted {wanted}: {output}")
 
     def test_lines_that_cannot_be_written(self) -> None:
-        """A full disk is status 2, and no place that is shown."""
+        """On a full disk the status is 2, and not 1 as for a place that is shown: here one in the tool's own source."""
         with open("/dev/full", "wb") as full:
             self.assertEqual(subprocess.run([PATH, PATH], stdout=full, stderr=subprocess.DEVNULL, timeout=60).returncode, 2)
 
     def test_generated_texts(self) -> None:
         for number in range(GENERATED):
-            asked = question(SEED, number)
-            if isinstance(asked, Question) and asked.command in COMMANDS:
+            generated = question(SEED, number)
+            # (the others are questions to a guard, or are for other calls than the program's commands)
+            if isinstance(generated, Question) and generated.command in COMMANDS:
                 with self.subTest(number):
-                    self.check_refusal(f"case {number}", asked.command, asked.text, answer(asked.command, asked.text))
+                    self.check_refusal(f"case {number}", generated.command, generated.text, answer(generated.command, generated.text))
 
     def test_generated_parts(self) -> None:
-        """The parts of questions to a guard, each given with its refusal, or if it has none with its name."""
+        """`locate` must find the model's refusal of each part of a question. It is given this refusal, or the part's name if there is none."""
         for number in range(GUARD_QUESTIONS):
-            asked = guard_question(random.Random(f"{SEED}/{number}"))
-            parts = {"acl": asked.acl, "sequence": asked.sequence, "key": asked.key, "request": asked.request, "at": asked.moment}
+            generated = guard_question(random.Random(f"{SEED}/{number}"))
+            parts = {"acl": generated.acl, "sequence": generated.sequence, "key": generated.key, "request": generated.request, "at": generated.moment}
             for name, text in parts.items():
                 with self.subTest(number, part=name):
                     wanted = refusal_of_part(name, text)
@@ -211,17 +212,17 @@ class Refusals(unittest.TestCase):
 
 
 def mistake_test(text: str, given: str, wanted: str, place: tuple[int, int], words: str) -> Callable[[Refusals], None]:
-    """The test of a text with a mistake."""
+    """A test method that calls `check_mistake` with these arguments."""
     return lambda self: self.check_mistake(text, given, wanted, place, words)
 
 
 def row_test(row: Row) -> Callable[[Refusals], None]:
-    """The test of a row."""
+    """A test method that calls `check_refusal` with a row of a table."""
     return lambda self: self.check_refusal(row.place, row.command, row.text, (row.status, row.answer))
 
 
 def mistakes() -> Iterator[tuple[str, Callable[[Refusals], None]]]:
-    """A test for each text with a mistake."""
+    """Yields the name and the method of a test for each row of MISTAKES and of OF_PARTS."""
     for number, (text, wanted, place, words) in enumerate(MISTAKES, 1):
         yield f"test_mistake:text:{number}", mistake_test(text, "", wanted, place, words)
     for number, part in enumerate(OF_PARTS, 1):
@@ -229,7 +230,7 @@ def mistakes() -> Iterator[tuple[str, Callable[[Refusals], None]]]:
 
 
 def of_tables() -> Iterator[tuple[str, Callable[[Refusals], None]]]:
-    """A test for each row of the tables."""
+    """Yields the name and the method of a test for each row of the tables."""
     for table in tables_here():
         for row in rows_of(table):
             yield f"test_locate:{row.place}:{row.command}", row_test(row)

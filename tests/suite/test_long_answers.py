@@ -15,20 +15,21 @@ from suite.test_bindings import CRATE, PYTHON, SECONDS, Asked
 NAMES = ("spki_asked_explain", "spki_asked_reduce", "spki_answer")
 ENTRIES, KEY_OCTETS, DONE = 900, 4000, 6
 ISSUER, AT = [b"public-key", [b"test", b"a"]], b"2024-01-01_00:00:00"
+# A program that answers the pickled questions of its standard input by the module `spki` in the folder of its argument.
 BY_PYTHON = "import pickle, sys; sys.path.append(sys.argv[1]); import spki; from suite import test_bindings; sys.stdout.buffer.write(pickle.dumps(" \
             "[test_bindings.answered_by_python(spki, each) for each in pickle.load(sys.stdin.buffer)]))"
 
 
 def case_of(subject, items, rows):
-    """The text of a case of many equal entries for the request, with these rows of accepted signatures and items of the sequence, in which a subject
-    asks."""
+    """The text of a case (an access list and a question), whose list has ENTRIES equal entries. `subject` is the key that asks, `items` are the
+    certificates and signatures shown, `rows` the accepted signatures. Each is an S-expression in lists of octets."""
     entry = [b"entry", ISSUER, [b"propagate"], [b"tag", [b"ftp"]]]
     return canonical([b"case", [b"acl", *[entry] * ENTRIES], [b"accepted", *rows], [b"sequence", *items], [b"key", subject], [b"request", b"ftp"],
                       [b"at", AT], [b"policy", b"strict"]])
 
 
 def long_key():
-    """A case whose key is printed again for each entry."""
+    """The text of a case whose answers have the long key of the subject once for each entry."""
     subject = [b"public-key", [b"test", b"k" * KEY_OCTETS]]
     certificate = [b"cert", [b"issuer", ISSUER], [b"subject", subject], [b"tag", [b"*"]]]
     digest = [b"hash", b"sha256", hashlib.sha256(canonical(certificate)).digest()]
@@ -44,26 +45,25 @@ class Counted(test_bindings.Binding):
         super().setUpClass()
         cls.room = room_for(cls)
         # (renames the calls of NAMES in the library, and joins it with counted.c, which has these names: as an archive and as a shared library)
-        renamed, own, whole, archive, cls.counting = (os.path.join(cls.room, name) for name in (
+        renamed, own, whole, cls.archive, cls.counting = (os.path.join(cls.room, name) for name in (
             "renamed.a", "counted.o", "whole.o", "libspki_c.a", "libspki_c.so"))
         for words in (["objcopy", *[f"--redefine-sym={name}=of_library_{name}" for name in NAMES], cls.library, renamed],
                       ["cc", "-std=c11", "-O2", "-fPIC", "-Wall", "-Wextra", "-Werror", "-I", CRATE, "-c", "-o", own,
                        os.path.join(TESTS, "programs", "counted.c")],
-                      ["ld", "-r", "-o", whole, own, "--whole-archive", renamed], ["ar", "rcsD", archive, whole],
+                      ["ld", "-r", "-o", whole, own, "--whole-archive", renamed], ["ar", "rcsD", cls.archive, whole],
                       ["cc", "-shared", "-o", cls.counting, whole]):
             subprocess.run(words, check=True, timeout=SECONDS)
         few, many = case_of([b"public-key", [b"test", b"b"]], [], []), long_key()
-        # (a question of the guard by strings or seconds has `by` in its name)
+        # (without the same questions in other forms, by strings or by seconds: these have `by` in their names)
         cls.asked = [each._replace(limits=limits) for text, limits in ((few, "usual"), (few, "highest"), (many, "highest"))
                      for each in test_bindings.questions_of(cls.program, text, limits) if each.command != "decide" and "by" not in each.name]
-        cls.archive = archive
 
     def setUp(self):
         self.counts = os.path.join(self.room, self.id())
         self.settings = {**os.environ, "SPKI_COUNTED": self.counts, "SPKI_LIBRARY": self.counting}
 
     def check_counts(self, asked: list[Asked], answers):
-        """The answers must be the wanted ones, and the library must have been called once for each."""
+        """The answers, lines as octets, must be the wanted ones, and the library must have been called once for each."""
         fault = test_bindings.faults_of_answers(asked, answers)
         self.assertEqual(fault, "", fault)
         with open(self.counts, encoding="ascii") as file:

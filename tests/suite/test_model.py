@@ -37,6 +37,7 @@ def fault_columns(text: str) -> Iterator[str]:
         if not cells:
             column = None
         elif column is None:
+            # (where no cell is such a heading, a place behind the last cell, at which no row has a cell)
             column = next((place for place, cell in enumerate(cells) if cell.strip().startswith("Fault")), len(cells))
         yield from cells[column:][:1] if column is not None else []
 
@@ -57,7 +58,8 @@ class Model(unittest.TestCase):
     def test_words_of_the_document(self) -> None:
         """Each word of docs/FORMATS.md for a fault, a cause, a stop or a status is in a row of the model."""
         text = text_of("docs/FORMATS.md")
-        named = {*WORD.findall(text), *(word for part in (*LINE.findall(text), *fault_columns(text)) for word in ANY_WORD.findall(part))}
+        parts = [*LINE.findall(text), *fault_columns(text)]
+        named = {*WORD.findall(text), *(word for part in parts for word in ANY_WORD.findall(part))}
         rows = {word for table in coverage.TABLES for row in table.counts for word in re.findall(r"\w+", row)}
         self.assertEqual(sorted(named - rows - ELSEWHERE), [], "docs/FORMATS.md names words that are in no row of the model")
 
@@ -121,18 +123,18 @@ class GeneratedOnArm(built.OfProgram):
 
 
 def made_test(command: str) -> Callable[[Generated], None]:
-    """The test of the cases of a command."""
+    """A test method that checks the cases of a command."""
     return lambda self: self.check_command(command)
 
 
 def rows_that_came(self: Generated) -> None:
-    """The test that each row of the model comes in some case, if there are 20,000 cases or more. Not where the program alone is tested."""
+    """A test method: some case must reach each row of the model, such as a fault, if there are 20,000 cases or more."""
     never = differential.unreached(self.rows) if built.CASES >= differential.WHOLE_COVERAGE else []
     self.assertEqual(never, [], f"never came, seed {self.seed}")
 
 
 def part_of_the_program(self: Generated) -> None:
-    """The test that the program answers a tenth of the cases, if there are 20,000 or more. Not where the program alone is tested."""
+    """A test method: the program must answer a tenth of the cases that the library answers, if there are 20,000 or more."""
     wanted = differential.PROGRAM_SHARE * built.CASES if built.CASES >= differential.WHOLE_COVERAGE else 0
     self.assertGreaterEqual(self.by_program, wanted)
 

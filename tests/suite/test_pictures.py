@@ -18,14 +18,14 @@ CASES = {
 
 
 class Pictures(built.OfProgram):
-    """What is drawn."""
+    """What examples/picture.py and docs/pictures/draw.py draw."""
 
     def draw(self, name: str) -> tuple[int, str]:
         """The status of examples/picture.py on a case, and what it draws."""
         return output_of(os.path.join(EXAMPLES, "picture.py"), os.path.join(EXAMPLES, name), self.program)
 
     def check_words(self, name: str) -> None:
-        """The picture of a case must have its words."""
+        """The picture of a case must have its words in CASES."""
         status, picture = self.draw(name)
         missing = [word for word in CASES[name] if word not in picture]
         self.assertEqual((status, missing), (0, []), f"{name} is drawn without {missing}\n{picture}")
@@ -36,6 +36,7 @@ class Pictures(built.OfProgram):
         self.assertEqual(status, 0, f"dot does not read the picture of {name}: {output}")
 
     def test_pictures_of_the_documents(self) -> None:
+        """The files in docs/pictures/ are as draw.py draws them. It ends with a message if the program, here /bin/false, fails."""
         draw = os.path.join(TOP, "docs", "pictures", "draw.py")
         status, output = output_of(draw, "--check", self.program)
         self.assertEqual(status, 0, output)
@@ -61,7 +62,7 @@ class Pictures(built.OfProgram):
 
 
 def add(name: str) -> None:
-    """Adds the tests of a case."""
+    """Adds the tests of a case: that its picture has the words, and that Graphviz reads it."""
     words: Callable[[Pictures], None] = lambda self: self.check_words(name)
     read: Callable[[Pictures], None] = lambda self: self.check_by_graphviz(name)
     place = os.path.splitext(name)[0]

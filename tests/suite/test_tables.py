@@ -28,7 +28,7 @@ class BySecondCompiler(built.OfProgram):
 
 
 def made_test(row: Row) -> Test:
-    """The test of a row."""
+    """A test method: the program must give the answer of the row."""
     def test(self: built.OfProgram) -> None:
         fault = fault_of(self.program, row)
         if fault:
@@ -51,14 +51,14 @@ def named_tests(rows: Iterable[Row]) -> Iterator[tuple[str, Test]]:
 
 
 def faults_of_pairs(program: str) -> list[str | None]:
-    """What is wrong with the answer to each pair, None if nothing is."""
+    """What is wrong with the program's answer to each pair of sets, in the order of `pairs.rows`, or None if nothing is."""
     with ThreadPoolExecutor(os.cpu_count()) as pool:
         rows = [Row(*row) for row in pairs.rows(lambda text: pool.submit(run, program, "intersect", text))]
         return list(pool.map(lambda row: fault_of(program, row), rows))
 
 
 def pairs_test(number: int) -> Test:
-    """The test of the pairs whose first set has this number. The first of these tests that runs asks the program about all pairs."""
+    """A test method for the pairs whose first set has this number, from 0. The first of them that runs asks the program about all pairs."""
     def test(self: built.OfProgram) -> None:
         own = type(self)
         if not hasattr(own, "faults"):
@@ -76,8 +76,8 @@ def classes(base: type[built.OfProgram], ending: str = "") -> Iterator[type]:
     """The classes of tests of a program, derived from `base`. `ending` is the end of their names."""
     tables = {os.path.basename(path).capitalize(): rows_of(path) for path in tables_here()}
     for name, rows in {**tables, "Chains": map(Row._make, chains.rows())}.items():
-        asked = (row for row in rows if not (built.IS_ALONE and row.place in SLOW_WITHOUT_PROOFS))
-        yield type(name + ending, (base,), dict(named_tests(asked)))
+        tried = (row for row in rows if not (built.IS_ALONE and row.place in SLOW_WITHOUT_PROOFS))
+        yield type(name + ending, (base,), dict(named_tests(tried)))
     yield type(f"Pairs{ending}", (base,), {f"test_pairs:{number + 1}": pairs_test(number) for number in range(SETS)})
 
 

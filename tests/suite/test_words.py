@@ -30,7 +30,7 @@ class Words(built.OfProgram):
                 is_message = errors.startswith(b"error: ") or b"Usage: spki" in errors
                 self.assertEqual((status, out, is_message), (2, b"", True), f"spki {b' '.join(words)!r}: {errors!r}")
 
-    def test_words_that_are_no_text(self) -> None:
+    def test_words_that_are_not_utf_8(self) -> None:
         self.assertEqual(self.run_with((b"\xff",)), NO_TEXT)
         self.assertEqual(self.run_with((b"check", b"\xff")), NO_TEXT)
 
