@@ -4,6 +4,7 @@ import base64
 import contextlib
 import datetime
 import os
+import pathlib
 import random
 import re
 import signal
@@ -26,13 +27,13 @@ SEED = "spki-cert"
 
 
 def key_pair(kind="ed25519"):
-    """A new private key, as a file of it has it, and its public key, as a line of OpenSSH."""
+    """A new key of a kind of `keys.new_private`: the octets of a file with the private key, and those of the public key's line for OpenSSH."""
     private = keys.new_private(kind)
     return keys.file_of(private, b""), keys.openssh_line(private.public_key())
 
 
 class Room(Case):
-    """A folder with keys, a list, a certificate and an empty folder."""
+    """A folder with the keys of alice, bob and carol, a list acl.sexp with an entry for alice, her certificate `to-bob`, and an empty folder."""
 
     @classmethod
     def setUpClass(cls):
@@ -70,8 +71,6 @@ class OfWriting(Room):
 
     def test_no_key_and_no_input_is_written_over(self):
         signs = ("sign", "--by", "alice", "--to", "bob.pub", "--tag", "(packages read)", "--days", "30")
-        os.link(self.at("acl.sexp"), self.at("hard"))
-        os.symlink("acl.sexp", self.at("soft"))
         os.symlink("alice", self.at("to-key"))
         self.write("dan.key", "(public-key (test dan))")
         for words, message in [
@@ -80,17 +79,16 @@ class OfWriting(Room):
                 ((*signs, "--force", "-o", "carol.pub"), "is not written over"), ((*signs, "--force", "-o", "bob.pub"), "reads this file"),
                 ((*signs, "-o", "acl.sexp"), "adds an entry to this list"), (("key", "alice", "-o", "alice"), "not written over"),
                 (("key", "alice", "--force", "-o", "alice"), "not written over"), (("key", "new", "--no-passphrase", "alice"), "is there already"),
-                (("key", "new", "--no-passphrase", "to-key"), "is there already"),
-                ((*signs, "--force", "-o", "dan.key"), "is not written over"),
+                (("key", "new", "--no-passphrase", "to-key"), "is there already"), ((*signs, "--force", "-o", "dan.key"), "is not written over"),
                 (("show", "--svg", "to-bob", "--force", "to-bob"), "reads this file"),
                 (("show", "--svg", "alice.pub", "--force", "--labels", ".", "to-bob"), "reads this file")]:
             self.changes_nothing(*words, message=message)
 
     def test_no_secret_is_written_over_or_shown(self):
-        """Private keys in forms that are not read, and one that is not whole. Nor is the file of ended certificates written over."""
+        """The secrets are private keys in forms that spki-cert does not read, or that are not whole. The file of ended certificates is kept too."""
         from cryptography.hazmat.primitives import serialization
         from cryptography.hazmat.primitives.serialization import pkcs12
-        # (a seed that begins with a digit is no text: `check` would refuse it)
+        # (a seed is a secret in base64. Alone in a file it is a text of one string, which `check` accepts if it does not begin with a digit)
         seed = b"0"
         while seed[:1].isdigit():
             private = keys.new_private("ed25519")
@@ -118,16 +116,17 @@ class OfWriting(Room):
         self.changes_nothing("key", "bob.pub", "--force", "-o", "ended", message="the file of ended certificates is there already")
 
     def no_word_is_shown(self, secret, *parts):
-        """A command that gets a secret as a word must not write any of these parts of it. A seed alone is known as a secret only where a command
-        takes the name of a file."""
+        """A command that gets the text `secret` as a word must not write any of these parts of it. A secret in base64 alone is recognized only where
+        a command takes the name of a file. No word of a command line can have an octet 0."""
         as_file = [("key", secret), ("show", secret), ("key", "alice.pub", secret), ("ask", "--acl", secret, "--key", "bob.pub", "--", "x"),
                    ("sign", "--by", secret, "--to", "bob.pub", "--tag", TAG), ("sign", "--by", "alice", "--to", secret, "--tag", TAG, "--days", "1")]
         as_word = [(secret,), ("entry", "--to", "bob.pub", "--tag", secret), ("entry", "--to", "bob.pub", "--tag", f"x {secret}"),
                    ("show", f"--at={secret}", "to-bob"), ("check", secret), ("entry", "--to", "bob.pub", "--tag", TAG, "--acl", secret)]
-        for words in [*as_file, *(as_word if " " in secret or "{" in secret else [])] if "\0" not in secret else []:
+        commands_with_secret = as_file + as_word if " " in secret or "{" in secret else as_file
+        for words in commands_with_secret if "\0" not in secret else []:
             with self.subTest(words):
                 output = self.cert(*words, wanted=2)
-                self.assertEqual([it for it in parts if it in output], [])
+                self.assertEqual([part for part in parts if part in output], [])
 
     def test_only_a_regular_file_is_written(self):
         os.mkfifo(self.at("fifo"))
@@ -174,7 +173,7 @@ class OfWriting(Room):
             self.changes_nothing(*words, message="its mode 444")
 
     def test_edits_at_the_same_time_are_all_kept(self):
-        """Each waits for the lock of the list."""
+        """Each waits for the lock of the list, which then is the word `acl` and four entries."""
         children = [subprocess.Popen([sys.executable, COMMAND, "entry", "--to", "bob.pub", "--tag", f"(packages a{number})", "--acl", "new.sexp"],
                                      cwd=self.room, stdout=subprocess.DEVNULL) for number in range(4)]
         self.assertEqual([child.wait(SECONDS) for child in children], [0] * 4)
@@ -207,8 +206,8 @@ class OfWriting(Room):
             self.assertEqual((octets_in(self.at("c.sexp")), [it for it in os.listdir(self.room) if it.startswith(".")]), (b"before", []))
 
     def test_a_folder_that_cannot_be_synced_is_reported(self):
-        """The file is written then, and the status is 3. A folder that may not be read, and a file system that does not
-        sync folders, are no fault."""
+        """The file is written then, and the status is 3. It is no fault if the folder may not be read, or if the file system does not sync folders.
+        `opens` is the error of opening the folder, and `syncs` that of its fsync, which is the second: the first is of the file."""
         for number, (opens, syncs, status) in enumerate([
                 (None, OSError(5, "Input/output error"), 3), (None, OSError(22, "Invalid argument"), 0),
                 (OSError(5, "Input/output error"), None, 3), (OSError(22, "Invalid argument"), None, 3),
@@ -220,7 +219,7 @@ class OfWriting(Room):
             self.verify(f"{number}.sexp")
 
     def test_a_temporary_file_that_stays_is_named(self):
-        """The message says too whether the file is written. Signals are no longer held back then."""
+        """The message also says whether the file is written. Afterwards no signal is blocked."""
         for syncs, state in ((None, "written"), (OSError(28, "No space left on device"), "as before")):
             name, left = f"{state}.sexp", f"its temporary file {re.escape(os.path.realpath(self.room))}/\\.spki-cert-\\w+"
             with self.subTest(state), mock.patch.object(os, "unlink", side_effect=OSError(5, "Input/output error")), \
@@ -229,7 +228,7 @@ class OfWriting(Room):
             self.assertEqual((os.path.exists(self.at(name)), signal.pthread_sigmask(signal.SIG_BLOCK, [])), (syncs is None, set()))
 
     def open_unless(self, error):
-        """A function in place of `os.open`, which raises an error for the folder of the test. It opens all if the error is None."""
+        """A function for use instead of `os.open`, which raises `error` for the folder of the test. If it is None, each path is opened."""
         folder, opens = os.path.realpath(self.room), os.open
 
         def open_or_fail(path, *words, **named):
@@ -265,17 +264,17 @@ class OfArguments(Room):
 
     def test_no_option_is_abbreviated(self):
         for name, options in arguments.commands_with_options().items():
-            for option in (it for it in options if it.startswith("--")):
+            for option in (option for option in options if option.startswith("--")):
                 for end in range(3, len(option)):
                     if option[:end] not in options:
                         self.assertIn("no such option", self.cert(name, option[:end], "x", wanted=2))
         self.assertIn("is `--named` meant?", self.sign("--name", "x", "-o", "c", wanted=2))
 
-    def test_a_set_of_whole_tags_is_right(self):
+    def test_a_set_of_whole_tags_is_signed_without_a_warning(self):
         self.sign("-o", "c.sexp", tag="(* set (packages read) (packages write))")
 
-    def test_what_is_not_meant_is_not_made(self):
-        """No mistake of `mistakes.OF_WORDS` makes the file c.sexp. Each ends with the status and the words of its row."""
+    def test_a_command_with_a_mistake_writes_no_certificate(self):
+        """No command of `mistakes.OF_WORDS` writes the file c.sexp. Each ends with the status and the words of its row."""
         for row in mistakes.OF_WORDS:
             self.write("authorized_keys", b"".join(public + b"\n" for _, public in self.pairs.values()))
             self.write("braces", b"{%s}" % base64.b64encode(sexp.canonical(value_in(octets_in(self.at("to-bob"))).value)))
@@ -288,7 +287,7 @@ class OfArguments(Room):
 class OfKeyFiles(Room):
     """Files of keys that people have."""
 
-    def test_one_of_several_is_chosen(self):
+    def test_the_option_key_chooses_one_of_several_keys(self):
         lines = [b"# alice's keys", b'from="10.0.0.0/8",command="echo #" ' + self.pairs["alice"][1] + b" alice", b"", self.pairs["bob"][1]]
         self.write("authorized_keys", b"\n".join(lines))
         for number, name in ((1, "alice"), (2, "bob")):
@@ -314,7 +313,7 @@ class OfKeyFiles(Room):
         os.chmod(self.at("private.sexp"), 0o640)
         self.assertIn("its mode is 640", self.cert("check", "private.sexp", wanted=1))
 
-    def test_another_curve_has_a_sentence(self):
+    def test_the_message_about_another_curve(self):
         from cryptography.hazmat.primitives.asymmetric import ec
         private = ec.generate_private_key(ec.SECP521R1())
         self.write("p521", keys.file_of(private, b""))
@@ -323,8 +322,8 @@ class OfKeyFiles(Room):
             self.assertIn("ECDSA with the curve P-256 or P-384 are used", self.cert("key", name, wanted=2))
             self.assertIn("ECDSA with the curve P-256 or P-384 are used", self.sign(by=name, wanted=2))
 
-    def test_a_whole_key_of_dsa_has_a_sentence_alone(self):
-        """No library warns beside it."""
+    def test_the_message_about_a_key_of_dsa(self):
+        """The message comes without a warning of a library. The file has a key of DSA in its whole form, with invented numbers."""
         parts = [b"ssh-dss", *(number.to_bytes(number.bit_length() // 8 + 1, "big") for number in (2**1023 + 1, 2**159 + 1, 2, 4))]
         octets = b"".join(len(part).to_bytes(4, "big") + part for part in parts)
         self.write("dsa.pub", b"ssh-dss " + base64.b64encode(octets) + b" x\n")
@@ -348,15 +347,15 @@ class OfKeyFiles(Room):
 
 
 class OfChains(Room):
-    """The search for chains, and what is left of one."""
+    """The search for chains: the certificates that lead from an entry to a key."""
 
     def sequences(self, count):
-        """Sequences of one certificate: so many of bob for himself, one of bob for carol, and the one of alice for bob."""
+        """Values of sequences with one certificate: `count` that bob issues for himself, one of bob for carol, and the one of alice for bob."""
         own = [self.sequence("bob", "bob", number) for number in range(count)]
         return [*own, self.sequence("bob", "carol", 0), value_in(octets_in(self.at("to-bob"))).value]
 
     def sequence(self, issuer, subject, number):
-        """The sequence of a certificate from one person to another, with a number as its comment."""
+        """The value of a sequence with one certificate. `issuer` and `subject` are names in `pairs`, and `number` is the certificate's comment."""
         private, to = (keys.read_private(self.pairs[issuer][0], lambda: b""), keys.read_public(self.pairs[subject][1], lambda: b""))
         signer = keys.FileSigner(private)
         certificate = [b"cert", [b"issuer", signer.key], [b"subject", to], [b"propagate"], [b"tag", [b"packages"]], [b"comment", b"%d" % number]]
@@ -364,17 +363,18 @@ class OfChains(Room):
         return [b"sequence", certificate, value]
 
     def test_the_search_is_bounded(self):
-        """Certificates that a key issues for itself lead nowhere, and a net of keys that all name each other ends at the bound."""
+        """The search ignores what a key issues for itself, so it soon finds the only chain: `to-bob`, without a comment, and bob's certificate for
+        carol, with the comment 0. Among 40 keys that each issue for all of them the search ends when no steps are left."""
         holder = keys.read_public(self.pairs["carol"][1], lambda: b"")
         entries = certificates.entries_of(value_in(octets_in(self.at("acl.sexp"))).value)
-        signed = [it for sequence in self.sequences(12) for it in certificates.certificates_in(sequence)]
+        signed = [each for sequence in self.sequences(12) for each in certificates.certificates_in(sequence)]
         steps = certificates.Steps()
         chains = list(certificates.chains(entries, signed, certificates.Keys(), holder, steps))
-        self.assertEqual([[it.terms.comment for it in chain] for chain in chains], [["", "0"]])
+        self.assertEqual([[each.terms.comment for each in chain] for chain in chains], [["", "0"]])
         self.assertLess(steps.most - steps.left, 100)
         net = [[b"public-key", [b"test", b"%d" % number]] for number in range(40)]
-        signed = [certificates.Signed(certificates.terms_of([b"cert", [b"issuer", one], [b"subject", other], [b"tag", [b"*"]]]), b"", 1)
-                  for one in net for other in net]
+        signed = [certificates.Signed(certificates.terms_of([b"cert", [b"issuer", issuer], [b"subject", subject], [b"tag", [b"*"]]]), b"", 1)
+                  for issuer in net for subject in net]
         entry = certificates.terms_of([b"entry", net[0], [b"tag", [b"*"]]])
         steps = certificates.Steps()
         self.assertEqual(list(certificates.chains([entry], signed, certificates.Keys(), holder, steps)), [])
@@ -383,7 +383,7 @@ class OfChains(Room):
 
 @needs.needs(*needs.LIBRARY)
 class OfTheRightOfAChain(OfChains):
-    """`sign --chain`, by the library that is tested."""
+    """`sign --chain`, by which the library decides what the chain gives to the issuer."""
 
     # (needs no library: OfChains runs it)
     test_the_search_is_bounded = None
@@ -404,7 +404,7 @@ class OfTheRightOfAChain(OfChains):
             self.assertEqual(len(self.verify("c.sexp")), 2)
         self.cert("name", "--by", "alice", "--name", "team", "--to", "bob.pub", "--days", "9", "-o", "named")
         self.cert("sign", "--by", "alice", "--named", "team", "--tag", "(packages (* set write read))", "--propagate", "--days", "9", "-o", "to-team")
-        team, name = (value_in(octets_in(self.at(it))).value for it in ("to-team", "named"))
+        team, name = (value_in(octets_in(self.at(file))).value for file in ("to-team", "named"))
         self.write("both", sexp.laid_out([*team, *name[1:]]))
         self.sign_behind(chain="both", tag="(packages (* set read write))")
 
@@ -412,7 +412,8 @@ class OfTheRightOfAChain(OfChains):
         """A right that the chain does not give to the issuer is signed only with `--anyway`, not with `--yes`. The message comes in each case."""
         text = octets_in(self.at("to-bob"))
         self.write("changed", text.replace(b"(packages read)", b"(packages)"))
-        self.write("tampered", re.sub(rb"\(s\s+#..", lambda it: it[0][:-2] + b"%02x" % (int(it[0][-2:], 16) ^ 1), text))
+        # (changes a bit in the first octet, in hexadecimal, of the signature's field `s`)
+        self.write("tampered", re.sub(rb"(\(s\s+#)(..)", lambda match: match[1] + b"%02x" % (int(match[2], 16) ^ 1), text))
         self.write("none", "(sequence)")
         self.cert("sign", "--by", "alice", "--to", "bob.pub", "--tag", "(packages read)", "--days", "30", "-o", "no-more")
         for words, message in [
@@ -442,9 +443,9 @@ class OfTheRightOfAChain(OfChains):
             *words, "--try", "packages", "write", wanted=4))
 
     def test_a_right_for_the_same_days_does_not_warn(self):
-        """Days are whole days: a chain that ends some hours before gives them. A moment that is given is meant."""
+        """`--days` counts whole days, so it does not warn if the chain ends less than a day before. `--until` means its moment exactly."""
         moment = datetime.datetime.now(datetime.timezone.utc) + datetime.timedelta(30)
-        near, far, later = ((moment + datetime.timedelta(hours=it)).strftime("%Y-%m-%d_%H:%M:%S") for it in (-23, -25, 1))
+        near, far, later = ((moment + datetime.timedelta(hours=hours)).strftime("%Y-%m-%d_%H:%M:%S") for hours in (-23, -25, 1))
         for ends, limit, warns in ((near, ("--days", "30"), False), (far, ("--days", "30"), True), (near, ("--until", later), True)):
             with self.subTest(ends=ends, limit=limit):
                 signs = "sign", "--tag", "(packages)", "--force", "-o"
@@ -455,13 +456,12 @@ class OfTheRightOfAChain(OfChains):
     def test_certificates_of_a_key_for_itself_are_no_burden(self):
         """Many such certificates do not keep the search from the right chain. Where it stops at a bound of steps or chains, a line says so."""
         os.mkdir(self.at("many"))
-        for number, one in enumerate(self.sequences(12)):
-            self.write(f"many/{number}", sexp.laid_out(one))
+        for number, sequence in enumerate(self.sequences(12)):
+            self.write(f"many/{number}", sexp.laid_out(sequence))
         asks = ("ask", "--acl", "acl.sexp", "--key", "carol.pub", "--cert", "many", "--")
         self.assertIn("so entry 1 grants it", self.cert(*asks, "packages", "read"))
         self.assertIn("TagLacks", self.cert(*asks, "mail", wanted=1))
-        # (`left`, the first field of the dataclass, has `most` as its default, by which `__init__` was made: both are
-        # replaced)
+        # (`left`, the first field of the dataclass, has `most` as its default, by which `__init__` was made: both are replaced)
         with mock.patch.object(certificates.Steps, "most", 1), mock.patch.object(certificates.Steps.__init__, "__defaults__", (1, False)):
             self.assertIn("the search for chains ended after 1 steps", self.cert(*asks, "packages", "read", wanted=1))
         self.write("many/other", sexp.laid_out(self.sequence("bob", "carol", 99)))
@@ -475,14 +475,16 @@ class OfTheRightOfAChain(OfChains):
 
 
 class Child:
-    """`spki-cert` with these words, in a forked child of this process. `stdin` is a path, and `stdout` a function that opens a file: None is a stream
-    that is closed. `before` is called in the child before the command. If the command itself ends by an exception, the status is 99."""
+    """`spki-cert` with these words, in a forked child of this process: in the folder `room`, with the environment `settings`. `stdin` is a path, and
+    `stdout` a function that opens a file: None is a stream that is closed. `before` is called in the child before the command. If the command itself
+    ends by an exception, the status is 99."""
 
     def __init__(self, room, words, settings, stdin="/dev/null", stdout=None, before=lambda: None):
         self.errors = tempfile.TemporaryFile()
         self.process = os.fork()
         if self.process == 0:
             try:
+                # (the child has no terminal, where it could ask for a passphrase, and ends if it hangs)
                 os.setsid()
                 signal.alarm(SECONDS)
                 os.chdir(room)
@@ -510,35 +512,35 @@ class Child:
 
 
 def writing_to(path, encoding="utf-8"):
-    """A function that opens a file for writing, in which a `Child` has its standard output."""
+    """A function that opens the file of a path for writing: it can be the `stdout` of a `Child`."""
     return lambda: open(path, "w", encoding=encoding)
 
 
 class OfStreams(Room):
-    """What commands say where a stream is closed, full or of another encoding. `EACH` has the words of each."""
+    """What commands say if a stream is closed, full or of another encoding. `EACH` has the words of a command line for each."""
 
     EACH = {"key": ("key", "alice.pub"), "key new": ("key", "new", "--no-passphrase", "new"), "check": ("check", "acl.sexp"),
             "sign": ("sign", "--by", "alice", "--to", "bob.pub", "--tag", TAG, "--days", "1"), "show": ("show", "to-bob"),
             "name": ("name", "--by", "alice", "--to", "bob.pub", "--name", "x", "--days", "1"), "completion": ("completion",),
             "entry": ("entry", "--to", "bob.pub", "--tag", TAG), "help": ("sign", "--help"), "version": ("--version",)}
 
-    def test_a_stream_that_is_closed_or_full_is_said(self):
+    def test_a_closed_or_full_output_is_reported(self):
         for name, words in self.EACH.items():
-            for what, stdout in (("is closed", None), ("No space left", writing_to("/dev/full"))):
-                with self.subTest(name=name, what=what):
-                    with contextlib.suppress(FileNotFoundError):
-                        os.remove(self.at("new"))
-                        os.remove(self.at("new.pub"))
+            for message, stdout in (("is closed", None), ("No space left", writing_to("/dev/full"))):
+                with self.subTest(name=name, message=message):
+                    for new in ("new", "new.pub"):
+                        pathlib.Path(self.at(new)).unlink(missing_ok=True)
                     status, errors = Child(self.room, words, self.settings, stdout=stdout).wait()
                     self.assertEqual((status, errors.count("\n")), (3, 1), errors)
-                    self.assertRegex(errors, f"^spki-cert: standard output: .*{what}")
+                    self.assertRegex(errors, f"^spki-cert: standard output: .*{message}")
 
-    def test_the_program_itself_says_it(self):
-        for end, what in ((">&-", "is closed"), ("> /dev/full", "No space left")):
-            done = subprocess.run(["sh", "-c", f"'{sys.executable}' '{COMMAND}' show to-bob {end}"], cwd=self.room, capture_output=True, text=True)
-            self.assertEqual((done.returncode, what in done.stderr, "Traceback" in done.stderr), (3, True, False), done.stderr)
+    def test_a_closed_or_full_output_is_reported_in_a_shell(self):
+        for redirection, message in ((">&-", "is closed"), ("> /dev/full", "No space left")):
+            command = f"'{sys.executable}' '{COMMAND}' show to-bob {redirection}"
+            done = subprocess.run(["sh", "-c", command], cwd=self.room, capture_output=True, text=True)
+            self.assertEqual((done.returncode, message in done.stderr, "Traceback" in done.stderr), (3, True, False), done.stderr)
 
-    def test_what_a_stream_does_not_take_is_escaped(self):
+    def test_what_an_output_cannot_show_is_escaped(self):
         """What the encoding of standard output lacks is escaped: here ü, where it is ASCII. A control character of a label is escaped in any
         encoding, and ä is not where the encoding has it. An octet of the command line that is no UTF-8 is shown as U+FFFD, which is escaped too. (A
         key has the first label that is found, so carol.pub is removed: x.pub has the same key.)"""
@@ -552,13 +554,14 @@ class OfStreams(Room):
         self.assertIn("\\x1b[2Jcarol ä", self.cert("show", "--labels", ".", "d.sexp"))
 
     def test_the_end_of_the_input_at_a_passphrase(self):
+        # (in place of a terminal: its file and its settings)
         with mock.patch("getpass.getpass", side_effect=EOFError), mock.patch.object(files, "open", mock.mock_open(), create=True), \
                 mock.patch("termios.tcgetattr"):
             self.assertIn("the input ended where", self.cert("key", "new", "new", wanted=2))
 
 
 class OfSignals(Room):
-    """Signals that a command gets while it waits. With the words of `WAITING` each waits for its input, or for its output to be read."""
+    """Signals that a command gets while it waits. With the words of `WAITING` a command waits for its input, or for its output to be read."""
 
     WAITING = {"key": ("key", "-"), "sign": ("sign", "--by", "-", "--to", "bob.pub", "--tag", TAG, "--days", "1", "-o", "c.sexp"),
                "name": ("name", "--by", "-", "--to", "bob.pub", "--name", "x", "--days", "1", "-o", "c.sexp"), "show": ("show", "-"),
@@ -566,36 +569,34 @@ class OfSignals(Room):
                "ask": ("ask", "--acl", "acl.sexp", "--key", "-", "--", "x"), "key new": ("key", "new", "--no-passphrase", "new"),
                "completion": ("completion",)}
 
-    def test_each_ends_a_command_that_signs(self):
+    def test_signals_to_sign_name_entry_and_key_new(self):
         self.check_signals("sign", "name", "entry", "key new")
 
-    def test_each_ends_a_command_that_says(self):
+    def test_signals_to_other_commands(self):
         self.check_signals("key", "show", "check", "ask", "completion")
 
     def check_signals(self, *names):
-        """Sends each signal to these commands while they wait for their input, or if they have none, for their output to be read. One of
-        `commands.ENDING` must end them with status 3 and a line that says so. Any other may end them or not, but without a traceback. The
-        files that were there do not change."""
+        """Sends each signal to these commands while they wait for their input, or for their output to be read. One of `commands.ENDING` must end them
+        with status 3 and a line that says so. Any other may end them or not, but without a traceback. No earlier file changes."""
         before = self.contents()
-        wanted = sorted(signal.valid_signals() - {signal.SIGKILL, signal.SIGSTOP} - set(range(signal.SIGRTMIN + 1, signal.SIGRTMAX)))
+        # (without the two that no program can handle, and of the real-time signals only the first and the last)
+        signals = sorted(signal.valid_signals() - {signal.SIGKILL, signal.SIGSTOP} - set(range(signal.SIGRTMIN + 1, signal.SIGRTMAX)))
         for name in names:
-            for number in wanted:
+            for number in signals:
                 status, errors = self.send_signal(self.WAITING[name], number)
                 is_ending = number in commands.ENDING
                 with self.subTest(name=name, number=number):
                     self.assertNotIn("Traceback", errors)
                     self.assertIn(status, (3,) if is_ending else (0, 2, 3, -number), errors)
                     self.assertEqual("ended by" in errors, is_ending, errors)
-                self.assertLessEqual({it for it in os.listdir(self.room) if it not in before}, {"folder", "new", "new.pub"})
+                self.assertLessEqual({file for file in os.listdir(self.room) if file not in before}, {"folder", "new", "new.pub"})
                 for new in ("new", "new.pub"):
-                    with contextlib.suppress(FileNotFoundError):
-                        os.remove(self.at(new))
+                    pathlib.Path(self.at(new)).unlink(missing_ok=True)
         self.assertEqual(before, self.contents())
 
     def send_signal(self, words, number):
-        """Sends a signal to a command that waits, and then gives it what it waits for. Returns its status, and what it has written."""
-        # (the child writes to `is_ready` when it waits, and then reads from `hang`, which ends when this process closes
-        # `release`)
+        """Sends a signal to a command when it waits, and then ends its wait. Returns its status, and what it has written to standard error."""
+        # (the child writes to `is_ready` when it waits, and then reads from `hang`, which ends when this process closes `release`)
         (ready, is_ready), (hang, release) = os.pipe(), os.pipe()
 
         def before():
@@ -613,6 +614,7 @@ class OfSignals(Room):
         os.close(is_ready)
         os.read(ready, 1)
         os.kill(child.process, number)
+        # (a signal may have stopped the child)
         os.kill(child.process, signal.SIGCONT)
         os.close(release)
         outcome = child.wait()
@@ -621,11 +623,14 @@ class OfSignals(Room):
         return outcome
 
     def test_a_file_is_whole_when_a_signal_comes(self):
-        """A signal that comes while the file is written ends the command once the file is whole and in its place."""
+        """A signal that comes while the file is written, at each of three calls, ends the command once the file is whole and in its place."""
         for call in ("fsync", "fchmod", "link"):
             def before(call=call, real=getattr(os, call)):
+                def signal_and_call(*words):
+                    os.kill(os.getpid(), signal.SIGTERM)
+                    return real(*words)
                 signal.signal(signal.SIGTERM, signal.SIG_DFL)
-                setattr(os, call, lambda *words: (os.kill(os.getpid(), signal.SIGTERM), real(*words))[1])
+                setattr(os, call, signal_and_call)
             words = ("sign", "--by", "alice", "--to", "bob.pub", "--tag", TAG, "--days", "1", "-o", f"{call}.sexp")
             status, errors = Child(self.room, words, self.settings, before=before).wait()
             self.assertEqual((status, errors), (3, "spki-cert: ended by SIGTERM\n"))
@@ -634,7 +639,7 @@ class OfSignals(Room):
 
 
 class OfRandomWords(Room):
-    """Whatever words, files and streams a command gets, it ends with a status of the manual and loses nothing."""
+    """Whatever words, files and streams a command gets, it ends with a status of the manual and loses no file."""
 
     # Options behind which a command has a file that it writes, and for each command the words behind which it has one that it reads. For a command
     # that INPUTS does not have, these are --by, --to and --chain.
@@ -659,30 +664,32 @@ class OfRandomWords(Room):
         self.write("c.sexp", "(acl)")
         self.write("c.key", self.cert("key", "bob.pub"))
         os.symlink("acl.sexp", self.at("link"))
+        # (the files from which `wild` makes its octets)
         self.sources = [octets_in(self.at(name)) for name in ("alice", "alice.pub", "acl.sexp", "to-bob", "keys")]
         # (a quick run has no library: then the commands that ask it say so)
         if not built.IS_ALONE and os.path.exists(os.environ.get("SPKI_TEST_LIBRARY", built.LIBRARY)):
             self.settings["SPKI_LIBRARY"] = built.shared()
 
     def words(self, rng):
-        """Random words of a command: likely ones, of which some are changed, or any."""
-        commands_of = arguments.commands_with_options()
+        """Random words of a command line. One in five has any options and values of a command, and the others are a likely one. Then `--force` may be
+        added, up to three words are replaced or inserted, and a file that is written may become one that the command also names elsewhere."""
+        options_of = arguments.commands_with_options()
         if rng.random() < 0.2:
-            name = rng.choice(list(commands_of))
-            words = [name, *(rng.choice([rng.choice([*commands_of[name], "x"]), rng.choice(self.VALUES)]) for _ in range(rng.randrange(8)))]
+            name = rng.choice(list(options_of))
+            words = [name, *(rng.choice([rng.choice([*options_of[name], "x"]), rng.choice(self.VALUES)]) for _ in range(rng.randrange(8)))]
         else:
             words = list(rng.choice(self.LIKELY))
         words[1:1] = ["--force"] * (rng.random() < 0.4)
         for _ in range(rng.choice((0, 0, 1, 1, 2, 3))):
-            place, value = rng.randrange(1, len(words) + 1), rng.choice([*self.VALUES, *commands_of.get(words[0], [])])
+            place, value = rng.randrange(1, len(words) + 1), rng.choice([*self.VALUES, *options_of.get(words[0], [])])
             words[place:place + rng.randrange(2)] = [value]
         outputs = [place + 1 for place, word in enumerate(words[:-1]) if word in self.OUTPUTS]
         if outputs and rng.random() < 0.4:
-            words[rng.choice(outputs)] = rng.choice([it for it in words if os.path.isfile(self.at(it))] or self.VALUES)
+            words[rng.choice(outputs)] = rng.choice([word for word in words if os.path.isfile(self.at(word))] or self.VALUES)
         return words
 
     def wild(self, rng):
-        """Random octets of a file: those of another one with some changed, left out or repeated, or any."""
+        """Random octets for a file: in four of five cases those of one of `sources`, else any. Then some may be replaced, left out or repeated."""
         octets = bytearray(rng.choice(self.sources) if rng.random() < 0.8 else rng.randbytes(rng.randrange(200)))
         for _ in range(rng.randrange(5)):
             place = rng.randrange(len(octets) + 1)
@@ -690,20 +697,20 @@ class OfRandomWords(Room):
         return bytes(octets)
 
     def test_nothing_is_lost(self):
-        """With random words, files and streams, in children of this process. `check_run` has what must hold."""
+        """Commands with random words, files and streams, in children of this process. `check_run` says what must hold."""
         rng, before = random.Random(SEED), self.contents()
         for number in range(RUNS):
             words, wild = self.words(rng), {name: self.wild(rng) for name in ("wild", "wild.pub", "wild.sexp")}
             for name, octets in wild.items():
                 self.write(name, octets)
-            stdin, stdout = rng.choice(("/dev/null", self.at("alice"), self.at("acl.sexp"), self.at("wild"), None)), rng.choice((
-                writing_to(os.devnull), writing_to(os.devnull), writing_to(os.devnull, "ascii"), writing_to("/dev/full"), None))
+            stdin = rng.choice(("/dev/null", self.at("alice"), self.at("acl.sexp"), self.at("wild"), None))
+            stdout = rng.choice((*[writing_to(os.devnull)] * 2, writing_to(os.devnull, "ascii"), writing_to("/dev/full"), None))
             with self.subTest(number=number, words=words):
                 status, errors = Child(self.room, words, self.settings, stdin, stdout).wait()
                 self.check_run(words, status, errors, {**before, **wild})
 
     def test_nothing_is_lost_by_the_program(self):
-        """The same with the program itself, and so in fewer runs."""
+        """The same, with the program itself. A start of it takes longer, so these are fewer."""
         rng, before = random.Random(SEED + " starts"), self.contents()
         for number in range(STARTS):
             words, wild = self.words(rng), {"wild": self.wild(rng)}
@@ -714,7 +721,8 @@ class OfRandomWords(Room):
                 self.check_run(words, done.returncode, done.stderr.decode(errors="replace"), {**before, **wild})
 
     def check_run(self, words, status, errors, before):
-        """A command must end without a traceback, a changed input, a lost key or a half-written file. Restores the folder to `before`."""
+        """A command must have ended without a traceback, a changed input, a lost key or a half-written file. Restores the folder to `before`, the
+        octets of each file by its name."""
         after, may_change = self.contents(), {words[place + 1] for place, word in enumerate(words[:-1]) if word in self.OUTPUTS}
         if "link" in may_change:
             may_change.add("acl.sexp")
@@ -729,8 +737,10 @@ class OfRandomWords(Room):
         self.assertNotIn("a fault of spki-cert", errors)
         is_allowed = "--force" in words or words[0] == "entry"
         self.assertTrue(not changed or changed <= may_change and is_allowed, f"{changed} {errors}")
-        inputs = {it for front, it in zip(words, words[1:]) if front in self.INPUTS.get(words[0], ("--by", "--to", "--chain"))}
-        self.assertFalse(changed and inputs & {".", *changed, *({"link"} if "acl.sexp" in changed else ())}, f"{changed} {errors}")
+        inputs = {word for option, word in zip(words, words[1:]) if option in self.INPUTS.get(words[0], ("--by", "--to", "--chain"))}
+        # (no changed file may be an input: also not by the link to acl.sexp, or in `.`, the whole folder)
+        names_of_changed = {".", "link", *changed} if "acl.sexp" in changed else {".", *changed}
+        self.assertFalse(changed and inputs & names_of_changed, f"{changed} {errors}")
         self.assertFalse({"alice", "bob", "carol", "alice.pub", "bob.pub", "carol.pub", "keys"} & changed, errors)
         for name, octets in written.items():
             self.assertFalse(name.startswith(".spki"), name)
