@@ -50,9 +50,9 @@ class Attacks(OfSite):
 
     def test_what_is_granted(self) -> None:
         """The right requests from which attacks are made are granted, so that none is denied for another reason than the attack."""
-        sent = Attackers(self.site).sent
-        self.assertEqual(self.site.status("ben", "GET", "/web/index.html?x=1", f"Authorization: SPKI {sent['ben']}"), 200)
-        self.assertEqual(self.site.status("ben", "HEAD", "/web/index.html", f"X-Spki-Sequence: {sent['ben']}"), 200)
+        certificate = Attackers(self.site).sent["ben"]
+        self.assertEqual(self.site.status("ben", "GET", "/web/index.html?x=1", f"Authorization: SPKI {certificate}"), 200)
+        self.assertEqual(self.site.status("ben", "HEAD", "/web/index.html", f"X-Spki-Sequence: {certificate}"), 200)
         self.assertEqual(self.site.status("ann", "GET", "/web/%69ndex.html"), 200)
 
     def test_foreign_certificate(self) -> None:
@@ -122,17 +122,16 @@ class Sites(OfSite):
         self.addCleanup(lambda: self.restart_nginx("", ""))
 
     def restart_nginx(self, of_all: str, of_server: str, without: str = "no such line") -> None:
-        """Starts nginx again with the lines `of_all` outside of the server and `of_server` in it, and without lines that the pattern `without`
-        matches."""
+        """Starts nginx again with the lines `of_all` outside of its server and `of_server` in it, and without those that `without` matches."""
         for name, place, lines in (("loopback.conf", "include files.conf;", of_all), ("files.conf", "server_name localhost;", of_server)):
             more = lines.replace("{room}", self.site.room)
             self.site.write(f"etc/{name}", re.sub(f"(?m)^ *{without}$", "", self.own_lines[name]).replace(place, f"{more}\n{place}", 1))
         self.site.restart_server()
 
     def check_denied(self, asked: list[Asked], must: set[int]) -> None:
-        """No request may be granted: each must have one of these statuses."""
-        for each in asked:
-            self.assertEqual(faults_of(self.site, each, must), [])
+        """No request may be granted: each must be answered with one of the statuses `must`."""
+        for request in asked:
+            self.assertEqual(faults_of(self.site, request, must), [])
 
     def test_denied(self) -> None:
         """No lines of other sites turn a denial into a grant, and Ann still gets what she may."""
@@ -144,7 +143,7 @@ class Sites(OfSite):
                 self.check_ann()
 
     def test_included(self) -> None:
-        """A file that Ann writes includes nothing: what she may not read would get out."""
+        """nginx runs no server-side include (SSI) in a file that Ann writes: by one she could get a file that she may not read."""
         self.restart_nginx("ssi on; ssi_types *;", "")
         page = '<!--#include virtual="/secret/plan.txt" -->'
         self.assertEqual(self.site.status("ann", "PUT", "/web/page.html", body=page), 201)
@@ -152,14 +151,15 @@ class Sites(OfSite):
         self.assertTrue(answer.endswith(page.encode()), answer)
 
     def test_one_lock(self) -> None:
-        """Where the first lock is broken, the second one denies: an answer of 200 that is not the daemon's leads to no file."""
+        """Where the first lock, lines of the example, is broken, the second one denies: nginx has the folder of the files only after a yes of the
+        daemon. It answers for a folder itself, by the error page that Ann may read, so `/web/` is left out."""
         for name, of_all, line in LOCKS:
             self.restart_nginx(of_all, "", without=line)
             with self.subTest(name):
-                self.check_denied([each for each in ASKED if each[2] != "/web/"], DENIED | UNDECIDED)
+                self.check_denied([(who, method, path) for who, method, path in ASKED if path != "/web/"], DENIED | UNDECIDED)
 
     def test_daemon_stopped(self) -> None:
-        """While no daemon answers, nothing is granted, not even to Ann."""
+        """While no daemon answers, nothing is granted, not even to Ann. No status may be 401, by which only the daemon denies."""
         self.check_ann()
         self.site.stop_daemon()
         self.addCleanup(self.site.start_daemon)
@@ -177,6 +177,7 @@ class Sites(OfSite):
         with contextlib.ExitStack() as stack:
             full = stack.enter_context(socket.socket(socket.AF_UNIX))
             full.bind(self.site.at("run/socket"))
+            # (a queue for 0 has room for one connection, so two fill it)
             full.listen(0)
             for _ in range(2):
                 waiting = stack.enter_context(socket.socket(socket.AF_UNIX))
@@ -190,7 +191,7 @@ class Numbers(unittest.TestCase):
     """Numbers of the example that must fit others."""
 
     def number(self, pattern: str) -> int:
-        """The number that a pattern finds in the example, once."""
+        """The number in the group of a pattern, which must match once in files.conf of the example."""
         number, = re.findall(pattern, text_of("examples/nginx/files.conf"))
         return int(number)
 
@@ -199,8 +200,7 @@ class Numbers(unittest.TestCase):
         self.assertLessEqual(40 * self.number(r"keepalive (\d+);"), 768)
 
     def test_rates(self) -> None:
-        """Requests of one address, of 18 ms each, that show or leave certificates take at most a tenth of a core.
-        Others, of 0.1 ms, take a hundredth."""
+        """Requests of one address that show or leave certificates, of 18 ms each, take at most 0.1 of a core, and others, of 0.1 ms, 0.01."""
         self.assertLessEqual(self.number(r"zone=spki_showing:\w+ rate=(\d+)r/s") * 0.018, 0.1)
         self.assertLessEqual(self.number(r"zone=spki_leaving:\w+ rate=(\d+)r/s") * 0.018, 0.1)
         self.assertLessEqual(self.number(r"zone=spki:\w+ rate=(\d+)r/s") * 0.0001, 0.01)
@@ -219,12 +219,13 @@ class Changes(OfSite):
         try:
             with asked_by_many(lambda: [(who, self.site.status(who, "GET", "/web/index.html")) for who in ("ann", "ben", "eve")]) as answers:
                 for number in range(CHANGES):
-                    self.site.write("etc/new", "(acl" if number % 5 == 4 else with_ben if number % 2 else without_ben)
+                    is_broken, has_ben = number % 5 == 4, number % 2 == 1
+                    self.site.write("etc/new", "(acl" if is_broken else with_ben if has_ben else without_ben)
                     os.replace(self.site.at("etc/new"), self.site.at("etc/acl.sexp"))
                     message = self.site.reload()
-                    self.assertEqual("refused" in message, number % 5 == 4, message)
-                    if number % 5 != 4:
-                        self.assertEqual(self.site.status("ben", "GET", "/web/index.html"), 200 if number % 2 else 401)
+                    self.assertEqual("refused" in message, is_broken, message)
+                    if not is_broken:
+                        self.assertEqual(self.site.status("ben", "GET", "/web/index.html"), 200 if has_ben else 401)
         finally:
             self.site.write("etc/acl.sexp", without_ben)
             self.site.reload()
@@ -233,17 +234,11 @@ class Changes(OfSite):
     def test_slow_clients(self) -> None:
         """Clients that never end their header, or their body, do not delay others."""
         halves = [b"GET /web/index.html HTTP/1.1\r\nHost: loc", b"PUT /web/slow HTTP/1.1\r\nHost: localhost\r\nContent-Length: 9\r\n\r\nab"] * 20
-        connections = []
-        try:
+        with contextlib.ExitStack() as connections:
             for half in halves:
-                waiting = self.site.connected("ann")
-                connections.append(waiting)
-                waiting.__enter__().sendall(half)
+                connections.enter_context(self.site.connected("ann")).sendall(half)
             for _ in range(10):
                 self.check_ann()
-        finally:
-            for waiting in connections:
-                waiting.__exit__(None, None, None)
         self.check_ann()
         self.assertFalse(os.path.exists(self.site.at("files/web/slow")))
 
@@ -291,7 +286,7 @@ class Limits(OfSite):
         return sorted(lines, key=lambda line: str(line["time"]))
 
     def with_limits(self, **limits: int) -> None:
-        """Starts the daemon again with other limits."""
+        """Starts the daemon again with these `limits` in its configuration, or without any."""
         self.site.daemon.terminate()
         self.site.daemon.wait(served.SECONDS)
         config = json.loads(self.site.text("etc/authd.json"))
@@ -302,9 +297,9 @@ class Limits(OfSite):
         """Past the rate a client sees 429, and the daemon is not asked."""
         self.check_ann()
         before, count = len(self.lines()), 400
-        each = "GET /web/index.html HTTP/1.1\r\nHost: localhost\r\n"
-        answer = self.site.answer_at_once("ann", f"{each}\r\n".encode() * (count - 1) + f"{each}Connection: close\r\n\r\n".encode())
-        codes = statuses(answer)
+        request = "GET /web/index.html HTTP/1.1\r\nHost: localhost\r\n"
+        answers = self.site.answer_at_once("ann", f"{request}\r\n".encode() * (count - 1) + f"{request}Connection: close\r\n\r\n".encode())
+        codes = statuses(answers)
         self.assertEqual((len(codes), set(codes)), (count, {200, 429}))
         self.assertEqual(len(self.lines()) - before, codes.count(200))
         self.check_ann()
@@ -312,11 +307,11 @@ class Limits(OfSite):
     def test_rate_of_certificates(self) -> None:
         """A client that shows certificates has a lower rate. Past it the daemon is not asked."""
         field = f"Authorization: SPKI {in_braces(sequence(self.site, 'ann', 'ben', READ))}"
-        each, count = f"GET /web/index.html HTTP/1.1\r\nHost: localhost\r\n{field}\r\n", 80
-        asked = f"{each}\r\n".encode() * (count - 1) + f"{each}Connection: close\r\n\r\n".encode()
+        request, count = f"GET /web/index.html HTTP/1.1\r\nHost: localhost\r\n{field}\r\n", 80
+        requests = f"{request}\r\n".encode() * (count - 1) + f"{request}Connection: close\r\n\r\n".encode()
 
         def is_limited() -> bool:
-            before, codes = len(self.lines()), statuses(self.site.answer_at_once("ben", asked))
+            before, codes = len(self.lines()), statuses(self.site.answer_at_once("ben", requests))
             self.assertEqual((len(codes), len(self.lines()) - before), (count, codes.count(200)))
             return set(codes) == {200, 429}
         # (requests of the tests before may have used the rate up)
@@ -331,13 +326,13 @@ class Limits(OfSite):
         waits_for("the line of nginx", lambda: f'"id":"{last}"' in self.site.text("log/files.log"))
 
     def test_health(self) -> None:
-        """The flag asks the daemon, and fails where none answers."""
-        asks = (self.site.program, "-health", "-config", self.site.at("etc/authd.json"))
-        self.assertEqual(output_of(*asks)[0], 0)
+        """`spki-authd -health` sends a request that the daemon must refuse, and fails if no daemon answers."""
+        command = (self.site.program, "-health", "-config", self.site.at("etc/authd.json"))
+        self.assertEqual(output_of(*command)[0], 0)
         self.assertEqual((self.lines()[-1]["id"], self.lines()[-1]["answer"]), ("spki-authd-health", "refused"))
         self.site.daemon.terminate()
         self.site.daemon.wait(served.SECONDS)
-        self.assertEqual(output_of(*asks)[0], 1)
+        self.assertEqual(output_of(*command)[0], 1)
         self.site.start_daemon()
 
     def test_connections(self) -> None:
@@ -377,7 +372,7 @@ class Limits(OfSite):
 
 @needs.needs(*served.NEEDS, *needs.LIBRARY)
 class Example(unittest.TestCase):
-    """The one command of the example."""
+    """examples/nginx/run.sh, the one command that shows the example. ANSWERS are the lines that it prints."""
 
     ANSWERS = ["nobody GET /web/index.html: 401", "ann GET /web/index.html: 500",
                "ann GET /web/index.html: 200", "ann PUT /web/new.txt: 201", "ann GET /web/new.txt: 200", "ann GET /secret/plan.txt: 401",
@@ -391,4 +386,5 @@ class Example(unittest.TestCase):
                                   timeout=served.SECONDS, cwd=TESTS)
             answers = [line for line in done.stdout.splitlines() if not line.startswith("#")]
             self.assertEqual((done.returncode, answers), (0, self.ANSWERS), done.stderr)
+            # (it leaves nothing beside the daemon that was built for it)
             self.assertEqual(os.listdir(room), ["spki-authd"])

@@ -7,21 +7,18 @@ import os
 import shutil
 import socket
 import subprocess
-import sys
 import tempfile
-import threading
 import unittest
 from collections.abc import Callable
 
 from harness import needs
-from harness.support import TOP, waits_for
+from harness.support import text_of, waits_for
 
-sys.path.append(os.path.join(TOP, "bindings", "python"))
 SECONDS = 600
 NAME = "files.example.org"
 NGINX = """daemon off; pid {room}/pid; events {{}} http {{ {http} access_log off; client_body_temp_path t; proxy_temp_path t; fastcgi_temp_path t;
 uwsgi_temp_path t; scgi_temp_path t; server {{ listen unix:{room}/proxy; location / {{ proxy_pass http://{to}; {more} }} }} }}"""
-# Lines of nginx: they pass on the name that the client sent, and take the nonce out of a signature.
+# Lines of nginx: OWN_HOST passes on the host name that the client sent, and BY_NONCE takes the nonce out of a signature.
 OWN_HOST = "proxy_http_version 1.1; proxy_set_header Host $http_host;"
 BY_NONCE = """map $http_signature_input $spki_nonce { '~;nonce="([^"]+)"' $1; }"""
 CADDY = "{{\nadmin off\nauto_https off\n}}\nhttp:// {{\nbind unix/{room}/proxy\nreverse_proxy 127.0.0.1:{port}\n}}\n"
@@ -29,13 +26,13 @@ Change = Callable[[list[str]], list[str]]
 
 
 def same(lines: list[str]) -> list[str]:
-    """No change to the lines of a request."""
+    """A `Change` that leaves the lines of a request as they are."""
     return lines
 
 
 @needs.needs("import cryptography")
 class Proxies(unittest.TestCase):
-    """What a proxy changes, by what the verifier behind it says."""
+    """What a proxy changes, by the answers of the services behind it, which verify signatures."""
 
     def setUp(self) -> None:
         from cryptography.hazmat.primitives.asymmetric.ed25519 import Ed25519PrivateKey
@@ -49,11 +46,7 @@ class Proxies(unittest.TestCase):
         self.services = [test_signatures.Service() for _ in range(2)]
         for service in self.services:
             service.verifier = spki_http.Verifier(NAME, scheme="http")
-            thread = threading.Thread(target=service.serve_forever)
-            thread.start()
-            self.addCleanup(thread.join)
-            self.addCleanup(service.server_close)
-            self.addCleanup(service.shutdown)
+            service.serve_during(self)
         self.service = self.services[0]
 
     def start(self, words: list[str], text: str) -> None:
@@ -69,8 +62,7 @@ class Proxies(unittest.TestCase):
             with socket.socket(socket.AF_UNIX) as client, contextlib.suppress(OSError):
                 client.connect(os.path.join(self.room, "proxy"))
                 return True
-            with open(os.path.join(self.room, "log"), encoding="utf-8") as log:
-                self.assertIsNone(proxy.poll(), log.read())
+            self.assertIsNone(proxy.poll(), text_of(os.path.join(self.room, "log")))
             return False
         waits_for("the proxy listens", listens)
 
@@ -85,7 +77,7 @@ class Proxies(unittest.TestCase):
         verifier's refusal, or the status if the proxy itself answers."""
         fields = self.signer.fields(method, f"http://{NAME}{target}", body)
         length = [f"Content-Length: {len(body)}"] if body else []
-        lines = change([f"{name}: {it}" for name, it in fields.items()])
+        lines = change([f"{name}: {value}" for name, value in fields.items()])
         head = [f"{method} {target} HTTP/1.1", f"Host: {host}", "Connection: close", *length, *lines]
         answer = b""
         with socket.socket(socket.AF_UNIX) as client:
@@ -95,11 +87,12 @@ class Proxies(unittest.TestCase):
             while octets := client.recv(65536):
                 answer += octets
         status, text = answer.split(b" ", 2)[1].decode(), answer.partition(b"\r\n\r\n")[2]
+        # (a service answers with the proved key, or with 401 and the name of a refusal)
         return "valid" if b"(10:public-key" in text else text.decode() if status == "401" else status
 
     def check_answers(self, wanted: dict[str, str]) -> None:
-        """Each kind of request must have its usual answer, or the one in `wanted`. Usually all are valid but folded lines, a line twice and another
-        name."""
+        """Each kind of request, with its target, change and host name, must have its usual answer, or the one in `wanted`. Usually all are valid but
+        folded lines, a line twice and another name."""
         kinds: dict[str, tuple[str, Change, str]] = {
             "plain": ("/a/b?c=d", same, NAME), "empty query": ("/a?", same, NAME), "percent-encoding": ("/%7ea%2Fb%2f?%20+", same, NAME),
             "dots": ("/a/../b/./c", same, NAME), "slashes": ("/a//b", same, NAME), "no URI's octets": ('/a"b|c[d]{e}', same, NAME),
@@ -115,18 +108,18 @@ class Proxies(unittest.TestCase):
 
     @needs.needs("nginx")
     def test_nginx(self) -> None:
-        """nginx passes on all that it takes as it is."""
+        """nginx passes on each request that it accepts as the client sent it."""
         self.start_nginx(OWN_HOST)
         self.check_answers({})
 
     @needs.needs("nginx")
     def test_nginx_before_two_services(self) -> None:
         """Where nginx chooses between services by the nonce, a request that is sent again comes to the service that has seen its nonce, also with
-        tabs around the field, which nginx takes for a part of it. Until both services have got a request, but at least 20 times."""
+        tabs around the field, which nginx takes for a part of it. This is tried at least 20 times, and until both services have got a request."""
         servers = " ".join(f"server {service.name} max_fails=0;" for service in self.services)
         self.start_nginx(f"{OWN_HOST} proxy_next_upstream off;", "both", f"{BY_NONCE} upstream both {{ hash $spki_nonce consistent; {servers} }}")
         for turn in range(1000):
-            sent = [f"{name}: {it}" for name, it in self.signer.fields("GET", f"http://{NAME}/a").items()]
+            sent = [f"{name}: {value}" for name, value in self.signer.fields("GET", f"http://{NAME}/a").items()]
             self.assertEqual(self.ask("GET", "/a", lambda _: sent), "valid")
             self.assertEqual(self.ask("GET", "/a", lambda _: [line.replace(": ", ": \t ", 1) + "\t " for line in sent]), "nonce-seen")
             if turn >= 20 and all(service.requests for service in self.services):
@@ -141,6 +134,6 @@ class Proxies(unittest.TestCase):
 
     @needs.needs("caddy")
     def test_caddy(self) -> None:
-        """Caddy encodes the octets that no URI has, and unfolds lines."""
+        """Caddy encodes octets that no URI has, which the signature does not cover, and makes one line of a folded one, which is refused then."""
         self.start(["caddy", "run", "--config", "conf", "--adapter", "caddyfile"], CADDY.format(room=self.room, port=self.service.server_port))
         self.check_answers({"no URI's octets": "invalid-signature", "folded": "malformed"})

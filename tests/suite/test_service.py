@@ -8,6 +8,7 @@ from __future__ import annotations
 
 import contextlib
 import os
+import pathlib
 import socket
 import subprocess
 import sys
@@ -49,7 +50,7 @@ class LastingStory(Story):
 
 
 def chains(story: LastingStory) -> Iterator[tuple[str, Sent, bool]]:
-    """Requests that show right and wrong certificates, or none. Yields for each a remark, the request, and whether it must be granted."""
+    """Requests with right and wrong certificates, and without. Yields for each a remark, the request, and whether it must be granted."""
     alice, bob, carol = story.alice, story.bob, story.carol
     good = signed(story.to_carol, bob)
     longer = story.to_carol.replace("9999-06-30", "9999-07-31")
@@ -67,15 +68,14 @@ def chains(story: LastingStory) -> Iterator[tuple[str, Sent, bool]]:
         "a key is not shown": story.sequence(good, keys=False), "a certificate has expired": story.sequence(signed(story.ended, bob)),
         "nothing is shown": "(sequence)", "an item is none": "(sequence (certificate))", "it is no sequence": "(key x)",
         "there are too many certificates": story.sequence(good + 14 * f" {good}"),
-        "two sequences": tools.canonical(right) + b"(8:sequence)", "no octets": b"", "half a sequence": tools.canonical(right)[:-1],
-    }.items():
+        "two sequences": tools.canonical(right) + b"(8:sequence)", "no octets": b"", "half a sequence": tools.canonical(right)[:-1]}.items():
         yield remark, asked_by(carol, READ, sequence), False
     yield "another holder asks", asked_by(bob, READ, right), False
     yield "the path has parentheses and quotes", asked_by(carol, PASTED, right), False
+    # (`asked_by` would encode these paths, which are signed as they are)
+    signer = spki_http.Signer(tools.canonical(carol.text), carol.sign, asked_by(carol, READ, right)[2]["X-Spki-Sequence"])
     for path in ("/builds/web/%69ndex.html", "/builds/web/../app/x", "/builds/web/./x", "/builds/web/index.html?x"):
-        fields = spki_http.Signer(tools.canonical(carol.text), carol.sign, asked_by(carol, READ, right)[2]["X-Spki-Sequence"]).fields(
-            "GET", f"https://{NAME}{path}")
-        yield f"the path {path}", ("GET", path, fields), False
+        yield f"the path {path}", ("GET", path, signer.fields("GET", f"https://{NAME}{path}")), False
     yield "and again all is right", asked_by(carol, READ, right), True
 
 
@@ -91,17 +91,16 @@ def proofs(story: LastingStory) -> Iterator[tuple[str, Sent, bool]]:
     method, target, fields = asked_by(carol, READ, right)
     for remark, sent in {
         "another path": (method, target + "x", fields), "another method": ("HEAD", target, fields), "there is no signature": (method, target, {}),
-        "the key alone": (method, target, {"Signature-Input": fields["Signature-Input"]}),
+        "a signature's input alone": (method, target, {"Signature-Input": fields["Signature-Input"]}),
         "another name": (method, target, {**fields, "Host": "other.example"}), "two names": (method, target, {**fields, "host": "other.example"}),
-        "a chain less": (method, target, {name: value for name, value in fields.items() if name != "X-Spki-Sequence"}),
+        "no chain": (method, target, {name: value for name, value in fields.items() if name != "X-Spki-Sequence"}),
         "another chain": (method, target, {**fields, "X-Spki-Sequence": asked_by(alice, READ)[2]["X-Spki-Sequence"]}),
         "two chains": (method, target, {**fields, "x-spki-sequence": fields["X-Spki-Sequence"]}),
         "a chain that is not signed": (method, target, {**asked_by(carol, READ)[2], "X-Spki-Sequence": fields["X-Spki-Sequence"]}),
         "a folded line": (method, target, {**fields, "Signature": fields["Signature"].replace("=:", "=:\r\n ", 1)}),
         "a line without a colon": (method, target, {"X-Odd": "1\r\nodd", **fields}),
         "a body that is not signed": (method, target, {**fields, "Content-Length": "1"}),
-        "70 fields and a body": (method, target, {**fields, **{f"x-{place}": "" for place in range(70)}, "Content-Length": "1"}),
-    }.items():
+        "70 fields and a body": (method, target, {**fields, **{f"x-{place}": "" for place in range(70)}, "Content-Length": "1"})}.items():
         yield remark, sent, False
     yield "and then it is granted, once", (method, target, fields), True
 
@@ -129,7 +128,7 @@ NO_REQUESTS = (b"", b"\r\n\r\n", b"GET\r\n\r\n", b"GET / HTTP/1.1\r\n\r\n", b"GE
 
 @needs.needs(*needs.LIBRARY)
 class Service(built.OfLibrary):
-    """A service that is driven."""
+    """Sends requests to a service. `path` is that of its access list, and `story` has the keys and certificates."""
 
     room: str
     path: str
@@ -140,16 +139,11 @@ class Service(built.OfLibrary):
         super().setUpClass()
         cls.room, tools.SPKI = room_for(cls), cls.program
         cls.story, cls.path = LastingStory(), os.path.join(cls.room, "acl")
-        cls.write(cls.path, cls.story.access_list)
-
-    @staticmethod
-    def write(path: str, text: str) -> None:
-        with open(path, "w", encoding="ascii") as file:
-            file.write(text)
+        pathlib.Path(cls.path).write_text(cls.story.access_list, encoding="ascii")
 
     def check_service(self, *words: str, **settings: str) -> None:
-        """The service that these words start must answer each request as it should, and must not start on a wrong list. Neither a sanitizer nor
-        valgrind may report a fault in what it writes. `settings` are more variables of its environment."""
+        """The service that these words start must grant what `chains` and `proofs` say, and nothing else. It must not start on a wrong list, such as
+        one of over 1,048,576 octets. No sanitizer or valgrind may report a fault on its standard error. `settings` are more environment variables."""
         environment = {**os.environ, **settings}
         with open(os.path.join(self.room, "errors"), "w+b") as errors, subprocess.Popen(
                 [*words, self.path, NAME], stdout=subprocess.PIPE, stderr=errors, env=environment) as service:
@@ -169,12 +163,13 @@ class Service(built.OfLibrary):
             errors.seek(0)
             self.assertNotRegex(errors.read(), rb"lost in|Invalid|uninitialised|ERROR")
         for text in ("(acl (entry (public-key (test a))))", "(acl) (acl)", "(acl)".ljust(1_048_577), ""):
-            self.write(path := os.path.join(self.room, "wrong"), text)
-            done: Any = subprocess.run([*words, path, NAME], stdout=subprocess.PIPE, stderr=subprocess.PIPE, timeout=SECONDS, env=environment)
+            path = pathlib.Path(self.room, "wrong")
+            path.write_text(text, encoding="ascii")
+            done: Any = subprocess.run([*words, str(path), NAME], stdout=subprocess.PIPE, stderr=subprocess.PIPE, timeout=SECONDS, env=environment)
             self.assertEqual((done.returncode == 0, done.stdout), (False, b""), text[:99])
 
     def test_lines(self) -> None:
-        """Each service of SERVICES has at most the lines that stand there."""
+        """Each service of SERVICES has at most as many lines as SERVICES says."""
         for path, most in SERVICES.items():
             with open(os.path.join(TOP, path), encoding="utf-8") as file:
                 self.assertLessEqual(len(file.readlines()), most, path)

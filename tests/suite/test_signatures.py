@@ -6,6 +6,7 @@ import dataclasses
 import hashlib
 import http.server
 import os
+import pathlib
 import random
 import subprocess
 import sys
@@ -23,8 +24,7 @@ SECONDS = 600
 WARNINGS = ["cc", "-std=c11", "-Wall", "-Wextra", "-Wpedantic", "-Werror", "-O1", "-g", "-fsanitize=address,undefined", "-fno-sanitize-recover=all"]
 # How many rows are mutated.
 MUTATED = 200_000 if built.IS_LONG else 2_000
-# The name of a row, the request, the time in seconds since 1970, how many seconds before it the same request came or
-# None, and the answer.
+# The name of a row, the request, the time in seconds since 1970, how many seconds before it the same request came or None, and the answer.
 Row = tuple[str, Any, int, Optional[int], str]
 KINDS = ("ed25519", "rsa", "p256", "p384")
 
@@ -72,6 +72,14 @@ class Service(http.server.ThreadingHTTPServer):
         self.name, self.requests = f"127.0.0.1:{self.server_port}", list[tuple[str, str, bytes]]()
         self.verifier = spki_http.Verifier(self.name, scheme="http")
 
+    def serve_during(self, test: unittest.TestCase) -> None:
+        """Answers requests in a thread until the test has ended."""
+        thread = threading.Thread(target=self.serve_forever)
+        thread.start()
+        test.addCleanup(thread.join)
+        test.addCleanup(self.server_close)
+        test.addCleanup(self.shutdown)
+
 
 @needs.needs("import cryptography")
 class Requests(unittest.TestCase):
@@ -81,18 +89,13 @@ class Requests(unittest.TestCase):
 
     @classmethod
     def setUpClass(cls) -> None:
-        sys.path.append(os.path.join(TOP, "bindings", "python"))
         cls.room = room_for(cls)
         for kind in KINDS:
             spki_cert("key", "new", "--no-passphrase", "--type", kind, kind, room=cls.room).check_returncode()
 
     def setUp(self) -> None:
         self.service = Service()
-        thread = threading.Thread(target=self.service.serve_forever)
-        thread.start()
-        self.addCleanup(thread.join)
-        self.addCleanup(self.service.server_close)
-        self.addCleanup(self.service.shutdown)
+        self.service.serve_during(self)
         self.url = f"http://{self.service.name}/a%20b/c?d=e"
 
     def cert(self, *words: str, wanted: int = 0, **settings: str) -> str:
@@ -102,16 +105,15 @@ class Requests(unittest.TestCase):
         return (done.stdout if wanted == 0 else done.stderr).decode(errors="replace")
 
     def ask(self, fields: str, method: str = "GET", body: bytes | None = None) -> tuple[int, bytes]:
-        """The status and the body by which the service answers a request with these fields."""
+        """Sends a request for `url` with these fields, one a line. Returns the status and the body of the service's answer."""
         headers = dict(line.split(": ", 1) for line in fields.splitlines())
         opener = urllib.request.build_opener(urllib.request.ProxyHandler({}), Quiet())
         with opener.open(urllib.request.Request(self.url, body, headers, method=method)) as answer:
             return answer.status, answer.read()
 
     def test_fields(self) -> None:
-        """The printed fields prove each kind of key, once, for the method and the body that were given alone."""
-        with open(os.path.join(self.room, "body"), "wb") as file:
-            file.write(b"some octets")
+        """The printed fields prove each kind of key, but only once, and only for the method and the body that were given."""
+        pathlib.Path(self.room, "body").write_bytes(b"some octets")
         for kind in KINDS:
             fields = self.cert("request", "--by", kind, self.url)
             status, key = self.ask(fields)
@@ -123,7 +125,7 @@ class Requests(unittest.TestCase):
         self.assertEqual(self.ask(put, "PUT", b"some octets")[0], 200)
 
     def test_chain(self) -> None:
-        """The chain is sent as `spki-cert show --braces` has it, and is signed."""
+        """The certificates are sent as `spki-cert show --braces` prints them. An empty sequence in their place makes the signature invalid."""
         self.cert("sign", "--by", "ed25519", "--to", "p256.pub", "--tag", "(files read)", "--days", "9", "-o", "chain.sexp")
         fields = self.cert("request", "--by", "p256", "--cert", "chain.sexp", self.url)
         chain = self.cert("show", "--braces", "chain.sexp").strip()
@@ -133,9 +135,8 @@ class Requests(unittest.TestCase):
 
     @needs.needs("curl")
     def test_curl(self) -> None:
-        """curl sends what was signed, and spki-cert ends with its status."""
-        with open(os.path.join(self.room, "body"), "wb") as file:
-            file.write(bytes(range(256)) * 8192)
+        """curl sends what was signed, and spki-cert ends with the status of curl: 22 if `--fail` is given and the service answers with 401."""
+        pathlib.Path(self.room, "body").write_bytes(bytes(range(256)) * 8192)
         self.assertTrue(self.cert("request", "--by", "ed25519", "--curl", self.url, "--", "--silent").startswith("(10:public-key"))
         self.assertIn("200 OK", self.cert("request", "--by", "rsa", "--method", "HEAD", "--curl", self.url, "--", "-s"))
         self.assertTrue(self.cert("request", "--by", "p256", "--body", "body", "--curl", self.url, "--", "-s").startswith("(10:public-key"))
@@ -148,14 +149,13 @@ class Requests(unittest.TestCase):
         self.cert("request", "--by", "p256", "--curl", self.url.replace("127.0.0.1", "localhost"), "--", "-s", "--fail", wanted=22)
 
     def test_refusals(self) -> None:
-        for words, message in (
+        for words, message in [
             (["--by", "nokey", self.url], "nokey: No such file"), (["--by", "p256", "http://a/ b"], "no address of https or http"),
             (["--by", "p256", "ftp://a/"], "no address"), (["--by", "p256", "https://me:word@a/"], "no address"),
             (["--by", "p256", "https://a/#b"], "no address"), (["--by", "p256", "--method", "get", self.url], "capital letters"),
             (["--by", "p256", self.url, "--", "-s"], "--curl"), (["--by", "p256", "--body", "nobody", self.url], "nobody: No such file"),
             (["--by", "p256", "--cert", "p256.pub", self.url], "p256.pub"), (["--by", "p256.pub", self.url], "SSH_AUTH_SOCK is not set"),
-            (["--by", "p256", "https://ä/"], "not ASCII"), (["--by", "p256", "http://[::1/"], "IPv6"),
-        ):
+            (["--by", "p256", "https://ä/"], "not ASCII"), (["--by", "p256", "http://[::1/"], "IPv6")]:
             self.assertIn(message, self.cert("request", *words, wanted=2), words)
 
     @needs.needs("ssh-keygen")
@@ -172,16 +172,15 @@ class InC(unittest.TestCase):
     """The verifier in C, under AddressSanitizer."""
 
     def setUp(self) -> None:
-        sys.path.append(os.path.join(TOP, "bindings", "python"))
         self.room = room_for(self)
 
     def answers(self, program: str, rows: list[Row]) -> list[str]:
-        """Runs a program that was compiled of `proving.c`, which says what it reads. Returns for each row what `answer_of` makes of its line."""
+        """Runs a program compiled from `proving.c`, which says what it reads. Returns for each row what `answer_of` makes of its line."""
         strings: list[bytes] = []
         for _, message, now, again, _ in rows:
             words = [message.method, message.authority, message.target, str(now), "" if again is None else str(again),
                      "1" if message.has_body else "", str(len([*message.fields]))]
-            strings += [word.encode("latin-1") for word in [*words, *(it for pair in message.fields for it in pair)]]
+            strings += [word.encode("latin-1") for word in [*words, *(text for pair in message.fields for text in pair)]]
         done = subprocess.run([program], input=b"".join(map(string, strings)), stdout=subprocess.PIPE, timeout=SECONDS)
         lines = done.stdout.decode().splitlines()
         self.assertEqual((done.returncode, len(lines)), (0, len(rows)))
@@ -208,23 +207,24 @@ class InC(unittest.TestCase):
         """The verifier in C, with this one of signatures, must answer all rows rightly, and mutated rows as the verifier in Python does."""
         import test_spki_http
         program, rows = self.compile(verifier, library), [*test_spki_http.rows()]
-        self.assertEqual([*zip([row[0] for row in rows], self.answers(program, rows))], [(row[0], row[4]) for row in rows])
+        names, right_answers = [row[0] for row in rows], [row[4] for row in rows]
+        self.assertEqual([*zip(names, self.answers(program, rows))], [*zip(names, right_answers)])
         seed = random.randrange(2**32)
         chance = random.Random(seed)
         changed = [mutated(chance.choice(rows), chance) for _ in range(MUTATED)]
-        wanted = [test_spki_http.answer(test_spki_http.verifier_at([now]), message) for _, message, now, _, _ in changed]
-        for row, answer, right in zip(changed, self.answers(program, changed), wanted):
-            self.assertEqual(answer, right, f"seed {seed}: {row}")
+        by_python = [test_spki_http.answer(test_spki_http.verifier_at([now]), message) for _, message, now, _, _ in changed]
+        for row, answer, wanted in zip(changed, self.answers(program, changed), by_python):
+            self.assertEqual(answer, wanted, f"seed {seed}: {row}")
 
     @needs.needs("openssl/evp.h")
     def test_bodies(self) -> None:
-        """A request with a body that no field says, as HTTP/2 may send it, is answered as the verifier in Python answers it: a GET needs a digest."""
+        """With a body that no field announces, as HTTP/2 may send it, the verifier in C answers as that in Python: also a GET needs a digest then."""
         import test_spki_http
         rows: list[Row] = [(name, dataclasses.replace(message, has_body=True), now, None, "") for name, message, now, _, _ in test_spki_http.rows()]
         wanted = [answer_to(test_spki_http.verifier_at([row[2]]), row[1]) for row in rows]
         self.assertLessEqual({"valid", "body-without-digest"}, set(wanted))
-        answers = self.answers(self.compile("verify_openssl", "-lcrypto"), rows)
-        self.assertEqual([*zip([row[0] for row in rows], answers)], [*zip([row[0] for row in rows], wanted)])
+        names, answers = [row[0] for row in rows], self.answers(self.compile("verify_openssl", "-lcrypto"), rows)
+        self.assertEqual([*zip(names, answers)], [*zip(names, wanted)])
 
     @needs.needs("openssl/evp.h")
     def test_by_openssl(self) -> None:
@@ -248,19 +248,21 @@ def answer_to(verifier: Any, message: Any) -> str:
 def mutated(row: Row, chance: random.Random) -> Row:
     """A row of which one text has another octet, one less or one more, or a part twice or not at all. The same request never came before (None). The
     row keeps its answer, which may be wrong now."""
-    name, message, now, _, gives = row
-    texts = [message.method, message.authority, message.target, *(it for pair in message.fields for it in pair)]
+    name, message, now, _, old_answer = row
+    texts = [message.method, message.authority, message.target, *(text for pair in message.fields for text in pair)]
     place = chance.randrange(len(texts))
     text, at = texts[place], chance.randrange(len(texts[place]) + 1)
+    # (the new octet means something in these texts, is in none of them, or is one of this text)
     octet, end = chance.choice("\0\t\n ,;=()\":{}@?#/Az09\x7f\xe9" + chance.choice(text or " ")), at + chance.randrange(40)
     texts[place] = chance.choice([text[:at] + octet + text[at:], text[:at] + octet + text[at + 1:], text[:at] + text[at + 1:],
                                   text[:at] + text[at:end] + text[at:], text[:at] + text[end:]])
     pairs = [*zip(texts[3::2], texts[4::2])]
-    return name, dataclasses.replace(message, method=texts[0], authority=texts[1], target=texts[2], fields=pairs), now, None, gives
+    return name, dataclasses.replace(message, method=texts[0], authority=texts[1], target=texts[2], fields=pairs), now, None, old_answer
 
 
 class Quiet(urllib.request.HTTPErrorProcessor):
-    """Returns an answer of any status, where urllib raises an error or follows a redirection."""
+    """Returns an answer of any status, for which urllib would raise an error or follow a redirection."""
 
     def http_response(self, request: object, response: object) -> object:  # type: ignore[override]
+        """The response as it is: `http_response` of the base class would look at its status."""
         return response

@@ -14,7 +14,7 @@ PAGE = "/web/index.html"
 
 
 class OfSites(unittest.TestCase):
-    """A site whose daemon reads signatures."""
+    """A web server with a daemon that accepts signed requests. `kind` is the class that starts both."""
 
     kind: type[web_servers.Behind]
     site: web_servers.Behind
@@ -36,16 +36,16 @@ class OfSites(unittest.TestCase):
         cls.addClassCleanup(cls.site.end)
 
     def fields(self, who: str, path: str, *words: str) -> list[str]:
-        """The fields of a request for a path that somebody signs. `words` are options of `spki-cert request`."""
+        """The lines of fields by which `who`, the name of a key, signs a request for a path. `words` are options of `spki-cert request`."""
         return self.site.cert("request", "--by", f"keys/{who}", *words, f"https://localhost:{self.site.port}{path}").splitlines()
 
     def status(self, method: str, path: str, *lines: str, body: str = "") -> int:
-        """The status of the answer to a request without a certificate for TLS."""
+        """The status of the answer to a request with these lines of fields, and without a certificate for TLS."""
         return self.site.status(None, method, path, *lines, body=body)
 
     def check_signed(self) -> None:
-        """A signed request is granted once, and only what its key may do: its own path, method and body. A certificate
-        of TLS grants too, but not beside a wrong signature."""
+        """A signed request is granted once, for its own path, method and body, if its key has the right. A certificate of TLS is enough too, but not
+        beside a wrong signature. The status is 403 if a proof or certificate is wrong, and 401 if a right or proof is missing."""
         ann = self.fields("ann", PAGE)
         self.assertEqual([self.status("GET", PAGE, *ann) for _ in range(2)], [200, 403])
         self.assertIn("nonce-seen", self.site.text("log/authd.log"))
@@ -68,12 +68,12 @@ class OfSites(unittest.TestCase):
         ben = self.fields("ben", PAGE, "--cert", "b")
         self.assertEqual(self.status("GET", PAGE, *ben), 200)
         self.assertEqual([self.site.status("ben", "GET", PAGE), self.status("GET", PAGE, *self.fields("ben", PAGE))], [401, 401])
-        sent = self.fields("ben", PAGE)
-        self.assertEqual(self.status("GET", PAGE, *sent, next(line for line in ben if line.startswith("X-Spki-Sequence"))), 403)
+        certificate = next(line for line in ben if line.startswith("X-Spki-Sequence"))
+        self.assertEqual(self.status("GET", PAGE, *self.fields("ben", PAGE), certificate), 403)
 
     def check_left_chain(self) -> None:
         """Ben leaves Ann's certificate with the daemon, by a request that counts once. Then his requests need nothing but his key, by a signature or
-        by TLS."""
+        by TLS. Before that each request of `wrong`, a method, a path, lines and a body, is refused."""
         place, body = attacks.LEAVING, self.site.text("b")
         sent, nothing = self.fields("ben", place, "--body", "b"), list[str]()
         wrong: list[tuple[str, str, list[str], str]] = [
@@ -96,7 +96,7 @@ class OfSites(unittest.TestCase):
         self.site.cert("request", "--by", "keys/ben", "--body", "b", "--curl", address, "--", "--silent", "--fail", "--cacert", "ca/ca.crt")
 
     def check_curl(self) -> None:
-        """A file is stored by curl in one line, with the digest of the body."""
+        """One command of `spki-cert request --curl` stores a file, and signs its digest. Another one reads it."""
         self.site.write("new", "some text")
         url = f"https://localhost:{self.site.port}/web/new"
         self.site.cert("request", "--by", "keys/ann", "--body", "new", "--curl", url, "--", "--silent", "--fail", "--cacert", "ca/ca.crt")
