@@ -2,6 +2,7 @@
 not compile are compiled together, in Rust each alone, and the compiler must name a line of each, with the word of its
 row. All others are run. A wrong use that is granted is of a kind that docs/GUIDE.md names."""
 import os
+import pathlib
 import subprocess
 import sys
 import unittest
@@ -24,7 +25,7 @@ class Table(unittest.TestCase):
     """The table itself."""
 
     def test_rows(self) -> None:
-        """There are 40 rows and more, at least 10 in each language; what grants is of five kinds, and the guide names each."""
+        """There are 40 rows or more, at least 10 in each language. A row that is granted is of one of the kinds of GRANTED, which the guide names."""
         rows = {language: wrong_uses.parts_of(language)[1] for language in wrong_uses.LANGUAGES}
         self.assertGreaterEqual(sum(map(len, rows.values())), 40)
         self.assertGreaterEqual(min(map(len, rows.values())), 10)
@@ -58,13 +59,12 @@ class WrongUses(built.OfLibrary):
         text, lines = wrong_uses.program_of(shared, rows)
         path = os.path.join(self.room, name)
         os.makedirs(os.path.dirname(path), exist_ok=True)
-        with open(path, "w", encoding="utf-8") as file:
-            file.write(text)
+        pathlib.Path(path).write_text(text, encoding="utf-8")
         return path, lines
 
     def check_refused(self, rows: list[Row], output: str, path: str, lines: dict[int, Row]) -> None:
-        """The compiler must name a line of each of these rows, and write the row's word there. `output` is what it
-        writes about the program at a path, and `lines` has the row of each line."""
+        """The compiler must name a line of each of these rows, and write the row's word there. `output` is what it writes about the program at a
+        path, and `lines` has for the number of each line the row whose code it is."""
         faults: defaultdict[str, str] = defaultdict(str)
         for row, fault in wrong_uses.faults_in(output, path, lines):
             faults[row.name] += fault
@@ -104,8 +104,7 @@ class WrongUses(built.OfLibrary):
 
     @needs.needs("cargo")
     def test_rust(self) -> None:
-        """The rows are compiled one by one: the compiler finds faults of one kind before it looks for those of the
-        next."""
+        """The rows are compiled one by one: the compiler finds faults of one kind before it looks for those of the next."""
         shared, wrong, others = self.split("rust")
         self.environment.update(SPKI_LIB_DIR=os.path.dirname(self.library), CARGO_NET_OFFLINE="true")
         self.output("cargo", "build", "--quiet", "--lib", folder=RUST, status=0)
@@ -125,8 +124,7 @@ class WrongUses(built.OfLibrary):
         self.environment.update(golang.settings(self.library))
         for name, rows in (("wrong", wrong), ("run", others)):
             path, lines = self.write_program(f"{name}/main.go", shared, rows)
-            with open(os.path.join(self.room, name, "go.mod"), "w", encoding="utf-8") as file:
-                file.write(GO_MODULE.format(module=golang.MODULE))
+            pathlib.Path(self.room, name, "go.mod").write_text(GO_MODULE.format(module=golang.MODULE), encoding="utf-8")
             words = ("go", "build", "-gcflags=-e", "-o", "program", ".")
             output = self.output(*words, folder=os.path.dirname(path), status=None if rows is wrong else 0)
             if rows is wrong:
