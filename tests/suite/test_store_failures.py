@@ -30,7 +30,7 @@ MIB = 160
 
 
 def execute(server: Server, *statements: str) -> None:
-    """Runs statements, each in a transaction of its own."""
+    """Runs statements of SQL at a server, each in a transaction of its own."""
     with psycopg.connect(server.address, autocommit=True) as connection:
         for each in statements:
             connection.execute(each.encode())
@@ -42,7 +42,7 @@ def make_synchronous(server: Server) -> None:
 
 
 def fill(folder: str) -> str:
-    """Fills the disk of a folder with a file, and returns its path."""
+    """Fills the disk of a folder with a file, until the system refuses to write more. Returns the file's path."""
     path = os.path.join(folder, "filler")
     with contextlib.suppress(OSError), open(path, "wb", buffering=0) as file:
         while file.write(bytes(1 << 16)):
@@ -56,6 +56,7 @@ def kill_twice(server: Server) -> None:
         server.kill()
         time.sleep(FAILING)
         server.start()
+        # (so that some questions are asked before the next time)
         time.sleep(1)
 
 
@@ -81,8 +82,8 @@ class Failing(test_store.OfServed):
         return context
 
     def primary(self, settings: dict[str, str] = USUAL, at: networks.Node | None = None, mib: int = 0) -> Server:
-        """Starts a server, at a node and on a disk of so many MiB if given, and makes the store of this test there. Its table `error` says by how
-        much its clock is wrong: the tests in Go add this to the moment of each heartbeat."""
+        """Starts a server, at the node `at` or at none, on a disk of `mib` MiB or, if it is 0, on the usual one. Makes the store of this test there.
+        The table `error` says by how much its clock is wrong: the tests in Go add this to the moment of each heartbeat."""
         server = self.enter(Server(at, mib, **settings))
         self.store.close()
         self.store = Store(server.address, self.schema)
@@ -91,9 +92,9 @@ class Failing(test_store.OfServed):
         execute(server, f"CREATE TABLE {self.schema}.error (by interval)", f"INSERT INTO {self.schema}.error VALUES ('0 s')")
         return server
 
-    def replica(self, of: Server, settings: dict[str, str] = USUAL, at: networks.Node | None = None, mib: int = 0) -> Server:
-        """Starts a replica of a server, at a node and on a disk of so many MiB if given."""
-        return self.enter(of.replica(at, mib, **settings))
+    def replica(self, primary: Server, settings: dict[str, str] = USUAL, at: networks.Node | None = None, mib: int = 0) -> Server:
+        """Starts a replica of a server, at the node `at` or at none, on a disk of `mib` MiB or, if it is 0, on the usual one."""
+        return self.enter(primary.replica(at, mib, **settings))
 
     def network(self, count: int) -> list[networks.Node]:
         """Makes a network, and returns so many nodes of it."""
@@ -101,7 +102,7 @@ class Failing(test_store.OfServed):
         return [network.node() for _ in range(count)]
 
     def give_certificate(self, server: Server) -> str:
-        """Gives a server a certificate for its address. Returns the path of the certificate, which is its own authority."""
+        """Gives a server a key and a certificate for TLS at its address. Returns the path of the certificate, which is self-signed."""
         key, certificate = (os.path.join(server.folder, name) for name in ("server.key", "server.crt"))
         subprocess.run(["openssl", "req", "-x509", "-newkey", "rsa:2048", "-nodes", "-days", "1", "-subj", "/CN=store", "-addext",
                         f"subjectAltName=IP:{server.host}", "-keyout", key, "-out", certificate], check=True, stderr=subprocess.DEVNULL)
@@ -125,10 +126,9 @@ class Questions(Failing):
         golang.go(golang.DAEMON, ["test", *test_store.WITH_DRIVER, "-c", "-o", cls.questions, "."], cls.library).check_returncode()
 
     def ask_while(self, host: str, writers: list[Server], fails: Callable[[], None], *before: str, root: str = "") -> None:
-        """Runs the generated questions of the daemon's tests on the store at a host, while `fails`, which is called
-        once they have begun, makes something fail and mends it. The questions go on until it returns. All answers must
-        be right. The list is changed on the one of `writers` that can be written to. `before` are words before the
-        command, and `root` is the path of the certificate by which TLS trusts the host: empty without TLS."""
+        """Runs the generated questions of the daemon's tests on the store at a host. A second later calls `fails`, which makes something fail and
+        mends it. The questions go on until it returns, and all answers must be right. The list is changed on the one of `writers` that can be written
+        to. `before` are words before the command, and `root` is the path of the certificate by which TLS trusts the host: empty without TLS."""
         end = os.path.join(self.room, "end")
         settings = {**golang.settings(self.library), "SPKI_STORE_HOST": host, "SPKI_STORE_ROOT": root, "SPKI_STORE_SCHEMA": self.schema,
                     "SPKI_STORE_WRITERS": ",".join(each.folder for each in writers), "SPKI_STORE_SEED": str(secrets.randbelow(1 << 32)),
@@ -159,8 +159,8 @@ class Questions(Failing):
         self.ask_while(replica.folder, [primary], lambda: kill_twice(replica))
 
     def test_failover(self) -> None:
-        """The primary dies, and the replica that received most takes its place. The second replica is asked. If it is
-        not the promoted one, it is told to follow that."""
+        """The primary dies, and the replica that received most takes its place. The second replica is asked. If the first one is promoted, the second
+        is told to follow it."""
         primary = self.primary(SHORT)
         replicas = [self.replica(primary) for _ in range(2)]
         make_synchronous(primary)
@@ -189,13 +189,13 @@ class Questions(Failing):
         self.ask_while(replica.folder, [primary], fails)
 
     def test_wrong_clock(self) -> None:
-        """The clock of the primary is wrong by some seconds, and jumps: to the daemon it is the same as if its own were."""
+        """The clock of the primary is wrong by some seconds, and jumps. To the daemon this is as if its own clock were wrong."""
         primary = self.primary()
         replica = self.replica(primary)
 
         def fails() -> None:
-            for by in (20, -20, 2, -2, 0.5, -3600, 3600, 0):
-                execute(primary, f"UPDATE {self.schema}.error SET by = '{by} s'")
+            for seconds in (20, -20, 2, -2, 0.5, -3600, 3600, 0):
+                execute(primary, f"UPDATE {self.schema}.error SET by = '{seconds} s'")
                 time.sleep(FAILING)
         self.ask_while(replica.folder, [primary], fails)
 
@@ -234,6 +234,7 @@ class Questions(Failing):
 
         def fails() -> None:
             filler = fill(replica.folder)
+            # (each switch begins a new file of the log, which the replica has no room for)
             execute(primary, *["SELECT pg_switch_wal()", f"UPDATE {self.schema}.error SET by = by"] * 4)
             time.sleep(FAILING)
             os.unlink(filler)
@@ -247,8 +248,8 @@ class Daemons(Failing):
 
     @needs.needs("ip")
     def test_network(self) -> None:
-        """A replica is cut from the primary, a daemon from its replica, and the primary from all others. Then a replica takes its place, and the
-        old primary comes back."""
+        """A replica is cut from the primary, a daemon from its replica, and the primary from all others. Then a replica takes its place. The old
+        primary comes back, and its daemon grants nothing for 4 seconds, longer than a state may be old. The daemons are `old`, `near` and `far`."""
         nodes = self.network(4)
         primary = self.primary(SHORT, nodes[0])
         replicas = [self.replica(primary, at=each) for each in nodes[1:3]]
@@ -284,13 +285,13 @@ class Daemons(Failing):
             self.assertEqual([old.status(alice), old.status(bob), near.status(alice), far.status(alice)], [503, 503, 200, 200])
             time.sleep(0.2)
         granted = asker.end()
-        self.assertEqual([each for each in granted if each[0] > removed + STALE], [])
+        self.assertEqual([begun for begun, _ in granted if begun > removed + STALE], [])
         self.assertTrue(granted)
 
     @needs.needs("ip")
     def test_full_disk_for_entries(self) -> None:
-        """Where the disk of the entries and the log of changes is full, `spki-store` adds nothing and removes nothing,
-        and says so. No change is half done, and the daemon decides by the entries that are there."""
+        """Where the disk of the entries and the log of changes, of 3 MiB, is full, `spki-store` adds nothing and removes nothing, and says so. No
+        change is half done, and the daemon decides by the entries that are there. On a larger disk `spki-store` removes again."""
         primary, room = self.primary(), tempfile.mkdtemp()
         self.addCleanup(os.rmdir, room)
         databases.mount(room, 3)
@@ -298,28 +299,28 @@ class Daemons(Failing):
         subprocess.run(["chown", "postgres:postgres", room], check=True)
         self.server = primary
         self.start_beat(primary.address)
-        it, alice, bob = self.start_daemon("full", primary), self.people["alice"], self.people["bob"]
+        authd, alice, bob = self.start_daemon("full", primary), self.people["alice"], self.people["bob"]
         execute(primary, f"CREATE TABLESPACE small LOCATION '{room}'", f"ALTER TABLE {self.schema}.entries SET TABLESPACE small",
                 f"ALTER TABLE {self.schema}.changes SET TABLESPACE small", f"ALTER INDEX {self.schema}.changes_pkey SET TABLESPACE small")
         self.addCleanup(execute, primary, f"DROP SCHEMA {self.schema} CASCADE", "DROP TABLESPACE small")
         number = self.add_entry(alice)
-        it.wait_for_status(200, alice)
+        authd.wait_for_status(200, alice)
         listed = [test_store.key_entry(b"k%06d" % place, b"(1:*)") for place in range(20_000)]
         path = self.file(b"(3:acl" + b"".join(listed) + b")")
         self.assertIn("No space left on device", self.spki_store(3, "import", path))
         fill(room)
         (count,), = self.store.rows("SELECT count(*) FROM {entries}")
         self.assertTrue(1 < count < len(listed))
-        # (pages that have room left, or get some by what was given up, take some changes more)
+        # (some changes still find room in pages of the database, so the disk counts as full after ten failures in a row)
         failed = 0
         while failed < 10:
             failed = 0 if self.removes(count) else failed + 1
             count -= 1
         self.spki_store(3, "remove", str(number))
-        self.assertEqual((it.status(alice), it.status(bob)), (200, 401))
+        self.assertEqual((authd.status(alice), authd.status(bob)), (200, 401))
         subprocess.run(["mount", "-o", "remount,size=16m", room], check=True)
         self.spki_store(0, "remove", str(number))
-        it.wait_for_status(401, alice)
+        authd.wait_for_status(401, alice)
 
     def removes(self, number: int) -> bool:
         """Removes an entry by a new connection. Returns whether it was there, and False if the disk is full."""
@@ -329,24 +330,25 @@ class Daemons(Failing):
 
     @needs.needs("ip")
     def test_full_disk_for_the_log(self) -> None:
-        """A primary that has no room for its own log ends again and again, and its daemon answers 503. What was acknowledged is there afterwards."""
+        """A primary that has no room for its own log ends, and its daemon answers 503. What it acknowledged before is there afterwards."""
         self.server = primary = self.primary(SMALL, mib=MIB)
         self.start_beat(primary.address)
         self.wait_for_beat()
-        it, alice, bob = self.start_daemon("full", primary), self.people["alice"], self.people["bob"]
+        authd, alice, bob = self.start_daemon("full", primary), self.people["alice"], self.people["bob"]
         self.add_entry(alice)
         number = self.add_entry(bob)
-        it.wait_for_status(200, bob)
+        authd.wait_for_status(200, bob)
         filler = fill(primary.folder)
+        # (the log still has room in its last file)
         self.spki_store(0, "remove", str(number))
         write_until_it_ends(primary)
-        it.wait_for_status(503, alice)
-        it.wait_for_status(503, bob)
+        authd.wait_for_status(503, alice)
+        authd.wait_for_status(503, bob)
         os.unlink(filler)
         primary.kill()
         primary.start()
-        it.wait_for_status(200, alice)
-        self.assertEqual(it.status(bob), 401)
+        authd.wait_for_status(200, alice)
+        self.assertEqual(authd.status(bob), 401)
 
 
 def received(replica: Server) -> int:
