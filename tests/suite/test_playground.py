@@ -1,11 +1,10 @@
 """Tests apps/playground over HTTP, and in Chromium.
 
-Each example's answer must be that of the program on the case that the page shows for it, whichever of library and program decides. A mistake
-must be found at its place. Questions from another origin, with another host or without the token, and too long bodies are refused. Text
-stays text in every box. A hostile text is stopped, and the page goes on. In Chromium also: typing, the keyboard alone, a link, 360 pixels, and
-that nothing of an answer stays when it is not the answer to what is typed. The page starts where `tests/run --quick` has left the program, and
-says this command where nothing is built.
-`bench/playground.py` measures its times.
+Each example's answer must be that of the program on the case that the page shows for it, whichever of library and program decides. A mistake must
+be found at its place. Questions from another origin, with another host or without the token, and too long bodies are refused. Text stays text in
+every box. A hostile text is stopped, and the page goes on. In Chromium also: typing, the keyboard alone, a link, 360 pixels, and that nothing of an
+answer stays when it is not the answer to what is typed. The page starts where `tests/run --quick` has left the program, and says this command where
+nothing is built. `bench/playground.py` measures its times.
 """
 import contextlib
 import http.client
@@ -79,7 +78,7 @@ class Page:
             return response.status, response.headers, response.read()
 
     def ask(self, name, **question):
-        """The server's answer to a question of a kind (`name`), as the page gets it, with the case. It must have status 200."""
+        """The server's answer, an object of JSON, to a question of the kind `name`, such as `tags`, with these fields. Its status must be 200."""
         question = {"withCase": True, **question}
         headers = {"Origin": self.origin, "Content-Type": "application/json"}
         status, _, octets = self.reply("POST", self.address.path + name, json.dumps(question), **headers)
@@ -89,18 +88,18 @@ class Page:
 
 
 def line_of_reason(reason):
-    """The line that `explain` writes for a reason of an answer."""
+    """The line that `explain` writes for a reason: `entry` and `item` are numbers or None, and `word` is its cause."""
     parts = [reason["entry"] and f"entry {reason['entry']}", reason["item"] and f"item {reason['item']}", reason["word"]]
     return " ".join(part for part in parts if part)
 
 
 def lines_of(command, case):
-    """The lines that a command of the program writes of a case."""
+    """The lines that a command of the program writes of the text of a case."""
     return run(built.program(), command, case.encode())[1].decode().splitlines()
 
 
 def hostile():
-    """A question whose explanation takes long: tags of 250,000 strings are intersected with those of many certificates."""
+    """A question whose explanation takes long: tags of 500 patterns and 500 strings, and their intersection with the tags of 150 certificates."""
     key = "(public-key (test a))"
     large = f"(* set {'(* prefix x) ' * 500})"
     cert = f"(cert (issuer {key}) (subject {key}) (propagate) (tag TAG))"
@@ -134,6 +133,7 @@ class Answers(OfPage):
     """What the server answers to the page where the program decides."""
 
     def test_examples_have_the_answers_of_the_program(self) -> None:
+        """The answer has the line of `check` and those of `explain`. `wanted` of an example is the first of these, `no entries`, or a refusal."""
         for example in EXAMPLES:
             with self.subTest(example["name"]):
                 answer = self.page.ask("question", **example["question"])
@@ -154,12 +154,12 @@ class Answers(OfPage):
         """The case of an answer has what was typed, signatures that the page made up, the accepted ones, and the policy. A refused one has none."""
         for question in (example["question"] for example in EXAMPLES if not example["wanted"].startswith("refused")):
             answer = self.page.ask("question", **question)
-            case = read(run(built.program(), "canonical", answer["case"].encode())[1])
+            _, acl, accepted, sequence, key, request, at, *policy = read(run(built.program(), "canonical", answer["case"].encode())[1])
             typed = {name: read(run(built.program(), "canonical", question[name].encode())[1]) for name in ("acl", "sequence", "key")}
-            shown = [item for item in case[3] if item[0] != b"signature" or item in typed["sequence"]]
-            self.assertEqual((case[1], shown, case[4][1], case[5][1], case[6][1]),
+            shown = [item for item in sequence if item[0] != b"signature" or item in typed["sequence"]]
+            self.assertEqual((acl, shown, key[1], request[1], at[1]),
                              (typed["acl"], typed["sequence"], typed["key"], [it.encode() for it in question["request"]], question["at"].encode()))
-            self.assertEqual((case[2][0], case[7:]), (b"accepted", [[b"policy", b"strict"]] if question["strict"] else []))
+            self.assertEqual((accepted[0], policy), (b"accepted", [[b"policy", b"strict"]] if question["strict"] else []))
 
     def test_a_whole_case_has_the_answer_of_the_program(self) -> None:
         for name in ("granted", "no-delegation"):
@@ -187,7 +187,7 @@ class Answers(OfPage):
                 self.assertIn(why, place["why"])
 
     def test_a_place_behind_a_signature_that_was_made_up(self) -> None:
-        """The page adds signatures to the sequence. The place of a mistake behind one is still that in the text that was typed."""
+        """The page adds a signature behind each certificate. The place of a mistake behind one is still that in the text that was typed."""
         text = STORY["sequence"][:-1] + "\n (cert (issuer (public-key (test carol))) (subjekt x)))"
         answer = self.page.ask("question", **{**STORY, "sequence": text})
         self.assertEqual(answer["line"], "refused sequence 3 Shape")
@@ -225,7 +225,7 @@ class Answers(OfPage):
         self.assertNotIn("spaces", self.page.ask("question", **{**STORY, "request": ["packages", "write"]})["reasons"][0]["hint"])
         self.assertIn("one string with spaces", self.page.ask("tags", first="(packages)", second="(*)", request=["packages read"])["hint"])
 
-    def test_what_is_pasted_is_named(self) -> None:
+    def test_the_remark_on_what_was_pasted(self) -> None:
         for box, old, new, marked, why in PASTED:
             with self.subTest(new):
                 text = STORY[box].replace(old, new, 1) if old else new
@@ -236,7 +236,7 @@ class Answers(OfPage):
     def test_a_certificate_has_one_number(self) -> None:
         """`item` and `line` count the items of the case, in which the page has added signatures. `certificate` and `shown` count what was typed: the
         certificates, or all items for one that is none."""
-        example = next(it for it in EXAMPLES if it["wanted"] == "entry 1 item 3 NoDelegation")
+        example = next(example for example in EXAMPLES if example["wanted"] == "entry 1 item 3 NoDelegation")
         reason = self.page.ask("question", **example["question"])["reasons"][0]
         self.assertEqual((reason["item"], reason["certificate"], reason["line"]), (3, 2, "entry 1 item 3 NoDelegation"))
         sequence = example["question"]["sequence"]
@@ -247,7 +247,7 @@ class Answers(OfPage):
                  "an item must be `(public-key ..)`, `(do ..)`, `(cert ..)` or `(signature ..)`, but is `(certt ..)`; is `cert` meant?")]:
             answer = self.page.ask("question", **{**example["question"], "sequence": text})
             self.assertEqual((answer["line"], answer["shown"]), (line, shown))
-            self.assertIn(remark, [it["why"] for it in answer["faults"]["sequence"]["places"]])
+            self.assertIn(remark, [place["why"] for place in answer["faults"]["sequence"]["places"]])
         case = text_of("examples/guide/granted.sexp").replace("(not-after", "(not-afer", 1)
         self.assertEqual(self.page.ask("case", text=case)["shown"], "refused certificate 1 Shape")
 
@@ -289,7 +289,7 @@ class Answers(OfPage):
                          [run(built.program(), name, text.encode())[1].decode().rstrip("\n") for name in ("canonical", "advanced", "transport")])
 
     def test_labels_and_comments(self) -> None:
-        """The text of a reason has the label of a key and the comment of an entry. A line of the labels that is none is named by its number."""
+        """The text of a reason has the label of a key and the comment of an entry. A line that is no label is reported by its number."""
         text = STORY["acl"].replace("(entry (public-key (test bob))", '(entry (public-key (test bob)) (comment "The cook")')
         answer = self.page.ask("question", **{**STORY, "acl": text, "labels": "Carol of Web (public-key (test carol))\nnobody"})
         text = " ".join(reason["says"] for reason in answer["reasons"])
@@ -303,12 +303,12 @@ class Answers(OfPage):
         self.assertFalse(answer["signatures"][0]["counts"])
 
     def test_what_is_no_question(self) -> None:
-        """Whatever object is sent gets an answer, and is no fault of the server. A list of a wrong type is named, and not taken for another one."""
+        """The server answers whatever JSON object it is sent. It refuses a list with another type than its own, and names the field and the type."""
         for question in ({}, {"acl": 5, "request": "x", "refused": "x"}, {"request": [1, None]}, {"acl": "(" * 100_000}, {"acl": "\ud800"}):
             self.assertEqual(self.page.ask("question", **question)["kind"], "refused")
-        for name, wanted, values in (("request", "a list of strings", (5, "x", {}, [*STORY["request"], 5])),
-                                     ("refused", "a list of whole numbers", (True, 5, ["0"], [True], [0.0]))):
-            why = f"the field `{name}` must be {wanted}"
+        for name, kind, values in (("request", "a list of strings", (5, "x", {}, [*STORY["request"], 5])),
+                                   ("refused", "a list of whole numbers", (True, 5, ["0"], [True], [0.0]))):
+            why = f"the field `{name}` must be {kind}"
             for value in values:
                 answer = self.page.ask("question", **{**STORY, name: value})
                 self.assertEqual([answer.get(word) for word in ("kind", "line", "title")],
@@ -337,14 +337,15 @@ class Answers(OfPage):
         key = STORY["key"]
         self.assertEqual([self.page.ask("question", **{**STORY, "acl": acl})["chain"]["steps"][0]["whole"] for acl in (
             f"(acl (entry {key} (tag x)))", f"(acl (entry {key} (tag x)) (entry {key} (tag x)))")], ["1 entry", "2 entries"])
-        line = [f"(public-key (test k{place}))" for place in range(32)]
-        for holders, drawn, left_out in ((line[:29], 28, []), (line[:30], 28, ["1 certificate is not drawn"]),
-                                         (line, 28, ["3 certificates are not drawn"]), (line[:1] * 70, 55, ["14 certificates are not drawn"])):
-            certificates = [f"(cert (issuer {one}) (subject {other}) (propagate) (tag (*)))" for one, other in zip(holders, holders[1:])]
-            asked = {**STORY, "acl": f"(acl (entry {holders[0]} (propagate) (tag (*))))", "key": holders[-1]}
-            steps = self.page.ask("question", **{**asked, "sequence": f"(sequence {' '.join(certificates)})"})["chain"]["steps"]
-            lines = [it for step in steps for it in step.get("lines", [])]
-            self.assertEqual((sum(it.startswith("certificate ") for it in lines), [it for it in lines if it.endswith("drawn")]), (drawn, left_out))
+        keys = [f"(public-key (test k{place}))" for place in range(32)]
+        for holders, drawn, left_out in ((keys[:29], 28, []), (keys[:30], 28, ["1 certificate is not drawn"]),
+                                         (keys, 28, ["3 certificates are not drawn"]), (keys[:1] * 70, 55, ["14 certificates are not drawn"])):
+            certificates = [f"(cert (issuer {issuer}) (subject {subject}) (propagate) (tag (*)))" for issuer, subject in zip(holders, holders[1:])]
+            question = {**STORY, "acl": f"(acl (entry {holders[0]} (propagate) (tag (*))))", "key": holders[-1]}
+            steps = self.page.ask("question", **{**question, "sequence": f"(sequence {' '.join(certificates)})"})["chain"]["steps"]
+            lines = [line for step in steps for line in step.get("lines", [])]
+            self.assertEqual(sum(line.startswith("certificate ") for line in lines), drawn)
+            self.assertEqual([line for line in lines if line.endswith("drawn")], left_out)
 
     def test_text_stays_text(self) -> None:
         for name in (*BOXES, "at"):
@@ -381,8 +382,7 @@ class Hostile(OfPage):
         self.assertEqual(self.field_of_answer("line", **STORY, page="a"), "yes entry 1")
 
     def test_gives_way_to_the_next_question(self) -> None:
-        """A question of a page ends the one that the page asked before and that is not answered yet. The thread that
-        asked it gets what there is of its answer."""
+        """A new question of a page ends its earlier one that is not answered yet. Who asked that gets what there is of its answer."""
         with ThreadPoolExecutor(1) as pool:
             before = pool.submit(self.page.ask, "question", **hostile(), page="b")
             self.assertEqual(self.field_of_answer("line", **STORY, page="b"), "yes entry 1")
@@ -467,7 +467,8 @@ class Faults(unittest.TestCase):
     """What the server does if an answer fails, or a connection. It runs in this process, and its jobs raise an error."""
 
     def setUp(self) -> None:
-        self.server = loaded(os.path.join(FOLDER, "server.py")).Server(0, mock.Mock(), {"question": None}, b"{}")
+        module = loaded(os.path.join(FOLDER, "server.py"))
+        self.server = module.Server(port=0, workers=mock.Mock(), jobs={"question": None}, start=b"{}")
         self.addCleanup(self.server.server_close)
         thread = threading.Thread(target=self.server.serve_forever, args=(0.01,))
         thread.start()
@@ -475,8 +476,8 @@ class Faults(unittest.TestCase):
         self.addCleanup(self.server.shutdown)
 
     def ask(self, outcome):
-        """The first line of what the server sends until it closes the connection, and all that it prints. `outcome` is
-        the answer to the question, or an error that is raised instead."""
+        """Asks a question. Returns the first line of what the server sends until it closes the connection, and all that it prints. `outcome` is the
+        answer to the question, or an error that is raised instead."""
         self.server.workers.answer.side_effect = [outcome]
         host = self.server.hosts[0][0]
         with contextlib.redirect_stderr(io.StringIO()) as printed, socket.create_connection(self.server.server_address, SECONDS) as connection:
@@ -496,7 +497,7 @@ class Faults(unittest.TestCase):
                 self.assertEqual((first, printed.count("Traceback"), message in printed), (line, int(bool(message)), True), printed)
 
     def test_a_thread_that_does_not_start(self) -> None:
-        """The connection is closed, and its place is free for the next one: there is one place."""
+        """If the thread for a connection cannot start, the connection is closed. Its place, the only one here, is free for the next one."""
         self.server.room = threading.BoundedSemaphore(1)
         with mock.patch.object(threading.Thread, "start", side_effect=RuntimeError("can't start new thread")):
             first, printed = self.ask({})
@@ -603,6 +604,7 @@ class InChromium(OfPage):
             with self.subTest(f"{name} {text[:40]}"):
                 self.choose(tab)
                 self.put(name, text)
+                # (time for the page to show the answer)
                 time.sleep(0.25)
                 marked = "document.querySelectorAll('img, script:not([src]), [onerror]').length"
                 self.assertEqual(self.browser.execute_script(f"return [{marked}, typeof attacked]"), [0, "undefined"])
@@ -615,7 +617,7 @@ class InChromium(OfPage):
             self.keys(Keys.TAB)
             reached.append(self.focus())
         wanted = ["Skip to the answer", "tab-question", "example", "link", "acl", "sequence", "all", "key", "request", "at", "now", "slider"]
-        self.assertEqual([it for it in wanted if it not in reached], [])
+        self.assertEqual([element for element in wanted if element not in reached], [])
         self.browser.execute_script("document.getElementById('request').focus()")
         ActionChains(self.browser).key_down(Keys.CONTROL).send_keys("a").key_up(Keys.CONTROL).perform()
         self.keys("packages", Keys.ENTER, "write", Keys.ENTER, "/builds/x")
@@ -627,7 +629,7 @@ class InChromium(OfPage):
         self.until("return document.getElementById('both').textContent === '(packages read (* prefix /builds/web/))'")
 
     def test_everything_has_a_name(self) -> None:
-        """In each tab, each element that can be used has a name for those who hear the page."""
+        """In each tab, each element that can be used has a name for screen readers."""
         for tab in ("question", "case", "tags", "forms"):
             self.choose(tab)
             self.browser.execute_script("document.querySelectorAll('details').forEach((it) => it.open = true)")
@@ -646,8 +648,8 @@ class InChromium(OfPage):
         self.keys(Keys.HOME)
         self.until("return document.getElementById('kind').textContent === 'Yes'")
 
-    def test_a_tick_stands_for_a_signature(self) -> None:
-        """Without its tick a signature is not valid. The tick of all sets each again."""
+    def test_a_tick_says_that_a_signature_is_valid(self) -> None:
+        """Without its tick a signature is not valid. The tick `all` sets the ticks of all signatures."""
         self.until("return document.querySelector('#signatures input')").click()
         self.until("return document.getElementById('line').textContent === 'no, certificate 1 NotAccepted'")
         self.assertFalse(self.browser.execute_script("return document.getElementById('all').checked"))
@@ -672,12 +674,14 @@ class InChromium(OfPage):
             self.assertLessEqual(self.until("return document.documentElement.scrollWidth"), 360, tab)
 
     def test_the_whole_tag_is_there_on_hovering(self) -> None:
+        """The picture has the tag as the text of a `title`, which browsers show on hovering."""
         self.until("return [...document.querySelectorAll('#picture title')].some((it) => it.textContent.includes('(* prefix /builds/web/)'))")
 
     def test_a_hostile_text_leaves_the_page_usable(self) -> None:
-        text = hostile()
-        self.put("acl", text["acl"])
-        self.put("sequence", text["sequence"])
+        question = hostile()
+        self.put("acl", question["acl"])
+        self.put("sequence", question["sequence"])
+        # (time for the server to begin with this question)
         time.sleep(0.5)
         self.put("acl", STORY["acl"])
         self.put("sequence", STORY["sequence"])
@@ -686,7 +690,7 @@ class InChromium(OfPage):
     # ---- answers to another text
 
     def instead_of_server(self, kind, answer):
-        """From now on questions of a kind have this answer, which is JavaScript: a reply as JSON, or a promise."""
+        """From now on the page gets `answer` to questions of a kind. It is an expression of JavaScript: a promise of a `Response`."""
         self.browser.execute_script(f"const before = fetch; window.fetch = (kind, options) => kind === '{kind}' ? {answer} : before(kind, options)")
 
     def check_nothing_left(self):
@@ -701,6 +705,7 @@ class InChromium(OfPage):
     def test_an_answer_that_does_not_come(self) -> None:
         self.instead_of_server("question", "new Promise(() => {})")
         self.put("request", "packages\nwrite")
+        # (the parts of the earlier answer are marked as out of date)
         self.assertEqual(self.browser.execute_script("return document.querySelectorAll('.old').length > 3"), True)
         self.until("return document.getElementById('title').textContent === 'Waiting for the answer.'")
         self.check_nothing_left()
@@ -715,8 +720,8 @@ class InChromium(OfPage):
         self.check_nothing_left()
 
     def test_an_answer_to_an_earlier_text(self) -> None:
-        """`replies` has functions that answer the questions to the server, in their order. An answer to the first text
-        is not shown once the second is typed; the last answer is."""
+        """`replies` has functions that answer the questions to the server, in their order. An answer to the first text is not shown once the second
+        is typed. The last answer is shown, though its title is `an earlier answer` too."""
         answer = '{"kind": "no", "line": "no", "title": "an earlier answer", "reasons": [], "chain": null}'
         self.instead_of_server("question", f"new Promise((done) => (window.replies ??= []).push(() => done(new Response('{answer}'))))")
         self.put("request", "packages\nwrite")
@@ -804,4 +809,5 @@ class Starting(built.OfProgram):
             self.assertEqual(lines[1], "libspki_c.so decides; ctrl-c ends the page\n")
 
     def test_the_command_is_right(self) -> None:
+        """The command that the page names, `tests/run --quick words`, runs a module that `--quick` has."""
         self.assertIn('"test_words"', re.findall(r"^QUICK = (.*)$", text_of("tests/run"), re.MULTILINE)[0])
