@@ -7,7 +7,7 @@ import subprocess
 import sys
 
 from harness import golang, needs
-from harness.support import TESTS, canonical, output_of, room_for
+from harness.support import TESTS, canonical, output_of, room_for, text_of
 from suite import test_bindings
 from suite.test_bindings import CRATE, PYTHON, SECONDS, Asked
 
@@ -66,8 +66,7 @@ class Counted(test_bindings.Binding):
         """The answers, lines as octets, must be the wanted ones, and the library must have been called once for each."""
         fault = test_bindings.faults_of_answers(asked, answers)
         self.assertEqual(fault, "", fault)
-        with open(self.counts, encoding="ascii") as file:
-            self.assertEqual(file.read().splitlines(), [f"{each.command} {DONE} {len(each.wanted)}" for each in asked])
+        self.assertEqual(text_of(self.counts).splitlines(), [f"{each.command} {DONE} {len(each.wanted)}" for each in asked])
 
     def test_the_answers_are_long(self):
         """Those by the usual limits are longer than 8 KiB, and one by the highest than 1 MiB, the usual limit."""

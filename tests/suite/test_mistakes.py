@@ -475,11 +475,11 @@ class OfTheRightOfAChain(OfChains):
 
 
 class Child:
-    """`spki-cert` with these words, in a forked child of this process: in the folder `room`, with the environment `settings`. `stdin` is a path, and
-    `stdout` a function that opens a file: None is a stream that is closed. `before` is called in the child before the command. If the command itself
-    ends by an exception, the status is 99."""
+    """`spki-cert` in a forked child of this process."""
 
     def __init__(self, room, words, settings, stdin="/dev/null", stdout=None, before=lambda: None):
+        """Starts it with these words, in the folder `room`, with the environment `settings`. `stdin` is a path, and `stdout` a function that opens a
+        file: None is a stream that is closed. `before` is called in the child first. If the command itself raises an exception, the status is 99."""
         self.errors = tempfile.TemporaryFile()
         self.process = os.fork()
         if self.process == 0:
@@ -721,8 +721,7 @@ class OfRandomWords(Room):
                 self.check_run(words, done.returncode, done.stderr.decode(errors="replace"), {**before, **wild})
 
     def check_run(self, words, status, errors, before):
-        """A command must have ended without a traceback, a changed input, a lost key or a half-written file. Restores the folder to `before`, the
-        octets of each file by its name."""
+        """A command must have ended without a traceback, a changed input, a lost key or a half file. Restores each file of `before` to its octets."""
         after, may_change = self.contents(), {words[place + 1] for place, word in enumerate(words[:-1]) if word in self.OUTPUTS}
         if "link" in may_change:
             may_change.add("acl.sexp")

@@ -110,6 +110,7 @@ class GeneratedOnArm(built.OfProgram):
     """The library for ARM on other cases, in an emulator."""
 
     def test_cases(self) -> None:
+        """The library for ARM answers each case as the model does. In the emulator relay.c does the calls that it is sent."""
         seed, cases = secrets.token_hex(4), min(built.CASES, CASES_ON_ARM)
         with tempfile.TemporaryDirectory() as folder:
             relay, source = os.path.join(folder, "relay"), os.path.join(TESTS, "programs", "relay.c")

@@ -54,9 +54,10 @@ PASTED = [
 
 
 class Page:
-    """A playground that runs, in which `engine`, `program` or `library`, decides. A question may take so many seconds."""
+    """A playground that runs."""
 
     def __init__(self, engine, seconds):
+        """Starts it. `engine`, `program` or `library`, decides there. A question may take so many seconds."""
         words = [sys.executable, FOLDER, "--no-browser", "--engine", engine, "--seconds", str(seconds)]
         settings = {"SPKI_PROGRAM": built.program(), **({"SPKI_LIBRARY": built.shared()} if engine == "library" else {})}
         self.process: Any = subprocess.Popen(words, stdout=subprocess.PIPE, text=True, env={**os.environ, **settings})
@@ -476,8 +477,7 @@ class Faults(unittest.TestCase):
         self.addCleanup(self.server.shutdown)
 
     def ask(self, outcome):
-        """Asks a question. Returns the first line of what the server sends until it closes the connection, and all that it prints. `outcome` is the
-        answer to the question, or an error that is raised instead."""
+        """Asks a question. Returns the first line that the server sends, and what it prints. `outcome` is the answer, or an error to be raised."""
         self.server.workers.answer.side_effect = [outcome]
         host = self.server.hosts[0][0]
         with contextlib.redirect_stderr(io.StringIO()) as printed, socket.create_connection(self.server.server_address, SECONDS) as connection:

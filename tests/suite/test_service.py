@@ -38,10 +38,10 @@ Sent = tuple[str, str, dict[str, str]]
 
 
 class LastingStory(Story):
-    """The keys, list and certificates of examples/signed/run.py. The certificates last, since the service asks by its own clock, but for `ended`,
-    which has expired."""
+    """The keys, list and certificates of examples/signed/run.py, with other dates."""
 
     def __init__(self) -> None:
+        """The certificates last, since the service asks by its own clock, but for `ended`, which has expired."""
         super().__init__()
         self.to_builders = self.to_builders.replace("2026-01-01", "2000-01-01")
         self.bob_is_builder = self.bob_is_builder.replace("2026-12-31", "9999-12-31")

@@ -123,8 +123,7 @@ class Command(OfStore):
         self.assertIn("not written over", self.spki_store(2, "export", to))
 
     def test_faults(self) -> None:
-        """A text that is no entry or no list, and a wrong digest, remark, schema or server end the command with status 2 or 3 and change nothing. The
-        host may be in the variable PGHOST."""
+        """A text that is no entry or no list, and a wrong digest, remark, schema or server end the command with status 2 or 3 and change nothing."""
         for text in (b"(entry (public-key (test a)))", b"(entry (public-key (test a)) (tag (*))) x", b"", b"(acl)", b"(entry (tag (*)))"):
             self.spki_store(2, "add", self.file(text))
         for text in (b"(3:acl" + A + b"(5:entry))", b"(3:acl(7:version1:1)" + A + b")"):
@@ -399,10 +398,11 @@ SITE = "files.example.org"
 
 
 class StoreDaemon:
-    """A daemon with a list in PostgreSQL, and its files in the folder `room`. `before` are words before its command. `chains` is its setting of this
-    name, with which clients can leave certificates. `more` are other settings of its list."""
+    """A daemon with a list in PostgreSQL."""
 
     def __init__(self, room: str, program: str, server: databases.Server, schema: str, *before: str, chains: object = None, **more: str) -> None:
+        """Starts it, with its files in the folder `room`. `before` are words before its command. `chains` is its setting of this name, with which
+        clients can leave certificates. `more` are other settings of its list."""
         os.makedirs(room, exist_ok=True)
         store = {"host": server.folder, "database": "postgres", "user": "postgres", "schema": schema, "stale_seconds": STALE, **more}
         with_chains = {"signatures": {"names": [SITE]}, "chains": chains} if chains else {}
