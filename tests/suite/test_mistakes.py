@@ -41,6 +41,7 @@ class Room(Case):
         cls.pairs = {name: key_pair() for name in ("alice", "bob", "carol")}
 
     def setUp(self):
+        """Writes the keys. Then alice gets an entry of acl.sexp, and gives bob a part of her right by the certificate `to-bob`."""
         super().setUp()
         os.mkdir(self.at("folder"))
         for name, (private, public) in self.pairs.items():

@@ -468,6 +468,7 @@ class Faults(unittest.TestCase):
     """What the server does if an answer fails, or a connection. It runs in this process, and its jobs raise an error."""
 
     def setUp(self) -> None:
+        """Starts the server at a free port. A mock stands for the workers, which answer questions."""
         module = loaded(os.path.join(FOLDER, "server.py"))
         self.server = module.Server(port=0, workers=mock.Mock(), jobs={"question": None}, start=b"{}")
         self.addCleanup(self.server.server_close)

@@ -4,15 +4,13 @@ from __future__ import annotations
 
 import contextlib
 import os
-import shutil
 import socket
 import subprocess
-import tempfile
 import unittest
 from collections.abc import Callable
 
 from harness import needs
-from harness.support import text_of, waits_for
+from harness.support import room_for, text_of, waits_for
 
 SECONDS = 600
 NAME = "files.example.org"
@@ -35,13 +33,13 @@ class Proxies(unittest.TestCase):
     """What a proxy changes, by the answers of the services behind it, which verify signatures."""
 
     def setUp(self) -> None:
+        """Makes a folder for the proxy's files, a signer of requests, and two services, which verify them."""
         from cryptography.hazmat.primitives.asymmetric.ed25519 import Ed25519PrivateKey
 
         import spki_http
         from suite import test_signatures
         import test_spki_http
-        self.room = tempfile.mkdtemp(prefix="proxy-")
-        self.addCleanup(shutil.rmtree, self.room)
+        self.room = room_for(self)
         self.signer = test_spki_http.ed25519_signer(Ed25519PrivateKey.generate())
         self.services = [test_signatures.Service() for _ in range(2)]
         for service in self.services:
