@@ -333,7 +333,7 @@ class Answers(OfPage):
         self.assertEqual((answer.get("line"), answer["labelFaults"][0]["line"]), ("yes entry 1", 1))
 
     def test_counts_of_the_picture(self) -> None:
-        """The picture says how many entries the list has, and how many certificates of a long chain are left out: it has at most 60 steps, 5 of them
+        """The picture says how many entries the list has, and how many certificates of a long chain are left out: it has at most 61 steps, 5 of them
         without certificates. A certificate for another key than before is two steps, and one for the same key is one: the last row."""
         key = STORY["key"]
         self.assertEqual([self.page.ask("question", **{**STORY, "acl": acl})["chain"]["steps"][0]["whole"] for acl in (
