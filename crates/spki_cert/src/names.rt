@@ -29,7 +29,7 @@ impl<'a> Model for Names<'a> {
     ghost view = { λ n. reverse n.front.items ++ drop n.gone (unwrap_or (option_map arc_slice_items n.read) []) };
 }
 
-/// The names of `read` without the first `gone`, which were removed. Both are the fields of `Names` with these names.
+/// The names of `read` without the first `gone` of them, which were removed. `read` and `gone` are fields of `Names`.
 fn kept<'s, 'a>(read: &'s Option<ArcSlice<Octets<'a>>>, gone: usize) -> &'s [Octets<'a>]
     ensures { result.now ≡ drop gone (unwrap_or (option_map arc_slice_items read.now) []) }
 {
