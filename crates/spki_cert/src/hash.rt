@@ -74,22 +74,22 @@ impl HashAlg {
 fn fits_sha1(digest: &[u8], octets: &[u8]) -> bool
     ensures { result ≡ is_digest HashAlg.Sha1 digest.now octets.now }
 {
-    let made = Sha1Hasher::digest(octets);
-    made.as_slice() == digest
+    let own_digest = Sha1Hasher::digest(octets);
+    own_digest.as_slice() == digest
 }
 
 /// The part of `HashAlg::fits` for SHA-256: whether `digest` is the SHA-256 digest of the octets.
 fn fits_sha256(digest: &[u8], octets: &[u8]) -> bool
     ensures { result ≡ is_digest HashAlg.Sha256 digest.now octets.now }
 {
-    let made = Sha256Hasher::digest(octets);
-    made.as_slice() == digest
+    let own_digest = Sha256Hasher::digest(octets);
+    own_digest.as_slice() == digest
 }
 
 /// The part of `HashAlg::fits` for SHA-512: whether `digest` is the SHA-512 digest of the octets.
 fn fits_sha512(digest: &[u8], octets: &[u8]) -> bool
     ensures { result ≡ is_digest HashAlg.Sha512 digest.now octets.now }
 {
-    let made = Sha512Hasher::digest(octets);
-    made.as_slice() == digest
+    let own_digest = Sha512Hasher::digest(octets);
+    own_digest.as_slice() == digest
 }
