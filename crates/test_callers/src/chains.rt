@@ -26,7 +26,7 @@ pub struct AccessQuestion<'r, 'k> {
 ///
 /// # Errors
 ///
-/// `TooLarge` or `Memory`, as for `fold_chain`.
+/// `TooLarge` or `Memory`.
 pub fn grants<'a>(
     alloc: Global,
     first: &Five<'a>,

@@ -56,7 +56,7 @@ fn answer<V: Verifier>(
 ///
 /// # Errors
 ///
-/// `List` if the list is refused, `Question` if a question is, each also if memory ran out there. `Memory` if it ran out at a decision.
+/// `List` if the list is refused, `Question` if a question is, or memory ran out for it. `Memory` if it ran out later.
 pub fn answer_both<V: Verifier>(
     alloc: Global,
     list: &[u8],

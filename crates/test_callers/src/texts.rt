@@ -1,5 +1,5 @@
 //! An example of a caller of `sexpr_text`, which its `CALLING.md` quotes. `laws::one_value` gives the prover a fact, and does nothing at
-//! run time.
+//! run time. `read_any` fails if a text has no value within the limits, or memory ran out.
 
 ghost use Rattle.std.specs.Prelude.{◌≡◌, ◌↔◌, ◌⊎◌, IsTrue, IfOk, IfErr};
 ghost use Rattle.sexpr_core.specs.Value.{Value};
@@ -13,7 +13,7 @@ use std::alloc::Global;
 ///
 /// # Errors
 ///
-/// The fault that `read_any` returns for the first text, otherwise that for the second; also if memory ran out.
+/// That of `read_any` for the first text, otherwise for the second.
 pub fn same_value(alloc: Global, text: &[u8], other: &[u8]) -> Result<bool, FormFault>
     ensures same { IfOk result (λ same. (v : Value) (w : Value) → IsText text.now v → IsText other.now w
         → IsTrue same ↔ (v ≡ w)) }

@@ -1,4 +1,5 @@
-//! An example of a caller of `sexpr_core`, which its `CALLING.md` quotes.
+//! An example of a caller of `sexpr_core`, which its `CALLING.md` quotes. `Doc::open` fails if the text is no canonical form within the limits,
+//! or memory ran out.
 
 ghost use Rattle.std.specs.{Prelude.{◌≡◌, IfOk, IfErr, IsOkUnless, option_map}, Option.{option_copied}};
 ghost use Rattle.sexpr_core.specs.{Value.{Value, canon, IsWithinLimits}, Nodes.{part_at}, Reading.{Refused}};
@@ -12,7 +13,7 @@ use std::alloc::Global;
 ///
 /// # Errors
 ///
-/// Those of `Doc::open`: the text is no canonical form within the limits, or memory ran out.
+/// Those of `Doc::open`.
 pub fn first_member<'a>(alloc: Global, text: &'a [u8]) -> Result<Option<&'a [u8]>, FormFault>
     ensures first { IfOk result (λ member. (v : Value) × (text.entry.now ≡ canon v)
         × (option_copied member ≡ option_map canon (part_at 0 v))) }
