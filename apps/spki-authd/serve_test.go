@@ -78,7 +78,10 @@ func TestEndsWithoutDisk(t *testing.T) {
 	daemon.granted.do(func() {
 		daemon.ledger.file = &failingFile{File: daemon.ledger.file.(*os.File), room: -1, isNotWritten: true}
 	})
-	err = daemon.end(listener, newConnectionServer(daemon.decider))
+	// (the listener is closed by `end`, which waits until this has noticed it)
+	connections := newConnectionServer(daemon.decider)
+	go connections.serve(listener)
+	err = daemon.end(listener, connections)
 	daemon.flush()
 	events := messages.String()
 	if err == nil || !strings.Contains(events, `"ended not"`) || !strings.Contains(events, "may not be on the disk") {
