@@ -62,7 +62,7 @@ func TestCacheIsBounded(t *testing.T) {
 		if len(cache.valid.old)+len(cache.valid.young) > 100 {
 			t.Fatalf("%d are kept", len(cache.valid.old)+len(cache.valid.young))
 		}
-		if _, wasKnown := verifies(cache, numbered(0), valid); number > 0 && !wasKnown {
+		if _, wasKnown := verifies(cache, numbered(0), valid); !wasKnown {
 			t.Fatal("what is asked for each time is dropped")
 		}
 	}

@@ -6,6 +6,8 @@ import (
 	"strings"
 	"syscall"
 	"testing"
+
+	"conguraki/spki/guard"
 )
 
 // TestNoFiles reads what is no file. A FIFO without a writer hangs nobody.
@@ -31,16 +33,16 @@ func TestNoFiles(t *testing.T) {
 	}
 }
 
-// TestLongLists reads lists of 1 MiB and of one octet more. The refusal says what to do.
+// TestLongLists reads a list of 1 MiB, which is accepted, and one of one octet more. The refusal says what to do.
 func TestLongLists(t *testing.T) {
 	begin, end := "(3:acl", ")"
 	longest := begin + strings.Repeat(" ", mostList-len(begin)-len(end)) + end
-	if list, err := readList(writeFile(t, "acl", longest), 0, usualLimits); err == nil {
-		list.guard.Close()
-	} else if strings.Contains(err.Error(), "split") {
-		t.Error(err)
+	list, err := readList(writeFile(t, "acl", longest), guard.Strict, usualLimits)
+	if err != nil {
+		t.Fatal(err)
 	}
-	_, err := readList(writeFile(t, "acl", longest+" "), 0, usualLimits)
+	list.guard.Close()
+	_, err = readList(writeFile(t, "acl", longest+" "), guard.Strict, usualLimits)
 	if err == nil || !strings.Contains(err.Error(), `split the list by host or prefix ("lists"), or keep its entries in a store`) {
 		t.Error(err)
 	}

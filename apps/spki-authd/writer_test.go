@@ -190,15 +190,12 @@ func (f *fullWriter) Write(octets []byte) (int, error) {
 	return f.text.Write(octets)
 }
 
-// TestCutLines fills a stream in the middle of a line. The next one begins a line of its own.
+// TestCutLines fills a stream's disk in the middle of the second line, after one octet. The next line that is written begins a line of its own.
 func TestCutLines(t *testing.T) {
-	disk := &fullWriter{room: 5}
+	disk := &fullWriter{room: len("one\n") + 1}
 	stream := &stream{to: disk}
-	for line, room := range map[string]int{"one\n": 5} {
-		disk.room = room
-		if err := stream.write([]byte(line)); err != nil {
-			t.Error(err)
-		}
+	if err := stream.write([]byte("one\n")); err != nil {
+		t.Error(err)
 	}
 	if stream.write([]byte("two\n")) == nil || stream.write([]byte("three\n")) == nil {
 		t.Error("a full stream takes lines")
