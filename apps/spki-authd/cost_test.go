@@ -1,7 +1,6 @@
 package main
 
 import (
-	"strings"
 	"testing"
 
 	"conguraki/spki/guard"
@@ -23,7 +22,7 @@ func TestCostToStrangers(t *testing.T) {
 		many[place] = own
 	}
 	forged := s.mallory.sign(s.alice.certificate(s.mallory, prefix("read", "/web/"), ""))
-	asAlice := strings.Replace(forged, s.mallory.key+"(7:sig-val", s.alice.key+"(7:sig-val", 1)
+	asAlice := s.mallory.signAs(s.alice, s.alice.certificate(s.mallory, prefix("read", "/web/"), ""))
 	for _, row := range []struct {
 		name, shown, path string
 		who               person

@@ -157,7 +157,7 @@ func TestForgedSignatures(t *testing.T) {
 	s := newSite(t, "")
 	forged := s.mallory.sign(s.alice.certificate(s.mallory, prefix("read", "/web/"), propagates))
 	own := s.mallory.sign(s.mallory.certificate(s.mallory, prefix("read", "/web/"), propagates))
-	asAlice := strings.Replace(forged, s.mallory.key+"(7:sig-val", s.alice.key+"(7:sig-val", 1)
+	asAlice := s.mallory.signAs(s.alice, s.alice.certificate(s.mallory, prefix("read", "/web/"), propagates))
 	for name, shown := range map[string]string{"by Mallory's key": forged, "from Mallory": own, "by Alice's key": asAlice} {
 		for turn := 0; turn < 2; turn++ {
 			if response := s.by(s.mallory, "GET", "/web/x", sequence(shown)); response.StatusCode != 403 {

@@ -159,7 +159,7 @@ func TestWhatIsKept(t *testing.T) {
 	toBob, toName := s.alice.sign(s.toBob), s.alice.gives(name, tag, "")
 	isBob := s.alice.defines("builders", s.bob.key)
 	forged := s.mallory.sign(s.alice.certificate(s.bob, tag, ""))
-	asAlice := strings.Replace(forged, s.mallory.key+"(7:sig-val", s.alice.key+"(7:sig-val", 1)
+	asAlice := s.mallory.signAs(s.alice, s.alice.certificate(s.bob, tag, ""))
 	digest := sha512.Sum512([]byte(s.bob.key))
 	for _, row := range []struct {
 		name, reason string

@@ -95,6 +95,11 @@ func (p person) sign(certificate string) string {
 }
 
 // sequence returns signed certificates as one sequence in transport form, as a client sends them.
+// signAs returns a certificate with this person's signature behind it, which claims to be by another person's key.
+func (p person) signAs(other person, certificate string) string {
+	return strings.Replace(p.sign(certificate), p.key+"(7:sig-val", other.key+"(7:sig-val", 1)
+}
+
 func sequence(signed ...string) string {
 	return "{" + base64.StdEncoding.EncodeToString([]byte("(8:sequence"+strings.Join(signed, "")+")")) + "}"
 }

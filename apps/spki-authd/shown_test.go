@@ -128,8 +128,7 @@ func TestKeptSequencesAndTime(t *testing.T) {
 // TestOnlyValidSequencesAreKept shows forged, unreadable and ended certificates, and right ones where `cache` is 0: no sequence is kept.
 func TestOnlyValidSequencesAreKept(t *testing.T) {
 	s := newSite(t, "")
-	forged := s.mallory.sign(s.alice.certificate(s.mallory, prefix("read", "/web/"), propagates))
-	asAlice := strings.Replace(forged, s.mallory.key+"(7:sig-val", s.alice.key+"(7:sig-val", 1)
+	asAlice := s.mallory.signAs(s.alice, s.alice.certificate(s.mallory, prefix("read", "/web/"), propagates))
 	s.mustBe(t, "a forged one", s.mallory, "/web/x", sequence(asAlice), 403)
 	s.mustBe(t, "a right one and a forged one", s.mallory, "/web/x", sequence(s.alice.sign(s.toBob), asAlice), 403)
 	s.mustBe(t, "no text", s.mallory, "/web/x", "{AAAA}", 400)
