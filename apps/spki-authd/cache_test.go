@@ -75,14 +75,14 @@ func TestCacheIsBounded(t *testing.T) {
 
 // TestCacheInGoroutines asks one cache at the same time for more signatures than it keeps, some of which are not valid.
 func TestCacheInGoroutines(t *testing.T) {
-	cache := newCache(50)
+	cache, hasTwoDigits := newCache(50), func(signature guard.Signature) bool { return len(signature.Message) == 2 }
 	var all sync.WaitGroup
 	for routine := 0; routine < 8; routine++ {
 		all.Add(1)
 		go func() {
 			defer all.Done()
 			for number := 0; number < 500; number++ {
-				if isValid, _ := verifies(cache, numbered(number%70), func(signature guard.Signature) bool { return len(signature.Message) > 1 }); isValid != (number%70 > 9) {
+				if isValid, _ := verifies(cache, numbered(number%70), hasTwoDigits); isValid != (number%70 >= 10) {
 					t.Error(number)
 				}
 			}

@@ -229,7 +229,12 @@ func (s *connectionServer) end(limit context.Context) error {
 		s.endSoon(state)
 	}
 	s.mutex.Unlock()
-	go func() { <-s.isShut; s.all.Wait(); close(s.isEmpty) }()
+	go func() {
+		// (once isShut is closed, no connection is added any more)
+		<-s.isShut
+		s.all.Wait()
+		close(s.isEmpty)
+	}()
 	select {
 	case <-s.isEmpty:
 		return nil

@@ -100,7 +100,9 @@ func (c *chains) check(isSigned bool) error {
 	if path, err := pathOf(c.Path, mostTarget); err != nil || path != c.Path {
 		return fmt.Errorf(`"chains" has the path %q, which has several forms`, c.Path)
 	}
-	if (c.Postgres == nil) != strings.HasPrefix(c.Folder, "/") || c.Postgres != nil && c.Folder != "" || c.Days < 0 || c.Each < 0 || c.Keys < 0 {
+	isInFolder := c.Postgres == nil && strings.HasPrefix(c.Folder, "/")
+	isInStore := c.Postgres != nil && c.Folder == ""
+	if !isInFolder && !isInStore || c.Days < 0 || c.Each < 0 || c.Keys < 0 {
 		return errors.New(`"chains" needs "folder", which is /PATH, or "postgres", and no limit may be negative`)
 	}
 	for place, usual := range map[*int]int{&c.Days: usualDays, &c.Each: usualEach, &c.Keys: usualKeys} {

@@ -123,6 +123,10 @@ var lengthName = []byte("content-length:")
 
 // isEmptyLength says whether a line is `Content-Length:` without a number.
 func isEmptyLength(line []byte) bool {
-	return len(line) >= len(lengthName) && line[0]|0x20 == lengthName[0] && bytes.EqualFold(line[:len(lengthName)], lengthName) &&
-		len(bytes.TrimSpace(line[len(lengthName):])) == 0
+	// (the first letter rules out most lines, and costs less; the bit 0x20 makes it a small one)
+	if len(line) < len(lengthName) || line[0]|0x20 != lengthName[0] {
+		return false
+	}
+	name, value := line[:len(lengthName)], line[len(lengthName):]
+	return bytes.EqualFold(name, lengthName) && len(bytes.TrimSpace(value)) == 0
 }

@@ -82,13 +82,14 @@ func (l *timeline) transact(texts []string, values ...driver.Value) (rows [][]dr
 		return nil, err
 	}
 	for place, text := range append(append([]string{"BEGIN READ WRITE"}, texts...), "COMMIT") {
-		given := values
-		if place != len(texts) {
-			given = nil
+		// (BEGIN is at the place 0, so the last of `texts` is at this one)
+		var parameters []driver.Value
+		if place == len(texts) {
+			parameters = values
 		}
 		if err = taken.forget(0); err == nil {
 			use := func(row []driver.Value) error { rows = append(rows, copyOf(row)); return nil }
-			err = taken.ask(0, strings.ReplaceAll(text, "@", l.store.options.Schema), use, given)
+			err = taken.ask(0, strings.ReplaceAll(text, "@", l.store.options.Schema), use, parameters)
 		}
 		if err != nil {
 			taken.Close()

@@ -138,7 +138,8 @@ func (r *rig) entry() string {
 	if r.random.Intn(4) > 0 {
 		more = propagates
 	}
-	return "(5:entry" + subject + more + "(3:tag" + prefix("read", "/web/"+[]string{"", "a/", "b/"}[r.random.Intn(3)]) + "))"
+	folder := []string{"/web/", "/web/a/", "/web/b/"}[r.random.Intn(3)]
+	return "(5:entry" + subject + more + "(3:tag" + prefix("read", folder) + "))"
 }
 
 // change adds an entry, or removes one, as another client does, and notes the list after it.

@@ -127,7 +127,9 @@ func (l *load) askUntilEnd() {
 		at := place % len(l.sockets)
 		go func(place int, visitor *visitor, cold *atomic.Int64) {
 			defer group.Done()
-			for turn, next := place, time.Now().Add(time.Duration(visitor.random.Int63n(int64(l.every)+1))); time.Now().Before(end) && cold.Load() < coldPeople; turn++ {
+			// (each begins at another moment and turn, so that the connections do not ask in step)
+			next := time.Now().Add(time.Duration(visitor.random.Int63n(int64(l.every) + 1)))
+			for turn := place; time.Now().Before(end) && cold.Load() < coldPeople; turn++ {
 				time.Sleep(time.Until(next))
 				next = next.Add(l.every)
 				number := visitor.random.Intn(hotPeople)
