@@ -38,7 +38,7 @@ func TestWrongForms(t *testing.T) {
 		"text behind": {escapedPEM, alice.escaped() + "x"}, "other block": {escapedPEM, strings.ReplaceAll(alice.escaped(), "CERTIFICATE", "PUBLIC%20KEY")},
 		"truncated": {escapedPEM, alice.escaped()[:len(alice.escaped())/2]}, "base64 as PEM": {escapedPEM, encoded},
 		"no base64": {base64DER, "~"}, "PEM as base64": {base64DER, alice.escaped()}, "no certificate": {base64DER, "AAAA"},
-		"half": {base64DER, encoded[:len(encoded)/8*4]}, "bits behind": {base64DER, base64.StdEncoding.EncodeToString(append(alice.der, 0))},
+		"half": {base64DER, encoded[:len(encoded)/8*4]}, "an octet behind": {base64DER, base64.StdEncoding.EncodeToString(append(alice.der, 0))},
 		"empty first": {base64DER, "," + encoded}, "spaces": {base64DER, " " + encoded},
 		"two headers in one": {base64DER, encoded + ", " + base64.StdEncoding.EncodeToString(bob.der)},
 		"no Cert":            {xfcc, "Hash=ab"}, "two of them": {xfcc, element + ";" + element}, "two elements": {xfcc, "Hash=a," + element},

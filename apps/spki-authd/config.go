@@ -129,8 +129,8 @@ func (c *config) setUsual() {
 		size := usualCache
 		c.Cache = &size
 	}
-	given, usual := c.Limits.all(), usualLimits.all()
-	for place, limit := range given {
+	configured, usual := c.Limits.all(), usualLimits.all()
+	for place, limit := range configured {
 		if *limit == 0 {
 			*limit = *usual[place]
 		}

@@ -17,9 +17,9 @@ import (
 func (s *servedSite) runProgram(t *testing.T, words ...string) (status int, out, messages string) {
 	t.Helper()
 	text := strings.Replace(strings.Replace(least, "/run/x/s", s.socket, 1), `"/log"`, `"`+s.config.Log+`"`, 1)
-	var to, fault bytes.Buffer
-	status = run(append(words, "-config", writeFile(t, "config", text)), &to, &fault)
-	return status, to.String(), fault.String()
+	var stdout, stderr bytes.Buffer
+	status = run(append(words, "-config", writeFile(t, "config", text)), &stdout, &stderr)
+	return status, stdout.String(), stderr.String()
 }
 
 // TestReloadsThatAreRefused has lists read again over the control socket. The status says whether they are in force. A row has the two files, the
@@ -87,10 +87,10 @@ func TestHealth(t *testing.T) {
 	if status, out, messages := s.runProgram(t, "-health"); status != 1 || !strings.Contains(messages, "takes no lines") || !strings.Contains(out, "failures 1") {
 		t.Errorf("%d, %q, %q", status, out, messages)
 	}
-	none := writeFile(t, "config", strings.Replace(least, "/run/x/s", s.socket+"2", 1))
-	var to, fault bytes.Buffer
-	if status := run([]string{"-health", "-config", none}, &to, &fault); status != statusRefused {
-		t.Errorf("nobody is there: %d, %q", status, to.String())
+	withoutDaemon := writeFile(t, "config", strings.Replace(least, "/run/x/s", s.socket+"2", 1))
+	var stdout, stderr bytes.Buffer
+	if status := run([]string{"-health", "-config", withoutDaemon}, &stdout, &stderr); status != statusRefused {
+		t.Errorf("nobody is there: %d, %q", status, stdout.String())
 	}
 }
 
@@ -156,8 +156,8 @@ func TestReopenedByOrder(t *testing.T) {
 func TestStates(t *testing.T) {
 	one, two := serveHere(t, ""), serveHere(t, "")
 	compared := func() (int, string) {
-		var to, fault bytes.Buffer
-		return run([]string{"-state", "-of", one.config.Control, "-of", two.config.controlPath()}, &to, &fault), to.String()
+		var stdout, stderr bytes.Buffer
+		return run([]string{"-state", "-of", one.config.Control, "-of", two.config.controlPath()}, &stdout, &stderr), stdout.String()
 	}
 	if status, out := compared(); status != 1 || strings.Count(out, "\n") != 2 {
 		t.Errorf("%d, %q", status, out)
@@ -172,8 +172,8 @@ func TestStates(t *testing.T) {
 	if status, out := compared(); status != 1 || !strings.Contains(out, "ended 1 "+ofOneLine) {
 		t.Errorf("%d, %q", status, out)
 	}
-	var to, fault bytes.Buffer
-	if status := run([]string{"-state", "-of", one.socket + "2"}, &to, &fault); status != 1 {
+	var stdout, stderr bytes.Buffer
+	if status := run([]string{"-state", "-of", one.socket + "2"}, &stdout, &stderr); status != 1 {
 		t.Errorf("no daemon: %d", status)
 	}
 }

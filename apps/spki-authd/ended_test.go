@@ -57,7 +57,7 @@ func TestFewerEnded(t *testing.T) {
 		allowFewerEnded bool
 		isRight         bool
 		isStill         bool
-		evidence        string
+		name            string
 	}{
 		{digestOfText(s.toBob) + "\n", false, true, true, "the same"}, {"", false, false, true, "none"},
 		{digestOfText(s.toCarol) + "\n", false, false, true, "another one"},
@@ -69,11 +69,11 @@ func TestFewerEnded(t *testing.T) {
 		}
 		err := s.keeper.reload(s.config, row.allowFewerEnded, s.now())
 		if (err == nil) != row.isRight || err != nil && !strings.Contains(err.Error(), "-reload -fewer") {
-			t.Errorf("%s: %v", row.evidence, err)
+			t.Errorf("%s: %v", row.name, err)
 		}
 		bobs, _ := s.sequencesShown()
 		if status := s.by(s.bob, "GET", "/web/docs/b", bobs).StatusCode; (status == 403) != row.isStill {
-			t.Errorf("%s: %d", row.evidence, status)
+			t.Errorf("%s: %d", row.name, status)
 		}
 	}
 }

@@ -100,11 +100,20 @@ type scriptedConnection struct {
 	answered bytes.Buffer
 }
 
-func (p *scriptedConnection) Read(octets []byte) (int, error)  { return p.sent.Read(octets) }
+// Read reads what the client has sent, and fails with io.EOF behind it.
+func (p *scriptedConnection) Read(octets []byte) (int, error) { return p.sent.Read(octets) }
+
+// Write adds octets to what the daemon has answered.
 func (p *scriptedConnection) Write(octets []byte) (int, error) { return p.answered.Write(octets) }
-func (p *scriptedConnection) Close() error                     { return nil }
-func (p *scriptedConnection) SetDeadline(time.Time) error      { return nil }
-func (p *scriptedConnection) SetReadDeadline(time.Time) error  { return nil }
+
+// Close does nothing.
+func (p *scriptedConnection) Close() error { return nil }
+
+// SetDeadline does nothing: no read and no write waits.
+func (p *scriptedConnection) SetDeadline(time.Time) error { return nil }
+
+// SetReadDeadline does nothing: no read waits.
+func (p *scriptedConnection) SetReadDeadline(time.Time) error { return nil }
 
 // FuzzConnection sends octets that may be requests on a connection. Each answer has one line in the log with the same answer, and 200 is only for what
 // mustBeGranted allows.

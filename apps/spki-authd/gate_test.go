@@ -19,20 +19,20 @@ func TestGateOfLibrary(t *testing.T) {
 	defer func() { library = usual }()
 	var mutex sync.Mutex
 	var panics atomic.Bool
-	present, most, takes := 0, 0, 10*time.Millisecond
+	inside, most, takes := 0, 0, 10*time.Millisecond
 	s.verify = func(guard.Signature) bool {
 		if panics.Load() {
 			panic("no verifier")
 		}
 		mutex.Lock()
-		present++
-		if present > most {
-			most = present
+		inside++
+		if inside > most {
+			most = inside
 		}
 		mutex.Unlock()
 		time.Sleep(takes)
 		mutex.Lock()
-		present--
+		inside--
 		mutex.Unlock()
 		return true
 	}

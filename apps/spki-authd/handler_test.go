@@ -99,7 +99,7 @@ func TestAnswers(t *testing.T) {
 		wanted                   int
 	}{
 		"Alice reads":              {s.alice, "GET", "/web/x", "", 200},
-		"Alice reads, with a text": {s.alice, "GET", "/web/x?y=z", "{KDg6c2VxdWVuY2Up}", 200},
+		"Alice, an empty sequence": {s.alice, "GET", "/web/x?y=z", "{KDg6c2VxdWVuY2Up}", 200},
 		"Alice writes":             {s.alice, "PUT", "/web/x", "", 401},
 		"Alice reads elsewhere":    {s.alice, "GET", "/etc/passwd", "", 401},
 		"Alice reads above":        {s.alice, "GET", "/web/../etc/passwd", "", 400},
@@ -112,7 +112,7 @@ func TestAnswers(t *testing.T) {
 		"Carol shows Bob's":        {s.carol, "GET", "/web/docs/a/b", bobs, 403},
 		"Mallory shows Carol's":    {s.mallory, "GET", "/web/docs/a/b", carols, 403},
 		"no rule":                  {s.alice, "DELETE", "/web/x", "", 403},
-		"no sequence":              {s.alice, "GET", "/web/x", "{KDE6YSk=}", 400},
+		"a value of another kind":  {s.alice, "GET", "/web/x", "{KDE6YSk=}", 400},
 		"cut off":                  {s.carol, "GET", "/web/docs/a/b", carols[:len(carols)-9], 400},
 	} {
 		if response := s.by(row.who, row.method, row.target, row.sequence); response.StatusCode != row.wanted {
@@ -199,10 +199,10 @@ func TestWrongHeaders(t *testing.T) {
 // TestManyCertificates shows as many certificates as may be, and one more, which is refused.
 func TestManyCertificates(t *testing.T) {
 	s := newSite(t, "")
-	one := s.alice.sign(s.toBob)
+	signed := s.alice.sign(s.toBob)
 	many := make([]string, 17)
 	for place := range many {
-		many[place] = one
+		many[place] = signed
 	}
 	for count, wanted := range map[int]int{16: 403, 17: 400} {
 		if response := s.by(s.bob, "GET", "/web/docs/b", sequence(many[:count]...)); response.StatusCode != wanted {
@@ -216,13 +216,13 @@ func TestSecretOfServer(t *testing.T) {
 	s := newSite(t, "")
 	s.config.secret = []byte("0123456789abcdef0123456789abcdef")
 	whole := []string{"X-Original-Method", "GET", "X-Original-URI", "/web/b", "X-Client-Cert", s.alice.escaped()}
-	for given, wanted := range map[string]int{"": 403, "x": 403, string(s.config.secret): 200, string(s.config.secret) + "x": 403} {
+	for secret, wanted := range map[string]int{"": 403, "x": 403, string(s.config.secret): 200, string(s.config.secret) + "x": 403} {
 		pairs := whole
-		if given != "" {
-			pairs = append(pairs[:len(pairs):len(pairs)], "X-Spki-Secret", given)
+		if secret != "" {
+			pairs = append(pairs[:len(pairs):len(pairs)], "X-Spki-Secret", secret)
 		}
 		if response := s.ask(pairs...); response.StatusCode != wanted {
-			t.Errorf("%q: %d", given, response.StatusCode)
+			t.Errorf("%q: %d", secret, response.StatusCode)
 		}
 	}
 }

@@ -51,8 +51,8 @@ func (c *config) checkAnswers() error {
 		return err
 	}
 	defer response.Body.Close()
-	if given := answer(response.Header.Get("X-Spki-Answer")); given != answerRefused && given != answerUnknown {
-		return fmt.Errorf("%s: the answer is %d, %q", c.Listen, response.StatusCode, given)
+	if reply := answer(response.Header.Get("X-Spki-Answer")); reply != answerRefused && reply != answerUnknown {
+		return fmt.Errorf("%s: the answer is %d, %q", c.Listen, response.StatusCode, reply)
 	}
 	return nil
 }

@@ -114,8 +114,9 @@ func (c *config) checkServer(request *http.Request) error {
 	if len(c.secret) == 0 {
 		return nil
 	}
-	given, err := headerValue(request, c.Headers.Secret)
-	if err != nil || subtle.ConstantTimeCompare([]byte(given), c.secret) != 1 {
+	secret, err := headerValue(request, c.Headers.Secret)
+	// (in constant time: else the time of the answer would tell how many octets are right)
+	if err != nil || subtle.ConstantTimeCompare([]byte(secret), c.secret) != 1 {
 		return errSecret
 	}
 	return nil

@@ -245,7 +245,7 @@ func TestStrangersLeave(t *testing.T) {
 	}
 	bobs, _ := s.sequencesShown()
 	if s.statusFor(s.bob, "/web/docs/b", bobs) != 200 {
-		t.Error("what a request brings itself does not count")
+		t.Error("what a request shows itself does not count")
 	}
 	full := &folderChains{chains: *s.config.Chains, byKey: map[string][]keptChain{}, octets: mostLeft - 9}
 	if reply, _ := full.add("key", keptChain{text: "ten octets"}, s.now()); reply != answerFull {
@@ -469,8 +469,8 @@ func TestKeptFiles(t *testing.T) {
 	if files := s.filesOfChains(); len(files) != 4 {
 		t.Error(files)
 	}
-	long := s.now().Add(-time.Hour)
-	if err := os.Chtimes(filepath.Join(folder, hexDigest([]byte(bobs))+".new"), long, long); err != nil {
+	hourAgo := s.now().Add(-time.Hour)
+	if err := os.Chtimes(filepath.Join(folder, hexDigest([]byte(bobs))+".new"), hourAgo, hourAgo); err != nil {
 		t.Fatal(err)
 	}
 	if s.reopenChains(t); len(s.filesOfChains()) != 3 {
@@ -508,7 +508,7 @@ func TestDiskThatHangs(t *testing.T) {
 	if err := syscall.Mkfifo(path, 0o600); err != nil {
 		t.Fatal(err)
 	}
-	added, found := make(chan answer), make(chan bool)
+	added, returned := make(chan answer), make(chan bool)
 	go func() {
 		answer, _ := kept.add("a", chain, time.Now())
 		added <- answer
@@ -519,12 +519,12 @@ func TestDiskThatHangs(t *testing.T) {
 	}
 	go func() {
 		kept.of("b", time.Now())
-		close(found)
+		close(returned)
 	}()
 	select {
-	case <-found:
+	case <-returned:
 	case <-time.After(time.Second):
-		t.Error("it waits for the disk")
+		t.Error("`of` waits for the disk")
 	}
 	reader, err := os.OpenFile(path, os.O_RDONLY|syscall.O_NONBLOCK, 0)
 	if err != nil {

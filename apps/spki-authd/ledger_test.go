@@ -261,7 +261,7 @@ func TestLastSync(t *testing.T) {
 					t.Errorf("%s, %v: %s: %v", syncs, isOver, step, err)
 				}
 			}
-			fail := func(line string) {
+			writeUnsynced := func(line string) {
 				if err := ledger.write([]byte(line)); err != nil {
 					t.Error(err)
 				}
@@ -269,14 +269,14 @@ func TestLastSync(t *testing.T) {
 				ledger.beat()
 				disk.isNotWritten = !isOver
 			}
-			fail("one\n")
+			writeUnsynced("one\n")
 			if err := os.Rename(ledger.path, ledger.path+".1"); err != nil {
 				t.Fatal(err)
 			}
 			mustTell("reopened", ledger.reopen())
 			disk = &failingFile{File: ledger.file.(*os.File), room: -1}
 			ledger.file = disk
-			fail("two\n")
+			writeUnsynced("two\n")
 			ledger.mustHave(t, "two\n")
 			mustTell("closed", ledger.close())
 		}

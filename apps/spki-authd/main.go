@@ -69,8 +69,8 @@ func (p *printer) Write(octets []byte) (count int, err error) {
 
 // run does what the words of the command line say, and returns the exit status. It writes errors to `messages`. A command fails if `out` does; the daemon
 // does not, so it gets `out` itself.
-func run(given []string, out, messages io.Writer) int {
-	words, err := wordsOf(given, messages)
+func run(arguments []string, out, messages io.Writer) int {
+	words, err := wordsOf(arguments, messages)
 	if errors.Is(err, flag.ErrHelp) {
 		return statusDone
 	}
@@ -106,7 +106,7 @@ func run(given []string, out, messages io.Writer) int {
 
 // wordsOf reads the words of the command line, without the program's name. What is wrong in them is the error, and is written to `messages` too. For -help
 // it writes the help there, and fails with flag.ErrHelp.
-func wordsOf(given []string, messages io.Writer) (words, error) {
+func wordsOf(arguments []string, messages io.Writer) (words, error) {
 	var words words
 	flags := flag.NewFlagSet("spki-authd", flag.ContinueOnError)
 	flags.SetOutput(messages)
@@ -124,7 +124,7 @@ func wordsOf(given []string, messages io.Writer) (words, error) {
 	flags.StringVar(&words.probe, "probe", "", "ask the finished site at this `URL` for what it must deny, say what it grants, and end")
 	flags.BoolVar(&words.isStopped, "stopped", false, "with -probe: the daemon is stopped meanwhile")
 	flags.BoolVar(&words.isVersion, "version", false, "print the version")
-	err := flags.Parse(given)
+	err := flags.Parse(arguments)
 	if err != nil {
 		return words, err
 	}
@@ -164,7 +164,7 @@ func (w *words) check(rest []string) error {
 
 // tasks returns those flags that are given and say what to do. Without one, the daemon starts.
 func (w *words) tasks() []string {
-	var given []string
+	var tasks []string
 	for _, task := range []struct {
 		flag    string
 		isGiven bool
@@ -173,10 +173,10 @@ func (w *words) tasks() []string {
 		{"-metrics", w.isMetrics}, {"-state", w.isState}, {"-probe", w.probe != ""}, {"-version", w.isVersion},
 	} {
 		if task.isGiven {
-			given = append(given, task.flag)
+			tasks = append(tasks, task.flag)
 		}
 	}
-	return given
+	return tasks
 }
 
 // order returns the order that the flags give to the running daemon, or an empty text if they give none.

@@ -25,7 +25,7 @@ const timeToNotify = time.Second
 
 // notify sends a message to the service manager, if there is one: READY=1, RELOADING=1, STOPPING=1 or STATUS=TEXT, one a line, as sd_notify(3) has them.
 // It fails if the manager takes no message in timeToNotify.
-func notify(what string) error {
+func notify(message string) error {
 	path := os.Getenv(envNotify)
 	if path == "" {
 		return nil
@@ -38,7 +38,7 @@ func notify(what string) error {
 	if err := connection.SetDeadline(time.Now().Add(timeToNotify)); err != nil {
 		return err
 	}
-	_, err = connection.Write([]byte(what))
+	_, err = connection.Write([]byte(message))
 	return err
 }
 

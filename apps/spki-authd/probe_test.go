@@ -46,8 +46,10 @@ func denies(isHole func(*http.Request) bool, status int) func(http.ResponseWrite
 	}
 }
 
-// never is no hole for denies, and always is one for each request.
-func never(*http.Request) bool  { return false }
+// never is no hole for denies: it is true for no request.
+func never(*http.Request) bool { return false }
+
+// always is a hole for denies: it is true for each request.
 func always(*http.Request) bool { return true }
 
 // isMethod returns a hole for denies: it is true for the requests of one method.
@@ -55,9 +57,17 @@ func isMethod(method string) func(*http.Request) bool {
 	return func(request *http.Request) bool { return request.Method == method }
 }
 
-// hasKey is a hole for requests with a certificate for TLS, and isAnswered for those that have the daemon's own header of a grant.
-func hasKey(request *http.Request) bool     { return len(request.TLS.PeerCertificates) > 0 }
+// hasKey is a hole for denies: it is true for requests with a certificate for TLS.
+func hasKey(request *http.Request) bool { return len(request.TLS.PeerCertificates) > 0 }
+
+// isAnswered is a hole for denies: it is true for requests in which a client has sent the daemon's own header of a grant.
 func isAnswered(request *http.Request) bool { return request.Header.Get("X-Spki-Answer") == "yes" }
+
+// hasPassword is a hole for denies: it is true for requests with a password.
+func hasPassword(request *http.Request) bool { return request.Header.Get("Authorization") != "" }
+
+// isHTTP2 is a hole for denies: it is true for requests over HTTP/2.
+func isHTTP2(request *http.Request) bool { return request.ProtoMajor == 2 }
 
 // hasSuffix returns a hole for denies: it is true for the requests whose path has this suffix.
 func hasSuffix(suffix string) func(*http.Request) bool {
@@ -92,10 +102,10 @@ func TestProbe(t *testing.T) {
 		"not done by the server":    {isMethod("LOCK"), 501, statusDone, "", "501 1 times"},
 		"a kind of file":            {hasSuffix(".css"), 404, statusRefused, "", ".css is 404"},
 		"a folder":                  {hasSuffix("/"), 200, statusRefused, "", "/ is 200"},
-		"HTTP/2 alone":              {func(it *http.Request) bool { return it.ProtoMajor == 2 }, 200, statusRefused, "", "HTTP/2, no key"},
+		"HTTP/2 alone":              {isHTTP2, 200, statusRefused, "", "HTTP/2, no key"},
 		"any key":                   {hasKey, 404, statusRefused, "", "HTTP/1.1, a strange key"},
 		"the daemon's own header":   {isAnswered, 404, statusRefused, "", "granted"},
-		"a password":                {func(it *http.Request) bool { return it.Header.Get("Authorization") != "" }, 200, statusRefused, "", "granted"},
+		"a password":                {hasPassword, 200, statusRefused, "", "granted"},
 		"too many for ever":         {isMethod("PUT"), 429, statusRefused, "", "each answer to PUT is 429"},
 		"too many for any key":      {hasKey, 429, statusRefused, "", "each answer to GET is 429"},
 	} {

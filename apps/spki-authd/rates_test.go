@@ -33,10 +33,10 @@ func TestRates(t *testing.T) {
 			t.Errorf("%+v: %d", row, allowed)
 		}
 	}
-	none := newRateLimiter(0)
+	unlimited := newRateLimiter(0)
 	for turn := 0; turn < 1000; turn++ {
-		if !none.allows("a", now) {
-			t.Fatal("no rate is one")
+		if !unlimited.allows("a", now) {
+			t.Fatal("a rate of 0 is a limit")
 		}
 	}
 }

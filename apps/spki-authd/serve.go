@@ -173,15 +173,15 @@ func (d *daemon) statusLine() string {
 	return line
 }
 
-// tell writes an event: `what` the daemon did, or did not because of a fault, which may be nil. The event has the digests of the lists and ended
-// certificates that are in force now.
-func (d *daemon) tell(what string, fault error) {
+// tell writes an event: what the daemon did, such as `reloaded`, or did not do because of a fault, which may be nil. The event has the digests of the lists
+// and ended certificates that are in force now.
+func (d *daemon) tell(action string, fault error) {
 	present := d.keeper.present.Load()
 	message := event{
-		Time: stamp(d.now()), Event: what, Entries: present.entries(), List: present.digest, Ended: present.ended.count, EndedDigest: present.ended.digest,
+		Time: stamp(d.now()), Event: action, Entries: present.entries(), List: present.digest, Ended: present.ended.count, EndedDigest: present.ended.digest,
 	}
 	if fault != nil {
-		message.Event, message.Detail = what+" not", fault.Error()
+		message.Event, message.Detail = action+" not", fault.Error()
 	}
 	d.messages.tell(message)
 }

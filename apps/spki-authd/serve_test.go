@@ -345,7 +345,10 @@ type recordedDeadline struct {
 	until time.Time
 }
 
-func (d *recordedDeadline) SetDeadline(until time.Time) error     { d.until = until; return nil }
+// SetDeadline keeps a deadline for reads and writes.
+func (d *recordedDeadline) SetDeadline(until time.Time) error { d.until = until; return nil }
+
+// SetReadDeadline keeps a deadline for reads.
 func (d *recordedDeadline) SetReadDeadline(until time.Time) error { d.until = until; return nil }
 
 // TestDeadlines has an idle connection ended, to make room for a new one or since it was idle for long, while a request comes on it: that request has
@@ -384,9 +387,9 @@ func TestSockets(t *testing.T) {
 		t.Error("two daemons have one socket")
 	}
 	file := writeFile(t, "file", "x")
-	s2 := *s.config
-	s2.Listen = unixScheme + file
-	if _, err := s2.listen(); err == nil {
+	changed := *s.config
+	changed.Listen = unixScheme + file
+	if _, err := changed.listen(); err == nil {
 		t.Error("a file was replaced by a socket")
 	}
 	stale := filepath.Join(t.TempDir(), "stale")
@@ -396,8 +399,8 @@ func TestSockets(t *testing.T) {
 	}
 	old.SetUnlinkOnClose(false)
 	old.Close()
-	s2.Listen = unixScheme + stale
-	listener, err := s2.listen()
+	changed.Listen = unixScheme + stale
+	listener, err := changed.listen()
 	if err != nil {
 		t.Fatal(err)
 	}

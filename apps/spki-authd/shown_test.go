@@ -18,11 +18,11 @@ func (s *site) kept() int {
 
 // mustBe asks three times to read a target by a sequence, and reports an error, which begins with `what`, unless each status is the one that is
 // wanted. A valid sequence is kept after the first question, and put into canonical form at the second. The last line of the log is returned.
-func (s *site) mustBe(t *testing.T, what string, who person, target, shown string, wanted int) record {
+func (s *site) mustBe(t *testing.T, name string, who person, target, shown string, wanted int) record {
 	t.Helper()
 	for turn := 1; turn <= 3; turn++ {
 		if response := s.by(who, "GET", target, shown); response.StatusCode != wanted {
-			t.Errorf("%s, turn %d: %d, wanted %d: %+v", what, turn, response.StatusCode, wanted, s.lastLine(t))
+			t.Errorf("%s, turn %d: %d, wanted %d: %+v", name, turn, response.StatusCode, wanted, s.lastLine(t))
 		}
 	}
 	return s.lastLine(t)
@@ -32,7 +32,7 @@ func (s *site) mustBe(t *testing.T, what string, who person, target, shown strin
 func TestKeptSequencesGrantNothingByThemselves(t *testing.T) {
 	s := newSite(t, "")
 	_, carols := s.sequencesShown()
-	for what, row := range map[string]struct {
+	for name, row := range map[string]struct {
 		who    person
 		target string
 		wanted int
@@ -40,7 +40,7 @@ func TestKeptSequencesGrantNothingByThemselves(t *testing.T) {
 		"Carol": {s.carol, "/web/docs/a/b", 200}, "another path": {s.carol, "/web/docs/b", 403}, "a path beside it": {s.carol, "/web/docs/a", 403},
 		"another key": {s.mallory, "/web/docs/a/b", 403}, "the issuer's key": {s.bob, "/web/docs/a/b", 403}, "Carol again": {s.carol, "/web/docs/a/c", 200},
 	} {
-		s.mustBe(t, what, row.who, row.target, carols, row.wanted)
+		s.mustBe(t, name, row.who, row.target, carols, row.wanted)
 	}
 	if s.kept() != 1 {
 		t.Errorf("%d sequences are kept", s.kept())
@@ -103,7 +103,8 @@ func TestKeptSequencesAndEndedCertificates(t *testing.T) {
 		if !strings.Contains(line.Reason, digestOfText(certificate)) || len(line.Certificates) != place+1 || line.Cached != place {
 			t.Errorf("%+v", line)
 		}
-		s.mustBe(t, "Bob's", s.bob, "/web/docs/b", bobs, map[int]int{0: 403, 1: 200}[place])
+		// (Bob shows only his own, which is the first)
+		s.mustBe(t, "Bob's", s.bob, "/web/docs/b", bobs, []int{403, 200}[place])
 	}
 	s.config.Ended = ""
 	if err := s.keeper.reload(s.config, true, s.now()); err != nil {
@@ -144,10 +145,10 @@ func TestOnlyValidSequencesAreKept(t *testing.T) {
 	if ended.mustBe(t, "an ended one", ended.bob, "/web/docs/b", bobs, 403); ended.kept() != 0 {
 		t.Errorf("%d sequences are kept", ended.kept())
 	}
-	none := newSite(t, `, "cache": 0`)
-	_, carols := none.sequencesShown()
-	if line := none.mustBe(t, "no cache", none.carol, "/web/docs/a/b", carols, 200); none.kept() != 0 || line.Cached != 0 {
-		t.Errorf("%d sequences are kept, %+v", none.kept(), line)
+	uncached := newSite(t, `, "cache": 0`)
+	_, carols := uncached.sequencesShown()
+	if line := uncached.mustBe(t, "no cache", uncached.carol, "/web/docs/a/b", carols, 200); uncached.kept() != 0 || line.Cached != 0 {
+		t.Errorf("%d sequences are kept, %+v", uncached.kept(), line)
 	}
 }
 

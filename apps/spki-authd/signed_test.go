@@ -108,7 +108,7 @@ func TestSigned(t *testing.T) {
 func TestNoncesOfDenials(t *testing.T) {
 	s := newSite(t, `, "signatures": {"names": ["files.example.org"], "nonces": 1}`)
 	denied := s.mallory.signs(t, "GET", "files.example.org", "/web/x", "", nil)
-	for range [3]int{} {
+	for turn := 0; turn < 3; turn++ {
 		if response := s.ask(denied...); response.StatusCode != http.StatusUnauthorized {
 			t.Error(response.StatusCode, s.lastLine(t))
 		}

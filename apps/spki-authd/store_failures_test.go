@@ -280,8 +280,13 @@ func (s *fakeStatement) Query([]driver.Value) (driver.Rows, error) {
 // The noRows are the rows of a fakeStatement.
 type noRows struct{}
 
-func (noRows) Columns() []string         { return nil }
-func (noRows) Close() error              { return nil }
+// Columns returns the names of no columns.
+func (noRows) Columns() []string { return nil }
+
+// Close does nothing.
+func (noRows) Close() error { return nil }
+
+// Next says that there is no further row.
 func (noRows) Next([]driver.Value) error { return io.EOF }
 
 // TestTransactClosesStatements runs transactions on one connection. Each text is run, and at most the last statement stays open.
@@ -295,8 +300,8 @@ func TestTransactClosesStatements(t *testing.T) {
 			t.Fatal(err)
 		}
 	}
-	one := "BEGIN READ WRITE|SELECT 1 FROM s.entries|SELECT 2|COMMIT|"
-	if ran := strings.Join(conn.ran, "|") + "|"; ran != strings.Repeat(one, 3) || conn.open > 1 {
+	transaction := "BEGIN READ WRITE|SELECT 1 FROM s.entries|SELECT 2|COMMIT|"
+	if ran := strings.Join(conn.ran, "|") + "|"; ran != strings.Repeat(transaction, 3) || conn.open > 1 {
 		t.Errorf("%d open, %s", conn.open, ran)
 	}
 }

@@ -39,12 +39,12 @@ func TestStoreFigures(t *testing.T) {
 	if keys == 0 {
 		t.Skip("bench/store.py names a store")
 	}
-	for _, what := range []struct {
+	for _, measurement := range []struct {
 		name string
-		does func(f *figures)
+		run  func(f *figures)
 	}{{"cold", (*figures).measureCold}, {"single", (*figures).measureSingle}, {"load", (*figures).measureLoad}} {
-		if what.name == os.Getenv(envWhat) {
-			what.does(newFigures(t, keys))
+		if measurement.name == os.Getenv(envWhat) {
+			measurement.run(newFigures(t, keys))
 		}
 	}
 }
@@ -130,15 +130,16 @@ func (f *figures) measureCold() {
 // measureSingle measures keys whose lists are not kept by the daemon (`miss`), and one whose list is (`hit`), one question at a time.
 func (f *figures) measureSingle() {
 	random := rand.New(rand.NewSource(2))
-	some := min(f.keys, 10_000)
-	none := func() int { f.store.kept.clear(); return random.Intn(some) }
-	for turn := 0; turn < 2*some; turn++ {
+	keys := min(f.keys, 10_000)
+	notKept := func() int { f.store.kept.clear(); return random.Intn(keys) }
+	for turn := 0; turn < 2*keys; turn++ {
 		f.store.kept.clear()
-		f.timeOf(turn % some)
+		f.timeOf(turn % keys)
 	}
-	f.measure("miss", 10_000, none)
-	f.timeOf(7)
-	f.measure("hit", 20_000, func() int { return 7 })
+	f.measure("miss", 10_000, notKept)
+	const sameKey = 7
+	f.timeOf(sameKey)
+	f.measure("hit", 20_000, func() int { return sameKey })
 }
 
 // min returns the lesser number.
@@ -176,8 +177,8 @@ func (f *figures) measureLoad() {
 	}
 	group.Wait()
 	took, times := time.Since(begun), []time.Duration{}
-	for _, some := range all {
-		times = append(times, some...)
+	for _, ofWorker := range all {
+		times = append(times, ofWorker...)
 	}
 	hits, misses := f.store.count.hits-before.hits, f.store.count.misses-before.misses
 	fmt.Printf("figure rate second %.0f hits %.3f\n", float64(len(times))/took.Seconds(), float64(hits)/float64(hits+misses))

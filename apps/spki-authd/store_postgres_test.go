@@ -63,11 +63,11 @@ func newRig(t *testing.T, patience time.Duration) *rig {
 	if err != nil {
 		t.Fatal(err)
 	}
-	other, err := openReader(options, patience)
+	writer, err := openReader(options, patience)
 	if err != nil {
 		t.Fatal(err)
 	}
-	opened.writer = other.(*pool)
+	opened.writer = writer.(*pool)
 	open := func(entries []byte) (*guard.Guard, error) {
 		return guard.Open([]byte("(3:acl"+string(entries)+")"), guard.Strict, guard.Limits{})
 	}

@@ -73,12 +73,12 @@ func TestStoreServed(t *testing.T) {
 	for _, each := range l.times {
 		times = append(times, each...)
 	}
-	each := func(which int) float64 {
+	microsecondsEach := func(which int) float64 {
 		return float64((after[which] - before[which]).Microseconds()) / float64(len(times))
 	}
 	sort.Slice(times, func(one, other int) bool { return times[one] < times[other] })
 	fmt.Printf("figure served second %.0f p50 %d p99 %d daemon %.1f server %.1f clients %.1f octets %d busy %.2f\n", float64(len(times))/took.Seconds(),
-		times[len(times)/2].Microseconds(), times[len(times)*99/100].Microseconds(), each(0), each(1), each(2), octets/len(times),
+		times[len(times)/2].Microseconds(), times[len(times)*99/100].Microseconds(), microsecondsEach(0), microsecondsEach(1), microsecondsEach(2), octets/len(times),
 		(after[3]-before[3]).Seconds()/took.Seconds())
 }
 
@@ -109,11 +109,11 @@ func (l *load) populate() {
 // warm has each daemon read the rows of those who ask often.
 func (l *load) warm() {
 	for _, socket := range l.sockets {
-		one := l.visitor(socket, 0, nil)
+		asker := l.visitor(socket, 0, nil)
 		for number := 0; number < hotPeople; number++ {
-			one.askFor(number)
+			asker.askFor(number)
 		}
-		one.connection.Close()
+		asker.connection.Close()
 	}
 }
 

@@ -67,9 +67,9 @@ func (t *table) rows(digests [][]byte) (rows entryRows, err error) {
 			}
 		}
 	}
-	if what := t.meanwhile; what != nil {
+	if meanwhile := t.meanwhile; meanwhile != nil {
 		t.meanwhile = nil
-		what()
+		meanwhile()
 	}
 	return rows, t.fault
 }
@@ -181,7 +181,7 @@ func TestStoreDecides(t *testing.T) {
 		wanted int
 	}{
 		"Bob": {s.bob, bobs, 200}, "Carol": {s.carol, carols, 403}, "Mallory": {s.mallory, "", 401}, "Mallory with Bob's": {s.mallory, bobs, 403},
-		"no sequence": {s.alice, "{KDE6YSk=}", 400},
+		"a value of another kind": {s.alice, "{KDE6YSk=}", 400},
 	} {
 		if response := s.by(row.who, "GET", "/web/docs/b", row.shown); response.StatusCode != row.wanted {
 			t.Errorf("%s: %d", name, response.StatusCode)
@@ -292,7 +292,7 @@ func TestStoredChains(t *testing.T) {
 	limits := s.config.Chains
 	s.chains = newStoredChains(limits, s.table)
 	bobs, _ := s.sequencesShown()
-	is := func(name string, wanted int, kept string) {
+	asks := func(name string, wanted int, kept string) {
 		t.Helper()
 		if status := s.statusFor(s.bob, "/web/docs/b", ""); status != wanted || s.lastLine(t).Kept != kept {
 			t.Errorf("%s: %d %+v", name, status, s.lastLine(t))
@@ -304,17 +304,17 @@ func TestStoredChains(t *testing.T) {
 			t.Errorf("%s: %q", name, reply)
 		}
 	}
-	is("nothing is kept", 401, "")
+	asks("nothing is kept", 401, "")
 	leaves("kept", answerKept)
-	is("used", 200, "used")
+	asks("used", 200, "used")
 	reads := s.table.reads
-	is("used again", 200, "used")
+	asks("used again", 200, "used")
 	if s.table.reads != reads {
 		t.Errorf("read %d times", s.table.reads-reads)
 	}
 	s.store.kept.drop(digestsOf([]byte(s.alice.key))[1])
 	s.table.fault = errors.New("the server is gone")
-	is("without the entries for the issuer", 503, "")
+	asks("without the entries for the issuer", 503, "")
 	s.table.fault = nil
 	other := newStoredChains(limits, s.table)
 	if chains, err := other.of(hexDigest([]byte(s.bob.key)), s.now()); err != nil || len(chains) != 1 || chains[0].text != bobs {
@@ -322,7 +322,7 @@ func TestStoredChains(t *testing.T) {
 	}
 	s.table.fault = errors.New("the server is gone")
 	s.chains = newStoredChains(limits, s.table)
-	is("neither yes nor no", 503, "")
+	asks("neither yes nor no", 503, "")
 	leaves("shown, and not kept", answerFailed)
 	s.table.fault, s.table.became, s.table.kept = nil, answerYes, map[digest][]keptChain{}
 	leaves("an answer that is none", answerFailed)
@@ -351,24 +351,25 @@ func TestHostileRows(t *testing.T) {
 
 // TestStoreConfigs reads configurations of stores.
 func TestStoreConfigs(t *testing.T) {
-	of := func(fields string) string {
+	withStore := func(fields string) string {
 		return strings.Replace(least, `"/acl"`, `{"postgres": {`+fields+`}}`, 1)
 	}
 	const needed = `"host": "/run/postgresql", "database": "acl", "user": "u"`
-	config, err := parseConfig([]byte(of(needed)))
+	config, err := parseConfig([]byte(withStore(needed)))
 	if err != nil {
 		t.Fatal(err)
 	}
 	if settings := config.Source.store; settings.Schema != "spki" || settings.stale() != 10*time.Second || !strings.Contains(settings.settings(), "sslmode=disable") {
 		t.Errorf("%+v", settings)
 	}
-	if config, err = parseConfig([]byte(of(`"host": "db", "root": "/a'b", "database": "d", "user": "u"`))); err != nil ||
+	if config, err = parseConfig([]byte(withStore(`"host": "db", "root": "/a'b", "database": "d", "user": "u"`))); err != nil ||
 		!strings.Contains(config.Source.store.settings(), `sslmode=verify-full sslrootcert='/a\'b'`) {
 		t.Errorf("%v", err)
 	}
 	for _, text := range []string{
-		of(""), of(needed + `, "schema": "a;b"`), of(needed + `, "stale_seconds": 2`), of(needed + `, "stale_seconds": -1`), of(needed + `, "more": 1`),
-		of(`"host": "db", "database": "acl", "user": "u"`), of(needed + `, "port": 70000`), of(needed + `, "cache_mib": -1`),
+		withStore(""), withStore(needed + `, "schema": "a;b"`), withStore(needed + `, "stale_seconds": 2`), withStore(needed + `, "stale_seconds": -1`),
+		withStore(needed + `, "more": 1`), withStore(`"host": "db", "database": "acl", "user": "u"`), withStore(needed + `, "port": 70000`),
+		withStore(needed + `, "cache_mib": -1`),
 		strings.Replace(least, `"/acl"`, `{}`, 1), strings.Replace(least, `"/acl"`, `{"postgres": null}`, 1), strings.Replace(least, `"/acl"`, `[]`, 1),
 	} {
 		if _, err := parseConfig([]byte(text)); err == nil {

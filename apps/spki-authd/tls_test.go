@@ -79,9 +79,9 @@ func TestTLS(t *testing.T) {
 	if status, err := askByTLS(config, alice); status != 200 || err != nil {
 		t.Errorf("%d, %v, %s", status, err, messages.String())
 	}
-	var to, fault bytes.Buffer
-	if status := run([]string{"-health", "-config", path}, &to, &fault); status != 0 {
-		t.Errorf("%d, %s", status, fault.String())
+	var stdout, stderr bytes.Buffer
+	if status := run([]string{"-health", "-config", path}, &stdout, &stderr); status != 0 {
+		t.Errorf("%d, %s", status, stderr.String())
 	}
 	if plain, err := http.Get("http://" + strings.TrimPrefix(config.Listen, tlsScheme)); err == nil && plain.StatusCode < 400 {
 		t.Errorf("without TLS: %d", plain.StatusCode)

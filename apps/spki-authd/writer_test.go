@@ -90,7 +90,7 @@ func TestTimeOfLines(t *testing.T) {
 	sink := &hangingSink{goes: make(chan struct{})}
 	writer := newWriter(sink, patience, nil)
 	var all sync.WaitGroup
-	hands := func(line string) {
+	writeLate := func(line string) {
 		defer all.Done()
 		begun := time.Now()
 		err := writer.write([]byte(line))
@@ -100,13 +100,13 @@ func TestTimeOfLines(t *testing.T) {
 		}
 	}
 	all.Add(1)
-	go hands("first\n")
+	go writeLate("first\n")
 	for writer.taken() == 0 {
 		time.Sleep(time.Millisecond)
 	}
 	for line := 0; line < 64; line++ {
 		all.Add(1)
-		go hands("given up\n")
+		go writeLate("given up\n")
 		time.Sleep(patience / 128)
 	}
 	all.Wait()
@@ -211,12 +211,12 @@ func TestCutLines(t *testing.T) {
 
 // TestReaderThatIsGone writes to a pipe that nobody reads any more: the line is counted as lost.
 func TestReaderThatIsGone(t *testing.T) {
-	reader, to, err := os.Pipe()
+	reader, pipe, err := os.Pipe()
 	if err != nil {
 		t.Fatal(err)
 	}
-	defer to.Close()
-	writer := newWriter(&stream{to: to}, time.Minute, nil)
+	defer pipe.Close()
+	writer := newWriter(&stream{to: pipe}, time.Minute, nil)
 	writer.offer([]byte("one\n"))
 	if octets := make([]byte, 4); writer.failed.Load() != 0 {
 		t.Error("not written")
