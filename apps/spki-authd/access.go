@@ -73,8 +73,8 @@ func (a *access) readEnded(path string) error {
 	return err
 }
 
-// digestOfLists returns the stamp of the one list, or the digest of the scopes and stamps of several. The stamp is the digest of a file, and names
-// the last change of a store. Operators compare what is returned between daemons.
+// digestOfLists returns the stamp of the one list, or of several the SHA-256 digest, in hexadecimal digits, of a line for each with its host, prefix and
+// stamp. The stamp is the digest of a file, and names the last change of a store. Operators compare what is returned between daemons.
 func (a *access) digestOfLists() string {
 	if len(a.lists) == 1 {
 		return a.lists[0].stamp()
@@ -106,7 +106,7 @@ func (a *access) close() {
 	}
 }
 
-// listOf returns the list that decides for a host and a path, or nil if none does.
+// listOf returns the list that decides for a host and a decoded path, the first that fits both, or nil if none does.
 func (a *access) listOf(host, path string) *list {
 	for _, each := range a.lists {
 		if each.fits(host, path) {
@@ -137,7 +137,8 @@ func (a *access) checkStoresFresh() error {
 	return nil
 }
 
-// reload calls replace, and records and counts the outcome. Questions under way end with the files that they began with.
+// reload calls replace, and records and counts the outcome, also if it fails. `now` is noted as the time of the reload. With allowFewerEnded,
+// certificates that have ended may be missing in the new file, and count again. Questions under way end with the files that they began with.
 func (k *accessKeeper) reload(c *config, allowFewerEnded bool, now time.Time) error {
 	err := k.replace(c, allowFewerEnded, now)
 	k.last.Store(&reloadOutcome{now, err})

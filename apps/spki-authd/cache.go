@@ -23,7 +23,7 @@ type cache struct {
 	valid *recentMap[digest, struct{}]
 }
 
-// newCache returns a cache of at most so many signatures. With 0 or 1 it keeps none.
+// newCache returns a cache of at most `most` signatures. With 0 or 1 it keeps none, since a recentMap has two halves.
 func newCache(most int) *cache {
 	return &cache{newRecentMap[digest, struct{}](most)}
 }

@@ -19,9 +19,9 @@ func (c *config) open(entries []byte) (*guard.Guard, error) {
 	return guard.Open(append(append([]byte("(3:acl"), entries...), ')'), policy, c.Limits.ofQuestion())
 }
 
-// signaturesOf returns the signatures of the certificates that a client leaves, at least one, whatever access list is in force. It verifies none. It
-// fails with errUnkept if there is none, or if a certificate would not count even if all signatures were valid: so it marks them all as valid, and
-// asks the library for a reason. It also fails with the library's refusal of the sequence. `key` and `now` only complete the question.
+// signaturesOf returns the signatures of a sequence of certificates, at least one, whatever access list is in force. `sequence` is in transport form. It
+// verifies none. It fails with errUnkept if there is none, or if a certificate would not count even if all signatures were valid: so it marks them all as
+// valid, and asks the library for a reason. It also fails with the library's refusal of the sequence. `key` and `now` only complete the question.
 func (c *config) signaturesOf(sequence string, key guard.ProvenKey, now time.Time) ([]guard.Signature, error) {
 	empty, err := c.open(nil)
 	if err != nil {
@@ -72,7 +72,8 @@ func (c *config) namesKey(principal []byte, key guard.ProvenKey, now time.Time) 
 // anyWords are a request that only a right to everything contains.
 var anyWords = []string{"any", "request"}
 
-// subjectOf returns the subject of a certificate, both in canonical form, or nil if it has none. The library must have read the certificate before.
+// subjectOf returns the subject of a certificate, both in canonical form, or nil if it has none. It looks at one field after the other, so the library must
+// have read the certificate before: then its text is whole.
 func subjectOf(certificate []byte) []byte {
 	const begin, field = "(", "(7:subject"
 	for rest := certificate[len(begin):]; len(rest) > 0; rest = rest[lengthOf(rest):] {
@@ -83,8 +84,8 @@ func subjectOf(certificate []byte) []byte {
 	return nil
 }
 
-// lengthOf returns the number of octets of the value at the beginning of a canonical text, which is a string or a list, or of the whole text if no
-// whole value is there.
+// lengthOf returns how many octets a canonical text's first part has: a string as `3:abc`, a list in parentheses, or a display hint in brackets, without
+// the string behind it. If no whole part is there, it returns the length of the text.
 func lengthOf(text []byte) int {
 	depth := 0
 	for place := 0; place < len(text); {

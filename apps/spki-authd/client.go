@@ -50,7 +50,7 @@ const (
 	mostKeyedText = 4096
 )
 
-// newKeys returns keys that read certificates in one of the forms, by its name.
+// newKeys returns empty `keys` that read certificates in the form of this name, such as escapedPEM.
 func newKeys(name string) *keys {
 	return &keys{forms[name], newRecentMap[string, client](mostKeys)}
 }
@@ -90,7 +90,8 @@ func keyOf(text string, form form) ([]byte, error) {
 	return key, nil
 }
 
-// fromEscapedPEM reads PEM in which characters are written as %XX: `$ssl_client_escaped_cert` of nginx. A `+` is itself.
+// fromEscapedPEM reads PEM in which characters are written as %XX: `$ssl_client_escaped_cert` of nginx. A `+` stays one, since base64 has it. It fails
+// unless the text is one block CERTIFICATE without headers. pem.Decode skips what is in front of a block, so the beginning is tested too.
 func fromEscapedPEM(text string) ([]byte, error) {
 	unescaped, err := url.PathUnescape(text)
 	if err != nil {

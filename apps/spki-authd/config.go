@@ -113,7 +113,7 @@ func parseConfig(octets []byte) (*config, error) {
 	return config, config.check()
 }
 
-// setUsual sets each field that was left out to its usual value, but those that the checks of lists and chains set.
+// setUsual sets each field that was left out to its usual value, except those that the checks of lists and chains set.
 func (c *config) setUsual() {
 	c.nameLists()
 	setText(&c.SocketMode, "0660")
@@ -186,7 +186,7 @@ func (c *config) check() error {
 	return nil
 }
 
-// checkLog returns an error if `log` or `log_sync` is wrong.
+// checkLog returns an error if `log` is no absolute path, or `log_sync` none of its three words.
 func (c *config) checkLog() error {
 	if !strings.HasPrefix(c.Log, "/") {
 		return fmt.Errorf(`"log" is %q, and must be /PATH: the file that gets a line before each grant`, c.Log)
@@ -218,8 +218,8 @@ func (l limits) time() time.Duration {
 	return time.Duration(l.Seconds) * time.Second
 }
 
-// readSecret reads the secret that the web server and the daemon share, without the line feed at its end. It fails if others than the file's owner and
-// group may use the file, or if it is not one line of at least leastSecret visible characters.
+// readSecret reads the secret that the web server and the daemon share, without the end of its line. It fails if others than the file's owner and group
+// may use the file, or if it is not one line of at least leastSecret visible characters.
 func readSecret(path string) ([]byte, error) {
 	about, err := os.Stat(path)
 	if err != nil {

@@ -160,8 +160,8 @@ func (s *connectionServer) remove(connection net.Conn) {
 	<-s.places
 }
 
-// setStage sets the stage of a connection, and until when that may last. If the connection has a deadline, it gets a new one: it was to end, and a request
-// came at that moment. It fails if the deadline cannot be set, as when the connection is closed.
+// setStage sets the stage of a connection, and until when that may last. If the connection has a deadline already, it gets a new one: it was to end, and a
+// request came at that moment. While the daemon ends, each gets one. It fails if the deadline cannot be set, as when the connection is closed.
 func (s *connectionServer) setStage(state *connectionState, stage stage) error {
 	state.mutex.Lock()
 	defer state.mutex.Unlock()
@@ -266,6 +266,7 @@ func (s *connectionServer) answerAll(state *connectionState) {
 		if s.setStage(state, stage) != nil {
 			return
 		}
+		// (this waits for the first octet of a request)
 		if _, err := reader.all.Peek(1); err != nil || s.setStage(state, isBusy) != nil {
 			return
 		}
@@ -281,7 +282,8 @@ func (s *connectionServer) recoverPanic() {
 }
 
 // answerOne reads and answers one request, and says whether another one may follow on the connection. A request that does not end in time is logged and
-// gets no answer. What is no request is answered by `refused`.
+// gets no answer. What is no request is answered by `refused`. Only the answer to a PUT, by which certificates are left, needs the body: any other body is
+// dropped before. After a request with a body no other one may follow.
 func (s *connectionServer) answerOne(connection net.Conn, reader *requestReader) bool {
 	request, err := reader.next()
 	if err != nil && errors.Is(err, os.ErrDeadlineExceeded) {

@@ -63,6 +63,7 @@ func (d *daemon) serveControl(listener net.Listener) {
 			return
 		}
 		if err != nil {
+			// (no file descriptor is free, or the client went away)
 			time.Sleep(timeToRetry)
 			continue
 		}
@@ -107,7 +108,8 @@ func (d *daemon) doOrder(order string) (string, error) {
 	return "", errOrder
 }
 
-// inMain has the main loop call a function, and returns its error, or another one if the main loop does not come to it in timeForOrder.
+// inMain has the main loop call a function, and returns the function's error. If the main loop is busy for timeForOrder, it fails, and the function is not
+// called.
 func (d *daemon) inMain(call func(*daemon) error) error {
 	sent := order{call, make(chan error, 1)}
 	select {

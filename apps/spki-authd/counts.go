@@ -42,7 +42,7 @@ func newCounts(rules int) *counts {
 	return zero
 }
 
-// note counts one answer, the time that it took, and the signatures that were known or not verified for it.
+// note counts one answer, by the record of it, the time that it took, and the signatures that were known to be valid, and that were not verified.
 func (c *counts) note(record *record, took time.Duration) {
 	for place, answer := range answers {
 		if answer == record.Answer {

@@ -75,6 +75,7 @@ func (d *decider) decide(inquiry *inquiry, now time.Time) record {
 		return result.withReason(answerLimited, errOftenKey)
 	}
 	if inquiry.body != nil {
+		// (the client leaves certificates for its later requests, and asks for nothing else)
 		return d.keepCertificates(result, client.key, proof, inquiry)
 	}
 	path, err := pathOf(inquiry.target, d.config.Limits.PathOctets)
@@ -103,6 +104,7 @@ func (d *decider) judge(result *record, key guard.ProvenKey, path, sequence stri
 	question := guard.Question{Key: key, Words: result.Request, Time: now}
 	var decision guard.Decision
 	var err error
+	// (decideKnown opens no question that explain could ask for reasons)
 	if verified := d.sequences.of(sequence); verified != nil && !d.config.Explain {
 		decision, err = d.decideKnown(result, question, path, verified)
 	} else {
@@ -143,8 +145,9 @@ func (d *decider) decideKnown(result *record, question guard.Question, path stri
 }
 
 // withList calls `use` with the access and the list that are in force for a host and a path, and returns both and the error of `use`. Of a list in a store
-// it takes only the entries that the question needs. If the list is closed at that moment, as by a reload, `use` is called again, with the new list. It
-// fails with errNoList if no list is for the host and the path, and if a store cannot be read.
+// it takes only the entries that the question needs, and closes the list of them afterwards if the store does not keep it (isPassing). If the list is closed
+// at that moment, as by a reload, `use` is called again, with the new list. It fails with errNoList if no list is for the host and the path, with errBusy if
+// too many questions are decided at once, and if a store cannot be read.
 func (d *decider) withList(question *guard.Question, host, path string, use func(present *access, list *list) error) (*access, *list, error) {
 	for {
 		present, list, err := d.keeper.listFor(host, path)
@@ -164,7 +167,8 @@ func (d *decider) withList(question *guard.Question, host, path string, use func
 	}
 }
 
-// useAtGate is a call of `use` for withList, at the gate of the library.
+// useAtGate calls `use` with an access and this list, as soon as the gate `library` has room for one more call, and returns its error. If the gate has no
+// room for timeAtGate, it fails with errBusy, and does not call `use`.
 func (l *list) useAtGate(present *access, use func(present *access, list *list) error) error {
 	if err := library.enter(); err != nil {
 		return err
@@ -173,8 +177,8 @@ func (l *list) useAtGate(present *access, use func(present *access, list *list) 
 	return use(present, l)
 }
 
-// decideAnew decides a question by certificates whose signatures are not all known to be valid, and notes it in a record. Where denials are explained, it
-// decides each question.
+// decideAnew decides a question by certificates whose signatures are not all known to be valid, and notes it in a record. With `explain` in the
+// configuration it decides by known ones too. `sequence` has the certificates in transport form, or is empty. `path` is decoded.
 func (d *decider) decideAnew(result *record, question guard.Question, path, sequence string) (decision guard.Decision, err error) {
 	question.Sequence = noCertificates
 	if sequence != "" {
@@ -226,8 +230,8 @@ func (d *decider) decideBy(result *record, present *access, list *list, question
 }
 
 // explain returns, as a text for the log, why a request that was decided is denied; notExplained, if more denials were explained than explain_rate
-// allows; or the text of the error, if explaining fails. Signatures that were not verified, since they could not help, are marked as valid: so the reasons are what else is missing. These marks come
-// after the decision, and change only the reasons.
+// allows; or the text of the error, if explaining fails. Signatures that were not verified, since they could not help, are marked as valid: so the
+// reasons are what else is missing. These marks come after the decision, and change only the reasons.
 func (d *decider) explain(result *record, opened *guard.Asked) string {
 	if !d.explanations.allows("", d.now()) {
 		return notExplained
@@ -262,6 +266,7 @@ func (d *decider) countValid(result *record, certificates *shownSequence, signat
 // answerOf returns the answer to a request whose decision failed with an error: `refused` if it is the fault of what the client has sent, and otherwise
 // `failed`.
 func answerOf(err error) answer {
+	// (want of memory is a refusal by the library too)
 	if errors.Is(err, guard.ErrRefused) && !errors.Is(err, guard.ErrMemory) || errors.Is(err, errUnkept) {
 		return answerRefused
 	}

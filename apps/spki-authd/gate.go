@@ -36,5 +36,5 @@ func (g gate) enter() error {
 	}
 }
 
-// leave lets another goroutine through.
+// leave lets another goroutine through. A goroutine calls it once for each `enter` that did not fail.
 func (g gate) leave() { <-g }

@@ -238,7 +238,7 @@ var notAfter = regexp.MustCompile(`\(9:not-after19:(\d{4}-\d\d-\d\d_\d\d:\d\d:\d
 // endOf returns the earliest end of the certificates of a sequence in transport form, if one has an end: the moment from which on it is not valid. Octets
 // in a tag that look like an end count too: then the sequence is forgotten early, and the client can leave it again.
 func endOf(text string) (end time.Time, hasEnd bool) {
-	// (what is no base64 is refused before)
+	// (without white space and braces it is base64: anything else was refused before)
 	octets, _ := base64.StdEncoding.DecodeString(strings.Trim(strings.Join(strings.Fields(text), ""), "{}"))
 	for _, match := range notAfter.FindAllSubmatch(octets, -1) {
 		limit, err := time.Parse("2006-01-02_15:04:05", string(match[1]))
@@ -258,7 +258,7 @@ func (f *folderChains) of(key string, now time.Time) ([]keptChain, error) {
 	return f.current(key, now), nil
 }
 
-// current is `of` where the mutex is held. It changes only what is kept for this key.
+// current is `of` where the mutex is held. It changes only what is kept for this key, and notes the files of what has ended in f.ended.
 func (f *folderChains) current(key string, now time.Time) []keptChain {
 	var current []keptChain
 	for _, each := range f.byKey[key] {

@@ -69,7 +69,7 @@ func (l *ledger) open() error {
 	return nil
 }
 
-// checkLedgerPath returns an error if there is something else than an ordinary file at a path, or if its folder does not exist.
+// checkLedgerPath returns an error if there is something other than an ordinary file at a path, or if its folder does not exist.
 func checkLedgerPath(path string) error {
 	about, err := os.Stat(path)
 	if errors.Is(err, fs.ErrNotExist) {
@@ -151,8 +151,8 @@ func (l *ledger) write(lines []byte) error {
 	return nil
 }
 
-// prepare is called before lines are written. It notes the file's size, and makes the file again if it was removed. It fails if the last `beat` has failed,
-// also if one more does not: a system may report only once that lines are lost.
+// prepare is called before lines are written. It notes the file's size, and makes the file again if it was removed. If `beat` has failed since the last
+// call, prepare fails, although it calls `beat` once more and that may succeed: a system may report only once that lines are lost.
 func (l *ledger) prepare() error {
 	about, err := l.file.Stat()
 	if err != nil {

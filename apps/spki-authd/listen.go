@@ -43,7 +43,8 @@ func (c *config) checkEntrance() error {
 	return nil
 }
 
-// checkSocket returns an error if a field for a Unix socket at a path is wrong.
+// checkSocket returns an error if the path or the mode of the web server's Unix socket is wrong, if `tls` is set, which is for a port, or if everyone may
+// write to the socket and there is no secret.
 func (c *config) checkSocket(path string) error {
 	mode, err := modeOf(c.SocketMode)
 	if err != nil || !strings.HasPrefix(path, "/") || len(path) > mostSocketPath {
@@ -72,7 +73,8 @@ func modeOf(text string) (fs.FileMode, error) {
 	return fs.FileMode(mode), err
 }
 
-// listen takes the socket or the port from the service manager, if that has opened it, or opens it. With `tls` the listener speaks TLS.
+// listen takes the socket or the port from the service manager, if that has opened it, or opens it, and makes its queue long. With `tls` the listener
+// speaks TLS.
 func (c *config) listen() (net.Listener, error) {
 	listener, err := inheritedSocket()
 	if err == nil && listener != nil {

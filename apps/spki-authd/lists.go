@@ -55,7 +55,8 @@ func (c *config) checkLists() error {
 	return nil
 }
 
-// check returns an error if a scope is wrong. It is also wrong if one of the scopes before it fits all its requests, so that it is never reached.
+// check returns an error if a scope has no list, or a wrong host or prefix, or if one of the scopes before it fits all its requests, so that it is never
+// reached.
 func (s *scope) check(before []scope) error {
 	if s.List == "" || s.Host != "" && !isHost(s.Host) {
 		return errors.New("a place has a list, and a host in small letters or none")

@@ -45,7 +45,7 @@ func (r *record) line(room []byte) []byte {
 // fields are the text of an object of JSON up to some field, without the brace that ends it.
 type fields []byte
 
-// name writes the name of the next field.
+// name writes the name of the next field, behind a comma, or behind the brace that begins the object.
 func (f *fields) name(name string) {
 	begin := byte(',')
 	if len(*f) == 0 {
@@ -54,7 +54,7 @@ func (f *fields) name(name string) {
 	*f = append(append(append(*f, begin, '"'), name...), '"', ':')
 }
 
-// text writes a field with a text. An empty one is written only if it is needed.
+// text writes a field with a text. An empty text is left out, unless isNeeded.
 func (f *fields) text(name, value string, isNeeded bool) {
 	if value != "" || isNeeded {
 		f.name(name)
@@ -77,7 +77,7 @@ func (f *fields) texts(name string, values []string) {
 	*f = append(*f, ']')
 }
 
-// number writes a field with a number. Zero is written only if it is needed.
+// number writes a field with a number. Zero is left out, unless isNeeded.
 func (f *fields) number(name string, value int64, isNeeded bool) {
 	if value != 0 || isNeeded {
 		f.name(name)

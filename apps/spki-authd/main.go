@@ -162,7 +162,7 @@ func (w *words) check(rest []string) error {
 	return nil
 }
 
-// tasks returns those flags that are given and say what to do. Without one, the daemon starts.
+// tasks returns those flags that are given and say what to do. If there is none, the daemon starts.
 func (w *words) tasks() []string {
 	var tasks []string
 	for _, task := range []struct {

@@ -68,7 +68,7 @@ var isOfPath = func() (isAllowed [256]bool) {
 	return isAllowed
 }()
 
-// hasPathOctets says whether isOfPath has each octet of a text.
+// hasPathOctets says whether a decoded path may have each octet of a text.
 func hasPathOctets(text string) bool {
 	for place := 0; place < len(text); place++ {
 		if !isOfPath[text[place]] {

@@ -77,7 +77,8 @@ func probeSite(address string, isStopped bool, out io.Writer) error {
 	return probe.end()
 }
 
-// baseOf reads the address of a folder, or fails with errBase.
+// baseOf reads the address of a folder, and returns it without the `/` at its end. It fails with errBase if the address has another scheme than https or
+// http, no host, a user, a query, a fragment, or an escape such as %2F, which decoding would change.
 func baseOf(address string) (*url.URL, error) {
 	base, err := url.Parse(address)
 	if err != nil || base.Scheme != "https" && base.Scheme != "http" {

@@ -106,8 +106,10 @@ func newAsker(name string, protocol int, own *tls.Certificate) asker {
 	}
 	transport := &http.Transport{TLSClientConfig: settings, DisableCompression: true, ForceAttemptHTTP2: protocol == 2}
 	if protocol == 2 {
+		// (net/http fills the list itself)
 		settings.NextProtos = nil
 	} else {
+		// (a map that is not nil keeps net/http from HTTP/2)
 		transport.TLSNextProto = map[string]func(string, *tls.Conn) http.RoundTripper{}
 	}
 	client := &http.Client{Transport: transport, Timeout: timeForAnswer}
@@ -122,6 +124,7 @@ func newStrange() (*tls.Certificate, error) {
 		return nil, err
 	}
 	now := time.Now()
+	// (the server's clock may be an hour behind)
 	about := &x509.Certificate{SerialNumber: big.NewInt(now.UnixNano()), NotBefore: now.Add(-time.Hour), NotAfter: now.Add(24 * time.Hour)}
 	octets, err := x509.CreateCertificate(rand.Reader, about, about, private.Public(), private)
 	return &tls.Certificate{Certificate: [][]byte{octets}, PrivateKey: private}, err

@@ -29,7 +29,7 @@ func (r *recentMap[K, V]) get(key K) (V, bool) {
 	return value, isOld
 }
 
-// add keeps a value for a key. Values that were not asked for since long may be dropped.
+// add keeps a value for a key. Values that were not asked for in a long time may be dropped.
 func (r *recentMap[K, V]) add(key K, value V) {
 	r.mutex.Lock()
 	defer r.mutex.Unlock()

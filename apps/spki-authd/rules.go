@@ -23,7 +23,7 @@ const (
 	placeOfHost   = "{host}"
 )
 
-// checkRules returns an error if a configuration has no rule or a wrong one.
+// checkRules returns an error if a configuration has no rule, a wrong one, or one that is never used.
 func checkRules(rules []rule) error {
 	if len(rules) == 0 {
 		return errors.New(`"requests" is missing: which request a method and a path mean`)
@@ -51,7 +51,8 @@ func (r rule) checkReached(before []rule) error {
 	return nil
 }
 
-// check returns an error if a rule is wrong.
+// check returns an error if the prefix or the host of a rule is wrong, if it has no methods or no strings of a request, or if a string has braces and is
+// none of the three that are replaced.
 func (r rule) check() error {
 	if err := checkPrefix(r.Prefix); err != nil {
 		return err

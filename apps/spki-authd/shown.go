@@ -55,7 +55,8 @@ func (s *sequences) of(text string) *shownSequence {
 	return sequence
 }
 
-// add keeps a sequence by its text as it was shown, unless that is too long. Its caller has verified all signatures, and marked them in sequence.verified.
+// add keeps a sequence by its text as it was shown, unless that is too long or no sequences are kept. Its caller has verified all signatures, and set
+// sequence.verified.
 func (s *sequences) add(text string, sequence *shownSequence) {
 	if len(text) > mostShownOctets || s.kept.half == 0 {
 		return

@@ -50,7 +50,7 @@ var (
 	errSource = errors.New(`a list is the path of a file, or {"postgres": {..}}`)
 )
 
-// UnmarshalJSON reads the path of a file, or `{"postgres": {..}}`, whose settings it checks. For anything else it fails with errSource.
+// UnmarshalJSON reads the path of a file, or `{"postgres": {..}}`. It fails with errSource for anything else, and as storeOf.check does for a wrong setting.
 func (s *source) UnmarshalJSON(text []byte) error {
 	if json.Unmarshal(text, &s.file) == nil {
 		return nil
@@ -70,7 +70,7 @@ func (s *source) UnmarshalJSON(text []byte) error {
 	return s.store.check()
 }
 
-// name returns what a list is called in messages.
+// name returns what a list is called in messages: the path of its file, or the schema and the host of its store.
 func (s *source) name() string {
 	if s.store == nil {
 		return s.file
@@ -110,7 +110,7 @@ func (s *storeOf) isSocket() bool {
 	return strings.HasPrefix(s.Host, "/")
 }
 
-// stale returns the most age of a state of the store by which the daemon decides.
+// stale returns how old the state of the store may be, so that the daemon still decides by it.
 func (s *storeOf) stale() time.Duration {
 	return time.Duration(s.StaleSeconds) * time.Second
 }
@@ -127,7 +127,7 @@ func (s *storeOf) settings() string {
 			settings = append(settings, name+"="+quoteSetting(value))
 		}
 	}
-	// (the last three: a statement is planned once, and a plan that was made while the table was small must not read the whole table later)
+	// (the last three: a statement is planned once and not compiled, and a plan from when the table was small must not read the whole table later)
 	return strings.Join(append(settings, fmt.Sprintf("port=%d", s.Port), "application_name=spki-authd", "enable_seqscan=off", "jit=off", "plan_cache_mode=force_generic_plan"), " ")
 }
 

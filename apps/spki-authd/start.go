@@ -53,7 +53,8 @@ func start(words words, out, messages io.Writer) error {
 		*config.Cache = 0
 	}
 	if config.Signatures != nil && !words.isTest {
-		// (`created` has whole seconds: the daemon before this one may have granted a request of this second)
+		// (a signed request says in whole seconds when it was made, and one from before the start is refused. The daemon before this one may have granted
+		// one of this second, whose nonce is forgotten: so this daemon starts with the next second)
 		time.Sleep(time.Until(time.Now().Truncate(time.Second).Add(time.Second)))
 	}
 	decider := newDecider(config)

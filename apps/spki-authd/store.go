@@ -164,7 +164,8 @@ func (s *store) keyOf(question *guard.Question) ([]byte, error) {
 	return []byte(first), nil
 }
 
-// readFirst returns the key that the first signature of a question is by, or an empty text if none is listed. It fails with the library's refusal.
+// readFirst returns the key by which the first listed signature of a question is made, or an empty text if none is listed. It fails with the library's
+// refusal, or with errBusy.
 func (s *store) readFirst(question *guard.Question) (first string, err error) {
 	if err := library.enter(); err != nil {
 		return "", err
@@ -175,6 +176,7 @@ func (s *store) readFirst(question *guard.Question) (first string, err error) {
 		return "", err
 	}
 	defer opened.Close()
+	// (with false Each ends after the first)
 	err = opened.Each(func(_ int, signature guard.Signature) bool { first = string(signature.Key); return false })
 	return first, err
 }
@@ -240,7 +242,7 @@ func digestsOf(key []byte) [][]byte {
 	return [][]byte{first[:], second[:], third[:]}
 }
 
-// keptOf returns the list that is kept for a key, by the digest of the key, or nil, and counts the first case.
+// keptOf returns the list that is kept for a key, by the digest of the key, and counts a hit. If none is kept, it returns nil.
 func (s *store) keptOf(keyDigest digest) *list {
 	s.mutex.Lock()
 	defer s.mutex.Unlock()
@@ -295,6 +297,7 @@ func (p *polledState) age(now time.Time) (time.Duration, error) {
 	if p.lag > 0 {
 		age += p.lag
 	}
+	// (Round(0) drops the monotonic clock)
 	if byDay := now.Round(0).Sub(time.UnixMicro(p.beaten)); byDay > age {
 		age = byDay
 	}

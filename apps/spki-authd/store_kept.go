@@ -32,7 +32,7 @@ func newKeptRows(most int) *keptRows {
 	return &keptRows{most: most, order: ordered.New(), byName: map[digest]*ordered.Element{}, byDigest: map[string]*ordered.Element{}}
 }
 
-// get returns the list that is kept for a key, by the key's digest by SHA-256, or nil.
+// get returns the list that is kept for a key, by the key's digest by SHA-256, or nil. The list is then the one that was asked for last.
 func (k *keptRows) get(name digest) *list {
 	element, isKept := k.byName[name]
 	if !isKept {
@@ -43,7 +43,7 @@ func (k *keptRows) get(name digest) *list {
 }
 
 // add keeps the list of a key, unless it alone is too large, and says whether it does. `name` is the key's digest by SHA-256, `digests` are all its digests
-// from digestsOf, and `octets` is the size of its entries' texts. Lists that were not asked for since long are removed to make room.
+// from digestsOf, and `octets` is the size of its entries' texts. Lists that were not asked for in a long time are removed to make room.
 func (k *keptRows) add(name digest, digests [][]byte, rows *list, octets int) bool {
 	if before, isKept := k.byName[name]; isKept {
 		k.remove(before)

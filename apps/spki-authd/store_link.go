@@ -13,7 +13,7 @@ type patient struct {
 	patience time.Duration
 }
 
-// Read reads, or fails after the patience.
+// Read reads what comes, and fails if nothing comes for p.patience.
 func (p *patient) Read(octets []byte) (int, error) {
 	if err := p.SetReadDeadline(time.Now().Add(p.patience)); err != nil {
 		return 0, err
@@ -21,7 +21,7 @@ func (p *patient) Read(octets []byte) (int, error) {
 	return p.Conn.Read(octets)
 }
 
-// Write writes, or fails after the patience.
+// Write writes octets, and fails if that takes longer than p.patience.
 func (p *patient) Write(octets []byte) (int, error) {
 	if err := p.SetWriteDeadline(time.Now().Add(p.patience)); err != nil {
 		return 0, err

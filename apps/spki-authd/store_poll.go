@@ -22,6 +22,7 @@ func (s *store) pollOnce() error {
 	follows := false
 	if !before.at.IsZero() {
 		result, err = s.reader.since(before.changes)
+		// (another time of the same change is another history, and fewer changes or beats are an older state)
 		follows = err == nil && !result.isCut && result.first == before.token && result.changes >= before.changes && result.beat >= before.beat
 	}
 	if err == nil && !follows {
@@ -55,6 +56,7 @@ func (s *store) take(result pollResult, begun time.Time, follows bool) {
 	for _, each := range result.changed {
 		s.kept.drop(each)
 	}
+	// (Round(0) drops the monotonic clock: the lag is by the time of day)
 	if s.polled.at.IsZero() || result.beat != s.polled.beat || result.beaten != s.polled.beaten {
 		s.polled.at, s.polled.lag = begun, begun.Round(0).Sub(time.UnixMicro(result.beaten))
 	}
@@ -74,8 +76,8 @@ func (s *store) statusLine() (string, error) {
 		s.polled.beat, age.Seconds(), len(s.ended), s.kept.count(), s.kept.size, s.count.misses, s.count.failures), err
 }
 
-// stamp returns what differs between two states of a list: the digest of a file, or `change-NUMBER-TIME` of the last change of a store, the time in
-// microseconds since 1970.
+// stamp returns a text that differs between any two states of a list: the digest of a file, or `change-NUMBER-TIME` of the last change of a store, the time
+// in microseconds since 1970.
 func (l *list) stamp() string {
 	if l.store == nil {
 		return l.digest
