@@ -73,7 +73,7 @@ func TestCacheIsBounded(t *testing.T) {
 	}
 }
 
-// TestCacheInGoroutines asks one cache at the same time for more signatures than it keeps, some of which are not valid.
+// TestCacheInGoroutines asks one cache at the same time for more signatures than it keeps. Only those whose number has two digits are valid.
 func TestCacheInGoroutines(t *testing.T) {
 	cache, hasTwoDigits := newCache(50), func(signature guard.Signature) bool { return len(signature.Message) == 2 }
 	var all sync.WaitGroup

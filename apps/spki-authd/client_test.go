@@ -51,7 +51,7 @@ func TestWrongForms(t *testing.T) {
 	}
 }
 
-// TestKindsOfKeys reads certificates with keys of several kinds, of which only some may be used.
+// TestKindsOfKeys reads certificates with keys of several kinds: P-256 and RSA of 2,048 bits may be used, P-521 and RSA of 1,024 bits may not.
 func TestKindsOfKeys(t *testing.T) {
 	p256, err := ecdsa.GenerateKey(elliptic.P256(), rand.Reader)
 	if err != nil {
@@ -82,7 +82,7 @@ func TestKindsOfKeys(t *testing.T) {
 	}
 }
 
-// TestKeysAreKept reads Alice's certificate twice, the second time from what is kept, and a text that is no certificate twice.
+// TestKeysAreKept reads Alice's certificate twice, the second time from what is kept, with the same result. A text that is no certificate fails twice.
 func TestKeysAreKept(t *testing.T) {
 	keys, alice := newKeys(escapedPEM), newPerson(t)
 	for turn := 0; turn < 2; turn++ {

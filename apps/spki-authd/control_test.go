@@ -64,7 +64,7 @@ func TestReloadsThatAreRefused(t *testing.T) {
 	}
 }
 
-// TestHealth asks how a daemon is, while it is well, while it grants nothing, and where there is none.
+// TestHealth runs -health where the daemon is well, where the disk of its log is full, so that it grants nothing, and where there is no daemon.
 func TestHealth(t *testing.T) {
 	s := serveHere(t, "")
 	s.logGrant = s.daemon.granted.write
@@ -94,7 +94,8 @@ func TestHealth(t *testing.T) {
 	}
 }
 
-// TestControlSocket asks the control socket for what is no order, and as a web server would.
+// TestControlSocket sends the control socket, which only its owner may use, what is no order, and a web server's request. No answer begins with orderDone
+// or has 200 in it.
 func TestControlSocket(t *testing.T) {
 	s := serveHere(t, "")
 	about, err := os.Stat(s.config.controlPath())
@@ -120,7 +121,8 @@ func TestControlSocket(t *testing.T) {
 	}
 }
 
-// TestReopenedByOrder renames the log of grants under a daemon that goes on.
+// TestReopenedByOrder renames the log of grants under a daemon that goes on, which then opens it anew by -reopen, and by a signal. Each time the line of
+// /web/x is in the renamed file, and that of /web/y in the new one, which the second turn renames. Without a folder, opening it is an error.
 func TestReopenedByOrder(t *testing.T) {
 	s := serveHere(t, "")
 	s.logGrant = s.daemon.granted.write
@@ -132,6 +134,7 @@ func TestReopenedByOrder(t *testing.T) {
 		}
 		if wanted == "signal" {
 			s.daemon.signals.reopen <- os.Interrupt
+			// (the main loop does this after what the signal asks for: when it is answered, both are done)
 			s.runProgram(t, "-reload")
 		} else if status, _, messages := s.runProgram(t, wanted); status != 0 {
 			t.Error(messages)
@@ -152,7 +155,8 @@ func TestReopenedByOrder(t *testing.T) {
 	}
 }
 
-// TestStates compares daemons by their control sockets.
+// TestStates compares two daemons by -state: they have different lists, then the same, and then one has an ended certificate. Where no daemon answers,
+// that is an error.
 func TestStates(t *testing.T) {
 	one, two := serveHere(t, ""), serveHere(t, "")
 	compared := func() (int, string) {
@@ -181,7 +185,8 @@ func TestStates(t *testing.T) {
 // A line of Prometheus' text format, of a value or about a family.
 var metric = regexp.MustCompile(`^(# (HELP|TYPE) [a-z_]+ .+|[a-z_]+(\{[a-z]+="[^"\\]*"(,[a-z]+="[^"\\]*")*\})? [0-9.e+-]+)$`)
 
-// TestMetrics sends six requests, and compares what -metrics prints with what became of them.
+// TestMetrics sends six requests, and compares what -metrics prints with what became of them. The first verifies the signature of Bob's certificate, which
+// is known in the next three. The two of Carol's sequence are spared, since Mallory would get nothing by them. `//` is refused before a rule is looked for.
 func TestMetrics(t *testing.T) {
 	s := serveHere(t, "")
 	s.logGrant = s.daemon.granted.write

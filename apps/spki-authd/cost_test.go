@@ -7,7 +7,8 @@ import (
 	"conguraki/spki/verify"
 )
 
-// TestCostToStrangers counts the signatures that are verified. Who would get nothing by valid signatures costs none.
+// TestCostToStrangers counts the signatures that are verified. Who would get nothing by valid signatures costs none. A row has the status, how many
+// signatures are verified (`calls`), and how many the log has as not verified. A signature by another key than the issuer's is neither.
 func TestCostToStrangers(t *testing.T) {
 	s := newSite(t, "")
 	calls := 0

@@ -14,7 +14,7 @@ const (
 	ofOneLine = "71e6362df11a023066db92cd17270d94cea7a9664d1757bd041464d2d3a03002"
 )
 
-// TestEnded reads right files of ended certificates, and compares the number of their digests.
+// TestEnded reads right files of ended certificates, and compares the number of their lines with a digest.
 func TestEnded(t *testing.T) {
 	for text, wanted := range map[string]int{
 		"end 0 " + ofNothing + "\n": 0, oneDigest + "\nend 1 " + ofOneLine + "\n": 1, withLastLine("# ended early\n\n" + oneDigest + "\n" + otherDigest + " # Carol's, stolen\n" + oneDigest + "\n"): 3,
@@ -47,8 +47,8 @@ func TestWrongEnded(t *testing.T) {
 	}
 }
 
-// TestFewerEnded reads files of ended certificates one after the other: what has ended stays so, unless one reload says otherwise. `isRight` says
-// that the file is accepted, and `isStill` that Bob's certificate has ended after that.
+// TestFewerEnded reads files of ended certificates one after the other: what has ended stays so, unless allowFewerEnded is true. `isRight` says that
+// the file is accepted, and `isStill` that Bob's certificate has ended after that.
 func TestFewerEnded(t *testing.T) {
 	s := newSite(t, "")
 	s.config.Ended = writeFile(t, "ended", withLastLine(digestOfText(s.toBob)+"\n"))

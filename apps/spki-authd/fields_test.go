@@ -5,7 +5,8 @@ import (
 	"testing"
 )
 
-// TestFieldsThatAreThereTwice reads objects with a field that is there twice, of which encoding/json takes the last one. They are refused.
+// TestFieldsThatAreThereTwice reads objects with a field that is there twice, of which encoding/json takes the last one: they are refused. It takes the long
+// s (017f) for s and the sign of kelvin (212a) for k. A name that is a value too is there once.
 func TestFieldsThatAreThereTwice(t *testing.T) {
 	for _, text := range []string{
 		with(`"li\u017ft": "/other"`), with(`"tls": {"key": "/k", "\u212aey": "/l"}`), with(`"limits": {"seconds": 1, "seconds": 2}`), with(`"policy": "allow-sha1", "policy": "strict"`),

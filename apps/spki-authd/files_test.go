@@ -10,7 +10,7 @@ import (
 	"conguraki/spki/guard"
 )
 
-// TestNoFiles reads what is no file. A FIFO without a writer hangs nobody.
+// TestNoFiles reads FIFOs, devices and folders as files, lists and configurations: each fails with errNoFile. So no read waits for the FIFO's writer.
 func TestNoFiles(t *testing.T) {
 	fifo := filepath.Join(t.TempDir(), "fifo")
 	if err := syscall.Mkfifo(fifo, 0o600); err != nil {

@@ -131,6 +131,7 @@ func FuzzConnection(f *testing.F) {
 	f.Fuzz(func(t *testing.T, octets []byte) {
 		defer s.log.Reset()
 		connection := &scriptedConnection{sent: bytes.NewReader(octets)}
+		// (as connectionServer.serve does for each connection)
 		server.places <- struct{}{}
 		state := server.add(connection)
 		if len(server.open) != 1 {

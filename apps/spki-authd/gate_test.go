@@ -9,8 +9,8 @@ import (
 	"conguraki/spki/guard"
 )
 
-// TestGateOfLibrary asks several times at once, by a gate that lets two through. No more are decided at a time. A panic gives its place back. Who waits
-// too long is answered by `failed`.
+// TestGateOfLibrary sends four requests at once, through a gate that lets two pass. The verifier counts how many are in it: never more than two. If it
+// panics, the request leaves the gate too. If it takes longer than timeAtGate, the other two requests are answered by `failed`, which is 503.
 func TestGateOfLibrary(t *testing.T) {
 	s := newSite(t, `, "cache": 0`)
 	bobs, _ := s.sequencesShown()

@@ -89,7 +89,7 @@ func (s *site) lastLine(t testing.TB) record {
 	return line
 }
 
-// TestAnswers asks for each person with certificates of several people, and compares the status.
+// TestAnswers asks as each person, showing certificates of several people, and compares the status. newSite says who has which right.
 func TestAnswers(t *testing.T) {
 	s := newSite(t, "")
 	bobs, carols := s.sequencesShown()
@@ -172,6 +172,7 @@ func TestWrongHeaders(t *testing.T) {
 	s := newSite(t, "")
 	bobs, _ := s.sequencesShown()
 	whole := []string{"X-Original-Method", "GET", "X-Original-URI", "/web/docs/b", "X-Client-Cert", s.bob.escaped(), "Authorization", "SPKI " + bobs}
+	// (`more` adds pairs behind these, and `without` leaves out the pair that begins at a place)
 	more := func(pairs ...string) []string { return append(append([]string(nil), whole...), pairs...) }
 	without := func(place int) []string { return append(append([]string(nil), whole[:place]...), whole[place+2:]...) }
 	for name, row := range map[string]struct {
@@ -196,7 +197,7 @@ func TestWrongHeaders(t *testing.T) {
 	}
 }
 
-// TestManyCertificates shows as many certificates as may be, and one more, which is refused.
+// TestManyCertificates shows the same certificate as often as may be, which is denied, since it does not join itself, and once more, which is refused.
 func TestManyCertificates(t *testing.T) {
 	s := newSite(t, "")
 	signed := s.alice.sign(s.toBob)
@@ -211,7 +212,7 @@ func TestManyCertificates(t *testing.T) {
 	}
 }
 
-// TestSecretOfServer asks with the secret of the web server, with others and without one.
+// TestSecretOfServer asks with the secret of the web server, which is granted, and with others and without one, which is denied.
 func TestSecretOfServer(t *testing.T) {
 	s := newSite(t, "")
 	s.config.secret = []byte("0123456789abcdef0123456789abcdef")
@@ -277,7 +278,7 @@ func TestReloads(t *testing.T) {
 	}
 }
 
-// TestExplanations denies two requests, and compares the reasons in the log.
+// TestExplanations has two requests denied, and compares the reasons in the log: the right that Bob was given lacks the path, and no entry names Mallory.
 func TestExplanations(t *testing.T) {
 	s := newSite(t, `, "explain": true`)
 	bobs, _ := s.sequencesShown()
@@ -291,7 +292,8 @@ func TestExplanations(t *testing.T) {
 	}
 }
 
-// TestExplanationsAreBounded asks with sets whose intersections are more than the library explains, and denies more often than is explained.
+// TestExplanationsAreBounded asks with sets whose intersections are more than the library explains, and is denied more often than is explained: at once
+// explain_rate times savedSeconds, which is six times. A second later the next denial is explained.
 func TestExplanationsAreBounded(t *testing.T) {
 	s := newSite(t, `, "explain": true, "limits": {"explain_rate": 3}`)
 	moment := time.Now()
@@ -322,7 +324,7 @@ func TestExplanationsAreBounded(t *testing.T) {
 	}
 }
 
-// TestTime asks before and after the end of a certificate.
+// TestTime asks before the end of a certificate, which is granted, and after it, which is denied.
 func TestTime(t *testing.T) {
 	s := newSite(t, "")
 	until := s.alice.certificateUntil(s.bob, prefix("read", "/web/"), "2026-01-01_00:00:00")

@@ -17,7 +17,7 @@ type journal struct {
 
 var errFull = errors.New("no space left")
 
-// grant writes the line of a grant.
+// grant adds the line of a grant. If `fault` is set, it fails with that, and adds nothing.
 func (j *journal) grant(line []byte) error {
 	j.mutex.Lock()
 	defer j.mutex.Unlock()
@@ -27,7 +27,7 @@ func (j *journal) grant(line []byte) error {
 	return j.fault
 }
 
-// other writes another line.
+// other adds the line of another answer.
 func (j *journal) other(line []byte) {
 	j.mutex.Lock()
 	defer j.mutex.Unlock()
@@ -55,12 +55,12 @@ func (j *journal) fail(fault error) {
 	j.fault = fault
 }
 
-// writer returns an io.Writer that writes to the journal, for what takes no function.
+// writer returns an io.Writer that adds what is written to the journal. A daemon writes its events to it.
 func (j *journal) writer() io.Writer {
 	return toJournal{j}
 }
 
-// A toJournal writes to a journal.
+// A toJournal is the io.Writer of a journal.
 type toJournal struct{ *journal }
 
 // Write adds octets to the journal, and never fails.

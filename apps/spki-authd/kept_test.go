@@ -122,7 +122,7 @@ func TestKeptChains(t *testing.T) {
 			t.Errorf("%s: %d %q, wanted %d %q: %+v", row.name, status, reply, row.status, row.answer, s.lastLine(t))
 		}
 	}
-	// (a folder whose name is no pattern that it fits)
+	// (as a pattern of file names, `[x` would match nothing: the folder's name must not be taken for a pattern)
 	folder := s.config.Chains.Folder
 	if err := os.Rename(folder, folder+"[x"); err != nil {
 		t.Fatal(err)
@@ -210,7 +210,7 @@ func TestWhatIsKept(t *testing.T) {
 	}
 }
 
-// TestEndedIsNotKept leaves a certificate that has ended early.
+// TestEndedIsNotKept leaves a certificate that has ended early: it is refused with that reason, and not kept.
 func TestEndedIsNotKept(t *testing.T) {
 	s := newKeeping(t)
 	bobs, _ := s.sequencesShown()
@@ -224,7 +224,8 @@ func TestEndedIsNotKept(t *testing.T) {
 	}
 }
 
-// TestStrangersLeave leaves certificates of keys that a stranger has made. They fill the room for keys and that of octets, and cost no more.
+// TestStrangersLeave leaves certificates of keys that a stranger has made. Once there is no room for another key, or for more octets, they are answered by
+// `full`, and no signature is verified. None of them grants anything, and what a request shows itself counts as before.
 func TestStrangersLeave(t *testing.T) {
 	s := newKeeping(t)
 	s.config.Chains.Keys = 2
@@ -253,7 +254,8 @@ func TestStrangersLeave(t *testing.T) {
 	}
 }
 
-// TestEndedMakeRoom keeps the sequence of one key where there is room for no other one. Once it has ended, another key's is kept in its place.
+// TestEndedMakeRoom keeps the sequence of one key for nine days where there is room for no other one. Once it has ended, another key's is kept in its
+// place. A row has the key, the days since the row before, and the answer.
 func TestEndedMakeRoom(t *testing.T) {
 	kept := &folderChains{chains: chains{Folder: t.TempDir(), Each: 1, Keys: 1, Days: 9}, byKey: map[string][]keptChain{}}
 	now := time.Now()
@@ -272,7 +274,8 @@ func TestEndedMakeRoom(t *testing.T) {
 	}
 }
 
-// TestNoncesOfLeaving fills the nonces of those who leave certificates. Those of requests that are granted stay free.
+// TestNoncesOfLeaving has room for one nonce of those who leave certificates, and for one of requests that are granted. The first stranger who leaves some
+// takes the one, so the second is refused. The other stays free for Alice.
 func TestNoncesOfLeaving(t *testing.T) {
 	s := newSite(t, `, "chains": {"folder": "`+t.TempDir()+`"}, "signatures": {"names": ["files.example.org"], "nonces": 1}`)
 	s.reopenChains(t)
@@ -347,7 +350,7 @@ func TestPutAttacks(t *testing.T) {
 }
 
 // TestPutOnce leaves certificates that are too long, and to a path with a query, which is refused. Then it leaves them rightly, with headers of another
-// request and client, which count nothing, and once more by the same request, which is refused.
+// request and client, which are not read, and once more by the same request, which is refused.
 func TestPutOnce(t *testing.T) {
 	s := newKeeping(t)
 	bobs, _ := s.sequencesShown()
@@ -385,6 +388,7 @@ func TestKeptChainsEnd(t *testing.T) {
 			t.Error(reply)
 		}
 	}
+	// (days, and how many sequences are kept then: one for its ten days, and one for the usual ninety)
 	for _, row := range [][2]int{{9, 2}, {11, 1}, {89, 1}, {91, 0}} {
 		now := begun.AddDate(0, 0, row[0])
 		opened, err := openFolderChains(s.config.Chains, now, false)
@@ -402,7 +406,7 @@ func TestKeptChainsEnd(t *testing.T) {
 	if _, err := openFolderChains(s.config.Chains, begun.AddDate(0, 0, 11), true); err != nil || len(s.filesOfChains()) != 1 {
 		t.Error(err, s.filesOfChains())
 	}
-	// (who asks waits for no disk: the next sequence that is left has the files removed of those that have ended, and may have the name of one)
+	// (`of` forgets what has ended, and touches no file. `add` removes that file first, as a new sequence may have the same name)
 	kept, bobs, carols := s.chains.(*folderChains), hexDigest([]byte(s.bob.key)), hexDigest([]byte(s.carol.key))
 	for place, key := range []string{bobs, carols} {
 		now := begun.AddDate(place+1, 0, 0)
@@ -428,7 +432,7 @@ func (s *site) filesOfChains() []string {
 	return paths
 }
 
-// TestKeptNowhere leaves certificates where the folder is gone: 503, and the log says why.
+// TestKeptNowhere leaves certificates where a file has taken the place of the folder: 503, and the log says why.
 func TestKeptNowhere(t *testing.T) {
 	s := newKeeping(t)
 	bobs, _ := s.sequencesShown()
@@ -465,7 +469,7 @@ func TestKeptFiles(t *testing.T) {
 	if status := s.statusFor(s.bob, "/web/docs/b", ""); status != 401 {
 		t.Error(status)
 	}
-	// (a file that was begun long ago is removed, and others stay)
+	// (a file with .new may be one that another daemon writes now: it is removed when it is older than mostPart)
 	if files := s.filesOfChains(); len(files) != 4 {
 		t.Error(files)
 	}
@@ -494,7 +498,8 @@ func TestKeptFiles(t *testing.T) {
 	}
 }
 
-// TestDiskThatHangs leaves a sequence where the disk does not answer, as a FIFO that nobody reads. Meanwhile what is kept for other keys is found.
+// TestDiskThatHangs leaves a sequence where the disk does not answer: its file is a FIFO that nobody reads. Meanwhile `of` returns what is kept for another
+// key, without waiting.
 func TestDiskThatHangs(t *testing.T) {
 	kept, err := openFolderChains(&chains{Folder: t.TempDir(), Days: 1, Each: 1, Keys: 9}, time.Now(), true)
 	if err != nil {
@@ -513,6 +518,7 @@ func TestDiskThatHangs(t *testing.T) {
 		answer, _ := kept.add("a", chain, time.Now())
 		added <- answer
 	}()
+	// (until `add` holds this lock: it then waits for a reader of the FIFO)
 	for kept.writing.TryLock() {
 		kept.writing.Unlock()
 		time.Sleep(time.Millisecond)

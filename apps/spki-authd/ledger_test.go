@@ -47,8 +47,8 @@ func (f *failingFile) Sync() error {
 	return f.File.Sync()
 }
 
-// openFailing opens a ledger that has a text already, or is new if that is empty, and returns it with its file, which fails when its fields are set so.
-// `syncs` is syncNever, syncSeconds or syncEach.
+// openFailing opens a ledger that has a text already, or is new if that is empty, and returns it with its file. The file works until a test sets its
+// fields. `syncs` is syncNever, syncSeconds or syncEach.
 func openFailing(t *testing.T, syncs, text string) (*ledger, *failingFile) {
 	t.Helper()
 	path := filepath.Join(t.TempDir(), "log")
@@ -73,7 +73,8 @@ func (l *ledger) mustHave(t *testing.T, wanted string) {
 	}
 }
 
-// TestFullDisk writes two lines of which the second is cut. It is removed, or the next one does not join it.
+// TestFullDisk writes three lines, of which a full disk cuts the second: what is written of it is removed. Where that fails too, the third begins behind a
+// line feed.
 func TestFullDisk(t *testing.T) {
 	for isUncut, wanted := range map[bool]string{false: "one\nthree\n", true: "one\ntw\nthree\n"} {
 		ledger, disk := openFailing(t, syncNever, "")
@@ -107,8 +108,8 @@ func (f *fullFile) Write(octets []byte) (int, error) {
 	return count, errFull
 }
 
-// TestFullDiskOfMany has many hand lines over while a disk is full again and again. The file has those that are said to be written, whole and once,
-// and no others.
+// TestFullDiskOfMany has 16 goroutines write 50 lines each, while each third write finds the disk full. The file has the lines for which write returned no
+// error, whole and once, and no others.
 func TestFullDiskOfMany(t *testing.T) {
 	ledger, disk := openFailing(t, syncNever, "")
 	ledger.file = &fullFile{File: disk.File}
@@ -145,7 +146,8 @@ func TestFullDiskOfMany(t *testing.T) {
 	}
 }
 
-// TestCutLedger opens a file whose last line was cut, as by a machine that was switched off.
+// TestCutLedger opens a file whose last line was cut, as by a machine that was switched off. The next line that is written begins behind a line feed, also
+// if a full disk has refused one before.
 func TestCutLedger(t *testing.T) {
 	ledger, disk := openFailing(t, syncNever, "one\ntw")
 	disk.room = 0
@@ -161,8 +163,8 @@ func TestCutLedger(t *testing.T) {
 	ledger.mustHave(t, "one\ntw\nfour\nfive\n")
 }
 
-// TestSyncs writes where the disk takes nothing. With syncEach that is no line; with syncSeconds no further one, until the disk takes them. A row
-// says whether the first and the second write succeed.
+// TestSyncs writes two lines while fsync fails, and two when it works again. A row says whether the first, the second and the third write succeed. With
+// syncEach the first two fail. With syncSeconds a write fails after a `beat` has failed. The file has the lines whose write succeeded.
 func TestSyncs(t *testing.T) {
 	for syncs, row := range map[string]struct{ first, second, third bool }{
 		syncNever: {true, true, true}, syncSeconds: {true, false, false}, syncEach: {false, false, true},
@@ -207,7 +209,8 @@ func TestLostLinesAreReported(t *testing.T) {
 	}
 }
 
-// TestReopened renames, removes and empties a file that is written.
+// TestReopened renames a ledger's file: lines go to the renamed file until reopen, and then to a new one. A file that was removed is made again by the next
+// write, and one that was emptied is written on. Where the folder is gone, reopen fails, and write does not.
 func TestReopened(t *testing.T) {
 	ledger, _ := openFailing(t, syncSeconds, "")
 	write := func(line string) {
@@ -248,8 +251,8 @@ func TestReopened(t *testing.T) {
 	write("six\n")
 }
 
-// TestLastSync reopens and closes a ledger whose disk does not take the last lines. That is an error unless the ledger has syncNever, also where only
-// the time before has failed. The new file is open in each case.
+// TestLastSync reopens and closes a ledger after fsync has failed. That is an error unless the ledger has syncNever. With isOver fsync works again: then
+// syncSeconds must still report the `beat` that has failed, and syncEach has nothing to report. The new file is open in each case.
 func TestLastSync(t *testing.T) {
 	for _, syncs := range []string{syncNever, syncSeconds, syncEach} {
 		for _, isOver := range []bool{false, true} {
@@ -283,7 +286,7 @@ func TestLastSync(t *testing.T) {
 	}
 }
 
-// TestNoLedgers opens what is no file, or what another daemon has.
+// TestNoLedgers opens what is no ordinary file, a file that another daemon writes, and one in a folder that does not exist: each is an error that says so.
 func TestNoLedgers(t *testing.T) {
 	ledger, _ := openFailing(t, syncNever, "")
 	room := t.TempDir()

@@ -25,7 +25,8 @@ func TestHosts(t *testing.T) {
 	}
 }
 
-// twoSites returns a site with a list for each of two hosts: Alice may read on a.example, Bob on b.example. Below /web/api/ of both it is Carol.
+// twoSites returns a site with a list for each of two hosts: Alice may read below /web/ on a.example, Bob on b.example. A list before these two decides
+// below /web/api/ of each host, and gives that to Carol alone.
 func twoSites(t *testing.T) *site {
 	t.Helper()
 	s := newSite(t, "")
@@ -81,7 +82,7 @@ func TestListsOfHosts(t *testing.T) {
 	}
 }
 
-// TestRulesOfHosts has a rule for one host, beside a list for all.
+// TestRulesOfHosts has a rule for one host, beside a list for all. For another host no rule fits, which is denied, and a request without one is refused.
 func TestRulesOfHosts(t *testing.T) {
 	s := newSite(t, "")
 	s.config.Requests[0].Host = "a.example"
@@ -96,7 +97,8 @@ func TestRulesOfHosts(t *testing.T) {
 	}
 }
 
-// TestHostsThatNothingDependsOn logs the host, and denies nobody for it.
+// TestHostsThatNothingDependsOn asks where no rule and no list has a host. The log has the host of the request, or none if it is not clear, and Alice is
+// granted her request in each case.
 func TestHostsThatNothingDependsOn(t *testing.T) {
 	s := newSite(t, "")
 	for host, wanted := range map[string]string{"A.example:443": "a.example", "": "", "a b": ""} {

@@ -6,7 +6,7 @@ import (
 	"testing"
 )
 
-// TestLines compares lines with those of encoding/json.
+// TestLines compares the lines of records with those that encoding/json writes of them.
 func TestLines(t *testing.T) {
 	texts := []string{"", "a", "files read /a b", `"`, `\`, "<&>", "\x00\n\r\t\x1f\x7f", "\xff\xc0\x80", "é\u2028", "%5c", "{}[]:,"}
 	numbers := []int{0, 1, -1, 65_536}
@@ -49,7 +49,8 @@ func TestLogThatCannotBeWritten(t *testing.T) {
 	}
 }
 
-// TestLogThatHangs asks where the log of grants takes nothing and says nothing: no grant, and an answer in the time of a request.
+// TestLogThatHangs asks while a write to the log of grants does not return: what would be granted is answered by 503, and a denial as usual. The writer
+// waits for a twentieth of the time of a request, so that the test is short.
 func TestLogThatHangs(t *testing.T) {
 	s := serveHere(t, "")
 	goes := make(chan struct{})
@@ -65,9 +66,11 @@ func TestLogThatHangs(t *testing.T) {
 	}
 }
 
-// TestNumbersOfRequests asks with numbers in X-Request-Id, and compares what the log has of them.
+// TestNumbersOfRequests asks with numbers in X-Request-Id, and compares what the log has of them: a long one is cut, and one with a line feed or NUL is
+// refused and left out. Of a request that is refused for its path the log has it too.
 func TestNumbersOfRequests(t *testing.T) {
 	s := newSite(t, "")
+	// (`alice[:6:6]`, all its six texts without room behind them, has append make a copy)
 	alice := []string{"X-Original-Method", "GET", "X-Original-URI", "/web/x", "X-Client-Cert", s.alice.escaped()}
 	for id, wanted := range map[string]string{
 		"": "", "4f2a": "4f2a", "\"}": "\"}", "a\n": "", "a\x00": "", strings.Repeat("x", mostID): strings.Repeat("x", mostID),

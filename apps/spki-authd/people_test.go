@@ -86,7 +86,8 @@ func (p person) certificateUntil(to person, tag, end string) string {
 	return "(4:cert(6:issuer" + p.key + ")(7:subject" + to.key + ")(3:tag" + tag + ")(5:valid(9:not-after" + str(end) + ")))"
 }
 
-// sign returns a certificate with this person's signature behind it.
+// sign returns a certificate, which is in canonical form, with this person's signature behind it. The signature has the certificate's digest and the
+// person's key.
 func (p person) sign(certificate string) string {
 	digest := sha256.Sum256([]byte(certificate))
 	octets := ed25519.Sign(p.private, []byte(certificate))
@@ -94,12 +95,12 @@ func (p person) sign(certificate string) string {
 	return certificate + "(9:signature(4:hash6:sha256" + str(string(digest[:])) + ")" + p.key + value + ")"
 }
 
-// sequence returns signed certificates as one sequence in transport form, as a client sends them.
 // signAs returns a certificate with this person's signature behind it, which claims to be by another person's key.
 func (p person) signAs(other person, certificate string) string {
 	return strings.Replace(p.sign(certificate), p.key+"(7:sig-val", other.key+"(7:sig-val", 1)
 }
 
+// sequence returns signed certificates as one sequence in transport form, as a client sends them.
 func sequence(signed ...string) string {
 	return "{" + base64.StdEncoding.EncodeToString([]byte("(8:sequence"+strings.Join(signed, "")+")")) + "}"
 }
@@ -115,7 +116,7 @@ func prefix(word, path string) string {
 	return "(5:files" + str(word) + "(1:*6:prefix" + str(path) + "))"
 }
 
-// withLastLine returns lines of ended certificates with the last line that such a file must have.
+// withLastLine returns lines of ended certificates with the last line that such a file must have: the number of lines with a digest, and the digest of all.
 func withLastLine(lines string) string {
 	digests := 0
 	for _, line := range strings.Split(lines, "\n") {

@@ -142,12 +142,13 @@ func TestProbePaths(t *testing.T) {
 			t.Errorf("%s is a second path", second)
 		}
 	}
+	// (four askers send all tries, except that the two by HTTP/2 send no CONNECT; each sends one COPY and one MOVE)
 	if len(seen) < 4*len(tries)-2 || len(seconds) != 8 {
 		t.Errorf("%d paths and %d second ones", len(seen), len(seconds))
 	}
 }
 
-// TestProbeAgain answers some requests by 429: they are sent again.
+// TestProbeAgain answers two of three requests by 429, and each third by 401: they are sent again, and the probe finds that all are denied.
 func TestProbeAgain(t *testing.T) {
 	count := 0
 	status, said, _ := probeHandler(t, func(answer http.ResponseWriter, _ *http.Request) {
@@ -197,7 +198,7 @@ func TestProbeEnds(t *testing.T) {
 	}
 }
 
-// TestProbeWords probes what is no address of a folder, and gives a flag without the one that it goes with.
+// TestProbeWords probes what is no address of a folder, and a port at which nobody listens, and gives -stopped without -probe. The status says what is wrong.
 func TestProbeWords(t *testing.T) {
 	for _, words := range [][]string{{"-probe", "files"}, {"-probe", "ftp://localhost/"}, {"-probe", "https://u:p@localhost/"},
 		{"-probe", "https://localhost/?x"}, {"-probe", "https:///x"}, {"-probe", "https://localhost/%2F/"}} {

@@ -8,8 +8,8 @@ import (
 	"time"
 )
 
-// TestRates asks as two clients at several times, and counts how many requests are allowed. A row has the client, the time since the row before, and
-// how many requests are made and allowed.
+// TestRates asks as two clients at several times, and counts how many requests are allowed: five a second, and ten at once at first and after a pause of
+// two seconds. A row has the client, the time since the row before, and how many requests are made and allowed. In one row the clock goes back by an hour.
 func TestRates(t *testing.T) {
 	limiter, now := newRateLimiter(5), time.Unix(1_000_000, 0)
 	count := func(who string, times int) (allowed int) {
@@ -41,7 +41,7 @@ func TestRates(t *testing.T) {
 	}
 }
 
-// TestRatesAreBounded asks from more addresses than are known. One that asks all the time is not forgotten.
+// TestRatesAreBounded asks from more addresses than are remembered. The address `a` asks all the time: it is not forgotten, and so gets two requests in all.
 func TestRatesAreBounded(t *testing.T) {
 	limiter, now, allowed := newRateLimiter(1), time.Unix(1_000_000, 0), 0
 	for number := 0; number < 3*mostBuckets; number++ {
@@ -55,8 +55,8 @@ func TestRatesAreBounded(t *testing.T) {
 	}
 }
 
-// TestAddressesOfOneClient asks from many addresses, and counts how many requests are allowed. All IPv6 addresses with the same first 64 bits are one
-// client, and so is an IPv4 address in each form.
+// TestAddressesOfOneClient asks from many addresses at one moment, and counts how many requests are allowed, which are at most two of each client. All IPv6
+// addresses with the same first 64 bits are one client, and so is an IPv4 address in each form.
 func TestAddressesOfOneClient(t *testing.T) {
 	for name, row := range map[string]struct {
 		addresses []string
@@ -121,7 +121,7 @@ func TestLimited(t *testing.T) {
 	}
 }
 
-// TestClock notes moments, of which one is far before the one noted last.
+// TestClock notes moments, each so long after a begin. Only one is more than a second before the one noted last, and is counted as going back.
 func TestClock(t *testing.T) {
 	var watched clock
 	begin := time.Unix(1_000_000, 0)
@@ -138,7 +138,8 @@ func TestClock(t *testing.T) {
 	}
 }
 
-// TestSlowRequests has a grant's line take three seconds, while the main loop notes the time. The clock has not gone back.
+// TestSlowRequests has a grant's line take three seconds, at whose end the main loop notes the time. The request must not note the earlier time of its
+// begin then: the clock has not gone back.
 func TestSlowRequests(t *testing.T) {
 	s := newSite(t, "")
 	at := time.Now()

@@ -8,8 +8,8 @@ import (
 	"testing/iotest"
 )
 
-// readAll reads requests that come one after the other. It returns the method, the header X-Last, the body and the error of the body of each, and at
-// last the error after them.
+// readAll reads requests that come one after the other. It returns a text for each: its method, its header X-Last, its body and the error of reading that,
+// or <nil>. The last text is the error after them.
 func readAll(from io.Reader) (read []string) {
 	reader := newRequestReader(from)
 	for {
@@ -22,7 +22,8 @@ func readAll(from io.Reader) (read []string) {
 	}
 }
 
-// TestRequestReader reads requests whose lines fit in what is read at once, and the same with a longer one, whole and in pieces. They are read alike.
+// TestRequestReader reads requests whose lines fit in the buffer, and the same with many more lines or a longer one in the place of %s. They are read alike,
+// whole and in pieces. `wanted` has what readAll returns, joined by commas.
 func TestRequestReader(t *testing.T) {
 	for _, row := range []struct{ text, wanted string }{
 		{"GET / HTTP/1.1\r\n%sHost: x\r\nX-Last: a\r\n\r\n", "GET a  <nil>, EOF"},

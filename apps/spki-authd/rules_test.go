@@ -32,7 +32,7 @@ func TestRequests(t *testing.T) {
 	}
 }
 
-// TestRequestsOfHosts has rules of two hosts, and one of any host behind them.
+// TestRequestsOfHosts compares the requests that hosts and paths mean by rules of two hosts, and by one of any host behind them. nil is for no rule.
 func TestRequestsOfHosts(t *testing.T) {
 	read := map[string]string{"GET": "read"}
 	rules := []rule{
@@ -56,7 +56,8 @@ func TestRequestsOfHosts(t *testing.T) {
 	}
 }
 
-// TestWrongRules checks rules of which one thing is wrong, each of which is refused, and those of the tests.
+// TestWrongRules checks rules of which one thing is wrong, each of which is refused, and right ones. A rule is written as its host, prefix, methods and
+// request.
 func TestWrongRules(t *testing.T) {
 	methods, request := map[string]string{"GET": "read"}, []string{"files", "{path}"}
 	for name, rules := range map[string][]rule{

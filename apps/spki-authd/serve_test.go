@@ -89,7 +89,7 @@ func TestEndsWithoutDisk(t *testing.T) {
 	}
 }
 
-// waitFor waits until somebody listens at a socket.
+// waitFor waits until somebody listens at a socket, and ends the test if that takes longer than ten seconds.
 func waitFor(t *testing.T, path string) {
 	t.Helper()
 	for turn := 0; turn < 1000; turn++ {
@@ -142,6 +142,7 @@ func TestReloadsUnderLoad(t *testing.T) {
 	}
 	for turn := 0; turn < 50; turn++ {
 		s.daemon.signals.reload <- syscall.SIGHUP
+		// (so that requests come between two reloads)
 		time.Sleep(time.Millisecond)
 	}
 	all.Wait()
@@ -226,7 +227,8 @@ func (s *servedSite) request(method, target, more string) string {
 		more + "\r\n"
 }
 
-// TestRequestsInOneConnection sends requests one behind the other. Each is answered in its turn, without a body.
+// TestRequestsInOneConnection sends five requests one behind the other. Each is answered in its turn, without a body, but the last one, which is behind one
+// with `Connection: close`.
 func TestRequestsInOneConnection(t *testing.T) {
 	s := serveHere(t, "")
 	octets := s.exchange(t, s.request("GET", "/web/x", "")+s.request("HEAD", "/web/../x", "")+s.request("GET", "/x", "")+
@@ -255,6 +257,7 @@ func TestWaitingConnections(t *testing.T) {
 	if _, err := first.Write([]byte(s.request("GET", "/web/x", ""))); err != nil {
 		t.Fatal(err)
 	}
+	// (once its answer comes, it is idle)
 	if _, err := first.Read(make([]byte, 1)); err != nil {
 		t.Fatal(err)
 	}
@@ -279,6 +282,7 @@ func TestWaitingConnections(t *testing.T) {
 		t.Errorf("%d lines", s.lines())
 	}
 	busy.Close()
+	// (the request that it has begun is refused: that is a line too)
 	if octets := <-answered; !bytes.HasPrefix(octets, []byte("HTTP/1.1 200 ")) || s.lines() != 4 {
 		t.Errorf("%q, %d lines", octets, s.lines())
 	}
@@ -377,7 +381,7 @@ func (s *servedSite) lines() int {
 	return strings.Count(s.log.String(), "\n")
 }
 
-// TestSockets opens sockets where a daemon listens, where a file is, and where an ended daemon has left one.
+// TestSockets opens sockets where a daemon listens and where a file is, which fails, and where an ended daemon has left one, which is replaced.
 func TestSockets(t *testing.T) {
 	s := serveHere(t, "")
 	if about, err := os.Stat(s.socket); err != nil || about.Mode().Perm() != 0o600 {
@@ -407,7 +411,8 @@ func TestSockets(t *testing.T) {
 	listener.Close()
 }
 
-// TestBusySocket finds a socket whose queue is full: that is no socket of an ended daemon, so it stays.
+// TestBusySocket has removeStale find a socket whose queue is full. Its daemon may still run, so the socket stays. The queue is made as short as can be, and
+// filled by clients until one is refused.
 func TestBusySocket(t *testing.T) {
 	path := filepath.Join(t.TempDir(), "busy")
 	listener, err := net.ListenUnix("unix", &net.UnixAddr{Name: path, Net: "unix"})

@@ -16,7 +16,7 @@ func (s *site) kept() int {
 	return len(s.sequences.kept.old) + len(s.sequences.kept.young)
 }
 
-// mustBe asks three times to read a target by a sequence, and reports an error, which begins with `what`, unless each status is the one that is
+// mustBe asks three times to read a target by a sequence, and reports an error, which begins with `name`, unless each status is the one that is
 // wanted. A valid sequence is kept after the first question, and put into canonical form at the second. The last line of the log is returned.
 func (s *site) mustBe(t *testing.T, name string, who person, target, shown string, wanted int) record {
 	t.Helper()

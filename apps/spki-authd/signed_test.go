@@ -104,7 +104,8 @@ func TestSigned(t *testing.T) {
 	}
 }
 
-// TestNoncesOfDenials has a signed request denied, which fills no store: its nonce is still free.
+// TestNoncesOfDenials has one signed request denied three times, which uses up no nonce. There is room for one: Alice's first request takes it, and her
+// second one is refused.
 func TestNoncesOfDenials(t *testing.T) {
 	s := newSite(t, `, "signatures": {"names": ["files.example.org"], "nonces": 1}`)
 	denied := s.mallory.signs(t, "GET", "files.example.org", "/web/x", "", nil)

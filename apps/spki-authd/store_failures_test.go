@@ -116,7 +116,8 @@ func copyOf(row []driver.Value) []driver.Value {
 // The statement that adds a beat, by the clock of a server, which is wrong by what the table `error` says.
 const beats = "UPDATE @.heartbeat SET number = number + 1, moment = clock_timestamp() + (SELECT by FROM @.error)"
 
-// change adds an entry or removes one, with a beat, and notes the version. If it is not certain that this was done, it is settled.
+// change adds an entry or removes one, with a beat, and notes the version. Below 40 entries it adds one, and otherwise it does either by chance. If that
+// fails, it is not certain whether it was done: then settle finds out.
 func (l *timeline) change() {
 	last := l.past[len(l.past)-1].entries
 	next, begun := make(map[int]string, len(last)+1), time.Now()
@@ -148,6 +149,7 @@ func (l *timeline) settle(begun time.Time) {
 		rows, err := l.transact([]string{"SELECT changes FROM @.state FOR UPDATE", beats, "SELECT number, text FROM @.entries"})
 		if err == nil {
 			entries := map[int]string{}
+			// (the first row is that of the first statement, and the beat has none)
 			for _, row := range rows[1:] {
 				entries[int(row[0].(int64))] = string(row[1].([]byte))
 			}
@@ -207,7 +209,8 @@ func (l *timeline) changeUntilEnd() {
 }
 
 // TestQuestionsUnderFailures asks a store while its entries change and tests/suite/test_store_failures.py has something fail. Each answer must be a
-// failure, or that of the guard of the whole list as of a moment that is at most `failingStale` seconds ago.
+// failure, or that of the guard of the whole list as of a moment that is at most `failingStale` seconds ago. It ends when as many questions are answered as
+// the environment says, and the file of envEnd is there. `counts` counts failures, and other answers by their first two letters: yes, no, refused.
 func TestQuestionsUnderFailures(t *testing.T) {
 	l := newTimeline(t)
 	random := rand.New(rand.NewSource(l.random.Int63()))

@@ -33,7 +33,7 @@ type figures struct {
 	keys  int
 }
 
-// TestStoreFigures prints what decisions by a store take.
+// TestStoreFigures prints what decisions by a store take, by the one of three measurements that the environment names.
 func TestStoreFigures(t *testing.T) {
 	keys, _ := strconv.Atoi(os.Getenv(envKeys))
 	if keys == 0 {
@@ -49,7 +49,8 @@ func TestStoreFigures(t *testing.T) {
 	}
 }
 
-// newFigures opens the store that the environment names, which has entries for so many keys.
+// newFigures opens the store that the environment names, which has entries for so many keys, and polls it once. It is stale only after decades, so it need
+// not be polled again.
 func newFigures(t *testing.T, keys int) *figures {
 	options := &storeOf{Host: os.Getenv(envHost), Database: "postgres", User: "postgres", Schema: os.Getenv(envSchema), StaleSeconds: 1 << 30}
 	if err := options.check(); err != nil {
@@ -127,7 +128,8 @@ func (f *figures) measureCold() {
 	f.measure("cold", 300, func() int { return random.Intn(f.keys) })
 }
 
-// measureSingle measures keys whose lists are not kept by the daemon (`miss`), and one whose list is (`hit`), one question at a time.
+// measureSingle measures keys whose lists are not kept by the daemon (`miss`), and one whose list is (`hit`), one question at a time. Before that each key
+// is asked for twice, so that the database has its rows in memory.
 func (f *figures) measureSingle() {
 	random := rand.New(rand.NewSource(2))
 	keys := min(f.keys, 10_000)
@@ -185,7 +187,8 @@ func (f *figures) measureLoad() {
 	printFigure("load", times)
 }
 
-// BenchmarkStored measures a request by two certificates whose signatures were verified before. The list is a store whose rows are kept.
+// BenchmarkStored measures one decision: Carol shows two certificates, whose signatures the first turn verifies. The entries are in a store, and kept from
+// that turn on.
 func BenchmarkStored(b *testing.B) {
 	s := newStored(b)
 	s.logGrant = func([]byte) error { return nil }

@@ -129,7 +129,7 @@ func principalOf(who person, random *rand.Rand) string {
 	return who.key
 }
 
-// entry returns an entry by chance: for somebody's key, hash or name, and for one of three folders.
+// entry returns an entry by chance: for somebody's key or its hash, or for their name `friends`, and for one of three folders.
 func (r *rig) entry() string {
 	subject, more := principalOf(r.somebody(r.random), r.random), ""
 	if r.random.Intn(8) == 0 {
@@ -142,7 +142,8 @@ func (r *rig) entry() string {
 	return "(5:entry" + subject + more + "(3:tag" + prefix("read", folder) + "))"
 }
 
-// change adds an entry, or removes one, as another client does, and notes the list after it.
+// change adds an entry or removes one, as another client does, and notes the list after it. Below 40 entries it adds one, and otherwise it does either by
+// chance.
 func (r *rig) change() {
 	next := map[int]string{}
 	for number, text := range r.entries {
@@ -194,7 +195,7 @@ func (r *rig) question(random *rand.Rand) guard.Question {
 	return guard.Question{Sequence: []byte(text + ")"), Key: spki.AssumeKey([]byte(chain[len(chain)-1].key)), Words: []string{"files", "read", "/web/a/x"}, Time: time.Now()}
 }
 
-// wholeAnswer returns the answer of a guard that has all these entries.
+// wholeAnswer returns what answerBy does for a guard that has all these entries, which are by their numbers.
 func (r *rig) wholeAnswer(entries map[int]string, question guard.Question) string {
 	text := ""
 	numbers := numbersOf(entries)
@@ -222,7 +223,8 @@ func answerBy(opened *guard.Guard, numbers []int, question guard.Question) strin
 	return "no"
 }
 
-// answer returns the answer by the store. Where it has none, the answer begins with `failed`.
+// answer returns what answerBy does for the list that the store returns, or the error: behind `failed` if the question was not refused. If the list was
+// closed meanwhile, it asks again.
 func (r *rig) answer(question guard.Question) string {
 	for {
 		list, err := r.store.list(&question)
@@ -240,7 +242,7 @@ func (r *rig) answer(question guard.Question) string {
 }
 
 // TestQuestionsToStore asks a store while another client changes it. Each answer must be that of the guard of the whole list, in a state between
-// the one that was polled last and the present one. `counts` counts the answers by their first two letters: yes, no, refused.
+// the one that was polled last and the present one. `counts` counts the answers by their first two letters: yes, no, refused. Each must come often enough.
 func TestQuestionsToStore(t *testing.T) {
 	r := newRig(t, time.Minute)
 	for count := 0; count < 60; count++ {

@@ -63,6 +63,7 @@ func TestStoreServed(t *testing.T) {
 	l.populate()
 	l.warm()
 	daemons := strings.Split(os.Getenv(envDaemons), ",")
+	// (the processor time of the daemons, of the database's server, of this process, and of the whole machine)
 	used := func() [4]time.Duration {
 		return [...]time.Duration{processorTime(daemons), processorTime(processesOf(os.Getenv(envServer))), processorTime([]string{"self"}), busyTime()}
 	}
@@ -152,7 +153,7 @@ type visitor struct {
 	times      *[]time.Duration
 }
 
-// visitor connects to a daemon. What answers take is appended to `times`, if it is not nil.
+// visitor connects to a daemon's socket. `seed` is that of its random numbers. What answers take is appended to `times`, if that is not nil.
 func (l *load) visitor(socket string, seed int64, times *[]time.Duration) *visitor {
 	connection, err := net.Dial("unix", socket)
 	if err != nil {
@@ -161,7 +162,7 @@ func (l *load) visitor(socket string, seed int64, times *[]time.Duration) *visit
 	return &visitor{l, connection, bufio.NewReader(connection), rand.New(rand.NewSource(seed)), times}
 }
 
-// askFor asks for the person with a number, who must be granted the request, and notes the time.
+// askFor asks for the person with a number, who must be granted the request, reads the answer up to its empty line, and notes the time.
 func (a *visitor) askFor(number int) {
 	begun := time.Now()
 	if _, err := a.connection.Write([]byte(a.requests[number])); err != nil {
@@ -182,7 +183,7 @@ func (a *visitor) askFor(number int) {
 	}
 }
 
-// runAt runs a statement on a connection of its own, which it closes.
+// runAt runs a statement on a connection of its own, which it closes. `values` are those of the statement's $1 and so on.
 func runAt(writer *pool, text string, values ...driver.Value) error {
 	link, err := writer.take()
 	if err != nil {
@@ -197,6 +198,7 @@ func processesOf(parent string) []string {
 	processes := []string{parent}
 	paths, _ := filepath.Glob("/proc/[0-9]*/stat")
 	for _, path := range paths {
+		// (behind the state is the number of the process that started this one)
 		if fields := statOf(path); len(fields) > 1 && fields[1] == parent {
 			processes = append(processes, filepath.Base(filepath.Dir(path)))
 		}
@@ -214,6 +216,7 @@ func statOf(path string) []string {
 // processorTime returns the processor time of processes, and of those that they had started and that have ended.
 func processorTime(processes []string) (sum time.Duration) {
 	for _, each := range processes {
+		// (by proc(5): utime, stime, cutime and cstime)
 		if fields := statOf("/proc/" + each + "/stat"); len(fields) > 14 {
 			sum += ticksIn(fields[11:15])
 		}

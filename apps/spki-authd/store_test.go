@@ -48,7 +48,7 @@ func (t *table) put(number int, key, text string) {
 	t.note(change{keyDigest: keyDigest})
 }
 
-// note adds a change with the next number.
+// note adds a change with the next number, at a later time.
 func (t *table) note(next change) {
 	t.state.changes++
 	t.state.token += 7
@@ -56,7 +56,7 @@ func (t *table) note(next change) {
 	t.news = append(t.news, next)
 }
 
-// rows returns the entries, by numbers below 100, whose key has one of these digests.
+// rows returns the entries, by numbers below 100, whose key has one of these digests. After that it calls `meanwhile` once, if it is set.
 func (t *table) rows(digests [][]byte) (rows entryRows, err error) {
 	t.reads++
 	rows.storeState = t.state
@@ -167,7 +167,8 @@ func (s *storedSite) expect(t *testing.T, name string, wanted int) {
 	}
 }
 
-// TestStoreDecides asks for entries that are added and removed, and for certificates that end.
+// TestStoreDecides asks by a list in a store, in which entries are added and removed, and certificates end. Rows are read once, until a poll finds that they
+// have changed. The log has the number of an entry in the store, and that of the store's last change.
 func TestStoreDecides(t *testing.T) {
 	s := newStored(t)
 	bobs, carols := s.sequencesShown()
@@ -209,7 +210,8 @@ func TestStoreDecides(t *testing.T) {
 	s.expect(t, "without entries", 401)
 }
 
-// TestStaleStore lets the heartbeat stop, lag behind, and be ahead. Nothing is answered from what is kept then.
+// TestStaleStore has the heartbeat stop, lag behind, and be ahead. If the last beat is over ten seconds old, or over one second ahead, the answer is 503,
+// also where entries are kept.
 func TestStaleStore(t *testing.T) {
 	s := newStored(t)
 	s.expect(t, "fresh", 200)
@@ -262,7 +264,8 @@ func TestListBesideStaleStore(t *testing.T) {
 	}
 }
 
-// TestStoreThatGoesBack reads rows of an older state than was polled, rows beside a poll, and another history.
+// TestStoreThatGoesBack reads rows of an older state than was polled, which fails; rows that a poll finds removed before they are kept, which are used once;
+// and the rows of a server with another history, which replace those that are kept.
 func TestStoreThatGoesBack(t *testing.T) {
 	s := newStored(t)
 	older := s.table.state
@@ -284,8 +287,8 @@ func TestStoreThatGoesBack(t *testing.T) {
 	s.expect(t, "another history", 200)
 }
 
-// TestStoredChains leaves certificates in a store, where another daemon finds them, and asks the store again only when what it knows is too old. Where
-// the store does not answer, neither yes nor no is said.
+// TestStoredChains leaves certificates in a store, where another daemon finds them. What was read is used again for cachedFor. Where the store does not
+// answer, the answer is 503 and neither yes nor no.
 func TestStoredChains(t *testing.T) {
 	s := newStored(t, `, "chains": {"postgres": {"host": "/run", "database": "d", "user": "u"}}`+ofSite)
 	s.table.kept = map[digest][]keptChain{}
@@ -331,7 +334,8 @@ func TestStoredChains(t *testing.T) {
 	}
 }
 
-// TestHostileRows reads rows that are no entries: nobody is granted anything by them.
+// TestHostileRows reads rows that are not exactly one entry, or are too long, beside a right one: Alice is not granted anything then. An empty text takes the
+// row away.
 func TestHostileRows(t *testing.T) {
 	s := newStored(t)
 	entry := s.entryOf(s.alice)
@@ -349,7 +353,7 @@ func TestHostileRows(t *testing.T) {
 	}
 }
 
-// TestStoreConfigs reads configurations of stores.
+// TestStoreConfigs reads configurations of stores: two right ones, whose settings for the driver are compared, and wrong ones, each of which is refused.
 func TestStoreConfigs(t *testing.T) {
 	withStore := func(fields string) string {
 		return strings.Replace(least, `"/acl"`, `{"postgres": {`+fields+`}}`, 1)
@@ -378,7 +382,8 @@ func TestStoreConfigs(t *testing.T) {
 	}
 }
 
-// TestKeptRows keeps lists up to some octets, and forgets those that were not asked for.
+// TestKeptRows adds five lists where there is room for three, and asks for the first each time: it stays, and so do the last two. Then it removes one by its
+// digest, and then all.
 func TestKeptRows(t *testing.T) {
 	s := newStored(t)
 	rows := newKeptRows(3 * octetsRow)
@@ -407,7 +412,7 @@ func TestKeptRows(t *testing.T) {
 	}
 }
 
-// hexOf reads hexadecimal digits.
+// hexOf returns the octets that hexadecimal digits mean, and ends the test if they are no such digits.
 func hexOf(t *testing.T, digits string) []byte {
 	t.Helper()
 	octets, err := hex.DecodeString(digits)

@@ -24,7 +24,7 @@ func tlsFiles(t *testing.T, who person) (certificate, key string) {
 	return writeFile(t, "crt", who.pem()), writeFile(t, "key", string(pem.EncodeToMemory(&pem.Block{Type: "PRIVATE KEY", Bytes: octets})))
 }
 
-// tlsConfig returns the configuration of a daemon at a free port, with the certificate of a person.
+// tlsConfig returns the configuration of a daemon at a free port, with the certificate of a person, to whom its list gives each right.
 func tlsConfig(t *testing.T, who person) string {
 	t.Helper()
 	listener, err := net.Listen("tcp", "127.0.0.1:0")
@@ -91,6 +91,7 @@ func TestTLS(t *testing.T) {
 	if status, err := askByTLS(config, alice); err == nil {
 		t.Errorf("another certificate is expected: %d", status)
 	}
+	// (the daemon runs in this process, and ends by the signal that Ctrl-C sends)
 	process, _ := os.FindProcess(os.Getpid())
 	_ = process.Signal(os.Interrupt)
 	if status := <-ended; status != 0 {
@@ -132,7 +133,7 @@ func TestCertificatesAreReadAgain(t *testing.T) {
 	}
 }
 
-// TestEntrances reads configurations of who may ask, and of how the web server knows that it is the daemon that answers.
+// TestEntrances reads configurations of the socket or port at which the web server asks, right ones and wrong ones. A wrong one is refused with a reason.
 func TestEntrances(t *testing.T) {
 	files := `"tls": {"certificate": "/c", "key": "/k"}`
 	secret := `"secret_file": "/s"`

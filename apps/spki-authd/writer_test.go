@@ -38,6 +38,7 @@ func TestSinkThatHangs(t *testing.T) {
 	for line := 0; line < mostQueued+100; line++ {
 		writer.offer([]byte("line\n"))
 	}
+	// (one more or less, if the writer takes a line meanwhile)
 	if dropped := writer.dropped.Load(); dropped < 99 || dropped > 101 {
 		t.Errorf("%d are dropped", dropped)
 	}
@@ -104,6 +105,7 @@ func TestTimeOfLines(t *testing.T) {
 	for writer.taken() == 0 {
 		time.Sleep(time.Millisecond)
 	}
+	// (over half of the patience: so each of these waits behind the first, and is late at another time)
 	for line := 0; line < 64; line++ {
 		all.Add(1)
 		go writeLate("given up\n")
@@ -144,6 +146,7 @@ func TestOrderOfLines(t *testing.T) {
 				t.Error(err)
 			}
 		}(line, text)
+		// (until this line waits or is being written, so that the next one comes behind it)
 		for begun := time.Now(); writer.lines() <= line && time.Since(begun) < time.Minute; {
 			time.Sleep(time.Millisecond)
 		}
