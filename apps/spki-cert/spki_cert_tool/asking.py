@@ -100,7 +100,7 @@ class Answer:
 def furthest(reasons: list[Reason]) -> Reason | None:
     """The reason of the entry that goes furthest: it grants, or its chain ends last. A reason without an item joins to its end, and of equal ones the
     first entry is taken. None if there are no entries."""
-    return max(reasons, key=lambda reason: (reason.word == "grants", reason.item or sys.maxsize, -(reason.entry or 0)), default=None)
+    return max(reasons, key=lambda reason: (reason.word == "grants", reason.item or sys.maxsize, -(reason.entry or 0))) if reasons else None
 
 
 def guard_of(asked: Asked) -> Guard:
