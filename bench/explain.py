@@ -40,7 +40,8 @@ def measure_one_entry(count):
 
 
 def measure_many_entries(count):
-    """The largest ratio of the instructions of `explain` on many entries, by the counter `count`, to as many times those on one."""
+    """Prints a line for each shape of case. Returns the largest ratio of the instructions of `explain` on many entries, by the counter `count`, to
+    the number of entries times those on one entry. The cases have about SIZES[0] octets."""
     worst = 0.0
     for shape in (shape for shape in SHAPES if shape.is_product):
         entries, certificates = shape.fitting(SIZES[0])

@@ -202,7 +202,8 @@ def waits_of(stale):
 
 
 def execute(server, *statements):
-    """Runs statements of SQL, each in a transaction of its own. Returns the first row of the last, None if that returns no rows."""
+    """Runs statements of SQL, each in a transaction of its own, as ALTER SYSTEM must be. Returns the first row of the last, None if that returns no
+    rows."""
     import psycopg
     with psycopg.connect(server.address, autocommit=True) as connection:
         for statement in statements:

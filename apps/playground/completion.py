@@ -47,8 +47,8 @@ def with_signatures(engine, text):
 
 
 def signature(engine, certificate):
-    """The signature of a certificate that the page makes up, in advanced form. `certificate` is a text. If it cannot be read, its digest is that of
-    the text as it is: no digest would be right then."""
+    """The signature of a certificate that the page makes up, as octets in advanced form. `engine` is an `Engine` of engine.py, and `certificate` the
+    octets of a text. If it cannot be read, its digest is that of the text as it is: no digest would be right then."""
     try:
         octets = engine.canonical(certificate)
         signer = signer_of(engine.value(certificate))

@@ -242,7 +242,8 @@ func (r *rig) answer(question guard.Question) string {
 }
 
 // TestQuestionsToStore asks a store while another client changes it. Each answer must be that of the guard of the whole list, in a state between
-// the one that was polled last and the present one. `counts` counts the answers by their first two letters: yes, no, refused. Each must come often enough.
+// the one that was polled last and the present one. `counts` counts the answers by their first two letters: yes, no, refused. Each must come often
+// enough, and so must answers by entries that were kept (`hits`).
 func TestQuestionsToStore(t *testing.T) {
 	r := newRig(t, time.Minute)
 	for count := 0; count < 60; count++ {

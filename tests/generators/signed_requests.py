@@ -11,8 +11,7 @@ A row has these lines. A tab, a line feed, a carriage return and a backslash in 
     field NAME: VALUE                        in the order in which they are sent
     body TEXT                                if the body is known
     again SECONDS                            the same came so many seconds before, and was valid
-    gives NAME                               `valid`, or the refusal
-"""
+    gives NAME                               `valid`, or the refusal"""
 from __future__ import annotations
 
 import base64

@@ -169,8 +169,8 @@ class GuardDoor:
         listed = self.signatures(asked)
         if odd in guard.MARKED:
             past, _, no_question = guard.MARKED
-            place = len(listed) if odd == past else NEAR_MOST + len(listed)
-            return (self.mark(None if odd == no_question else asked, place), b""), listed
+            marked = len(listed) if odd == past else NEAR_MOST + len(listed)
+            return (self.mark(None if odd == no_question else asked, marked), b""), listed
         self.mark_valid(question, asked, listed)
         answered = self.answer(question, None if odd == "no opened question" else asked)
         if question.command == "guard decide" and odd not in guard.ANSWERED:

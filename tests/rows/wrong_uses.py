@@ -55,7 +55,7 @@ def parts_of(language: str) -> tuple[str, list[Row]]:
 
 
 def program_of(shared: str, rows: list[Row]) -> tuple[str, dict[int, Row]]:
-    """The text of a program with these rows, and the row of each line of the program that is in one, by the number of the line, from 1."""
+    """The text of a program with these rows, which are of one language, and the row of each line that is in one, by the line's number, from 1."""
     text, lines = shared + "\n", {}
     for row in rows:
         first = text.count("\n") + 1

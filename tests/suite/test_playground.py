@@ -4,8 +4,7 @@ Each example's answer must be that of the program on the case that the page show
 be found at its place. Questions from another origin, with another host or without the token, and too long bodies are refused. Text stays text in
 every box. A hostile text is stopped, and the page goes on. In Chromium also: typing, the keyboard alone, a link, 360 pixels, and that nothing of an
 answer stays when it is not the answer to what is typed. The page starts where `tests/run --quick` has left the program, and says this command where
-nothing is built. `bench/playground.py` measures its times.
-"""
+nothing is built. `bench/playground.py` measures its times."""
 import contextlib
 import http.client
 import io

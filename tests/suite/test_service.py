@@ -16,7 +16,7 @@ from collections.abc import Iterator
 from typing import Any
 
 from harness import built, golang, needs
-from harness.support import EXAMPLES, TOP, is_compiled, output_of, room_for
+from harness.support import EXAMPLES, TOP, is_compiled, output_of, room_for, text_of
 
 needs.required("import cryptography")
 # (examples/signed/ has a module of this file's name)
@@ -68,7 +68,8 @@ def chains(story: LastingStory) -> Iterator[tuple[str, Sent, bool]]:
         "a key is not shown": story.sequence(good, keys=False), "a certificate has expired": story.sequence(signed(story.ended, bob)),
         "nothing is shown": "(sequence)", "an item is none": "(sequence (certificate))", "it is no sequence": "(key x)",
         "there are too many certificates": story.sequence(good + 14 * f" {good}"),
-        "two sequences": tools.canonical(right) + b"(8:sequence)", "no octets": b"", "half a sequence": tools.canonical(right)[:-1]}.items():
+        "two sequences": tools.canonical(right) + b"(8:sequence)", "no octets": b"", "half a sequence": tools.canonical(right)[:-1],
+    }.items():
         yield remark, asked_by(carol, READ, sequence), False
     yield "another holder asks", asked_by(bob, READ, right), False
     yield "the path has parentheses and quotes", asked_by(carol, PASTED, right), False
@@ -100,7 +101,8 @@ def proofs(story: LastingStory) -> Iterator[tuple[str, Sent, bool]]:
         "a folded line": (method, target, {**fields, "Signature": fields["Signature"].replace("=:", "=:\r\n ", 1)}),
         "a line without a colon": (method, target, {"X-Odd": "1\r\nodd", **fields}),
         "a body that is not signed": (method, target, {**fields, "Content-Length": "1"}),
-        "70 fields and a body": (method, target, {**fields, **{f"x-{place}": "" for place in range(70)}, "Content-Length": "1"})}.items():
+        "70 fields and a body": (method, target, {**fields, **{f"x-{place}": "" for place in range(70)}, "Content-Length": "1"}),
+    }.items():
         yield remark, sent, False
     yield "and then it is granted, once", (method, target, fields), True
 
@@ -171,8 +173,7 @@ class Service(built.OfLibrary):
     def test_lines(self) -> None:
         """Each service of SERVICES has at most as many lines as SERVICES says."""
         for path, most in SERVICES.items():
-            with open(os.path.join(TOP, path), encoding="utf-8") as file:
-                self.assertLessEqual(len(file.readlines()), most, path)
+            self.assertLessEqual(len(text_of(path).splitlines()), most, path)
 
 
 @needs.needs("openssl/evp.h")

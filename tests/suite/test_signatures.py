@@ -149,13 +149,14 @@ class Requests(unittest.TestCase):
         self.cert("request", "--by", "p256", "--curl", self.url.replace("127.0.0.1", "localhost"), "--", "-s", "--fail", wanted=22)
 
     def test_refusals(self) -> None:
-        for words, message in [
+        for words, message in (
             (["--by", "nokey", self.url], "nokey: No such file"), (["--by", "p256", "http://a/ b"], "no address of https or http"),
             (["--by", "p256", "ftp://a/"], "no address"), (["--by", "p256", "https://me:word@a/"], "no address"),
             (["--by", "p256", "https://a/#b"], "no address"), (["--by", "p256", "--method", "get", self.url], "capital letters"),
             (["--by", "p256", self.url, "--", "-s"], "--curl"), (["--by", "p256", "--body", "nobody", self.url], "nobody: No such file"),
             (["--by", "p256", "--cert", "p256.pub", self.url], "p256.pub"), (["--by", "p256.pub", self.url], "SSH_AUTH_SOCK is not set"),
-            (["--by", "p256", "https://ä/"], "not ASCII"), (["--by", "p256", "http://[::1/"], "IPv6")]:
+            (["--by", "p256", "https://ä/"], "not ASCII"), (["--by", "p256", "http://[::1/"], "IPv6"),
+        ):
             self.assertIn(message, self.cert("request", *words, wanted=2), words)
 
     @needs.needs("ssh-keygen")

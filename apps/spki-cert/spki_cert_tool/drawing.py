@@ -19,8 +19,8 @@ from .showing import Labels
 if TYPE_CHECKING:
     from spki import Reason
 
-# The letters of a line of text, by default and in the pictures of `spki-cert`.
-WIDTH, PICTURE_WIDTH = 36, 70
+# The letters of a line of text, by default and in the pictures of `spki-cert`, and the pixels that such a picture is wide, so that these lines fit.
+WIDTH, PICTURE_WIDTH, PICTURE_PIXELS = 36, 70, 840
 RED, GREEN, BLACK = "red", "darkgreen", "black"
 # The causes of a no, as `explain` has them, in the words of the picture.
 MEANINGS = {
@@ -227,10 +227,10 @@ def svg_of(value: Value, labels: Labels) -> bytes:
         drawing.entries(value)
     else:
         drawing.links([b"sequence", value] if headed(value, b"cert") else value)
-    return "\n".join([*svg_of_drawing(drawing, "Certificates", width=840), ""]).encode()
+    return "\n".join([*svg_of_drawing(drawing, "Certificates", PICTURE_PIXELS), ""]).encode()
 
 
 def svg_of_answer(asked: Asked, answer: Answer) -> bytes:
     """The chain of an answer as SVG: that of the reason that goes furthest. `asked` is the question."""
     drawing = drawing_of_case(case_of(asked, answer.sequence), answer.reasons, answer.left, asked.labels, PICTURE_WIDTH)
-    return "\n".join([*svg_of_drawing(drawing, "The chain of a request", width=840), ""]).encode()
+    return "\n".join([*svg_of_drawing(drawing, "The chain of a request", PICTURE_PIXELS), ""]).encode()

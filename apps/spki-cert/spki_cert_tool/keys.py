@@ -191,7 +191,8 @@ def read_public(octets: bytes, asking: Asking, number: int | None = None) -> Val
 
 
 def pieces_of(octets: bytes) -> list[bytes]:
-    """The parts of the octets of a file that are one public key each: lines of OpenSSH, else blocks of PEM, else the whole."""
+    """The parts of the octets of a file that are one public key each: the whole if it begins as an S-expression, otherwise all lines of OpenSSH and
+    behind them all blocks of PEM, or the whole if there are none."""
     if is_text(octets):
         return [octets]
     begin = b"-----BEGIN "

@@ -68,7 +68,7 @@ class Labels:
         return f"key {digest_shown.hex()[:SHORT_DIGITS]}"
 
     def of_subject(self, subject: Value) -> str:
-        """What a subject is called, which may be a name."""
+        """What a subject is called: a key or a hash as by `of`, and a name of a key as `friends of ann`."""
         if not headed(subject, b"name"):
             return self.of(subject)
         names = " ".join(on_one_line(name) for name in members(subject)[1:])

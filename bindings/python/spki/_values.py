@@ -36,6 +36,7 @@ class Refused(Exception):
     @property
     def part(self) -> Part | None:
         """What is refused. `None` if the line names no part."""
+        # (`refused FAULT` names none, and `refused PART ..` has three words or more)
         words = self.line.split(" ")
         return Part(words[1]) if len(words) > 2 else None
 
