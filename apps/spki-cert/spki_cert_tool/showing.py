@@ -12,8 +12,9 @@ from .forms import Wrong
 from .keys import OPENSSH, BadKey, digest_of, hash_of, is_private, kind_of, no_passphrase, read_public
 from .sexp import Value, on_one_line
 
-# The most letters of a key that is written as it is, and how many hexadecimal digits of its hash stand for a longer one.
-SHORT_KEY, SHORT_DIGITS = 40, 8
+# The most letters of a key that is written as it is, and how many hexadecimal digits of its hash stand for a longer one: 64 bits, since a key with
+# the same 32 bits can be made within days.
+SHORT_KEY, SHORT_DIGITS = 40, 16
 # What is said of a signature that is not valid, by the word of `explain`.
 FAULTS = {"KeyNotShown": "the key of its issuer is not here, so the signature is not tested", "DigestDiffers": "its signature has another digest",
           "SignerDiffers": "signed by another key than its issuer's", "NotAccepted": "the signature is not valid"}
