@@ -129,9 +129,11 @@ def faults_of(site, options):
 
 
 def main():
-    """Measures all. Returns the exit status: 1 if a limit is passed. Without nginx, wrk or Go it measures nothing, says so, and returns 0."""
+    """Measures all. Returns the exit status: 1 if a limit is passed, an answer is wrong or threads race. Without nginx, wrk or Go it measures
+    nothing, says so, and returns 0."""
     options = arguments()
     if not all(map(shutil.which, ("nginx", "wrk", "go"))):
+        # (`.ci/deep` reads both lines: what is left out is listed, and nothing has passed)
         print("spki-authd is left out\n0 passed, 0 failed")
         return 0
     with tempfile.TemporaryDirectory() as folder:

@@ -93,8 +93,8 @@ def body_of(path: str, folder: str) -> Body:
 
 
 def batches(bodies: list[Body]) -> list[list[Body]]:
-    """Wrong bodies in groups, each for one check. No two of a group change functions of the same name: by its name a line of a check says which it is
-    about. Those that change no functions are in none."""
+    """Wrong bodies in groups, each for one check. No two of a group change functions of the same name, since a line of a check names its function by
+    it. Those that change no functions are in none."""
     groups: list[tuple[set[str], list[Body]]] = []
     for body in bodies:
         names = {path.rpartition("::")[2] for path in body.functions}
