@@ -16,6 +16,8 @@ LENGTHS = [94, 375, 1500]
 RUNS = 30
 LIMIT_SECONDS = 1.0
 MOST_OCTETS = 1024 * 1024
+# The strings in a tag of the widest cases. With twice as many the work of a case would be over 2,300,000,000: it would be refused at once.
+STRINGS = 399
 
 
 def largest_growth():
@@ -45,14 +47,14 @@ def widest():
     half = MOST_OCTETS // 2
     certificates, entries = (half - 1024) // link, half // one
     yield f"{entries} entries times {certificates} certificates", by_keys(certificates, entries=entries, asks=key("other")), b"no\n"
-    tag = group(string("ftp"), *[string("x")] * 998)
+    tag = group(string("ftp"), *[string("x")] * (STRINGS - 1))
     link = len(by_keys(2, tag)) - len(by_keys(1, tag))
     certificates = (MOST_OCTETS - 8 * 1024) // link
-    yield f"{certificates} lists of 1,000 nodes", by_keys(certificates, tag, asks=key("other")), b"no\n"
-    tag = group(string("*"), string("set"), *[string(f"{place:03}") for place in range(998)])
+    yield f"{certificates} lists of {STRINGS + 1} nodes", by_keys(certificates, tag, asks=key("other")), b"no\n"
+    tag = group(string("*"), string("set"), *[string(f"{place:03}") for place in range(STRINGS)])
     link = len(by_keys(2, tag)) - len(by_keys(1, tag))
     certificates = (MOST_OCTETS - 16 * 1024) // link
-    yield f"{certificates} sets of 999 nodes", by_keys(certificates, tag, asks=key("other")), b"no\n"
+    yield f"{certificates} sets of {STRINGS + 1} nodes", by_keys(certificates, tag, asks=key("other")), b"no\n"
 
 
 def behind_a_large_tag(more, tag):

@@ -29,8 +29,9 @@ RUNS, ENOUGH_SECONDS, MOST_SECONDS = 7, 2.0, 120
 LIMIT_SECONDS, SHORT_SECONDS, LIMIT_RATIO, LIMIT_SUM = 1.0, 0.1, 5.0, 1.5
 # The certificates behind a tag of 331,776 strings.
 BEHIND_LARGE = 16
-# The most members of a set or list of which two have 1,000,000 as the product of their nodes.
-MEMBERS = 999
+# The most members of a set or list of which two have 1,000,000 as the product of their nodes, and of those that so many certificates have that with
+# more members the work would be over 2,300,000,000: the case would be refused at once.
+MEMBERS, MEMBERS_OF_MANY = 999, 399
 OTHER = key("other")
 OWNER = key("k")
 FTP = group(string("ftp"))
@@ -218,12 +219,13 @@ def strangers(entries, certificates, members):
 class Shape:
     """A kind of text. `make` returns one, by a number of entries, a number of certificates and the most members of a set or list. `what` says in
     words what it is, with places for the first two numbers. `listed` is the part of a text's octets that its access list may take. `is_product`: it
-    has many entries and many certificates."""
+    has many entries and many certificates. `members` is the number that `fitting` and `text` pass to `make`."""
 
     what: str
     make: Callable
     listed: float = 0.5
     is_product: bool = False
+    members: int = MEMBERS
 
     @property
     def name(self):
@@ -238,16 +240,16 @@ class Shape:
     def fitting(self, size):
         """The numbers of entries and certificates in the largest text of at most `size` octets: first as many entries as the list's part allows, and
         then as many certificates as fit into what is left."""
-        entries = self.entries(int(size * self.listed), MEMBERS)
+        entries = self.entries(int(size * self.listed), self.members)
         # (what a case has besides its list: it does not depend on the number of entries)
-        others = lengths_in_case(self.make(1, 2, MEMBERS))[1]
-        list_octets = len(self.make(entries, 2, MEMBERS)) - others
-        return entries, largest_count(lambda count: lengths_in_case(self.make(1, count, MEMBERS))[1], size - list_octets)
+        others = lengths_in_case(self.make(1, 2, self.members))[1]
+        list_octets = len(self.make(entries, 2, self.members)) - others
+        return entries, largest_count(lambda count: lengths_in_case(self.make(1, count, self.members))[1], size - list_octets)
 
     def text(self, size):
         """What the largest text of at most so many octets is, in words, and the text."""
         counts = self.fitting(size)
-        return self.what.format(*counts), self.make(*counts, MEMBERS)
+        return self.what.format(*counts), self.make(*counts, self.members)
 
 
 def largest_count(octets_of, octets):
@@ -273,8 +275,8 @@ SHAPES = [
     Shape("1 entry, {1:,} definitions of names in a chain", chain_of_names, 0.0),
     Shape("1 entry, {1:,} certificates of one key", many_rows, 0.0),
     Shape("1 entry, {1:,} times one certificate, each time with another signature", rows_of_one_digest, 0.0),
-    Shape("1 entry, {1:,} certificates for lists of 1,000 nodes", wide_lists, 0.0),
-    Shape("1 entry, {1:,} certificates for sets of 1,000 nodes", wide_sets, 0.0),
+    Shape("1 entry, {1:,} certificates for lists of 400 nodes", wide_lists, 0.0, members=MEMBERS_OF_MANY),
+    Shape("1 entry, {1:,} certificates for sets of 400 nodes", wide_sets, 0.0, members=MEMBERS_OF_MANY),
     Shape("1 entry for a list of 900 nodes, {1:,} times a certificate for its head", list_of_members, 0.0),
     Shape("{0:,} entries for the first issuer, {1:,} certificates in a chain, all for (*)", entries_and_chain, is_product=True),
     Shape("{0:,} entries for the first issuer, {1:,} certificates in a chain, all for (ftp)", entries_and_tags, is_product=True),

@@ -278,8 +278,7 @@ def interrupted_for_ever(program, example, call, asks, wanted):
 
 
 def one_run(program, what, wanted, call, *words):
-    """One run by the method `call` of a Program, with its words, which must end as wanted. Returns the number of runs, of refusals, and the faults,
-    which begin with `what`."""
+    """One run by the method `call` of a Program, with its words, which must end as wanted. Returns 1 run, 0 refusals, and a fault, named `what`."""
     ended = getattr(program, call)(*words)
     return 1, 0, [] if ended.answer == wanted else [f"{what}: {ended}"]
 
@@ -299,7 +298,7 @@ def in_less_memory(program, example):
         ended = program.limited(example.command, example.text, resource.RLIMIT_AS, mebibytes << 20)
         refusals += ended.answer == MEMORY
         if ended.answer not in (MEMORY, wanted):
-            faults.append(f"{example} in {mebibytes} MiB: {ended}")
+            faults.append(f"{example} in {mebibytes} MiB: {ended}; {len(ended.out)} octets, expected status {wanted[0]} and {len(wanted[1])}")
     return len(LIMITS), refusals, faults
 
 
