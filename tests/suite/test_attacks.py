@@ -1,8 +1,8 @@
-"""The table of attacks: each attack of rows/attacks.py is sent to each web server that asks the daemon spki-authd about requests. A server runs with
-its example's lines alone, and with lines for error pages or a cache, as other sites have them; and each of these again while the daemon is stopped.
-A row passes if the status is one that must come, no file's content is sent, and no file is changed.
+"""The table of attacks: each attack of rows/attacks.py is sent to each of `web_servers.SERVERS`, which ask the daemon spki-authd. A server runs with
+its example's lines alone, and with lines for error pages or a cache, as other sites have them; and each of these again while the daemon is stopped. A
+row passes if each status of the answer is allowed, no file's content is sent, and no file is changed.
 
-The gate, `.ci/run`, runs a tenth of the rows, always the same, and SPKI_TEST_LONG all of them."""
+The gate, `.ci/run`, runs about a tenth of the rows, always the same, and SPKI_TEST_LONG all of them."""
 import hashlib
 import os
 import re
@@ -19,7 +19,7 @@ STOPPED = "stopped, "
 
 
 def is_chosen(row: str, share: int = 10) -> bool:
-    """Whether the row with this name is run: in the long tests each is, before a merge about one in `share`, chosen by the digest of the name."""
+    """Whether the row or site of this name is run: in the long tests each is, otherwise about one in `share`, chosen by the digest of the name."""
     return built.IS_LONG or hashlib.sha256(row.encode()).digest()[0] % share == 0
 
 
@@ -79,9 +79,9 @@ class Table(unittest.TestCase):
         self.assertEqual(self.site.status("ann", "GET", "/web/index.html"), 200)
 
     def check_rows(self, column: str) -> None:
-        """Each chosen attack of a column must fail. First Ann must be granted her page. If the daemon is stopped then,
-        a plain request without a certificate must get an error of the server, from 500 on. Otherwise Ann must be
-        granted her page after the attacks too, and the log must have no decision that failed."""
+        """Each chosen attack of a column must fail. First Ann must be granted her page. In a stopped column the daemon is stopped then, and a plain
+        request without a certificate must get a status from 500 on. Otherwise that request must get one below 500, Ann must be granted her page after
+        the attacks too, and the log must have no decision that failed."""
         is_stopped = column.startswith("stopped")
         self.site.restart_with(self.kind.sites.get(column.removeprefix(STOPPED), []))
         self.check_ann()
@@ -106,8 +106,8 @@ class Table(unittest.TestCase):
         self.assertEqual(list(attackers.changes_of(self.site, answer)), [])
 
     def check_sites(self) -> None:
-        """`kind.sites` has configuration lines that other sites use, by name. With each of them the server grants nothing that the daemon denies, and
-        nothing at all while the daemon is stopped. Lines named `.. that fails` may deny Ann too. The gate runs a third of them."""
+        """`kind.sites` has configuration lines of other sites, by name. With each of them the server grants nothing of ASKED, which the daemon
+        denies, and while that is stopped nothing of GRANTED either. Lines named `.. that fails` may deny Ann too. The gate runs about a third."""
         for name, more in self.kind.sites.items():
             if not is_chosen(f"{self.kind.name}, {name}", 3):
                 continue

@@ -1,5 +1,5 @@
 """The daemon `spki-authd` as a program among others: a service manager that hands it its socket and is told what it does, readers of its log that
-hang or are gone, a disk that is full, and the files of systemd that come with it."""
+hang or are gone, a disk that is full, nginx in front of it, and the files of systemd that come with it."""
 import contextlib
 import json
 import os
@@ -35,8 +35,8 @@ def listens(path: str) -> bool:
 
 @contextlib.contextmanager
 def asked_by_many(asks: Callable[[], Sequence[object]]) -> Iterator[list[object]]:
-    """A context in which THREADS threads call `asks` again and again until it ends. Its list gets the answers that
-    `asks` returns, and each exception that it raises as a text."""
+    """A context in which THREADS threads call `asks` again and again until it ends. Its list gets the answers that `asks` returns, and each exception
+    that it raises as a text. At its end it waits for the threads."""
     ends, answers = threading.Event(), list[object]()
 
     def ask_until_end() -> None:
@@ -131,8 +131,8 @@ class Log(OfDaemon):
 
     @needs.needs("prlimit")
     def test_full_disk(self) -> None:
-        """The daemon's files may have 5,000 octets, fewer than 40 lines have. Once the log of grants is full, each request gets 503, and each line in
-        the log is whole. Once there is room again, requests are granted again."""
+        """The daemon's files may have 5,000 octets, fewer than 40 lines have. Once the log of grants is full, each request gets 503, `-health` ends
+        with 1, and each line in the log is whole. Once there is room again, requests are granted again."""
         with self.daemon("prlimit", "--fsize=5000") as daemon:
             statuses = self.ask_often(daemon.socket, 40, self.headers())
             granted = statuses.count(200)
@@ -236,7 +236,7 @@ class Manager:
         return process
 
     def message(self) -> str:
-        """Waits for the daemon's next message to the manager, and returns it."""
+        """Waits for the daemon's next message to the manager, and returns it. Raises TimeoutError after SECONDS."""
         return self.messages.recv(4096).decode()
 
     def close(self) -> None:
@@ -302,7 +302,7 @@ class Started(OfDaemon):
 
     def test_another_socket(self) -> None:
         """The daemon refuses to start if the socket that is handed over is not the one that its configuration names, or if everyone may write to it.
-        A shell hands it over as systemd does: as the open file 3, and with these two variables."""
+        A shell hands it over as systemd does: as the open file 3, which LISTEN_PID and LISTEN_FDS announce."""
         for is_other, reason in ((False, "everyone may write"), (True, "hands over")):
             with managed(self.daemon_program, self.access_list) as manager:
                 if is_other:
@@ -364,8 +364,8 @@ class Started(OfDaemon):
 
     @needs.needs("setpriv")
     def test_group_of_the_socket(self) -> None:
-        """`-test`, which checks the configuration and starts nothing, refuses a group for the socket that the daemon's
-        user is not in. Root may choose any group, so if the test is run by root, the program runs as another user."""
+        """`-test`, which checks the configuration and starts nothing, refuses a group for the socket that the daemon's user is not in. An empty group
+        passes. Root may choose any group, so if the test is run by root, the program runs as another user."""
         with tempfile.TemporaryDirectory() as room:
             daemon = ended_daemon(room, self.daemon_program, self.access_list)
             for path, mode in ((room, 0o777), (daemon.config, 0o644), (daemon.list, 0o644), (daemon.ended, 0o644), (daemon.grants, 0o666)):
@@ -520,8 +520,8 @@ class Units(unittest.TestCase):
         self.assertEqual(status, 0, output[-300:])
 
     def test_what_must_be_set(self) -> None:
-        """The lines of the units that prevent faults. Without them somebody had to start the service by hand after some
-        failed starts, a reload could not fail, and the runtime folder was removed with the socket in it."""
+        """The lines of the units that prevent faults. Without some of them somebody had to start the service by hand after some failed starts, a
+        reload could not fail, and the runtime folder was removed with the socket in it."""
         service, unit = (text_of(path).splitlines() for path in UNITS)
         for line in ("StartLimitIntervalSec=0", "Type=notify", "ExecReload=/usr/local/bin/spki-authd -reload -config /etc/spki-authd/config.json",
                      "RuntimeDirectoryPreserve=yes", "LogRateLimitIntervalSec=30s", "LogRateLimitBurst=30000", "Requires=spki-authd.socket"):

@@ -28,8 +28,8 @@ class Bounds(unittest.TestCase):
         self.assertIn(f"For each GB that is written a command takes {self.slowest.SECONDS_AN_OCTET * 1e9:g} s more.", section)
 
     def test_named_texts(self) -> None:
-        """A row of NAMED, a text that was slow once, names its calls by how their names begin: each beginning is that of a call. The text made for
-        the first call is no larger than the call allows. Except for `intersect` its list gets at most 4,096 octets, so that the test is fast."""
+        """A row of NAMED, a text that was slow once, names its calls by how their names begin: each beginning is that of a call. The text for the
+        first such call is no larger than call and row allow. Except for `intersect` its list gets at most 4,096 octets, so that the test is fast."""
         for named in self.slowest.NAMED:
             for word in named.words:
                 self.assertTrue([call for call in self.slowest.CALLS if call.what.startswith(word)], (named.what, word))
@@ -40,7 +40,7 @@ class Bounds(unittest.TestCase):
             self.assertLessEqual(sum(map(len, texts.parts()[1:])), min(call.asked, named.asked), named.what)
 
     def test_the_search_is_repeated(self) -> None:
-        """A recipe says how a text is made. 50 random changes of one give the same recipe both times, since the seed is the same."""
+        """A recipe says how a text is made. 50 random changes of one give another one, the same both times, since the seed is the same."""
         recipes = sys.modules["recipes"]
         last_recipes = []
         for _ in range(2):

@@ -50,7 +50,7 @@ class Caches(built.OfLibrary):
             self.assertEqual(answers, [wanted if name == "bob" else "denied" for _, wanted in LINES], name)
 
     def answers(self, words: tuple[str, ...], name: str, *parts: "Value") -> list[str]:
-        """Starts a cache by `words` in a new folder `name`. `parts` are an access list, a key and a sequence. Returns a line for each of LINES."""
+        """Runs a cache by `words`, with its files in a new folder `name`. `parts`: access list, key, sequence. Returns its answers to LINES."""
         folder = os.path.join(self.room, name)
         os.makedirs(os.path.join(folder, "files", "builds"))
         paths = [os.path.join(folder, part) for part in ("acl", "key", "sequence")]

@@ -35,7 +35,7 @@ def path_in(crate, path):
 
 
 def owner_of(head):
-    """The name of the type or trait in the first line of an `impl` or a trait."""
+    """The name of the type or trait in the first line of an `impl` or a trait: of `impl TRAIT for TYPE` the type."""
     return re.match(r"(?:impl(?:<.*?>)?(?: \w+ for)?|pub trait) (\w+)", head)[1]
 
 
@@ -72,7 +72,7 @@ def calls_of(crate, item):
 
 def calls(crate, module="lib"):
     """Yields the calls that a module passes on: what its `pub use` lines name, also of other crates; its own functions, if it is not `lib`; and those
-    of its public modules. Each is a triple: its file, its name there, and its name as callers write it, such as `laws::one_value`."""
+    of its public modules. Each is a triple: its file, its name there, and the name for callers, with a function's module: `laws::one_value`."""
     path = f"crates/{crate}/src/{module}.rt"
     source = text_of(path)
     for origin, items in re.findall(r"^pub use ([\w:]+)::(\{[^}]*\}|\w+);", source, re.MULTILINE):
@@ -98,7 +98,7 @@ def is_law(name):
 
 def checks(crate):
     """Yields the checks of a crate's page as pairs of texts: what each is about, and what is wrong, or None. A block of code must be in its file. The
-    row of a file must have each call of it that lib.rt passes on, except for laws, and no other call."""
+    row of a file must have each call of it that lib.rt passes on, and no other call. Laws may be left out of it."""
     page = page_of(crate)
     blocks = BLOCK.findall(page)
     yield "the blocks", None if 2 * len(blocks) == len(re.findall(r"^```", page, re.MULTILINE)) else "one of them has no file"
