@@ -1,10 +1,10 @@
-"""Asks the bindings of bindings/, in Rust and in Python, what the program is asked, and compares the lines.
+"""Asks the bindings of bindings/, in Rust and in Python, what the program is asked, and compares the lines. test_go.py does so for Go.
 
-A case is one text with all that a decision depends on. Its rows, `(accepted ROW ..)`, say which signatures are valid. Each case of the tables and
-of `rows/chains.py` is taken apart, into the access list, the sequence, the key, the request and the moment. A guard, which keeps the access list, is
-asked about the others in two ways: as texts, and, where the request and the moment allow it, with the request by its strings and the moment in
-seconds. The verifier accepts what the case's rows do. `decide`, `explain` and `reduce` must give the lines of `check`, `explain` and `reduce` on the
-case. A case that is refused is asked without its rows: a guard takes none, so it has no fault of them.
+A case is one text with all that a decision depends on. Its rows, `(accepted ROW ..)`, say which signatures are valid. Each case of the tables and of
+`rows/chains.py` is taken apart, into the access list, the sequence, the key, the request and the moment. A guard, which keeps the access list, is
+asked about the others in two ways: as texts; and, where one of them allows it, with the request by its strings or the moment in seconds. The verifier
+accepts what the case's rows do. `decide`, `explain` and `reduce` must give the lines of `check`, `explain` and `reduce` on the case. A case that is
+refused, but not as too large, is asked without its rows: a guard takes none, so it has no fault of them.
 
 Runs the tests of the Python module, mypy over its types, and of the crate its tests, those in its documents, clippy and the formatter. The
 examples `decide.c`, `decide.rs` and `decide.py`, which docs/GUIDE.md quotes, must grant and deny, by real keys and signatures. The header
@@ -65,7 +65,7 @@ class Asked(NamedTuple):
 
 
 def questions(program) -> list[Asked]:
-    """The questions of all cases of the tables and of chains.py. The name of each is the place of the first row that has its case."""
+    """The questions of all cases of the tables and chains.py, but not of texts that are no cases. Each is named by the place of its first row."""
     rows = [row for table in tables_here() for row in rows_of(table)] + [Row(*fields) for fields in chains.rows()]
     rows = [row for row in rows if row.command in COMMANDS.values() and not row.answer.startswith(NO_CASE)]
     with ThreadPoolExecutor(os.cpu_count()) as pool:
@@ -78,7 +78,7 @@ def questions(program) -> list[Asked]:
 
 def accepted_by(rows, sequence):
     """The signatures that rows `(by KEY (hash sha256 DIGEST) VALUE)` accept, each as the octets of its key, message and value. The message is the
-    certificate among the items of `sequence` that has the digest."""
+    certificate among the items of `sequence` that has the digest. Rows whose digest none has are left out."""
     certificates = [canonical(item) for item in sequence if isinstance(item, list) and item[:1] == [b"cert"]]
     messages = {hashlib.sha256(text).digest(): text for text in certificates}
     return tuple((canonical(key), messages[digest], canonical(value)) for _, key, (_, _, digest, *_), value in rows if digest in messages)
@@ -102,8 +102,8 @@ def seconds_of(moment):
 
 
 def questions_of(program, text, name) -> Iterator[Asked]:
-    """Yields the questions of a case, whose text is in canonical form: with the request and the moment as texts, and again as strings and seconds
-    where that can be. `name` is the place of its row. If `check` refuses the case, its rows are left out, since a guard takes none."""
+    """Yields the questions of a case, whose text is in canonical form: with the request and the moment as texts, and again as strings or seconds
+    where one can be. `name` is the place of its row. If `check` refuses it, but not as too large, its rows are left out: a guard takes none."""
     case, line = read(text), run(program, "check", text)[1]
     if line.startswith(b"refused") and line != TOO_LARGE:
         case[2] = [b"accepted"]
@@ -224,7 +224,7 @@ class Words(unittest.TestCase):
     """The words and numbers that the bindings have of the library."""
 
     def test_words(self):
-        """The crate and the package know the same words of each kind: causes, faults and parts. Both have `Other` too, which a macro adds in Rust."""
+        """The crate and the package have the same words in one order: causes, faults and parts. Both have `Other` too, which a macro adds in Rust."""
         rust, python = text_of("bindings/rust/src/words.rs"), text_of("bindings/python/spki/_words.py")
         kinds = re.findall(r"^    (Cause|Fault|Part) \{\n(.*?)^    \}$", rust, re.MULTILINE | re.DOTALL)
         by_kind = {kind: re.findall(r"^        (\w+),$", members, re.MULTILINE) for kind, members in kinds}
@@ -266,7 +266,7 @@ def all_questions(program):
 
 @needs.needs(*needs.LIBRARY)
 class Binding(built.OfLibrary):
-    """A test of a binding, which finds the library by its folder."""
+    """A test of a binding, which finds the library by `folder`, or by the variable SPKI_LIBRARY, set here for all that follows."""
 
     @classmethod
     def setUpClass(cls):
@@ -437,7 +437,7 @@ class InRust(Binding):
         self.cargo("test", "--quiet", "--workspace")
 
     def test_package(self):
-        """Both crates are packed and built from their packages, without a network."""
+        """spki-sys and spki are packed and built from their packages, without a network: so spki takes spki-sys by its path."""
         with tempfile.TemporaryDirectory() as room:
             for name, *words in (["spki-sys"], ["spki", "--config", 'patch.crates-io.spki-sys.path="spki-sys"']):
                 self.cargo("package", "--quiet", "--allow-dirty", "--target-dir", room, "-p", name, *words)
@@ -495,7 +495,7 @@ class InRust(Binding):
                          env={**others, "CARGO_TARGET_DIR": room, "CARGO_NET_OFFLINE": "true", **settings})
 
     def test_folders_without_a_library(self):
-        """If a folder lacks the library, or pkg-config does not know it, a message ends the build. Then folders that have it are taken."""
+        """If a folder is relative or lacks the library, or pkg-config is missing or lacks it, a message ends the build. Others are taken."""
         with tempfile.TemporaryDirectory() as room, tempfile.TemporaryDirectory() as empty:
             for settings, words in (({"SPKI_LIB_DIR": empty}, f"there is no libspki_c.a or libspki_c.so in {empty}"),
                                     ({"SPKI_LIB_DIR": empty, "SPKI_SHARED": "1"}, f"there is no libspki_c.so in {empty}"),
@@ -510,7 +510,7 @@ class InRust(Binding):
 
     @needs.needs("pkg-config")
     def test_versions_of_pkg_config(self):
-        """A library that pkg-config knows is linked if it has the version of the crate, and not if it has another one."""
+        """A library that pkg-config knows is linked if it has the version of the crate, and not if its first two numbers differ."""
         with tempfile.TemporaryDirectory() as room:
             for version, is_built in ((text_of("VERSION").strip(), True), ("0.1.0", False), ("0.3.0", False), ("0.0.9", False)):
                 folder = os.path.join(room, version)

@@ -1,6 +1,6 @@
-"""What `spki-cert` does grows as its texts do. Counts steps, and no time: lines of Python that are run, octets of a text that are looked through,
-and octets that are made canonical. A text with four times the parts takes at most five times the steps. Beyond that are bounds: the answer says
-which one ended it, and what to do.
+"""What `spki-cert` does grows as its texts do. Counts steps, and no time: lines of Python that are run, octets of a text that are looked through, and
+octets that are made canonical. A text with four times the parts takes less than five times the steps. Beyond that are bounds: the answer says which
+one ended it, and what to do.
 
 `spki_cert_tool` is the package of `spki-cert`. Work grows with the square of the parts, if each part leads to work on the whole text: each maker of a
 text says where that could be."""
@@ -49,13 +49,13 @@ class Text(bytes):
 
 @contextmanager
 def counting() -> Iterator[None]:
-    """A context that sets SEEN to 0 and counts steps there: each call, line and return in `spki_cert_tool`, and the octets that its modules asking,
-    certificates, checking and making make canonical. Other modules make few canonical, and these are not counted. A `Text` adds its own."""
+    """A context that sets SEEN to 0 and counts steps there: the events of `trace`, and the octets that the modules asking, certificates, checking and
+    making make canonical. Other modules make few canonical, and these are not counted. A `Text` adds its own."""
     from spki_cert_tool import asking, certificates, checking, making, sexp
 
     def trace(frame, event, _):
-        """Adds 1 to SEEN for each event in `spki_cert_tool`: a call, a line or a return. Python calls this where a function begins, and then what it
-        returns, which is this again, for what follows there."""
+        """Adds 1 to SEEN for each event in `spki_cert_tool`: a call, a line, a return, an exception. Python calls this where a function begins, and
+        then what it returns, which is this again, for what follows there."""
         if "spki_cert_tool" in frame.f_code.co_filename:
             SEEN[0] += 1
             return trace

@@ -3,9 +3,9 @@
 `clibrary.c` asks each question with no buffer, with one of no octets, with one octet too few, with enough and with more, between canaries, with
 failing allocations, and then from several threads with 256 KiB of stack each: every command on each file of `examples/`, the rows of the tables, and
 cases whose rows of accepted signatures are a text of their own (`rows apart`). It asks both libraries, each also under AddressSanitizer and valgrind.
-`cguard.c` opens guards and asks them: right and wrong marks, too small buffers, requests by strings, failing allocations, one guard from several
-threads. `misuse.c` makes each call with each argument wrong. They too use each library, also under AddressSanitizer, valgrind and helgrind. No
-allocation of the shared library fails, since it calls the C library itself.
+The shared one, and both under these tools, get short questions only. `cguard.c` opens guards and asks them: right and wrong marks, too small buffers,
+requests by strings, failing allocations, one guard from several threads. `misuse.c` makes each call with each argument wrong. They too use each
+library, also under AddressSanitizer, valgrind and helgrind. No allocation of the shared library fails, since it calls the C library itself.
 
 `until.c` asks until when a decision holds. `later.c` gives spki.c structures of older and newer headers. `swapped.c` changes a guard under threads.
 
@@ -209,7 +209,7 @@ def all_questions(program):
 
 
 def short_questions(program):
-    """For slow ways of asking: the questions of files and of rows apart that have at most SHORT octets, and 8 others, with the wanted answers."""
+    """For slow ways of asking: the questions of files and of rows apart of at most SHORT octets, and by hand the first 8, all with yes or no."""
     asked = [*all_questions(program).files, *all_questions(program).apart]
     short = [((name, number, text, rows), wanted) for (name, number, text, rows), wanted in asked if len(text + rows) <= SHORT]
     return short + list(questions_by_hand())[:8]
@@ -253,9 +253,9 @@ class OfC(built.OfLibrary):
         return program
 
     def check_answers(self, questions, library, *more, by=(), threads=2, refusals=0):
-        """`clibrary.c` must give the wanted answers to questions, in its own thread and then in so many others. For each question it refuses the
-        first `refusals` requests for memory in turn. `library` is `static` or `shared`, `more` are options of the compiler, and `by` is a command
-        that runs the program."""
+        """`clibrary.c` must give the wanted answers to questions, whose number is printed, in its own thread and then in so many others. For each
+        question it refuses the first `refusals` requests for memory in turn. `library` is `static` or `shared`, `more` are options of the compiler,
+        and `by` is a command that runs the program."""
         print(f"{len(questions)} questions")
         fault = faults_of_answers([*self.by, *by, self.compile("clibrary.c", library, *more), str(threads), str(refusals)], questions)
         self.assertEqual(fault, "", fault)
@@ -369,7 +369,7 @@ class Guards(OfC):
 class Head(OfC):
     """The sample at the head of spki.h, with a list and a question of 40 certificates, more than the usual limits take."""
 
-    # The sample in the header's first comment, and a program around it. SHOWN is replaced by the text of a sequence, and SAMPLE by the sample.
+    # The sample in the header's first comment, and a program around it. SHOWN becomes a sequence's text, SAMPLE the sample. The 5 octets are `3:sig`.
     SAMPLE = re.compile(r"^ \*\n((?: \*     .*\n)+) \*\n", re.MULTILINE)
     PROGRAM = """
 #include <spki.h>
@@ -543,7 +543,7 @@ class OnArm(OfC):
 
 def add_ways():
     """Adds the tests of Guards: with each library, by itself and under each tool. No allocation of the shared library fails, since it calls the C
-    library itself. A default of a lambda keeps the value of this turn of the loop."""
+    library itself, and none under helgrind. A default of a lambda keeps the value of this turn of the loop."""
     valgrind = needs.needs("valgrind")
     for library, refused in (("static", REFUSALS), ("shared", 0)):
         ways = {"": lambda self, kind=library, most=refused: self.check_guards(kind, refusals=most),

@@ -1,8 +1,8 @@
 """Runs the commands of pages and helps that no other test runs: harness/page_commands.py says which.
 
 They run in a copy of the repository with what is built at its place, an empty home, and no environment but a path. In the long tests each page of
-MACHINES runs on a machine of its own, a chroot that Debian's mmdebstrap makes (machines.py). It has the packages that the page names, and no other.
-"""
+MACHINES runs on a machine of its own, a chroot that Debian's mmdebstrap makes (machines.py). It has the packages that the page names, those of
+`Machine.packages`, and no other."""
 from __future__ import annotations
 
 import os
@@ -25,7 +25,7 @@ SECONDS = 600
 END = "---- end of command, status"
 STATUS = re.compile(END + r" (\d+)\n")
 REMARK = re.compile(r" {2,}# (.*)$")
-# Commands that end with another status than 0, because the answer is no or a refusal.
+# Commands that end with another status than 0, because the answer is no or a refusal, or because `timeout` ends them.
 STATUSES = {"crates/spki/out/spki explain < examples/signed/cases/too-wide.sexp": 1,
             "printf '4\"abc\"' | crates/spki/out/spki canonical                            # refused form Bad 5": 2,
             "timeout 2 ./service acl.sexp packages.example": 124}
@@ -80,7 +80,7 @@ def faults_in(lines: list[str], output: str) -> list[str]:
 
 @needs.needs("import cryptography", "ssh-keygen", "openssl/evp.h", "dot", *needs.LIBRARY)
 class InACopy(built.OfLibrary):
-    """Commands in a copy of the repository, with an empty home."""
+    """Commands in a copy of the parts of the repository that they need, with an empty home."""
 
     room: str
 
