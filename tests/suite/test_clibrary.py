@@ -79,7 +79,7 @@ def questions_of_files(program):
         for name in names:
             if name.endswith("sexp"):
                 with open(os.path.join(folder, name), "rb") as file:
-                    texts[name] = file.read()
+                    texts[os.path.relpath(file.name, EXAMPLES)] = file.read()
     asked = [(f"{command} {name}", number, text, b"") for name, text in sorted(texts.items()) for number, command in enumerate(COMMANDS)]
     with ThreadPoolExecutor(os.cpu_count()) as pool:
         wanted = pool.map(lambda each: as_library(each[1], run(program, COMMANDS[each[1]], each[2])), asked)
