@@ -92,8 +92,8 @@ class Maker:
         return [b"cert", [b"issuer", owner], [b"subject", self.principal(subject)], *propagate, self.tag(), *self.validity()]
 
     def question(self):
-        """A question with up to three certificates in a chain. Some questions lack a key, have a wrong signature, or are asked by another key. A few
-        have a part that cannot be read, and are refused."""
+        """A question with up to three certificates in a chain. Some lack a key, have a wrong signature or another request, or are asked by another
+        key. A few have a part that cannot be read, and are refused."""
         chain = [self.random.choice(self.keys) for _ in range(self.random.randrange(4) + 1)]
         items = [key for key in chain if self.random.random() < 0.95]
         for issuer, subject in zip(chain, chain[1:]):
@@ -128,7 +128,7 @@ def decider_by_whole_list(store, policy):
 
 def agrees_with_whole_list(store, seed, policy):
     """Whether a service answers random questions as the whole list does, before and after some entries are removed, and more than 10 of them with a
-    yes, with a no, and with a refusal. Prints how many there are of each."""
+    yes, with a no, and with a refusal. Prints how many there are of each, or the first difference."""
     maker, counts = Maker(seed), {"yes": 0, "no": 0, "refused": 0}
     numbers = []
     for _ in range(ENTRIES):

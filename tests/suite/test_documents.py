@@ -1,7 +1,7 @@
-"""Tests that what the documents name is there: each relative link and its heading, each path of a file or folder of this repository in backticks, in
-a block of commands and in a table, the versions of the manual and of README.md, which are that of the file VERSION, and the logic of the toolchain
-that README.md names, which `rt --version` prints; each definition of docs/DEFINITIONS.md, in the file of its row; and each clause that a row of
-docs/PROOFS.md names, in the function of that row (`claims.py`). README.md, and the pages together, are no longer than their limits.
+"""Tests that what the documents name is there: each relative link and its heading, each path of a file or folder of this repository in backticks and
+in indented commands, the versions of the manual and of README.md, which are that of the file VERSION, and the logic of the toolchain that README.md
+names, which `rt --version` prints; each definition of docs/DEFINITIONS.md, in the file of its row; and each clause that a row of docs/PROOFS.md
+names, in the function of that row (`claims.py`). README.md, and the pages together, are no longer than their limits.
 
 A path is what begins with a name at the top of the repository, or in the folder of the document, or with `src`, `specs` or `proofs` in the page of a
 crate; and each word in backticks that ends as a file of a kind that is here. A word in capitals stands for any name, and so does `*`. What is built,
@@ -46,7 +46,7 @@ def anchor(heading):
 
 
 def dead_links(page):
-    """Yields a text for each relative link of a page that leads to no file or no heading."""
+    """Yields a text for each relative link of a page that leads to no file or no heading. Code in backticks or fences has no links."""
     for target in LINK.findall(TICKS.sub("", FENCED.sub("", text_of(page)))):
         if re.match(r"[a-z]+:", target):
             continue
@@ -59,7 +59,7 @@ def dead_links(page):
 
 
 def words_of(page):
-    """The words of a page that may be paths: in backticks, and in indented lines of commands."""
+    """Yields the words of a page that may be paths: those in backticks, and in indented lines, before a `#`, those with a `/`."""
     text = text_of(page)
     plain = FENCED.sub("", text)
     for quoted in TICKS.findall(plain):
@@ -75,7 +75,7 @@ def bases(page):
 
 def dead_paths(page, names):
     """Yields a text for each path that a page names and that is not there. `names` has the bare names of all files. A word without a folder must be
-    one of them if it ends as a file does. What a command makes, files in out/, and words in capitals, which stand for any name, are left out."""
+    one of them if it ends as a file does. Names of blocks, MADE, files in out/, and words in capitals, which stand for any name, are left out."""
     written = {name for _, name, _ in FENCED.findall(text_of(page)) if name}
     for word in words_of(page):
         word = re.sub(r"^(?:\.\./|\./)+", "", word.rstrip(".,;:)"))
@@ -90,8 +90,8 @@ def dead_paths(page, names):
 
 # ---- names in the sources
 
+# A row of docs/DEFINITIONS.md, its files and its names; and a definition of a specification, or a field or constructor of one.
 DEFINED = re.compile(r"^\| ([A-Z]\w+(?:, [A-Z]\w+)*) \| ((?:`[\w-]+`(?:, )?)+) \|", re.MULTILINE)
-# A definition of a specification, or a field or constructor of one.
 OF_SPECS = re.compile(r"^ *(?:(?:abbrev|pub|record|data|unfoldable) )*([\w-]+)\b|\(pub ([\w-]+)", re.MULTILINE)
 
 
@@ -130,7 +130,7 @@ class Documents(unittest.TestCase):
         self.assertEqual({path for path in named if "/out/" not in path and not glob.glob(os.path.join(TOP, path))}, set())
 
     def test_lengths(self) -> None:
-        """README.md, and the pages of docs/ together with the pages CALLING.md, are no longer than the limits above: nobody reads long pages."""
+        """README.md is no longer than its limit, and docs/ with the pages CALLING.md is below its own: nobody reads long pages."""
         lengths = {path: os.path.getsize(path) for pattern in PAGES for path in glob.glob(os.path.join(TOP, pattern), recursive=True)}
         self.assertLessEqual(lengths[os.path.join(TOP, "README.md")], MOST_OF_README)
         self.assertLess(sum(size for path, size in lengths.items() if "/docs/" in path or path.endswith("CALLING.md")), MOST_OF_PAGES)

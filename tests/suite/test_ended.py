@@ -115,7 +115,7 @@ class Case(unittest.TestCase):
 
     @classmethod
     def run_here(cls, *words: str) -> tuple[int, str]:
-        """Runs `spki-cert` in the folder, within this process. Returns its status, and what it writes on both streams."""
+        """Runs `spki-cert` in the folder, within this process. Returns its status, and what it writes on both streams, in ASCII."""
         output, before = io.TextIOWrapper(io.BytesIO(), "ascii", write_through=True), os.getcwd()
         os.chdir(cls.room)
         try:
@@ -150,7 +150,7 @@ class Ends(Case):
 
     def test_which_certificate(self) -> None:
         """What is ended: the last certificate of a file, with `--place` the one at a place, a certificate that is no
-        sequence, or a digest. Comments in certificates change nothing."""
+        sequence, or a digest, which gets a remark. Comments in certificates change nothing."""
         first, second = self.digests
         for words, wanted in ((["second"], [second]), (["first"], [first]), (["cert"], [first]), (["second", "--place", "1"], [first]),
                               (["second", "--place", "2"], [second]), (["first", "second"], [first, second]), (["--digest", B], [B]),
@@ -171,7 +171,7 @@ class Ends(Case):
                 self.assertEqual(self.rows(), [self.digests[1]])
 
     def test_reasons(self) -> None:
-        """A reason is one line of visible ASCII behind the digest and the date, whatever is given."""
+        """A reason is one line of visible ASCII behind the digest and the date, whatever is given, of 200 characters at most."""
         for reason, wanted in (("laptop stolen", " laptop stolen"), ("", ""), (f"x\n{A}\nend 0 {B}", f" x {A} end 0 {B}"),
                                ("a\rb\x1b[2Jc\x85d\0e", " a b [2Jc\\x85d e"),
                                ("Schl\xfcssel", " Schl\\xfcssel"), ("\udcff", " \\udcff"), ("# \\ '", " # \\ '"), ("x" * 999, " " + "x" * 200)):
@@ -193,7 +193,7 @@ class Ends(Case):
         self.assertEqual(self.rows(), self.digests)
 
     def test_undo(self) -> None:
-        """`--undo` takes out all digests that are named, and names the command for the daemon; or none if one of them is not in the file."""
+        """`--undo` takes out all digests that are named, and names the command for the daemon; or none, with status 1, if one is not there."""
         others = ["# M\xfcller", "", f"{A} # 2026-01-01", f"{B}"]
         self.write(ENDED, sealed(*others, self.digests[1]))
         before = self.octets(ENDED)
@@ -205,7 +205,7 @@ class Ends(Case):
         self.assertEqual(self.octets(ENDED), sealed(*others))
 
     def test_list(self) -> None:
-        """`--list` writes each digest with its date and reason, and the last line as the file has it, and no control characters."""
+        """`--list` writes each digest with its date or `-` and its reason, the last line as the file has it, and no control characters."""
         text = sealed("# a comment", "", f"{A} # 2026-01-02 stolen", f"{B} # 2026-01-03", f"{C} # M\xfcller \x1b[2J 2026-01-04", "d" * 64)
         self.write(ENDED, text)
         self.assertEqual(self.end("--list"), f"{A} 2026-01-02 stolen\n{B} 2026-01-03\n{C} - M\\xfcller [2J 2026-01-04\n{'d' * 64} -\n"
@@ -320,7 +320,7 @@ class Refuses(Case):
                 self.check_unchanged(sealed(A), output)
 
     def test_files(self) -> None:
-        """A file that is not as it was written is refused by each command, with what differs and what to do."""
+        """A file that is not as it was written is refused by each command but --adopt, with what differs and what to do."""
         good = sealed("# M\xfcller", f"{A} # 2026-01-01 x", "", B)
         lines = good.split(b"\n")
         rows = [("empty", b"", "not `end COUNT"), ("cut in a line", good[:99], "not `end COUNT"),
@@ -348,7 +348,7 @@ class Refuses(Case):
                 self.check_unchanged(octets, output)
 
     def test_places(self) -> None:
-        """What is no ordinary file that can be written is refused and stays as it is. A FIFO is not waited for."""
+        """What is no ordinary file that can be written, or too long, or has two names, is refused and stays. A FIFO is not waited for."""
         rows = [("fifo", "no ordinary file"), ("device", "no ordinary file"), ("folder", "no ordinary file"), ("read-only", "its mode 444"),
                 ("two names", "2 names"), ("long", "more than 16777216 octets"), ("nowhere", "not there; `spki-cert end --ended")]
         for (kind, text), words in itertools.product(rows, (["first"], ["--undo", "--digest", A], ["--adopt"])):

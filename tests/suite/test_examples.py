@@ -13,8 +13,8 @@ class Example(unittest.TestCase):
     """A test of an example."""
 
     def check_example(self, *words: str, **settings: str) -> None:
-        """An example must end with status 0, and its last line must count no failure. `words` are its path below examples/ and its arguments, and
-        `settings` more variables of the environment."""
+        """An example must end with status 0, and its last line must count tests and no failure. `words` are its path below examples/ and its
+        arguments, and `settings` more variables of the environment."""
         status, output = output_of(os.path.join(EXAMPLES, words[0]), *words[1:], seconds=SECONDS, env={**os.environ, **settings})
         self.assertRegex(output, r"(?:^|\n)[1-9]\d* passed, 0 failed\n$", output[-3000:])
         self.assertEqual(status, 0, output[-3000:])

@@ -1,6 +1,6 @@
 """Tests the Go module of bindings/go and the daemon spki-authd: their own tests with the race detector, and linters. The module is asked
 what the program is asked, as `test_bindings.py` asks the other bindings. The daemon is asked with keys and certificates that `spki-cert` and
-OpenSSL made. Among the long tests, headers, signatures and signed requests are fuzzed for two to five minutes each."""
+OpenSSL made. Among the long tests, what FUZZED has is fuzzed for two to five minutes each."""
 import contextlib
 import hashlib
 import http.client
@@ -59,7 +59,7 @@ class InGo(OfGo):
             self.assertEqual(output_of("go-staticcheck", "./...", cwd=folder, env=settings, seconds=golang.SECONDS), (0, ""))
 
     def test_packages(self) -> None:
-        """The module has its path and its packages, and needs no other module."""
+        """The module has its path and at least these packages, and needs no other module."""
         self.assertEqual(self.go(golang.MODULE, "list", "-m", "all"), b"conguraki/spki\n")
         names = set(self.go(golang.MODULE, "list", "./...").decode().split())
         self.assertLessEqual({"conguraki/spki", "conguraki/spki/guard", "conguraki/spki/verify"}, names)
@@ -148,7 +148,7 @@ class Person:
         self.digest = value_of(spki_cert("key", "--hash", self.public))[2].hex()
 
     def gives(self, to: "Person", tag: str, *more: str) -> bytes:
-        """The sequence of a certificate by which this person gives a right to another. `more` are options of `spki-cert sign`."""
+        """The sequence of a certificate by which this person gives a right to another for a day. `more` are options of `spki-cert sign`."""
         return spki_cert("sign", "--by", self.path, "--to", to.public, "--tag", tag, "--days", "1", *more)
 
 
@@ -167,7 +167,7 @@ def spki_cert(*words: str) -> bytes:
 class Daemon:
     """A daemon that runs, with its files in the folder `room`. `before` are the words of a command that starts its program, and `more` are fields of
     its configuration. `event` is the first message on its standard error, `log` the path of its standard output, and `grants` that of its log of
-    grants."""
+    grants. `list`, `ended`, `socket` and `config` are paths too."""
 
     def __init__(self, room: str, program: str, access_list: str, *before: str, **more: object) -> None:
         """Writes the files, starts the daemon, and waits for its first message."""
@@ -190,7 +190,7 @@ class Daemon:
             file.write(text)
 
     def message(self) -> dict[str, object]:
-        """Waits for the next message on the daemon's standard error, and returns it."""
+        """Waits for the next message on the daemon's standard error, and returns it. Raises ValueError if the daemon has ended."""
         assert self.process.stderr is not None
         return dict(json.loads(self.process.stderr.readline()))
 

@@ -208,7 +208,7 @@ class Indented(unittest.TestCase):
     """The indented command of the toolchain in README.md."""
 
     def test_toolchain(self) -> None:
-        """`rt try` prints what the page says. It is not run again on the same sources."""
+        """`rt try` prints what the page says. It is not run again on the same sources, unless built.IS_ANEW says so."""
         if building.recorded_checksums().get("README.md's rt try") == checksum_of_command() and not built.IS_ANEW:
             return
         for line in OF_TOOLCHAIN:

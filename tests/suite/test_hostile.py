@@ -1,6 +1,6 @@
 """Runs the program under hostile conditions: each allocation, each read and each write fails in turn, texts are cut short, standard input and output
-fail, limits are tried from both sides, the stack is small, and texts need the most work. `test_one_call` does each call of the libraries by itself in
-the same way, on two rows of `calls/`.
+fail, limits are tried from both sides, the stack is small, and texts need the most work. `test_one_call` does each call of the libraries by itself
+while requests for memory fail, on at most two rows of test_calls.py.
 
 `refuse.c` is compiled by `cc` and preloaded, and lets the chosen calls fail. Each part is a test. It prints the numbers of tasks, runs, refused calls
 and faults. The longest parts are tests only of `tests/run --long`, which `.ci/deep` runs."""
@@ -41,10 +41,10 @@ MOST_ASKS = 2097152
 MOST_SECONDS, MOST_MEMORY = 10, 256
 # The octets of a small stack.
 STACK = 256 * 1024
-# How runs end: the status, the output and the errors.
-MEMORY = (2, b"refused Memory\n", b"")
 # The example on which the requests before the first read are refused too.
 WORDS_REFUSED = "no-entries.csexp"
+# How runs end: the status, the output and the errors.
+MEMORY = (2, b"refused Memory\n", b"")
 SHORT = (2, b"refused form Short\n", b"")
 TOO_LONG = (2, b"refused form TooLong\n", b"")
 READ_FAULT = (3, b"", b"spki: read fault\n")
@@ -106,7 +106,7 @@ def end_of(line):
 # ---- examples
 
 def of_files():
-    """Yields each command on the cases of examples/, as an Example."""
+    """Yields as examples, for each case of FILES, its commands there, the three conversions and `intersect`."""
     for name, lines in FILES.items():
         text = pathlib.Path(EXAMPLES, name).read_bytes()
         canonical = text if name.endswith(".csexp") else chains.canonical(text.decode())
@@ -184,9 +184,9 @@ def most_work():
         for command in convert.FORMS:
             yield make.__name__, command, make(MOST_OCTETS), b""
     for make in (intersect.strings, intersect.long_strings, intersect.other_strings, intersect.prefixes):
-        yield make.__name__, "intersect", intersect.intersection(*make(999)), b"("
+        yield make.__name__, "intersect", intersect.intersection(*make(999)), b"("  # (the most: two tags of 1,000 nodes)
     for what, make in intersect.WIDEST.items():
-        yield f"most {what}", "intersect", intersect.intersection(*make(332 if what == "lists" else 999)), b"("
+        yield f"most {what}", "intersect", intersect.intersection(*make(332 if what == "lists" else 999)), b"("  # (a list has 3 nodes)
 
 
 # ---- what is done with an example: each returns the number of runs, the number of refusals, and the faults
@@ -213,8 +213,8 @@ def refused_in_turn(program, example, behind):
 
 
 def call_refused(program, row, behind):
-    """Runs of `test_one_call` on a row of `calls/`, in which each request for memory is refused in turn, and if `behind` is ".." all later ones too.
-    Returns the number of runs, of refusals, and the faults."""
+    """Runs of `test_one_call` on a row of test_calls.py, in which each request for memory is refused in turn, and if `behind` is ".." all later ones
+    too. Returns the number of runs, of refusals, and the faults."""
     one_call = Program(built.existing(built.ONE_CALL), program.library)
     answer = 0, row.answer.hex().encode() + b"\n", b""
     return refused_in_turn(one_call, Example(row.place, row.call, row.line(), answer), behind)
@@ -304,7 +304,7 @@ def in_less_memory(program, example):
 
 def within_limits(program, example):
     """An example of much work, which must take at most MOST_SECONDS and MOST_MEMORY MiB, and end with a status of the program. Its output must begin
-    with that of the example. Returns 1 for one example, 0 refusals, and the faults."""
+    with that of the example. Prints its row of a table. Returns 1 for one example, 0 refusals, and the faults."""
     ended = program.run(example.command, example.text)
     seconds, mebibytes = memory.used(program.path, example.command, example.text)
     print(f"{example.name:<40}{example.command:<10}{len(example.text):>9}{len(ended.out):>9}{seconds:>8.2f} s{mebibytes:>8.1f} MiB", flush=True)
@@ -471,7 +471,7 @@ class Hostile(built.OfProgram):
         cls.refusing = Program(cls.program, compiled(room_for(cls)))
 
     def check_part(self, part, tasks):
-        """No task of a part may find a fault. `tasks` yields them, each a function and its words. `part` is the name that is printed."""
+        """No task of a part may find a fault. `tasks` yields them, each a function and its words. Prints a line: `part`, numbers and seconds."""
         begun = time.perf_counter()
         with ProcessPoolExecutor() as pool:
             started = [pool.submit(run_task, function, self.refusing, *words) for function, *words in tasks()]
