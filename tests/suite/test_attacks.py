@@ -38,8 +38,8 @@ class Pages(unittest.TestCase):
     """The pages of the servers, and how large the table is."""
 
     def test_lines(self) -> None:
-        """Each page in apps/spki-authd/servers/ has at most 40 lines to paste, and says how to probe the site and what the server cannot promise.
-        The daemon's README names the page."""
+        """Each page in apps/spki-authd/servers/ has at most 40 indented lines, to paste, and says how to probe the site and what the server cannot
+        promise. The daemon's README names the page."""
         pages = [os.path.join("apps", "spki-authd", "servers", f"{name}.md") for name in
                  (*(kind.name for kind in web_servers.SERVERS), "traefik", "envoy")]
         for page in pages:
@@ -106,8 +106,8 @@ class Table(unittest.TestCase):
         self.assertEqual(list(attackers.changes_of(self.site, answer)), [])
 
     def check_sites(self) -> None:
-        """`kind.sites` has configuration lines of other sites, by name. With each of them the server grants nothing of ASKED, which the daemon
-        denies, and while that is stopped nothing of GRANTED either. Lines named `.. that fails` may deny Ann too. The gate runs about a third."""
+        """`kind.sites` has lines of other sites, by name. With each the server grants nothing of `attackers.ASKED`, which the daemon denies, nor of
+        `attackers.GRANTED` while that is stopped. Lines named `.. that fails` may deny Ann too. The gate runs about a third."""
         for name, more in self.kind.sites.items():
             if not is_chosen(f"{self.kind.name}, {name}", 3):
                 continue
@@ -170,7 +170,7 @@ class Table(unittest.TestCase):
 
 def table_of(kind: type[web_servers.Behind]) -> Callable[[type[Table]], type[Table]]:
     """Returns a decorator that gives a subclass of Table the tests of a server: one for each column, and others. They are skipped where something
-    that they need is not there."""
+    that they need is not there. The default of a lambda keeps the column of this turn."""
     def with_tests(table: type[Table]) -> type[Table]:
         table.kind = kind
         for column in columns_of(kind):

@@ -218,7 +218,7 @@ class Manager:
         self.socket = socket.socket(socket.AF_UNIX)
         self.socket.bind(daemon.socket)
         os.chmod(daemon.socket, 0o600)
-        self.socket.listen(4096)
+        self.socket.listen(4096)  # (as Backlog of the unit)
         self.messages = socket.socket(socket.AF_UNIX, socket.SOCK_DGRAM)
         self.messages.bind(f"{daemon.socket}.notify")
         self.messages.settimeout(SECONDS)
@@ -417,7 +417,7 @@ class BehindNginx(OfDaemon):
         os.makedirs(os.path.join(room, "web"))
         Daemon.write(os.path.join(room, "web", "a"), "a file")
         Daemon.write(os.path.join(room, "nginx.conf"), NGINX.format(**settings))
-        path = f"{os.environ['PATH']}:/usr/sbin"
+        path = f"{os.environ['PATH']}:/usr/sbin"  # (where Debian has nginx)
         words = ["nginx", "-p", room, "-c", os.path.join(room, "nginx.conf"), "-e", os.path.join(room, "error.log")]
         process = subprocess.Popen(words, env={**os.environ, "PATH": path}, stderr=subprocess.DEVNULL)
         try:
@@ -488,7 +488,7 @@ class BehindNginx(OfDaemon):
         """The daemon is started again and again, while clients ask nginx, which keeps connections to it. No request fails."""
         with tempfile.TemporaryDirectory() as room, managed(self.daemon_program, self.access_list) as manager:
             os.chmod(room, 0o755)
-            self.certificate(room, "crt")
+            self.certificate(room, "crt")  # (NGINX names it, though no TLS is used here)
             process = manager.start()
             with self.nginx(room, f"unix:{manager.daemon.socket}", "http") as web:
                 with asked_by_many(lambda: self.ask_often(web, 20, {}, "/web/a")) as statuses:

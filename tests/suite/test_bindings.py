@@ -46,7 +46,7 @@ HELGRIND = ("valgrind", "--tool=helgrind", "--quiet", "--error-exitcode=98")
 class Asked(NamedTuple):
     """A question to a guard, and the expected lines, `wanted`. `command` is a key of COMMANDS, and `is_strict` says whether hashes by SHA-1 name no
     key. The request is a text or its strings, and the moment a text or seconds since 1970. `accepted` has the key, message and value of each valid
-    signature. `limits` is `highest` or the usual ones."""
+    signature. `limits` is `highest`, or another word for the usual ones."""
 
     name: str
     command: str
@@ -206,8 +206,8 @@ class Version(unittest.TestCase):
     """The version of the bindings."""
 
     def test_version(self):
-        """The crate, the module and the header have the version of the file VERSION. What the bindings demand of a library is its first two
-        numbers."""
+        """The crates, the modules for Python and Go and the header have the version of the file VERSION. What the bindings demand of a library is its
+        first two numbers."""
         line = r'^version = "(.*)"$'
         own = {"bindings/rust/Cargo.toml": line, "bindings/rust/spki-sys/Cargo.toml": line, "bindings/python/pyproject.toml": line,
                "bindings/rust/spki-serde/Cargo.toml": line, "bindings/python/spki/__init__.py": r'^__version__ = "(.*)"$',
@@ -353,7 +353,7 @@ class InPython(Binding):
     @needs.needs("import pip", "import setuptools", "import wheel")
     def test_wheel_of_an_sdist(self):
         """An sdist, a source package, is made where there is no module `wheel`. pip makes a wheel of it, with the library that SPKI_LIBRARY names. A
-        relative path, or one of no file, is refused there."""
+        relative path, or one of no file, is refused there. The wheel says that it has no license yet."""
         with tempfile.TemporaryDirectory() as room:
             source = os.path.join(room, "source")
             shutil.copytree(PYTHON, source, ignore=shutil.ignore_patterns("build", "*.egg-info", "__pycache__"))

@@ -41,7 +41,7 @@ class Bounds(unittest.TestCase):
 
     def test_the_search_is_repeated(self) -> None:
         """A recipe says how a text is made. 50 random changes of one give another one, the same both times, since the seed is the same."""
-        recipes = sys.modules["recipes"]
+        recipes = sys.modules["recipes"]  # (slowest.py has loaded it)
         last_recipes = []
         for _ in range(2):
             chance, recipe = random.Random("seed"), self.slowest.NAMED[0].recipe

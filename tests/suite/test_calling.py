@@ -97,8 +97,8 @@ def is_law(name):
 
 
 def checks(crate):
-    """Yields the checks of a crate's page as pairs of texts: what each is about, and what is wrong, or None. A block of code must be in its file. The
-    row of a file must have each call of it that lib.rt passes on, and no other call. Laws may be left out of it."""
+    """Yields the checks of a crate's page as pairs of texts: what each is about, and what is wrong, or None. A block of code must name a file and be
+    in it. The row of a file must have each call of it that lib.rt passes on, and no other call. Laws may be left out of it."""
     page = page_of(crate)
     blocks = BLOCK.findall(page)
     yield "the blocks", None if 2 * len(blocks) == len(re.findall(r"^```", page, re.MULTILINE)) else "one of them has no file"

@@ -65,7 +65,7 @@ class OfCalls(unittest.TestCase):
         cls.answers = dict(zip(cls.rows, call_rows.answers(built.existing(cls.path), cls.rows.values())))
 
     def check_row(self, name: str) -> None:
-        """Fails with the row's texts if the program's answer to the row of this name is not the row's own, expected answer."""
+        """Fails with the row's texts if the program's answer to the row of this name, `no answer` for none, is not the expected one."""
         row, answer = self.rows[name], self.answers.get(name, b"no answer")
         if answer != row.answer:
             texts = "\n".join(f"text   {shown(text)}" for text in row.texts)

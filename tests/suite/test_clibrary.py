@@ -12,7 +12,7 @@ library, also under AddressSanitizer, valgrind and helgrind. No allocation of th
 `fuzz/calls.c` makes the parts of questions from fuzzed octets and compares the answers: from the files of `fuzz/corpus/`, and in `.ci/deep` for
 ten minutes. There spki.c is under AddressSanitizer too.
 
-The libraries for ARM are asked short questions and open guards too, in an emulator.
+The libraries for ARM are asked short questions and open guards too, in an emulator. The sample at the head of spki.h is compiled and run.
 
 The symbols of both libraries must be the calls that the header declares and no others. They may need only a few functions of the C library.
 `linked.c` is compiled as C11 and as C++17, with all warnings, and linked with either library; and with two copies of the static one."""
@@ -36,7 +36,7 @@ CRATE = os.path.join(TOP, "crates", "spki_c")
 CHECK_ACCEPTED = 7
 # The statuses of the program for yes and no, and of the library: NO too, DONE (SPKI_DONE), and GRANTED (SPKI_YES).
 YES, NO, DONE, GRANTED = 0, 1, 6, 9
-THREADS = 8
+THREADS = 8  # (that ask at the same time)
 # How many requests for memory are refused in turn: the first one, then the second one, and so on.
 REFUSALS = 40
 # The most octets of a question for slow ways of asking, and the seconds after which a program that hangs is ended.
@@ -72,8 +72,8 @@ def as_library(command, answer):
 
 
 def questions_of_files(program):
-    """Each command on each file of the examples, as pairs of a question and an answer. A question has a name, the number of a command, a text, and
-    the text of its separate rows, which is empty here. The answer is the wanted status and octets of the library, by what the program answers."""
+    """Each command on each file `*sexp` below examples/, as pairs of a question and an answer. A question has a name, the number of a command, a
+    text, and the text of separate rows, empty here. The answer is the wanted status and octets of the library, by what the program answers."""
     texts = {}
     for folder, _, names in os.walk(EXAMPLES):
         for name in names:

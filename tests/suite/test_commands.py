@@ -144,7 +144,7 @@ class Machine(NamedTuple):
     before: str = ""
     packages: tuple[str, ...] = ()
     blocks: str = ""
-    """How its indented blocks are run: each in the clone (`apart`), or where the one before it ends (`on`)."""
+    """How its indented blocks are run: each in the clone (`apart`), where the one before it ends (`on`), or not at all."""
 
 
 INSTALL = "./install.sh /usr/local crates/spki/out/spki crates/spki_c/out/libspki_c.a > /dev/null\n"
@@ -186,7 +186,7 @@ class OnMachines(built.OfLibrary):
 
     def check_page(self, machine: Machine) -> None:
         """The commands of a page must write what the page says, or, where it says nothing, end with status 0. Those in blocks `console` show what
-        they write. The others are in indented blocks (`by_user`), and in backticks: those that OF_ROOT or IN_CLONE describes."""
+        they write. Others are in indented blocks, if `Machine.blocks` is set, but for NOT_ON_MACHINES; and in backticks, by OF_ROOT or IN_CLONE."""
         commands = list(page_commands.commands_of(machine.page))
         if any(command.kind == "console" for command in commands):
             steps = list((test_guide.steps_of_manual if machine.page.endswith(".1") else test_guide.steps_of_markdown)(text_of(machine.page)))

@@ -144,7 +144,7 @@ class Documents(unittest.TestCase):
         self.assertEqual(list(missing_definitions()), [])
 
     def test_claims(self) -> None:
-        """Each clause that a row of docs/PROOFS.md names is in the function of that row."""
+        """Each clause that a row of docs/PROOFS.md names is in the contract of a function there, and each definition follows from one."""
         sources = claims.Sources(below_crates("src/**/*.rt"), below_crates("specs/**/*.antt"))
         self.assertEqual(list(claims.faults("docs/PROOFS.md", sources)), [])
 
@@ -153,7 +153,7 @@ class Documents(unittest.TestCase):
         self.assertEqual(list(ways.faults("docs/ARCHITECTURE.md", ways.bodies_of(below_crates("src/**/*.rt")))), [])
 
     def test_calls_for_c(self) -> None:
-        """Each function `spki_c_..` has a row in docs/PROOFS.md, and the page explains each call of spki.h."""
+        """Each function `spki_c_..` has a row in docs/PROOFS.md. A call of spki.h calls its namesake, or is explained there."""
         self.assertEqual(list(claims.unclaimed("docs/PROOFS.md", "crates/spki_c/spki.h", "crates/spki_c/spki.c")), [])
 
     def check_page(self, page: str) -> None:

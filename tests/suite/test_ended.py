@@ -29,7 +29,7 @@ ENDED = "etc ended"
 # Comments of certificates that an older way to end them wrote into the file: one as a line of its own, the other as the
 # digest of somebody else's certificate.
 COMMENTS = ("see sha256 of the release", f"sha256 {A} #")
-WRITERS = 6
+WRITERS = 6  # (at the same time)
 
 
 def sealed(*lines: str) -> bytes:

@@ -28,7 +28,7 @@ from harness.support import TOP, output_of, text_of
 
 BLOCK = re.compile(r"^```(\w+)(?: (\S+))?\n(.*?)^```$", re.MULTILINE | re.DOTALL)
 SECONDS = 900
-END = "---- end of command ----"
+END = "---- end of command ----"  # (behind what each command writes: other tests split by it too)
 # The folders of the examples that pages quote. tests/suite/test_bindings.py runs them.
 PROGRAMS = ("examples/c", "bindings/rust/examples", "bindings/python/examples")
 FENCED = re.compile(r"^```.*?^```$", re.MULTILINE | re.DOTALL)
@@ -149,7 +149,7 @@ def lines_of_first_certificate(page: str) -> list[str]:
 
 
 def checksum_of_command() -> str:
-    """The checksum of all that `rt try` reads for the command of README.md, and of the command."""
+    """The checksum of the toolchain and all that `rt try` reads for the command of README.md, and behind it that command."""
     of_crates = building.checksum([*building.sources("spki", ("src", "specs")), os.path.join("examples", "delegation.sexp")])
     return f"{of_crates} {sorted(OF_TOOLCHAIN.items())}"
 
