@@ -411,7 +411,7 @@ class BehindNginx(OfDaemon):
     def nginx(self, room: str, at: str, scheme: str) -> Iterator[str]:
         """A context with the path of the socket of an nginx that runs in the folder `room`. It asks the daemon at the address `at`, a host and a port
         or `unix:PATH`, by `http` or `https` (`scheme`)."""
-        user = "user root;" if os.getuid() == 0 else ""
+        user = "user root;" if os.getuid() == 0 else ""  # (another user could not open the daemon's socket)
         certificate = urllib.parse.quote(self.alice.certificate)
         settings = {"room": room, "at": at, "scheme": scheme, "secret": SECRET, "certificate": certificate, "user": user}
         os.makedirs(os.path.join(room, "web"))

@@ -224,7 +224,7 @@ class Words(unittest.TestCase):
     """The words and numbers that the bindings have of the library."""
 
     def test_words(self):
-        """The crate and the package have the same words in one order: causes, faults and parts. Both have `Other` too, which a macro adds in Rust."""
+        """The crate and the package have the same words in one order, but for capitals: causes, faults and parts. A macro adds `Other` in Rust."""
         rust, python = text_of("bindings/rust/src/words.rs"), text_of("bindings/python/spki/_words.py")
         kinds = re.findall(r"^    (Cause|Fault|Part) \{\n(.*?)^    \}$", rust, re.MULTILINE | re.DOTALL)
         by_kind = {kind: re.findall(r"^        (\w+),$", members, re.MULTILINE) for kind, members in kinds}

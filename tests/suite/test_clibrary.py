@@ -97,7 +97,7 @@ def questions_of_tables():
 def rows_apart(program, answered):
     """Yields three questions for each case that the program decides, with the wanted answers. The rows, which list its valid signatures, are a text
     of their own: beside the case without rows; beside the whole case; and no rows beside the whole case, whose own rows must not count then.
-    `answered` are pairs of a question and its answer."""
+    `answered` are pairs of a question and its answer. Short cases come first."""
     cases = {text for (_, command, text, _), (status, _) in answered if COMMANDS[command] == "check" and status in (NO, GRANTED)}
     for text in sorted(cases, key=lambda each: (len(each), each)):
         word, access_list, accepted, *others = read(run(program, "canonical", text)[1])

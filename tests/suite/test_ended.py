@@ -26,8 +26,7 @@ from spki_cert_tool import commands, ending, files
 COMMAND = os.path.join(TOP, "apps", "spki-cert", "spki-cert")
 A, B, C = (letter * 64 for letter in "abc")
 ENDED = "etc ended"
-# Comments of certificates that an older way to end them wrote into the file: one as a line of its own, the other as the
-# digest of somebody else's certificate.
+# Comments of certificates that an older way to end them wrote into the file: as a line of its own, and as the digest of another certificate.
 COMMENTS = ("see sha256 of the release", f"sha256 {A} #")
 WRITERS = 6  # (at the same time)
 
@@ -224,6 +223,7 @@ class Ends(Case):
         self.check_unchanged(before, "the file is there")
 
     def test_mode_owner_and_comments_stay(self) -> None:
+        """The mode, the lines with their comments, and where root runs the test the owner stay as they are. One line is new, and the last one."""
         self.write(ENDED, sealed("# M\xfcller \udcff", f"{A} # \x01 \xe9"))
         os.chmod(self.at(ENDED), 0o640)
         if os.geteuid() == 0:
