@@ -127,8 +127,8 @@ def decider_by_whole_list(store, policy):
 
 
 def agrees_with_whole_list(store, seed, policy):
-    """Whether a service answers random questions as the whole list does, before and after some entries are removed, and more than 10 of them with a
-    yes, with a no, and with a refusal. Prints how many there are of each, or the first difference."""
+    """Adds random entries to a store. Returns whether a service answers random questions as the whole list does, before and after some are removed,
+    and more than 10 with a yes, with a no, and with a refusal. Prints how many there are of each, or the first difference."""
     maker, counts = Maker(seed), {"yes": 0, "no": 0, "refused": 0}
     numbers = []
     for _ in range(ENTRIES):
@@ -154,8 +154,8 @@ def agrees_with_whole_list(store, seed, policy):
 
 
 def fault_of_client(connect, place):
-    """Adds and removes entries of a key of its own, and asks in between. `connect` connects to the store, and `place`
-    is the number of the client. Returns what was wrong, or None."""
+    """Adds and removes entries of a key of its own, two in each round, of which one grants, and asks in between. `connect` connects to the store, and
+    `place` is the number of the client. Returns what was wrong, or None."""
     store, own = connect(), key_of(b"client%d" % place)
     service, asked = entries.Service(store), question(b"(sequence)", own)
     for turn in range(ROUNDS):
