@@ -201,7 +201,7 @@ func TestProbeEnds(t *testing.T) {
 // TestProbeWords probes what is no address of a folder, and a port at which nobody listens, and gives -stopped without -probe. The status says what is wrong.
 func TestProbeWords(t *testing.T) {
 	for _, words := range [][]string{{"-probe", "files"}, {"-probe", "ftp://localhost/"}, {"-probe", "https://u:p@localhost/"},
-		{"-probe", "https://localhost/?x"}, {"-probe", "https:///x"}, {"-probe", "https://localhost/%2F/"}} {
+		{"-probe", "https://localhost/?x"}, {"-probe", "https://localhost/?"}, {"-probe", "https:///x"}, {"-probe", "https://localhost/%2F/"}} {
 		var out, messages bytes.Buffer
 		if status := run(words, &out, &messages); status != statusRefused || !strings.Contains(messages.String(), errBase.Error()) {
 			t.Errorf("%q: %d %s", words, status, messages.String())
