@@ -72,7 +72,7 @@ const (
 	// The most octets of the file of the configuration, of the secret, of the ended certificates, and of a list: longer files are refused. The library
 	// reads no longer list.
 	mostConfig, mostSecret, mostEnded, mostList = 1 << 20, 4096, 1 << 24, 1 << 20
-	// The most seconds of a request: a time.Duration has room for them.
+	// The most seconds of a request, a day: a far larger number would not fit in a time.Duration.
 	mostSeconds = 86_400
 )
 
@@ -113,7 +113,8 @@ func parseConfig(octets []byte) (*config, error) {
 	return config, config.check()
 }
 
-// setUsual sets each field that was left out to its usual value, except those that the checks of lists and chains set.
+// setUsual sets each field that was left out to its usual value, except those that the checks of lists, stores and chains set, and the number of
+// nonces.
 func (c *config) setUsual() {
 	c.nameLists()
 	setText(&c.SocketMode, "0660")

@@ -11,8 +11,8 @@ import (
 )
 
 // The control socket is for the operator alone: its mode is 0600. A client writes one line, an order, and reads the answer: orderDone in one line, or
-// orderFailed with the reason, and a text behind that line. This is no HTTP, so that a web server that asks here by mistake reads no 200. mostOrder and
-// mostText are the most octets of an order and of an answer.
+// orderFailed with the reason, and a text behind that line. This is no HTTP, so that a web server that asks here by mistake reads no 200. mostOrder
+// and mostText are the most octets of an order and of an answer. Each side ends the connection after timeForOrder.
 const (
 	controlSuffix = ".control"
 	orderDone     = "done"
@@ -32,8 +32,8 @@ const (
 	orderState       = "state"
 )
 
-// An order is a function that the daemon's main loop calls between two events, and the channel for its error. So only one goroutine, the main loop, reads
-// lists and opens logs.
+// An order is a function that the daemon's main loop calls between two events, and the channel for its error. So reloads and reopenings, by orders or
+// by signals, come one after the other.
 type order struct {
 	call func(*daemon) error
 	done chan error
@@ -90,7 +90,8 @@ func (d *daemon) answerOrder(connection net.Conn) {
 	fmt.Fprintf(connection, "%s\n%s", first, text)
 }
 
-// doOrder does an order, and returns the text of its answer. It fails with errOrder for what is none of the orders above.
+// doOrder does an order, and returns the text of its answer, for some orders also with an error. It fails with errOrder for what is none of the
+// orders above.
 func (d *daemon) doOrder(order string) (string, error) {
 	switch order {
 	case orderHealth:
@@ -120,8 +121,8 @@ func (d *daemon) inMain(call func(*daemon) error) error {
 	}
 }
 
-// sendOrder sends an order to the daemon whose control socket has a path, and returns the text of the answer. The error says why the order was not done:
-// the daemon may send a text then too.
+// sendOrder sends an order to the daemon whose control socket has a path, and returns the text of the answer. The error is the reason behind
+// orderFailed, with which the daemon may send a text too, or says that no whole answer came.
 func sendOrder(path, order string) (string, error) {
 	connection, err := net.DialTimeout("unix", path, timeForOrder)
 	if err != nil {

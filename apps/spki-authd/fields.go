@@ -9,8 +9,9 @@ import (
 	"strings"
 )
 
-// checkFields returns an error if the text of a configuration is no JSON, or if an object in it has a field twice. encoding/json would take the last one,
-// and a reader may see the first. Names that it takes for the same, such as those in upper and lower case, count as one.
+// checkFields returns an error if an object in the text of a configuration has a field twice. encoding/json would take the last one, and a reader may
+// see the first. Names that it takes for the same, such as those in upper and lower case, count as one. What is no JSON is an error too, unless only
+// the end of the text is missing: parseConfig tests that.
 func checkFields(octets []byte) error {
 	decoder := json.NewDecoder(bytes.NewReader(octets))
 	var open []*object

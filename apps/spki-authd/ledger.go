@@ -47,8 +47,8 @@ func openLedger(path, syncs string) (*ledger, error) {
 	return opened, opened.open()
 }
 
-// open opens or makes the file. It fails if that is no ordinary file or another daemon writes it, and then changes nothing in `l`. If the last line of the
-// file is cut, isCut has the next one begin behind a line feed.
+// open opens or makes the file. It fails if it cannot, if that is no ordinary file, if another daemon writes it, or if fsync fails for its folder,
+// and then changes nothing in `l`. If the last line of the file is cut, isCut has the next one begin behind a line feed.
 func (l *ledger) open() error {
 	if err := checkLedgerPath(l.path); err != nil {
 		return err

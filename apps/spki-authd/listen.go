@@ -43,8 +43,8 @@ func (c *config) checkEntrance() error {
 	return nil
 }
 
-// checkSocket returns an error if the path or the mode of the web server's Unix socket is wrong, if `tls` is set, which is for a port, or if everyone may
-// write to the socket and there is no secret.
+// checkSocket returns an error if the path or the mode of the web server's Unix socket is wrong, if `tls` is set, which is for a port, or if
+// checkMode does.
 func (c *config) checkSocket(path string) error {
 	mode, err := modeOf(c.SocketMode)
 	if err != nil || !strings.HasPrefix(path, "/") || len(path) > mostSocketPath {
@@ -56,7 +56,7 @@ func (c *config) checkSocket(path string) error {
 	return c.checkMode(mode)
 }
 
-// checkMode returns an error if everyone may write to a socket of this mode and there is no secret.
+// checkMode returns an error if a socket of this mode gives everyone any right and there is no secret. Who may write to a socket can connect to it.
 func (c *config) checkMode(mode fs.FileMode) error {
 	if mode&0o007 != 0 && c.SecretFile == "" {
 		return errors.New("everyone may write to the socket by its mode, and there is no secret_file")
@@ -102,7 +102,7 @@ func closeAfter(listener net.Listener, fault error) error {
 	return fault
 }
 
-// openEntrance opens the socket or the port of the configuration.
+// openEntrance opens the socket or the port of the configuration, and gives a socket its group and its mode.
 func (c *config) openEntrance() (net.Listener, error) {
 	if address := strings.TrimPrefix(c.Listen, tlsScheme); address != c.Listen {
 		return net.Listen("tcp", address)

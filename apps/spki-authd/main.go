@@ -1,5 +1,5 @@
-// Command spki-authd says, for a web server, whether the holder of a TLS client certificate may do what it requests. README.md says how it is
-// asked and what it answers.
+// Command spki-authd says, for a web server, whether the holder of a TLS client certificate, or of the key that has signed a request, may do what it
+// requests. README.md says how it is asked and what it answers.
 package main
 
 import (
@@ -13,7 +13,8 @@ import (
 	"conguraki/spki/guard"
 )
 
-// Exit statuses: all was done, a file was refused or a check or the output failed, and a word of the command line is wrong.
+// Exit statuses: all was done; something failed, such as a file that is refused, a daemon that cannot be asked or started, a check or the output; and
+// a word of the command line is wrong.
 const (
 	statusDone    = 0
 	statusRefused = 1
@@ -67,8 +68,8 @@ func (p *printer) Write(octets []byte) (count int, err error) {
 	return count, p.fault
 }
 
-// run does what the words of the command line say, and returns the exit status. It writes errors to `messages`. A command fails if `out` does; the daemon
-// does not, so it gets `out` itself.
+// run does what the words of the command line say, and returns the exit status, for -help statusDone. It writes errors to `messages`. A command fails
+// if `out` does; the daemon does not, so it gets `out` itself.
 func run(arguments []string, out, messages io.Writer) int {
 	words, err := wordsOf(arguments, messages)
 	if errors.Is(err, flag.ErrHelp) {

@@ -42,8 +42,8 @@ func notify(message string) error {
 	return err
 }
 
-// inheritedSocket returns the socket that the service manager has opened, or nil if it has not. In such a socket, connections wait while the daemon is
-// started again.
+// inheritedSocket returns the socket that the service manager has opened, or nil if it has not. In such a socket, connections wait while the daemon
+// is started again. It fails if the manager hands over another number of sockets than one.
 func inheritedSocket() (net.Listener, error) {
 	if os.Getenv(envProcess) != strconv.Itoa(os.Getpid()) {
 		return nil, nil
@@ -56,8 +56,8 @@ func inheritedSocket() (net.Listener, error) {
 	return net.FileListener(file)
 }
 
-// checkInherited returns an error if a socket of the service manager is not at the address of the configuration, or, for a Unix socket, if its group is
-// not `socket_group`, or if everyone may write to it and there is no secret.
+// checkInherited returns an error if a socket of the service manager is not at the address of the configuration, or, for a Unix socket, if checkGroup
+// or checkMode does for its present group and mode.
 func (c *config) checkInherited(listener net.Listener) error {
 	address := listener.Addr()
 	wanted := unixScheme + address.String()

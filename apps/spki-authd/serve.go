@@ -54,7 +54,8 @@ func (d *daemon) open(out, messages io.Writer) error {
 	return nil
 }
 
-// listenAndServe opens the sockets, and answers until a signal ends the daemon. The error says why it could not begin, or what was not done at the end.
+// listenAndServe opens the sockets, and answers until a signal ends the daemon. The error says why it could not begin, or what was not done at the
+// end. In both cases the log of grants is closed, and the lines that wait are written.
 func (d *daemon) listenAndServe() error {
 	defer d.flush()
 	listener, err := d.config.listen()
@@ -92,8 +93,8 @@ func (d *daemon) withLedger(call func() error) error {
 	return <-done
 }
 
-// serve is the main loop. Other goroutines answer the requests of a listener, while it does what orders and signals ask for, until a signal ends the
-// daemon. Its error is that of end.
+// serve is the main loop. It tells the service manager that the daemon is ready. Other goroutines answer the requests of a listener, while it does
+// what orders and signals ask for, and watches the clock each second, until a signal ends the daemon. Its error is that of end.
 func (d *daemon) serve(listener net.Listener) error {
 	connections := newConnectionServer(d.decider)
 	go connections.serve(listener)

@@ -45,8 +45,9 @@ func widen(listener net.Listener) error {
 	return err
 }
 
-// removeStale removes a socket that an ended daemon has left: one that refuses connections. Nothing else is removed: it fails if another daemon answers
-// there, and also if that cannot be told, as where the queue of the other one is full. Without a file at the path it does nothing.
+// removeStale removes a socket that an ended daemon has left: one that refuses connections. Nothing else is removed: it fails if what is there is no
+// socket, if another daemon answers there, and also if that cannot be told, as where the queue of the other one is full. Without a file at the path
+// it does nothing.
 func removeStale(path string) error {
 	about, err := os.Lstat(path)
 	if errors.Is(err, fs.ErrNotExist) {

@@ -50,7 +50,8 @@ var (
 	errSource = errors.New(`a list is the path of a file, or {"postgres": {..}}`)
 )
 
-// UnmarshalJSON reads the path of a file, or `{"postgres": {..}}`. It fails with errSource for anything else, and as storeOf.check does for a wrong setting.
+// UnmarshalJSON reads the path of a file, or `{"postgres": {..}}`. It fails with errSource for anything else, and as storeOf.check does for a wrong
+// setting. `null` is read as an empty path, as if the list were left out.
 func (s *source) UnmarshalJSON(text []byte) error {
 	if json.Unmarshal(text, &s.file) == nil {
 		return nil

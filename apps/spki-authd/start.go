@@ -36,8 +36,8 @@ func listenToSignals() signals {
 	return signals
 }
 
-// start reads the configuration and its files, and runs the daemon until a signal ends it. With -test it only reads and tests the files, and prints the
-// number of entries of each list.
+// start reads the configuration and its files, and runs the daemon until a signal ends it. With -test it only reads and tests the files, and prints
+// what decider.test prints. With signed requests the daemon first waits for the next second.
 func start(words words, out, messages io.Writer) error {
 	signals := listenToSignals()
 	debug.SetGCPercent(gcPercent)
@@ -85,8 +85,8 @@ func newDecider(config *config) *decider {
 	return decider
 }
 
-// test prints the number of entries of each list, or the status of its store. It returns why the log cannot be written, the socket's group cannot be set,
-// or a store cannot be read, or nil.
+// test prints the number of entries of each list, or the status of its store. It returns why the log cannot be written, the socket's group cannot be
+// set, or a store cannot be read, or nil. It opens neither a socket nor the log.
 func (d *decider) test(out io.Writer) error {
 	if err := checkLedgerPath(d.config.Log); err != nil {
 		return err
