@@ -23,7 +23,7 @@ type access struct {
 type accessKeeper struct {
 	present atomic.Pointer[access]
 	last    atomic.Pointer[reloadOutcome]
-	// The reloads since the start, and those that were refused.
+	// The reloads, of which the first is that of the start, and those that were refused.
 	all, refused atomic.Uint64
 }
 
@@ -138,7 +138,8 @@ func (a *access) checkStoresFresh() error {
 }
 
 // reload calls replace, and records and counts the outcome, also if it fails. `now` is noted as the time of the reload. With allowFewerEnded,
-// certificates that have ended may be missing in the new file, and count again. Questions under way end with the files that they began with.
+// certificates that have ended may be missing in the new file, and count again. A question that a guard was asked ends with the files that it began
+// with.
 func (k *accessKeeper) reload(c *config, allowFewerEnded bool, now time.Time) error {
 	err := k.replace(c, allowFewerEnded, now)
 	k.last.Store(&reloadOutcome{now, err})
@@ -150,7 +151,7 @@ func (k *accessKeeper) reload(c *config, allowFewerEnded bool, now time.Time) er
 }
 
 // replace reads the files of a configuration, also those for TLS, and puts them in the place of those that were read before. It fails if a file is
-// refused, or if an ended certificate is no longer listed and allowFewerEnded is false: then nothing is replaced.
+// refused, if a store cannot be opened, or if an ended certificate is no longer listed and allowFewerEnded is false: then nothing is replaced.
 func (k *accessKeeper) replace(c *config, allowFewerEnded bool, now time.Time) error {
 	certificate, err := c.TLS.read()
 	if err != nil {

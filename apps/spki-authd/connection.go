@@ -281,9 +281,9 @@ func (s *connectionServer) recoverPanic() {
 	}
 }
 
-// answerOne reads and answers one request, and says whether another one may follow on the connection. A request that does not end in time is logged and
-// gets no answer. What is no request is answered by `refused`. Only the answer to a PUT, by which certificates are left, needs the body: any other body is
-// dropped before. After a request with a body no other one may follow.
+// answerOne reads and answers one request, and says whether another one may follow on the connection. A request that does not end in time is logged
+// and gets no answer. What is no request, or one whose headers end early, is answered by `refused`. Only the answer to a PUT, by which certificates
+// are left, needs the body: any other body is dropped before. After a request with a body no other one may follow.
 func (s *connectionServer) answerOne(connection net.Conn, reader *requestReader) bool {
 	request, err := reader.next()
 	if err != nil && errors.Is(err, os.ErrDeadlineExceeded) {
@@ -310,8 +310,8 @@ func (s *connectionServer) answerOne(connection net.Conn, reader *requestReader)
 	return err == nil && !isLast
 }
 
-// skipBody drops the body of a request, and says whether it has one. Its caller reads no other request behind a body: so no part of what a web server
-// takes for a body can be read as a request.
+// skipBody drops the body of a request as passOver does, and says whether it has one. Its caller reads no other request behind a body: so no part of
+// what a web server takes for a body can be read as a request.
 func skipBody(request *http.Request) (hasBody bool) {
 	if request.ContentLength == 0 {
 		return false

@@ -10,8 +10,8 @@ type counts struct {
 	// The number of answers: first by the number of the rule, from 1, or 0 for no rule, and then by the answer's place in `answers`.
 	decisions [][]atomic.Uint64
 	seconds   histogram
-	// The signatures that were known to be valid, those that were verified, which countValid and checkCertificates count, and those that were not verified
-	// since they would change nothing.
+	// The signatures that were known to be valid; those that were verified, with either result, which countValid and checkCertificates count; and
+	// those that were not verified since they would change nothing.
 	known, verified, spared atomic.Uint64
 }
 

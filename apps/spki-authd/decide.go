@@ -21,8 +21,9 @@ type decider struct {
 	// What verifies signed requests, and what keeps certificates that clients have left: each is nil if the configuration has none.
 	requests *requestVerifier
 	chains   chainKeeper
-	counts   *counts
-	clock    clock
+	// What the metrics count: the answers, and how often the time of day went back.
+	counts *counts
+	clock  clock
 	// How often each key and each address may ask.
 	byKey, byAddress *rateLimiter
 	// How often denials are explained, of all keys together.
@@ -35,7 +36,7 @@ type decider struct {
 	logOther func(line []byte)
 }
 
-// The most octets of reasons, and of a target that is not clear, in the log.
+// The most octets of reasons, and of a target that is refused or that no rule fits, in the log.
 const (
 	mostReasons = 2048
 	mostTarget  = 256
@@ -98,8 +99,9 @@ func targetForLog(target string) string {
 	return cut(path, mostTarget)
 }
 
-// judge asks the guard of a host and a path whether a key may make the request in a record, and sets the record's answer, which is `no` before. `path` is
-// decoded. `sequence` is in transport form, or empty if no certificate is shown: then a denial is `unauthenticated`, since certificates may help.
+// judge asks the guard of a host and a path whether a key may make the request in a record, and sets the record's answer, which is `no` before.
+// `path` is decoded. `sequence` is in transport form, or empty if no certificate is shown: then a denial is `unauthenticated`, since certificates may
+// help. If it cannot be decided, the answer is `no` where no list is for the host and the path, and else that of answerOf.
 func (d *decider) judge(result *record, key guard.ProvenKey, path, sequence string, now time.Time) {
 	question := guard.Question{Key: key, Words: result.Request, Time: now}
 	var decision guard.Decision
@@ -243,8 +245,9 @@ func (d *decider) explain(result *record, opened *guard.Asked) string {
 	return reasonsOf(explanation, err, result.number)
 }
 
-// countValid verifies signatures up to the first that is not valid, and returns how many precede that one, or the number of all. `certificates` are those
-// that are signed. The record gets the number of signatures that were known, and the first certificate whose signature is not valid.
+// countValid verifies signatures up to the first that is not valid, and returns how many precede that one, or the number of all. `certificates` are
+// those that are signed. The record gets the number of signatures that were known. If one is not valid, it gets the certificates up to that one, and
+// the reason.
 func (d *decider) countValid(result *record, certificates *shownSequence, signatures []guard.Signature) int {
 	for place, signature := range signatures {
 		isValid, wasKnown := d.cache.verifies(signature, certificates.digests[place], d.verify)
@@ -273,8 +276,9 @@ func answerOf(err error) answer {
 	return answerFailed
 }
 
-// reasonsOf returns the reasons of an explanation in one text, without the entries for other keys, or the text of `err`, the error of the explanation.
-// `number` returns the number that the log has for an entry, by its place in the guard, from 1.
+// reasonsOf returns the reasons of an explanation in one text, cut to mostReasons, without the entries for other keys. If none is left, the text says
+// so. If `err`, the error of the explanation, is not nil, it returns the text of that. `number` returns the number that the log has for an entry, by
+// its place in the guard, from 1.
 func reasonsOf(explanation guard.Explanation, err error, number func(place int) int) string {
 	if err != nil {
 		return err.Error()

@@ -6,12 +6,13 @@ import (
 	"time"
 )
 
-// A gate lets so many goroutines through at once, and has the others wait for a while.
+// A gate lets as many goroutines through at once as it has room for, and has the others wait for a while.
 type gate chan struct{}
 
-// library is the gate before those calls of the library that may take long. Each such call has a thread of the system. While calls last, Go begins one more
-// thread for each further request, and ends the program where it gets none: the unit of systemd lets the daemon have TasksMax. More calls than processors
-// make no answer faster, but a short question must not wait for all long ones. Who has passed must not enter again before leaving.
+// library is the gate before those calls of the library that may take long. Each such call has a thread of the system. While calls last, Go begins
+// one more thread for each further request, and ends the program where it gets none: the unit of systemd lets the daemon have TasksMax. More calls
+// than processors make no answer faster, but a short question must not wait for all long ones: so 56 more may last. Who has passed must not enter
+// again before leaving.
 var library = make(gate, 2*runtime.GOMAXPROCS(0)+56)
 
 // How long a goroutine waits at a gate. Past that its request is answered by `failed`.

@@ -23,7 +23,8 @@ func (d *decider) answerTo(request *http.Request) record {
 	return result
 }
 
-// endAs logs and counts the answer to a request that cannot be read, or whose connection fails, and returns its record. `fault` is the reason.
+// endAs logs and counts the answer to a request that cannot be read, or whose connection fails or panics, and returns its record. `fault` is the
+// reason. The time of the answer counts as 0.
 func (d *decider) endAs(answer answer, fault error) record {
 	result := record{Time: stamp(d.now())}.withReason(answer, fault)
 	d.logAnswer(&result)
@@ -49,7 +50,8 @@ func (d *decider) logAnswer(result *record) {
 	d.logOther(*buffer)
 }
 
-// answer reads a request and decides it at a moment, without logging. After a panic the answer is `failed`.
+// answer reads a request and decides it at a moment, without logging. One with a wrong secret is answered by `no`, and any other that cannot be read
+// by `refused`. After a panic the answer is `failed`.
 func (d *decider) answer(request *http.Request, now time.Time) (result record) {
 	defer func() {
 		if fault := recover(); fault != nil {

@@ -12,9 +12,9 @@ var errHost = errors.New("the host is missing or not clear")
 // The most octets of a host, as DNS has them.
 const mostHost = 253
 
-// hostOf returns the host that a text such as `Files.example.org:443` has, in small letters without its port. It fails with errHost unless that is a name
-// or an IPv4 address of letters, digits, single dots, hyphens and underscores, or an IPv6 address in brackets. A dot at the end, which some servers drop,
-// is refused.
+// hostOf returns the host that a text such as `Files.example.org:443` has, in small letters without its port. It fails with errHost unless that is a
+// name or an IPv4 address of at most mostHost letters, digits, single dots, hyphens and underscores, or an IPv6 address in brackets. A dot at the
+// beginning or at the end, which some servers drop, is refused.
 func hostOf(text string) (string, error) {
 	host := text
 	if colon := strings.LastIndexByte(text, ':'); colon >= 0 && !strings.HasSuffix(text, "]") {

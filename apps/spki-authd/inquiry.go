@@ -73,7 +73,7 @@ func (c *config) inquiryOf(request *http.Request) (inquiry inquiry, err error) {
 }
 
 // targetOf returns the target of the client's request: from a header, or that of the web server's own request behind path_prefix. Without that prefix
-// it fails with errPrefix, and returns the whole target for the log.
+// it fails with errPrefix, and returns the whole target for the log. Where the header is missing or empty, it fails with errHeader.
 func (c *config) targetOf(request *http.Request) (string, error) {
 	if c.Headers.URI != "" {
 		return requiredHeader(request, c.Headers.URI)
@@ -85,7 +85,7 @@ func (c *config) targetOf(request *http.Request) (string, error) {
 }
 
 // hostOf returns the host that the client asks for, in small letters without a port. Where neither a rule nor a list depends on the host, one that is
-// missing or not clear is returned empty, and is no error.
+// missing or not clear is returned empty, and is no error. A header that is there twice is an error always.
 func (c *config) hostOf(request *http.Request) (string, error) {
 	text := request.Host
 	if c.Headers.Host != "" {

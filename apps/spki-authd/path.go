@@ -11,10 +11,10 @@ var errUnclear = errors.New("the path is not clear")
 // pathOf returns the path of a request's target, decoded once, or fails with errUnclear. It accepts only what every server reads in the same way, so
 // nothing has to be normalized, and a path that is accepted is the one that is served:
 //
-//   - It begins with `/`, and as it is sent it has at most `most` octets. The query is cut off at the first `?`.
-//   - As it is sent it has visible characters of ASCII alone, with its query. Each `%` is followed by two hexadecimal digits.
+//   - It begins with `/`. The query is cut off at the first `?`, and what precedes it has at most `most` octets as it is sent.
+//   - As it is sent, path and query have visible characters of ASCII alone. Each `%` of the path is followed by two hexadecimal digits.
 //   - Decoded it has characters of ASCII from the space to `~`, without `%`, `\`, `;`, `?` and `#`. `%2F` is no part of it.
-//   - No segment is `.` or `..`, ends in a dot or a space, or is empty, except the last one.
+//   - No segment is `.` or `..`, or ends in a dot or a space. None but the last one is empty.
 //
 // Upper and lower case, and a `/` at the end, stay as they are.
 func pathOf(target string, most int) (string, error) {
