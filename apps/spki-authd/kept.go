@@ -132,9 +132,9 @@ func openChains(c *config, now time.Time, mayRemove bool) (chainKeeper, error) {
 	return newStoredChains(c.Chains, reader), nil
 }
 
-// openFolderChains reads the sequences of a folder. If mayRemove, it removes the files of those that have ended at `now`, and files that were not written
-// whole. mayRemove is false for -test, which changes no file. A file that the daemon has not written is left out. It fails if the folder cannot be read,
-// or if others than its owner may write it.
+// openFolderChains reads the sequences of a folder. If mayRemove, it removes the files of those that have ended at `now`, and files that were not
+// written whole. mayRemove is false for -test, which changes no file. A file that the daemon has not written is left out. It fails if the folder is
+// none or cannot be read, or if others than its owner may write it.
 func openFolderChains(c *chains, now time.Time, mayRemove bool) (*folderChains, error) {
 	opened := &folderChains{chains: *c, byKey: map[string][]keptChain{}}
 	about, err := os.Stat(c.Folder)
@@ -160,8 +160,8 @@ func openFolderChains(c *chains, now time.Time, mayRemove bool) (*folderChains, 
 	return opened, nil
 }
 
-// read reads the file of a sequence into memory, and says whether it can be removed: the sequence has ended, or was not written whole. `key` is the
-// name of the file's folder. Without room for it, or if the daemon has not written it, the file is left out and stays.
+// read reads the file of a sequence into memory, and says whether it can be removed: the sequence has ended, or was not written whole and is older
+// than mostPart. `key` is the name of the file's folder. Without room for it, or if the daemon has not written it, the file is left out and stays.
 func (f *folderChains) read(key, name string, now time.Time) (isOver bool) {
 	path := filepath.Join(f.Folder, key, name)
 	about, err := os.Stat(path)
@@ -300,8 +300,8 @@ func (f *folderChains) whyNotAddedLocked(key string, chain keptChain, now time.T
 	return ""
 }
 
-// add keeps a sequence for a key in a file and in memory, if there is room, and returns the answer to the client: `failed` with an error, if the file
-// cannot be written.
+// add keeps a sequence for a key in a file and in memory, if there is room, and returns the answer to the client: `kept`, `known` or `full`, or
+// `failed` with an error if the file cannot be written. It also removes the files of sequences that have ended.
 func (f *folderChains) add(key string, chain keptChain, now time.Time) (answer, error) {
 	f.writing.Lock()
 	defer f.writing.Unlock()
@@ -321,7 +321,7 @@ func (f *folderChains) add(key string, chain keptChain, now time.Time) (answer, 
 	return answerKept, nil
 }
 
-// begin returns the answer to a sequence that add does not keep, or an empty one, and the files that add removes.
+// begin returns the answer to a sequence that add does not keep, or an empty one, and the files that add removes, which it takes out of f.ended.
 func (f *folderChains) begin(key string, chain keptChain, now time.Time) (answer, []keptFile) {
 	f.mutex.Lock()
 	defer f.mutex.Unlock()
@@ -331,8 +331,9 @@ func (f *folderChains) begin(key string, chain keptChain, now time.Time) (answer
 	return refusal, ended
 }
 
-// write writes the file of a sequence, whole or not at all: under a name with partSuffix at its end, from which it is renamed. It calls fsync, so that what
-// a client was told is kept is not lost if the machine stops. After an error the file with that suffix may be left.
+// write writes the file of a sequence, whole or not at all: under a name with partSuffix at its end, from which it is renamed. It calls fsync, so
+// that what a client was told is kept is not lost if the machine stops. After an error the file with that suffix may be left, or the whole file if
+// only the fsync of a folder failed.
 func (f *folderChains) write(key string, chain keptChain) error {
 	folder := filepath.Join(f.Folder, key)
 	if err := os.MkdirAll(folder, 0o700); err != nil {
@@ -352,7 +353,8 @@ func (f *folderChains) write(key string, chain keptChain) error {
 }
 
 // judgeAll sets the answer of a record by the certificates that its request shows. Where it shows none and the list alone grants nothing, each
-// sequence that is kept for its key is tried, until one grants the request. If none does, and one could not be decided by, the answer is `failed`.
+// sequence that is kept for its key is tried, until one grants the request. If none does, and one could not be decided by, the answer is `failed`, as
+// it is if the kept ones cannot be read.
 func (d *decider) judgeAll(result *record, key guard.ProvenKey, path string, inquiry *inquiry, now time.Time) {
 	// (each sequence is tried with the record as it is before the first decision)
 	before := *result

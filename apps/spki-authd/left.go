@@ -15,8 +15,8 @@ import (
 // A client leaves certificates by `PUT PATH`, with a sequence as its body. They are kept for the key that has signed the request, if each of them is
 // signed, and the subject of the last one is this key. What right they give is not tested: later requests are decided by them.
 //
-// It is the only request that the web server passes on as it came, with its body. So of its headers only the signature counts. Where a web server asks by
-// GET, any other PUT is refused: its headers may be the client's own.
+// It is the only request that the web server passes on as it came, with its body. So no header says its method, target or host, and only the
+// signature says whose it is. Where a web server asks by GET, any other PUT is refused: its headers may be the client's own.
 
 var (
 	errPlace   = errors.New("certificates are not left here")
@@ -120,8 +120,8 @@ func (d *decider) keepCertificates(result record, key guard.ProvenKey, proof *ht
 	return result
 }
 
-// checkCertificates returns why a sequence is not kept for a key, or nil: a certificate is not signed or has ended early, or the subject of the last one
-// is not the key. The record gets the digests of the certificates.
+// checkCertificates returns why a sequence is not kept for a key, or nil: a certificate is not signed or has ended early, or the subject of the last
+// one is not the key. It also fails as signaturesOf, and if a store is stale. The record gets the digests of the certificates.
 func (d *decider) checkCertificates(result *record, key guard.ProvenKey, sequence string) error {
 	signatures, err := d.config.signaturesOf(sequence, key, d.now())
 	if err != nil {

@@ -119,8 +119,9 @@ func newStore(options *storeOf, reader reader, open func(list []byte) (*guard.Gu
 		kept: newKeptRows(*options.CacheMiB << 20), ended: map[digest]struct{}{}, fault: errNever}, nil
 }
 
-// list returns a list of the entries that a question can need: one that is kept, or a new one. The caller closes its guard if it isPassing. It fails if
-// the store is stale or cannot be read, and with the library's refusal if the question's sequence is refused.
+// list returns a list of the entries that a question can need: one that is kept, or a new one. The caller closes its guard if it isPassing. It fails
+// if the store is stale, also by the time that reading has taken, or cannot be read, and with the library's refusal if the question's sequence is
+// refused.
 func (s *store) list(question *guard.Question) (*list, error) {
 	key, err := s.keyOf(question)
 	if err != nil {
@@ -181,8 +182,9 @@ func (s *store) readFirst(question *guard.Question) (first string, err error) {
 	return first, err
 }
 
-// read reads the entries for a key from the database, and returns the list of them. `keyDigest` is the key's digest. The list is kept if it is not too
-// large and no later state was polled meanwhile; otherwise it isPassing. It fails with errOlder if the database's state is older than the last poll's.
+// read reads the entries for a key from the database, and returns the list of them. `keyDigest` is the key's digest. The list is kept if it is not
+// too large, and if no later state and no other history was polled meanwhile; otherwise it isPassing. It fails with errOlder if the database's state
+// is older than the last poll's, and as reader.rows and listOf do.
 func (s *store) read(keyDigest digest, key []byte) (*list, error) {
 	before := s.lastPolled()
 	digests := digestsOf(key)
@@ -204,8 +206,9 @@ func (s *store) read(keyDigest digest, key []byte) (*list, error) {
 	return opened, nil
 }
 
-// listOf returns the list of entries that were read, and how many octets these have together. It fails with errHostile if a row is not exactly one entry,
-// and with errMany if they are too many or too long.
+// listOf returns the list of entries that were read, and how many octets these have together. It fails with errHostile if a row is not exactly one
+// entry or the library cannot open the list, with errMany if they are too many or too long, and with errBusy if too many questions are decided at
+// once.
 func (s *store) listOf(rows entryRows) (*list, int, error) {
 	size := 0
 	for _, text := range rows.texts {
@@ -270,7 +273,7 @@ func (s *store) lastPolled() polledState {
 	return s.polled
 }
 
-// checkFresh returns an error if the state that was polled last is too old to decide by, or if none was polled yet.
+// checkFresh returns an error if the state that was polled last is too old to decide by or too far in the future, or if none was polled yet.
 func (s *store) checkFresh() error {
 	s.mutex.RLock()
 	defer s.mutex.RUnlock()

@@ -75,6 +75,7 @@ func openReader(options *storeOf, patience time.Duration) (reader, error) {
 	for count := 0; count < options.Connections; count++ {
 		opened.slots <- nil
 	}
+	// (a row more than mostRows shows listOf that there are too many; `since` says what mostChanges+2 is for)
 	for ask, text := range map[int]string{
 		askRows: "SELECT " + stateColumns + ", e.number, e.text FROM " + stateTables + " LEFT JOIN LATERAL (" + rowsOf(sha1.Size, 1) + " UNION ALL " +
 			rowsOf(sha256.Size, 2) + " UNION ALL " + rowsOf(sha512.Size, 3) + fmt.Sprintf(" LIMIT %d) e ON true ORDER BY e.number", mostRows+1),
@@ -251,6 +252,7 @@ func (p *pool) since(number int64) (result pollResult, err error) {
 			return err
 		}
 		moment, _ := row[5].(int64)
+		// (the rows come in the order of their numbers: the last one is that of the last change)
 		result.token = moment
 		if changeNumber == number {
 			result.first = moment
