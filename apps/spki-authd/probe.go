@@ -57,8 +57,8 @@ func verdictOf(status int) verdict {
 }
 
 // probeSite sends the site at an address requests that it must deny, and prints those that it grants. isStopped says that the daemon is stopped
-// meanwhile. The error is nil only if nothing was granted, and if the answers show that the daemon was stopped, or else that each asker's first
-// request and at least half of all its requests were decided.
+// meanwhile. The error is nil only if nothing was granted, and if the answers show that the daemon was stopped, or else that the first request and at
+// least half of all requests of each asker that sendAll does not leave out were decided.
 func probeSite(address string, isStopped bool, out io.Writer) error {
 	base, err := baseOf(address)
 	if err != nil {
@@ -94,9 +94,10 @@ func baseOf(address string) (*url.URL, error) {
 	return base, nil
 }
 
-// sendAll sends all of `tries` by an asker, and prints how often each status was the answer. It leaves out an asker whose protocol the server lacks, or
-// which may fail and gets no first answer. It fails if any other asker gets none, and with errShown if one request is answered by 429 again and again.
-// Without -stopped it also fails with errShown if the first answer is 5xx, or if most requests have 5xx or no answer.
+// sendAll sends all of `tries` by an asker, and prints how often each status was the answer. It leaves out an asker whose protocol the server lacks,
+// or which may fail and gets no first answer. It fails if any other asker gets none, and with errShown if one request is answered by 429 again and
+// again. Without -stopped it also fails with errShown if the first answer is 5xx, or if most requests have 5xx or no answer. A request that the
+// protocol cannot send is not counted.
 func (p *probe) sendAll(by asker) error {
 	first, err := by.send(p.base, tries[0])
 	if err != nil && by.mayFail && !errors.Is(err, errShown) {
@@ -170,7 +171,7 @@ func (a probeAnswer) hintToRemove() string {
 	return "; remove what it has made"
 }
 
-// countsAsText returns how often each status was the answer, such as `401 20 times, 405 3 times`.
+// countsAsText returns how often each status was the answer, in the order of the statuses, such as `401 20 times, 405 3 times`. noAnswer is the last.
 func countsAsText(counts map[string]int) string {
 	names := make([]string, 0, len(counts))
 	for name := range counts {

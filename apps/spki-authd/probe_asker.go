@@ -40,6 +40,7 @@ var tries = append([]try{
 	{method: "COPY", hasSecond: true, makes: true}, {method: "MOVE", hasSecond: true, makes: true},
 	{method: "LOCK", body: lockBody, makes: true, more: map[string]string{"Depth": "0"}}, {method: "UNLOCK"}, {method: "REPORT"}, {method: "SEARCH"},
 	{method: "PURGE"}, {method: "QUERY"}, {method: "get"}, {method: "PROBE"},
+	// (headers by which a client may try to pass for the web server, to log in as probe:probe, to be answered by a cache, and to get another method)
 	{method: "GET", more: map[string]string{"X-Spki-Answer": "yes", "X-Forwarded-For": "127.0.0.1", "X-Real-Ip": "127.0.0.1"}},
 	{method: "GET", more: map[string]string{"Authorization": "Basic cHJvYmU6cHJvYmU="}},
 	{method: "GET", more: map[string]string{"Cache-Control": "only-if-cached, max-stale"}},
@@ -149,7 +150,7 @@ func (a asker) send(base *url.URL, each try) (probeAnswer, error) {
 	}
 }
 
-// sendOnce sends a request once, for a new path, and returns the answer without its body.
+// sendOnce sends a request once, for a new path, and returns the answer without its body. It fails if there is no answer within timeForAnswer.
 func (a asker) sendOnce(base *url.URL, each try) (answer probeAnswer, err error) {
 	path := each.path
 	if path == "" {
