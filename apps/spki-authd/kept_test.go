@@ -16,7 +16,7 @@ import (
 	"conguraki/spki/httpsig"
 )
 
-// newKeeping returns a site at which clients can leave certificates, with a folder for them.
+// newKeeping returns a site at which clients can leave certificates, at most two sequences for each key, with a folder for them.
 func newKeeping(t *testing.T) *site {
 	t.Helper()
 	s := newSite(t, `, "chains": {"folder": "`+t.TempDir()+`", "each": 2}`+ofSite)

@@ -22,8 +22,8 @@ func readAll(from io.Reader) (read []string) {
 	}
 }
 
-// TestRequestReader reads requests whose lines fit in the buffer, and the same with many more lines or a longer one in the place of %s. They are read alike,
-// whole and in pieces. `wanted` has what readAll returns, joined by commas.
+// TestRequestReader reads requests whose lines fit in the buffer, and the same with many more lines or a longer one in the place of %s. They are read
+// alike, whole and in pieces. `wanted` has what readAll returns, joined by commas. A request behind an empty line is not read.
 func TestRequestReader(t *testing.T) {
 	for _, row := range []struct{ text, wanted string }{
 		{"GET / HTTP/1.1\r\n%sHost: x\r\nX-Last: a\r\n\r\n", "GET a  <nil>, EOF"},

@@ -461,7 +461,7 @@ func TestManagerThatIsGone(t *testing.T) {
 	}
 }
 
-// TestWords runs the program with several command lines, and compares the status and what is printed.
+// TestWords runs the program with several command lines, and compares the status and what is printed. Where `out` is full, the status is 1.
 func TestWords(t *testing.T) {
 	list, bad := writeFile(t, "acl", "(acl (entry (public-key (test a)) (tag (*))))"), writeFile(t, "bad", "(acl (entry))")
 	config := writeFile(t, "config", strings.Replace(strings.Replace(least, "/acl", list, 1), `"/log"`, `"`+filepath.Join(t.TempDir(), "log")+`"`, 1))

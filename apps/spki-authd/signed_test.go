@@ -122,7 +122,8 @@ func TestNoncesOfDenials(t *testing.T) {
 	}
 }
 
-// TestSignatureSettings sends a signed request where no signatures are read, which is refused by 401. Wrong settings are an error that names signatures.
+// TestSignatureSettings sends a signed request where no signatures are read, which is answered by 401. Wrong settings are an error that names
+// signatures.
 func TestSignatureSettings(t *testing.T) {
 	s := newSite(t, "")
 	if response := s.ask(s.alice.signs(t, "GET", "files.example.org", "/web/x", "", nil)...); response.StatusCode != http.StatusUnauthorized {

@@ -105,13 +105,13 @@ func (f *figures) decides(question guard.Question) (guard.Decision, error) {
 	}
 }
 
-// printFigure prints the median and the 99th percentile of times, in microseconds.
+// printFigure sorts times, and prints their median and their 99th percentile, in microseconds. bench/store.py reads these lines.
 func printFigure(name string, times []time.Duration) {
 	sort.Slice(times, func(one, other int) bool { return times[one] < times[other] })
 	fmt.Printf("figure %s p50 %.1f p99 %.1f\n", name, float64(times[len(times)/2].Nanoseconds())/1e3, float64(times[len(times)*99/100].Nanoseconds())/1e3)
 }
 
-// measure decides `count` times for the keys whose numbers `number` returns, and prints the figure of this name. bench/store.py reads these lines.
+// measure decides `count` times for the keys whose numbers `number` returns, and prints the figure of this name.
 func (f *figures) measure(name string, count int, number func() int) {
 	times := make([]time.Duration, count)
 	for place := range times {
@@ -153,7 +153,8 @@ func min(one, other int) int {
 }
 
 // measureLoad has several goroutines ask at once, nine of ten times for a key whose list is kept. The store keeps 1 MiB alone, so that the lists of
-// other keys are seldom kept.
+// other keys are seldom kept. It prints the questions a second, the part that was answered from kept lists, and the figure `load`, for
+// bench/store.py.
 func (f *figures) measureLoad() {
 	const each, hot = 20_000, 200
 	f.store.kept.most = 1 << 20

@@ -48,7 +48,8 @@ type load struct {
 	times    [][]time.Duration
 }
 
-// TestStoreServed prints what decisions over HTTP take, with a TLS certificate of each client and its entry in the store.
+// TestStoreServed prints what decisions over HTTP take, with a TLS certificate of each client and its entry in the store: one line, which
+// bench/store.py reads. Times are in microseconds.
 func TestStoreServed(t *testing.T) {
 	if os.Getenv(envFronts) == "" {
 		t.Skip("bench/store.py names daemons")
