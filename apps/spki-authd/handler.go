@@ -9,8 +9,8 @@ import (
 
 var errNotLogged = errors.New("the log of grants takes no line")
 
-// answerTo decides one request of the web server, and logs and counts the answer, which the caller sends. Whatever goes wrong is not 200, also if a grant
-// cannot be logged.
+// answerTo decides one request of the web server, and logs and counts the answer, which the caller sends. Whatever goes wrong is not 200, also if a
+// grant cannot be logged. The log has the time of the decision, and the counts that of the decision and its line in the log.
 func (d *decider) answerTo(request *http.Request) record {
 	begun := d.now()
 	result := d.answer(request, begun)

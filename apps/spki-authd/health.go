@@ -89,7 +89,8 @@ func (c *config) client() (*http.Client, error) {
 	return &http.Client{Timeout: c.Limits.time(), Transport: transport}, err
 }
 
-// health returns the state of the daemon in lines for people. The error says what an operator must look after, and is nil if all is well.
+// health returns the state of the daemon in lines for people, after a look at the clock. The error says what an operator must look after, and is nil
+// if all is well.
 func (d *daemon) health() (string, error) {
 	d.clock.note(d.now())
 	var text strings.Builder

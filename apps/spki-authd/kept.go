@@ -87,8 +87,9 @@ type keptChain struct {
 	until      time.Time
 }
 
-// check sets the settings that were left out, and returns an error if one is wrong. isSigned says whether requests can be signed, without which nothing
-// can be left. `c` is nil for a configuration without `chains`: then nothing is wrong.
+// check sets the settings that were left out, and returns an error if one is wrong. isSigned says whether requests can be signed, without which
+// nothing can be left. The path has at most mostTarget octets, as many as the log has of it. `c` is nil for a configuration without `chains`: then
+// nothing is wrong.
 func (c *chains) check(isSigned bool) error {
 	if c == nil {
 		return nil
@@ -354,7 +355,7 @@ func (f *folderChains) write(key string, chain keptChain) error {
 
 // judgeAll sets the answer of a record by the certificates that its request shows. Where it shows none and the list alone grants nothing, each
 // sequence that is kept for its key is tried, until one grants the request. If none does, and one could not be decided by, the answer is `failed`, as
-// it is if the kept ones cannot be read.
+// it is if the kept ones cannot be read. `path` is decoded.
 func (d *decider) judgeAll(result *record, key guard.ProvenKey, path string, inquiry *inquiry, now time.Time) {
 	// (each sequence is tried with the record as it is before the first decision)
 	before := *result

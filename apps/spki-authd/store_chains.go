@@ -32,7 +32,8 @@ func newStoredChains(c *chains, reader reader) *storedChains {
 	return &storedChains{c, reader, newRecentMap[string, readChains](mostCached)}
 }
 
-// of returns the sequences of a key that have not ended. What the store has returned is used again for cachedFor. It fails if the store does not answer.
+// of returns the sequences of a key that have not ended, by their ends. What the store has returned is used again for cachedFor, unless the clock
+// goes back. It fails if the store does not answer.
 func (s *storedChains) of(key string, now time.Time) (current []keptChain, err error) {
 	cached, isCached := s.cache.get(key)
 	if age := now.Sub(cached.at); !isCached || age < 0 || age > cachedFor {

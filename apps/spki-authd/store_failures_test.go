@@ -209,8 +209,9 @@ func (l *timeline) changeUntilEnd() {
 }
 
 // TestQuestionsUnderFailures asks a store while its entries change and tests/suite/test_store_failures.py has something fail. Each answer must be a
-// failure, or that of the guard of the whole list as of a moment that is at most `failingStale` seconds ago. It ends when as many questions are answered as
-// the environment says, and the file of envEnd is there. `counts` counts failures, and other answers by their first two letters: yes, no, refused.
+// failure, or that of the guard of the whole list as of a moment that is at most `failingStale` seconds ago. It ends when as many questions are
+// answered as the environment says, and the file of envEnd is there. `counts` counts failures, and other answers by their first two letters: yes, no,
+// refused. At least a twentieth of `wanted` must be yes, as many no, and one a failure.
 func TestQuestionsUnderFailures(t *testing.T) {
 	l := newTimeline(t)
 	random := rand.New(rand.NewSource(l.random.Int63()))

@@ -57,6 +57,7 @@ const (
 var errVersion = errors.New("the store is of another version than this daemon reads")
 
 // Parts of the statements: the columns of a state, the tables that have them, and the time of a change in microseconds since 1970. `@` is the schema.
+// Each of the two tables has one row, in which `one` is true.
 const (
 	stateColumns = "s.version, s.changes, b.number, (extract(epoch FROM b.moment) * 1000000)::bigint"
 	stateTables  = "@.state s JOIN @.heartbeat b ON s.one AND b.one"
