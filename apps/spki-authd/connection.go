@@ -173,7 +173,7 @@ func (s *connectionServer) setStage(state *connectionState, stage stage) error {
 }
 
 // patience returns how long a connection may stay in a stage. A request that has begun has the time of a request, and so has a new connection for its
-// first one, unless the daemon ends.
+// first one. An idle connection has timeIdle. While the daemon ends, the last two have graceFresh and graceIdle.
 func (s *connectionServer) patience(stage stage) time.Duration {
 	isEnding := s.isEnding.Load()
 	switch {

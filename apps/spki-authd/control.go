@@ -71,8 +71,8 @@ func (d *daemon) serveControl(listener net.Listener) {
 	}
 }
 
-// answerOrder reads an order from a connection, does it, writes the answer, and closes the connection. A line of over mostOrder octets, or one that does
-// not end, gets no answer.
+// answerOrder reads an order from a connection, does it, writes the answer, and closes the connection. A line of over mostOrder octets, or one that
+// does not end, gets no answer, and neither does an order that takes longer than timeForOrder.
 func (d *daemon) answerOrder(connection net.Conn) {
 	defer connection.Close()
 	if connection.SetDeadline(time.Now().Add(timeForOrder)) != nil {

@@ -39,8 +39,9 @@ func (c *config) isPlace(request *http.Request) bool {
 	return c.Chains != nil && request.RequestURI == c.Chains.Path
 }
 
-// leavingOf reads a request that leaves certificates, with its body. With an error it returns what it has read until then, for the log: errPlace if the
-// target is not the path for certificates, or that of inquiryOf, bodyOf or sequenceInBody.
+// leavingOf reads a request that leaves certificates, with its body. With an error it returns what it has read until then, for the log. The error is
+// errPlace if the target is not the path for certificates, errHost if the host is missing or not clear, or that of inquiryOf, bodyOf or
+// sequenceInBody.
 func (c *config) leavingOf(request *http.Request) (inquiry inquiry, err error) {
 	if err := c.checkServer(request); err != nil {
 		return inquiry, err

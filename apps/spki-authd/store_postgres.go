@@ -253,7 +253,7 @@ func (p *pool) since(number int64) (result pollResult, err error) {
 			return err
 		}
 		moment, _ := row[5].(int64)
-		// (the rows come in the order of their numbers: the last one is that of the last change)
+		// (the rows come in the order of their numbers: the last one has the time of the last change, unless isCut, when pollOnce asks `whole`)
 		result.token = moment
 		if changeNumber == number {
 			result.first = moment
