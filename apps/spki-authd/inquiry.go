@@ -37,7 +37,8 @@ var (
 	errTooLong  = errors.New("the headers have more octets than header_octets")
 )
 
-// inquiryOf reads what the web server asks from the headers of its request. With an error it returns what it has read until then, for the log.
+// inquiryOf reads what the web server asks from the headers of its request. With an error, one of those above or errHost, it returns what it has read
+// until then, for the log.
 func (c *config) inquiryOf(request *http.Request) (inquiry inquiry, err error) {
 	if err := c.checkServer(request); err != nil {
 		return inquiry, err
@@ -101,7 +102,8 @@ func (c *config) hostOf(request *http.Request) (string, error) {
 	return host, err
 }
 
-// addressOf returns the client's address, or an empty text if the web server does not say it. It must be there where addresses have a rate.
+// addressOf returns the client's address, or an empty text if the web server does not say it. Where addresses have a rate, that is
+// errHeader.
 func (c *config) addressOf(request *http.Request) (string, error) {
 	if c.Limits.AddressRate > 0 {
 		return requiredHeader(request, c.Headers.Address)
@@ -123,8 +125,8 @@ func (c *config) checkServer(request *http.Request) error {
 }
 
 // sequenceOf returns the certificates that the client sends in transport form, or an empty text: from `Authorization: SPKI {..}` or from a header of
-// their own. It fails with errSequence for both, for `SPKI` alone, and for a text that does not begin with `{`. Other credentials in `Authorization`
-// are passed over.
+// their own. It fails with errSequence for both, for `SPKI` alone, and for a text that does not begin with `{`, and as headerValue does. Other
+// credentials in `Authorization` are passed over.
 func (c *config) sequenceOf(request *http.Request) (string, error) {
 	own, err := headerValue(request, c.Headers.Sequence)
 	if err != nil {

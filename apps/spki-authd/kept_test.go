@@ -43,7 +43,7 @@ func (s *site) statusFor(who person, target, sequence string) int {
 	return s.ask(pairs...).StatusCode
 }
 
-// put returns a request by which a person leaves certificates, with its signature. `sequence` is its body.
+// put returns a request to files.example.org by which a person leaves certificates, with its signature. `sequence` is its body.
 func (p person) put(t testing.TB, target, sequence string) *http.Request {
 	t.Helper()
 	request := httptest.NewRequest(http.MethodPut, target, strings.NewReader(sequence))

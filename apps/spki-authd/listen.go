@@ -64,7 +64,7 @@ func (c *config) checkMode(mode fs.FileMode) error {
 	return nil
 }
 
-// modeOf reads the mode of a socket in octal digits, such as 0660. It fails if the mode has other rights than to read and to write.
+// modeOf reads the mode of a socket in octal digits, such as 0660. It fails if it is no such number, or has other rights than to read and to write.
 func modeOf(text string) (fs.FileMode, error) {
 	mode, err := strconv.ParseUint(text, 8, 12)
 	if err == nil && mode&^0o666 != 0 {

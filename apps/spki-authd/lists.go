@@ -85,8 +85,8 @@ func (s *scope) fits(host, path string) bool {
 	return (s.Host == "" || s.Host == host) && strings.HasPrefix(path, s.Prefix)
 }
 
-// readList reads the file of an access list, and opens it with a policy and limits. The list has no scope yet. The caller closes its guard. The errors
-// say what an operator can do.
+// readList reads the file of an access list, and opens it with a policy and limits. The list has no scope yet. The caller closes its guard. The
+// errors for a list that is too long or refused say what an operator can do.
 func readList(path string, policy guard.Policy, limits limits) (*list, error) {
 	octets, err := readFile(path, mostList)
 	if errors.Is(err, errLong) {

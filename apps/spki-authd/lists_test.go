@@ -45,8 +45,8 @@ func twoSites(t *testing.T) *site {
 	return s
 }
 
-// TestListsOfHosts asks each host with each right. No right on one of them counts on the other. `isInTheLists` says that a list decides, which the
-// log names then.
+// TestListsOfHosts asks each host with each right, twice, since a valid sequence is kept then. No right on one of them counts on the other.
+// `isInTheLists` says that a list decides, which the log names then.
 func TestListsOfHosts(t *testing.T) {
 	s := twoSites(t)
 	toMallory := s.alice.sign(s.alice.certificate(s.mallory, prefix("read", "/web/"), ""))

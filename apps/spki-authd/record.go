@@ -25,8 +25,9 @@ const (
 )
 
 // A record is one decision: the line of the log, and the answer to the web server. It has no key and no certificate, but their digests. Cached counts
-// the signatures that were known to be valid, and Unverified those that were not verified since they could change nothing. Reason is the fault that the
-// daemon has found, and Reasons are the library's, of a denial that is explained. Kept is `used` where certificates that were left grant the request.
+// the signatures that were known to be valid, and Unverified those that were not verified since they could change nothing. Reason is the fault that
+// the daemon has found, and Reasons are the library's, of a denial that is explained. Kept is `used` where certificates that were left grant the
+// request. Address is noted only where it asks too often, and Target only where there is no Request.
 type record struct {
 	Time         string   `json:"time"`
 	ID           string   `json:"id,omitempty"`

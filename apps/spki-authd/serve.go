@@ -39,7 +39,8 @@ type daemon struct {
 	backs int64
 }
 
-// open opens the log of grants, and starts the writers of grants, other answers and events. `out` gets other answers, and `messages` events.
+// open opens the log of grants, and starts the writers of grants, other answers and events. `out` gets other answers, and `messages` events. It
+// fails as openLedger does.
 func (d *daemon) open(out, messages io.Writer) error {
 	ledger, err := openLedger(d.config.Log, d.config.LogSync)
 	if err != nil {

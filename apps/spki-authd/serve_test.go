@@ -27,8 +27,8 @@ type servedSite struct {
 	open []net.Conn
 }
 
-// serveHere returns a site that a daemon in this process answers for at a socket, until the test ends. `fields` are more fields of its configuration,
-// each after a comma, or empty.
+// serveHere returns a site that a daemon in this process answers for at a socket, until the test ends. Then the daemon must end without an error, and
+// have written the events of its start and its end. `fields` are more fields of its configuration, each after a comma, or empty.
 func serveHere(t *testing.T, fields string) *servedSite {
 	t.Helper()
 	room := t.TempDir()
@@ -324,7 +324,7 @@ func TestManyKeptConnections(t *testing.T) {
 	}
 }
 
-// TestEndBesideConnections ends a daemon beside a connection without a request, and one whose request never ends.
+// TestEndBesideConnections ends a daemon beside a connection without a request, and one whose request never ends. serveHere tests that it ends.
 func TestEndBesideConnections(t *testing.T) {
 	s := serveHere(t, `, "limits": {"seconds": 1}`)
 	for _, text := range []string{"", "GET / HTTP/1.1\r\nHost: x\r\nX-Slow: "} {

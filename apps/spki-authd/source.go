@@ -19,7 +19,8 @@ type source struct {
 	store *storeOf
 }
 
-// A storeOf has the settings by which the daemon reads a store: a database that `spki-store` makes. README.md says what each field means.
+// A storeOf has the settings by which the daemon reads a store: a database that `spki-store` makes. apps/spki-store/README.md says what each field
+// means.
 type storeOf struct {
 	Host         string `json:"host"`
 	Port         int    `json:"port"`

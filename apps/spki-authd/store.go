@@ -37,7 +37,8 @@ type store struct {
 	count storeCounts
 }
 
-// A reader asks the database. Each call is one statement, and so reads one state.
+// A reader asks the database. Each call but renew is one statement, and so reads one state. It fails if the database refuses it or does not answer in
+// time, and the first three also if the store has another version.
 type reader interface {
 	// rows returns the entries for a key, and the state. `digests` are those that digestsOf returns for the key.
 	rows(digests [][]byte) (entryRows, error)
@@ -145,8 +146,8 @@ func (s *store) list(question *guard.Question) (*list, error) {
 	return opened, nil
 }
 
-// keyOf returns the key whose entries a question needs: that of the first listed signature, or the client's key if no signature is listed. It fails with
-// the library's refusal of the question.
+// keyOf returns the key whose entries a question needs: that of the first listed signature, or the client's key if no signature is listed. It fails
+// as readFirst does.
 func (s *store) keyOf(question *guard.Question) ([]byte, error) {
 	text := string(question.Sequence)
 	first, isKnown := s.firsts.get(text)
