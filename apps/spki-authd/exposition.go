@@ -43,7 +43,7 @@ func (e *exposition) histogram(name, help string, times *histogram) {
 	e.value(name+"_count", "", sum)
 }
 
-// exposition returns all metrics of the daemon, in Prometheus' format.
+// exposition returns all metrics of the daemon, in Prometheus' format. docs/OPERATING.md and bench/dashboard.py use their names.
 func (d *daemon) exposition() string {
 	text, present, last := new(exposition), d.keeper.present.Load(), d.keeper.last.Load()
 	text.family("decisions_total", "counter", "Answers by answer and by the number of the rule, which is 0 where no rule was reached.")

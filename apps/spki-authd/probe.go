@@ -94,10 +94,10 @@ func baseOf(address string) (*url.URL, error) {
 	return base, nil
 }
 
-// sendAll sends all of `tries` by an asker, and prints how often each status was the answer. It leaves out an asker whose protocol the server lacks,
-// or which may fail and gets no first answer. It fails if any other asker gets none, and with errShown if one request is answered by 429 again and
-// again. Without -stopped it also fails with errShown if the first answer is 5xx, or if most requests have 5xx or no answer. A request that the
-// protocol cannot send is not counted.
+// sendAll sends all of `tries` by an asker, and prints how often each status was the answer. It leaves an asker out, and prints why, if the server
+// lacks its protocol, or if it may fail and gets no first answer. It fails if any other asker gets none, and with errShown if one request is answered
+// by 429 again and again. Without -stopped it also fails with errShown if the first answer is 5xx, or if most requests have 5xx or no answer. A
+// request that the protocol cannot send is not counted.
 func (p *probe) sendAll(by asker) error {
 	first, err := by.send(p.base, tries[0])
 	if err != nil && by.mayFail && !errors.Is(err, errShown) {
@@ -137,7 +137,7 @@ func (p *probe) sendAll(by asker) error {
 	return nil
 }
 
-// note counts an answer, also in `counts` by its status, and prints its request if that was granted.
+// note counts an answer, also in `counts` by its status, and prints its request if that was granted, in a line that begins with `granted: `.
 func (p *probe) note(by asker, answer probeAnswer, counts map[string]int) {
 	p.sent++
 	counts[fmt.Sprint(answer.status)]++
@@ -151,7 +151,7 @@ func (p *probe) note(by asker, answer probeAnswer, counts map[string]int) {
 }
 
 // end returns errGranted if anything was granted, and errShown if the daemon was to be stopped and no answer is 5xx, which would show that. Otherwise
-// it prints the total. Without -stopped, sendAll has tested whether the answers show that the daemon was asked.
+// it prints the total, with `nothing was granted`. Without -stopped, sendAll has tested whether the answers show that the daemon was asked.
 func (p *probe) end() error {
 	switch {
 	case p.granted > 0:

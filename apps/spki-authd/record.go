@@ -136,8 +136,9 @@ func (r *record) response(room []byte, now time.Time, isLast bool) []byte {
 	return append(text, "\r\n\r\n"...)
 }
 
-// An event is a line on standard error, about the daemon itself. Event is what was done, with ` not` behind it if Detail has a fault. List and EndedDigest
-// are digests of the lists and of the ended certificates, and Entries and Ended the numbers of both.
+// An event is a line on standard error, about the daemon itself. Event is what was done, with ` not` behind it if Detail has a fault, such as
+// `started`, `reloaded not` or `ended`: examples/nginx/asking.sh takes it out of the line by a pattern. List and EndedDigest are digests of the lists
+// and of the ended certificates, and Entries and Ended the numbers of both.
 type event struct {
 	Time        string `json:"time"`
 	Event       string `json:"event"`
