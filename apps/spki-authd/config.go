@@ -69,8 +69,8 @@ const (
 	// The signatures that are kept if `cache` is left out, and the least octets of a secret.
 	usualCache  = 10_000
 	leastSecret = 32
-	// The most octets of the file of the configuration, of the secret, of the ended certificates, and of a list: longer files are refused. The library
-	// reads no longer list.
+	// The most octets of the file of the configuration and of each file for TLS, of the secret, of the ended certificates, and of a list: longer
+	// files are refused. The library reads no longer list.
 	mostConfig, mostSecret, mostEnded, mostList = 1 << 20, 4096, 1 << 24, 1 << 20
 	// The most seconds of a request, a day: a far larger number would not fit in a time.Duration.
 	mostSeconds = 86_400

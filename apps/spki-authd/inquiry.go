@@ -102,7 +102,7 @@ func (c *config) hostOf(request *http.Request) (string, error) {
 	return host, err
 }
 
-// addressOf returns the client's address, or an empty text if the web server does not say it. Where addresses have a rate, that is
+// addressOf returns the client's address, or an empty text if the web server does not say it. Where addresses have a rate, a missing one is an error,
 // errHeader.
 func (c *config) addressOf(request *http.Request) (string, error) {
 	if c.Limits.AddressRate > 0 {

@@ -116,7 +116,8 @@ func prefix(word, path string) string {
 	return "(5:files" + str(word) + "(1:*6:prefix" + str(path) + "))"
 }
 
-// withLastLine returns lines of ended certificates with the last line that such a file must have: the number of lines with a digest, and the digest of all.
+// withLastLine returns lines of ended certificates with the last line that such a file must have: the number of lines with a digest, and the digest
+// of all lines.
 func withLastLine(lines string) string {
 	digests := 0
 	for _, line := range strings.Split(lines, "\n") {

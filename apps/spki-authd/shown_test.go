@@ -152,7 +152,7 @@ func TestOnlyValidSequencesAreKept(t *testing.T) {
 	}
 }
 
-// TestKeptSequencesAreBounded adds more sequences than are kept, and one that is too long.
+// TestKeptSequencesAreBounded adds more sequences than are kept, then one that is long and kept, and one that is too long.
 func TestKeptSequencesAreBounded(t *testing.T) {
 	s := newSite(t, "")
 	for number := 0; number < 2*mostShown; number++ {

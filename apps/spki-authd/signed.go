@@ -84,6 +84,7 @@ func (v *requestVerifier) isSigned(inquiry *inquiry) bool {
 // errNoCertificate. Of a certificate it fails as keyOf does.
 func (d *decider) clientOf(inquiry *inquiry) (client, *httpsig.Proof, error) {
 	if d.requests.isSigned(inquiry) {
+		// (a host that is not the site's has no name there: Check refuses a message without an authority)
 		message := httpsig.Message{
 			Method: inquiry.method, Authority: d.requests.names[inquiry.host], Target: inquiry.target, Header: inquiry.header, Body: inquiry.body,
 		}

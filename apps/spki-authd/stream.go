@@ -8,11 +8,11 @@ import (
 // A stream is the sink of a writer for standard output or standard error, which another process reads, such as the journal.
 type stream struct {
 	to io.Writer
-	// Whether the last line was written in part. Then a line feed precedes the next one.
+	// Whether the last line may have been written in part. Then a line feed precedes the next one.
 	isCut bool
 }
 
-// write writes lines, behind a line feed if isCut. After an error it notes in isCut whether a line was written in part.
+// write writes lines, behind a line feed if isCut. After an error it sets isCut if any octet was written: a line may be cut then.
 func (s *stream) write(lines []byte) error {
 	if s.isCut {
 		lines = append([]byte{'\n'}, lines...)
