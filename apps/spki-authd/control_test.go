@@ -13,7 +13,7 @@ import (
 	"testing"
 )
 
-// runProgram runs spki-authd with these words and a configuration of a site, and returns its status and what it writes.
+// runProgram runs spki-authd with these words and a configuration with the socket and the log of a site, and returns its status and what it writes.
 func (s *servedSite) runProgram(t *testing.T, words ...string) (status int, out, messages string) {
 	t.Helper()
 	text := strings.Replace(strings.Replace(least, "/run/x/s", s.socket, 1), `"/log"`, `"`+s.config.Log+`"`, 1)

@@ -105,7 +105,7 @@ func sequence(signed ...string) string {
 	return "{" + base64.StdEncoding.EncodeToString([]byte("(8:sequence"+strings.Join(signed, "")+")")) + "}"
 }
 
-// digestOfText returns the digest of a certificate, as the file of ended ones has it.
+// digestOfText returns the digest of a certificate, or of lines, as the file of ended certificates has it.
 func digestOfText(certificate string) string {
 	digest := sha256.Sum256([]byte(certificate))
 	return hex.EncodeToString(digest[:])

@@ -245,7 +245,7 @@ func (w *writer) run() {
 	}
 }
 
-// writeNext writes the batch that has waited longest, and says whether there was one.
+// writeNext writes the batch that has waited longest, counts its lines, and has their callers go on. It says whether there was a batch.
 func (w *writer) writeNext() bool {
 	next := w.next()
 	if next == nil {
@@ -259,6 +259,7 @@ func (w *writer) writeNext() bool {
 		w.isStuck.Store(false)
 		w.written.Add(uint64(next.count))
 	} else if next.isKept || !next.isDone {
+		// (giveUp has counted those of any other batch)
 		w.failed.Add(uint64(next.count))
 	}
 	next.end(err)
