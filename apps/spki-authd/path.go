@@ -13,7 +13,7 @@ var errUnclear = errors.New("the path is not clear")
 //
 //   - It begins with `/`. The query is cut off at the first `?`, and what precedes it has at most `most` octets as it is sent.
 //   - As it is sent, path and query have visible characters of ASCII alone. Each `%` of the path is followed by two hexadecimal digits.
-//   - Decoded it has characters of ASCII from the space to `~`, without `%`, `\`, `;`, `?` and `#`. `%2F` is no part of it.
+//   - Decoded it has characters of ASCII from the space to `~`, without `%`, `\`, `;`, `?` and `#`. An escaped `/` is refused.
 //   - No segment is `.` or `..`, or ends in a dot or a space. None but the last one is empty.
 //
 // Upper and lower case, and a `/` at the end, stay as they are.
