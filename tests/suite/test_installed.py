@@ -1,8 +1,8 @@
 """Installs into an empty folder, asks the installed program and the installed libraries, looks at the manual, and uninstalls.
 
-A C program is compiled as `pkg-config` and CMake say, and linked with the shared library and with the static one. The header, the manual, the README
-and `pkg-config` must have the version of the file VERSION. The manual must be shown without a warning, and name every fault that a refusal
-in the tables of `tables/` names. After uninstalling, the files that were there before must be left, and no others."""
+A C program is compiled as `pkg-config` and CMake say, and linked with the shared library and with the static one. The header, the manual of spki, the
+README and `spki.pc` must have the version of the file VERSION. The manuals must be shown without a warning, and that of spki must name every fault
+that a refusal in the tables of `tables/` names. After uninstalling, the files that were there before must be left, and no others."""
 import os
 import re
 import shlex
@@ -30,8 +30,8 @@ def first_group(pattern: str, text: str) -> str:
 
 
 def install(program: str, library: str, **settings: str) -> tuple[tempfile.TemporaryDirectory, str]:
-    """Runs install.sh with the paths of a built program and static library. It installs into a new folder that has the files of OTHERS already, which
-    uninstalling must leave. `settings` are more variables of its environment. Returns folder and output. Raises AssertionError if it fails."""
+    """Runs install.sh with the paths of a built program and static library. It installs into a new folder, with spaces in its name, that has the
+    files of OTHERS already. `settings` are more variables of its environment. Returns folder and output. Raises AssertionError if it fails."""
     prefix = tempfile.TemporaryDirectory(suffix=" with a space")
     for place in OTHERS:
         os.makedirs(os.path.dirname(os.path.join(prefix.name, place)))
@@ -83,7 +83,7 @@ class Installed(built.OfLibrary):
 
     @needs.needs("cmake")
     def test_cmake(self) -> None:
-        """CMake finds both libraries, of version 0.2.0, if a project requires no version, or 0.2 or 0.2.0. It finds none for another version."""
+        """CMake finds both libraries, of version 0.2.0, if a project requires no version, 0.2 or 0.2.0: its program runs. For others it fails."""
         for target, version, is_found in (("spki::spki", "", True), ("spki::spki", "0.2", True), ("spki::static", "0.2.0", True),
                                           ("spki::spki", "0.3", False), ("spki::spki", "0.2.1", False), ("spki::spki", "0.1.9", False)):
             with self.subTest(target=target, version=version), tempfile.TemporaryDirectory() as room:
@@ -98,12 +98,12 @@ class Installed(built.OfLibrary):
                     self.assertEqual(output_of(os.path.join(room, "linked")), (0, ""))
 
     def test_loader(self) -> None:
-        """The last line of install.sh says what to do, since the loader does not search this folder. An option is refused with status 2."""
+        """The last line of install.sh says what to do, since the loader does not search this folder. An unknown option has status 2."""
         self.assertEqual(output_of(os.path.join(TOP, "install.sh"), "--help")[0], 2)
         self.assertIn(f"the loader does not look into {self.prefix}/lib: name the folder in", self.output.splitlines()[-1])
 
     def test_version(self) -> None:
-        """All that is installed, and the README, have the version of the file VERSION."""
+        """The header, as text and in numbers, the manual of spki, the README and spki.pc have the version of the file VERSION."""
         header = text_of(os.path.join(self.prefix, "include", "spki.h"))
         numbers = [first_group(rf"^#define SPKI_VERSION_{part} (\d+)$", header) for part in ("MAJOR", "MINOR", "PATCH")]
         versions = {"the header's numbers": ".".join(numbers), "the header": first_group(r'^#define SPKI_VERSION "(.*)"$', header),
@@ -132,7 +132,7 @@ class Installed(built.OfLibrary):
 
 @needs.needs(*needs.LIBRARY)
 class Uninstalled(built.OfLibrary):
-    """Uninstalling leaves only the files that were there before, wherever LIBDIR has put the libraries."""
+    """Uninstalling leaves only the files that were there before, wherever LIBDIR, a folder below the prefix, has put the libraries."""
 
     def test_files_left(self) -> None:
         for folder in ("/lib/", "lib/x86_64-linux-gnu"):

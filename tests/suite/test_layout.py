@@ -19,13 +19,13 @@ from merge_gate import bodies, records, toolchain
 READ = re.compile(r"(file: |old: |new:|$)")
 # A row of CONTRIBUTING.md: a crate, and its wrong bodies in must-fail/.
 LISTED = re.compile(r"^\| `(\w+)` \| (`[\w-]+`(?:, `[\w-]+`)*) \|$", re.MULTILINE)
-# The line on the last run: of all, with its seed, or of the wrong bodies of crates that the command named.
+# The line on the last run: of all, with its seed in the same paragraph, or of the wrong bodies of crates that the command named.
 LINE = re.compile(r"Last run of `\.ci/deep`: commit ([0-9a-f]{12,40}), \d+ passed, 0 failed, "
                   r"(?:wrong bodies only, |(?:.|\n(?!\n))*\b1,000,000 (?:.|\n(?!\n))*\bseed [0-9a-f]{8}\b)")
 
 
 def files_laid_out_wrongly(crate: str) -> str:
-    """The names of the files that `rt fmt`, which cannot only check, changes in a copy of a crate, as it prints them. `crate` is a path."""
+    """What `rt fmt`, which cannot only check, prints of a copy of a crate: the files that it changes, or its errors. `crate` is a path."""
     with tempfile.TemporaryDirectory() as room:
         for part in filter(os.path.isdir, (os.path.join(crate, part) for part in ("src", "specs", "proofs"))):
             shutil.copytree(part, os.path.join(room, os.path.basename(part)))
@@ -33,8 +33,8 @@ def files_laid_out_wrongly(crate: str) -> str:
 
 
 def faults_of_wrong_bodies() -> Iterator[str]:
-    """A line for each wrong body, an edit of a function that its contract must refuse, that cannot be applied, or that only one of must-fail/ and the
-    list of CONTRIBUTING.md has."""
+    """A line for each wrong body, an edit of a function that its contract must refuse, that cannot be applied, that has a line which the toolchain
+    does not read, or that only one of must-fail/ and the list of CONTRIBUTING.md has."""
     tried = set()
     for crate in sorted(os.listdir(os.path.join(ROOT, "crates"))):
         folder = os.path.join(ROOT, "crates", crate)
@@ -51,7 +51,7 @@ def faults_of_wrong_bodies() -> Iterator[str]:
 
 
 def git(*words):
-    """Runs git in the repository. Returns the `CompletedProcess`, with its standard output."""
+    """Runs git in the repository. Returns the `CompletedProcess`, with its standard output as text, whatever its status."""
     return subprocess.run(["git", *words], cwd=ROOT, stdout=subprocess.PIPE, stderr=subprocess.DEVNULL, text=True)
 
 
@@ -77,7 +77,7 @@ class Layout(unittest.TestCase):
         self.assertEqual([line for line in git("ls-files", "-s").stdout.splitlines() if line.startswith("120000")], [])
 
     def test_last_deep_run(self) -> None:
-        """CONTRIBUTING.md has one line on the last run of `.ci/deep`. Its commit must be in the history, unless the clone is shallow."""
+        """CONTRIBUTING.md has one line on the last run of `.ci/deep`. Its commit must be in the history. A note replaces this in a shallow clone."""
         commits = LINE.findall(text_of("CONTRIBUTING.md"))
         self.assertEqual(len(commits), 1, "CONTRIBUTING.md has not one line on the last run of .ci/deep, as LINE has it")
         if git("rev-parse", "--is-shallow-repository").stdout.strip() != "false":
