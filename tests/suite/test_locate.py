@@ -3,7 +3,7 @@
 First on texts with one mistake each: whole texts, and parts of a question to a guard. They are written out here with the place, by line
 and column, and with words of the remark that it should show. It must show each place once. Then on each row of the tables in `tables/`,
 and on generated texts and parts, whose answers the model has. It must find the refusal that is the answer there, and none if there
-is another answer. Refusals of tags that are too large are left out, since they have no place."""
+is another answer, or if the answer is `TooLarge` or `Memory`, which have no place."""
 import contextlib
 import io
 import os
@@ -25,7 +25,7 @@ from model.answers import Refused, answer
 from rows import Row, rows_of
 
 PATH = os.path.join(TOP, "apps", "locate")
-GENERATED, SEED = 150, "locate"
+GENERATED, SEED = 150, "locate"  # (how many texts are generated, and from what)
 # The beginning of a refusal, by which `locate` reads a text as a command does. The other commands read any value: `refused form`.
 READ_AS = {"intersect": "refused tag", "check": "refused case", "explain": "refused case", "reduce": "refused case"}
 KEY = "(public-key (test a))"
@@ -45,7 +45,7 @@ def with_field(field):
     return with_certificate(CERT.replace("FIELD", field))
 
 
-# A text, the refusal, the place as line and column, and words of the remark.
+# A text, the words of the refusal, the place as line and column, and words of the remark.
 MISTAKES = [
     ("(a\n ~)", "form Bad 4", (2, 2), "a member or `)`"),
     ("(a 2024-01-01)", "form Bad 7", (1, 4), "put quotes around"),
@@ -111,21 +111,21 @@ OF_PARTS = [
     ("(accepted ~)", "rows Bad 10", "rows Bad 10", (1, 11), "a member or `)`"),
     (with_certificate(KEY), "request EmptyList", "sequence 4 StraySignature", (4, 24), "another refusal"),
 ]
-# A text, the refusal that is given, the exit status, and words that are printed.
+# A text, the words of the refusal that is given or none, the exit status, and words that are printed.
 STATUSES = [
     ("(a)", "", 0, "nothing is wrong with the form"), ("(a ~)", "", 1, "refused form Bad 3"), ("(a ~)", "form Short", 2, "another refusal"),
     ("(a)", "sequence Bad 5", 2, "of another text"), ("(sequence)", "question TooLong", 0, "no place in it"),
     (KEY, "TooLarge", 0, "no place in it"), ("(acl)", "Memory", 0, "no place in it")]
 # The readers of the parts in the model.
 MODEL = {"sequence": structures.read_sequence, "key": structures.read_key, "request": tags.read_request, "at": structures.read_date}
-GUARD_QUESTIONS = 600
+GUARD_QUESTIONS = 600  # (how many questions have their parts tried)
 # The offset of a place that is shown.
 PLACE = re.compile(r"^(?:line \d+, column \d+, )?octet (\d+)", re.MULTILINE)
 LOCATE = loaded(PATH)
 
 
 def locate(text, refusal):
-    """Runs `locate` on a text, with the arguments `refused` and the words of `refusal`, unless this is empty. Returns its exit status and output."""
+    """Runs `locate` on a text, and behind it `refused` and the words of `refusal`, if it has any. Returns the exit status and standard output."""
     with tempfile.NamedTemporaryFile() as file, contextlib.redirect_stdout(io.StringIO()) as out:
         file.write(text.encode())
         file.flush()
@@ -134,7 +134,7 @@ def locate(text, refusal):
 
 
 def has_no_place(answer):
-    """Whether an answer is a refusal of the text as a whole."""
+    """Whether an answer (bytes) is a refusal for which `locate` shows no place."""
     return answer in (b"refused TooLarge\n", b"refused Memory\n")
 
 
@@ -169,8 +169,8 @@ class Refusals(unittest.TestCase):
             self.fail(f"text   {text!r}, given {given!r}\nwanted {wanted} at line {place[0]}, column {place[1]}, {words}\ncame   {output}")
 
     def check_refusal(self, place: str, command: str, text: bytes, wanted: tuple[int, bytes]) -> None:
-        """`locate` must find the refusal that a command answers to a text, or none if it answers otherwise. `wanted` is its status and its answer,
-        and `place` names the text."""
+        """`locate` must find the refusal that a command answers to a text. It must find none if the command answers otherwise, or by a refusal that
+        has no place. `wanted` is the command's status and answer, and `place` names the text."""
         (wrong, inner, places), _ = LOCATE.read_text(text, READ_AS.get(command, "refused form"))
         located = f"{LOCATE.refusal(wrong, places)}\n".encode() if wrong else b""
         show_places(wrong, inner, places)
@@ -179,7 +179,7 @@ class Refusals(unittest.TestCase):
         self.assertEqual(located, refusal, f"{place}: {command}\ntext   {text[:1000]!r}\nwanted {refusal!r}\ncame   {located!r}")
 
     def test_statuses(self) -> None:
-        """The exit status is 0 if nothing is wrong, 1 if a place is shown, and 2 if the refusal that `locate` is given is another one."""
+        """The exit status is 0 if the form is right, 1 if a place is shown, and 2 if the refusal that `locate` is given is another one."""
         for text, refusal, wanted, words in STATUSES:
             with self.subTest(text):
                 status, output = locate(text, refusal)

@@ -13,7 +13,7 @@ from suite.test_bindings import CRATE, PYTHON, SECONDS, Asked
 
 # The calls that `counted.c` counts. 6 is the status SPKI_DONE.
 NAMES = ("spki_asked_explain", "spki_asked_reduce", "spki_answer")
-ENTRIES, KEY_OCTETS, DONE = 900, 4000, 6
+ENTRIES, KEY_OCTETS, DONE = 900, 4000, 6  # (as many as make the answers as long as test_the_answers_are_long says)
 ISSUER, AT = [b"public-key", [b"test", b"a"]], b"2024-01-01_00:00:00"
 # A program that answers the pickled questions of its standard input by the module `spki` in the folder of its argument.
 BY_PYTHON = "import pickle, sys; sys.path.append(sys.argv[1]); import spki; from suite import test_bindings; sys.stdout.buffer.write(pickle.dumps(" \
@@ -60,10 +60,10 @@ class Counted(test_bindings.Binding):
 
     def setUp(self):
         self.counts = os.path.join(self.room, self.id())
-        self.settings = {**os.environ, "SPKI_COUNTED": self.counts, "SPKI_LIBRARY": self.counting}
+        self.settings = {**os.environ, "SPKI_COUNTED": self.counts, "SPKI_LIBRARY": self.counting}  # (what counted.c and the module spki read)
 
     def check_counts(self, asked: list[Asked], answers):
-        """The answers, lines as octets, must be the wanted ones, and the library must have been called once for each."""
+        """The answers, lines as octets, must be the wanted ones, and the library must have been called once for each, in this order."""
         fault = test_bindings.faults_of_answers(asked, answers)
         self.assertEqual(fault, "", fault)
         self.assertEqual(text_of(self.counts).splitlines(), [f"{each.command} {DONE} {len(each.wanted)}" for each in asked])
