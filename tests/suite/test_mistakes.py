@@ -56,14 +56,14 @@ class Room(Case):
         return self.cert("sign", "--by", by, "--to", to, "--tag", tag, *days, *words, wanted=wanted)
 
     def changes_nothing(self, *words, message="", wanted=2):
-        """A command must end with the status `wanted`, write the text `message`, and change no file."""
+        """A command must end with the status `wanted`, write the text `message`, and neither change nor make a file in the folder."""
         before = self.contents()
         with self.subTest(words):
             self.assertIn(message, self.cert(*words, wanted=wanted))
             self.assertEqual(before, self.contents())
 
     def contents(self):
-        """The octets of each file of the folder, by its name."""
+        """The octets of each regular file of the folder, by its name. Links and folders are left out."""
         return {name: octets_in(self.at(name)) for name in os.listdir(self.room) if stat.S_ISREG(os.lstat(self.at(name)).st_mode)}
 
 
@@ -86,7 +86,7 @@ class OfWriting(Room):
             self.changes_nothing(*words, message=message)
 
     def test_no_secret_is_written_over_or_shown(self):
-        """The secrets are private keys in forms that spki-cert does not read, or that are not whole. The file of ended certificates is kept too."""
+        """The secrets are private keys in forms that spki-cert does not read, or not whole; as words also keys that it reads. `ended` is kept too."""
         from cryptography.hazmat.primitives import serialization
         from cryptography.hazmat.primitives.serialization import pkcs12
         # (a seed is a secret in base64. Alone in a file it is a text of one string, which `check` accepts if it does not begin with a digit)
@@ -480,7 +480,7 @@ class Child:
 
     def __init__(self, room, words, settings, stdin="/dev/null", stdout=None, before=lambda: None):
         """Starts it with these words, in the folder `room`, with the environment `settings`. `stdin` is a path, and `stdout` a function that opens a
-        file: None is a stream that is closed. `before` is called in the child first. If the command itself raises an exception, the status is 99."""
+        file: None is a stream that is closed. `before` is called in the child first. The status is 99 if something raises an exception."""
         self.errors = tempfile.TemporaryFile()
         self.process = os.fork()
         if self.process == 0:
@@ -505,7 +505,7 @@ class Child:
                 os._exit(99)
 
     def wait(self):
-        """Waits until the command has ended. Returns its status, and what it has written to standard error."""
+        """Waits until the command has ended. Returns its status, or a signal's number below 0, and what it has written to standard error."""
         status = os.waitstatus_to_exitcode(os.waitpid(self.process, 0)[1])
         self.errors.seek(0)
         with self.errors:
@@ -577,8 +577,8 @@ class OfSignals(Room):
         self.check_signals("key", "show", "check", "ask", "completion")
 
     def check_signals(self, *names):
-        """Sends each signal to these commands while they wait for their input, or for their output to be read. One of `commands.ENDING` must end them
-        with status 3 and a line that says so. Any other may end them or not, but without a traceback. No earlier file changes."""
+        """Sends each signal to these commands while they wait for input, or for their output to be read. One of `commands.ENDING` must end each with
+        status 3 and a line that says so. Others may end it, without a traceback. No file changes, and only `new` and `new.pub` may appear."""
         before = self.contents()
         # (without the two that no program can handle, and of the real-time signals only the first and the last)
         signals = sorted(signal.valid_signals() - {signal.SIGKILL, signal.SIGSTOP} - set(range(signal.SIGRTMIN + 1, signal.SIGRTMAX)))
@@ -673,7 +673,7 @@ class OfRandomWords(Room):
 
     def words(self, rng):
         """Random words of a command line. One in five has any options and values of a command, and the others are a likely one. Then `--force` may be
-        added, up to three words are replaced or inserted, and a file that is written may become one that the command also names elsewhere."""
+        added, up to three words are replaced or inserted, and a file that is written may become a file that the command names, or any value."""
         options_of = arguments.commands_with_options()
         if rng.random() < 0.2:
             name = rng.choice(list(options_of))
@@ -690,7 +690,7 @@ class OfRandomWords(Room):
         return words
 
     def wild(self, rng):
-        """Random octets for a file: in four of five cases those of one of `sources`, else any. Then some may be replaced, left out or repeated."""
+        """Random octets for a file: in four of five cases those of one of `sources`, else any. Then some may be replaced, left out or added."""
         octets = bytearray(rng.choice(self.sources) if rng.random() < 0.8 else rng.randbytes(rng.randrange(200)))
         for _ in range(rng.randrange(5)):
             place = rng.randrange(len(octets) + 1)
@@ -722,7 +722,7 @@ class OfRandomWords(Room):
                 self.check_run(words, done.returncode, done.stderr.decode(errors="replace"), {**before, **wild})
 
     def check_run(self, words, status, errors, before):
-        """A command must have ended without a traceback, a changed input, a lost key or a half file. Restores each file of `before` to its octets."""
+        """A command must have ended without a traceback, a changed input, a lost key or a half file. Restores files of `before`, removes others."""
         after, may_change = self.contents(), {words[place + 1] for place, word in enumerate(words[:-1]) if word in self.OUTPUTS}
         if "link" in may_change:
             may_change.add("acl.sexp")
