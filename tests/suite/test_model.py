@@ -1,6 +1,5 @@
 """Compares the library and the program with the model in `model/`, on as many generated cases as SPKI_TEST_CASES says; and the model with
 the rows of the tables, whose answers were worked out by hand, and with the words of docs/FORMATS.md.
-
 `differential.py` says what a case is, and repeats one. Where the program alone is tested, it answers each text."""
 import os
 import re
@@ -20,17 +19,18 @@ from model.answers import COMMANDS, ModelDisagrees, answer
 from model.guard import WISHES
 from rows import rows_of, shown
 
-# Words of docs/FORMATS.md for faults, causes, stops and statuses. In a line, and in the column for faults of a table, one may be any word.
+# Words of docs/FORMATS.md for faults, causes, stops and statuses. In a line `refused ..`, and in a column for faults, any word with a capital is one.
 WORD = re.compile(r"\b(?:[A-Z][a-z]+(?:[A-Z][a-z]+)+|SPKI_[A-Z_]+)\b")
 LINE, ANY_WORD = re.compile(r"`(refused [^`]*)`"), re.compile(r"\b[A-Z]\w+")
 # The heading of a column is no such word. Allocations fail in tests/suite/test_hostile.py and tests/suite/test_clibrary.py.
 ELSEWHERE = {"Fault", "Faults", "Memory", "SPKI_NO_MEMORY"}
-CASES_ON_ARM = 2_000
+CASES_ON_ARM = 2_000  # (the most: an emulator is slow)
+# The kinds of cases: each has a test of its own, named after it.
 ASKED = (*COMMANDS, "check_accepted", *(f"guard {wish}" for wish in WISHES), "calls", "spki_string")
 
 
 def fault_columns(text: str) -> Iterator[str]:
-    """Yields the cells of the columns of tables in a text whose heading begins with `Fault`."""
+    """Yields the cells, with the heading, of the first column whose heading begins with `Fault`, of each table in a text."""
     column: int | None = None
     for line in text.splitlines():
         cells = line.split("|") if line.startswith("|") else []
@@ -91,7 +91,7 @@ class Generated(built.OfProgram):
         cls.by_program = comparison.by_program
 
     def check_command(self, command: str) -> None:
-        """No case of a command may differ."""
+        """No case of a command may differ, or end its process."""
         alone = " --program-alone" if built.IS_ALONE else ""
         faults = [f"{self.described.get(number, f'case {number} differs')}\n"
                   f"alone  tests/differential.py{alone} --seed {self.seed} --first {number} --cases 1"
@@ -135,7 +135,7 @@ def rows_that_came(self: Generated) -> None:
 
 
 def part_of_the_program(self: Generated) -> None:
-    """A test method: the program must answer a tenth of the cases that the library answers, if there are 20,000 or more."""
+    """A test method: the program must answer at least a tenth of all cases, if there are 20,000 or more."""
     wanted = differential.PROGRAM_SHARE * built.CASES if built.CASES >= differential.WHOLE_COVERAGE else 0
     self.assertGreaterEqual(self.by_program, wanted)
 

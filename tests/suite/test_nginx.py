@@ -1,7 +1,7 @@
-"""Tries the example of nginx and spki-authd, as it is set up, and among the ordinary lines of other sites: lists that are changed under load, slow
-clients, and a daemon that is killed and started again. test_attacks.py has the attacks.
+"""Tries the example of nginx and spki-authd, as it is set up, and among the ordinary lines of other sites. Lists are changed under load, clients are
+slow or pass limits, and the daemon is killed, hangs and is started again. test_attacks.py has the attacks.
 
-The example itself is run, as examples/nginx/run.sh runs it."""
+examples/nginx/run.sh, which shows the example, is run too, and its lines are compared."""
 import contextlib
 import json
 import os
@@ -22,7 +22,7 @@ from suite.test_go import sealed
 from spki_cert_tool.keys import digest_of
 
 LOGS = ("log/files.log", "log/error.log", "log/authd.log", "log/grants.log")
-CHANGES = 20
+CHANGES = 20  # (how often test_list_under_load changes the list)
 
 
 class OfSite(unittest.TestCase):
@@ -152,7 +152,7 @@ class Sites(OfSite):
 
     def test_one_lock(self) -> None:
         """Where the first lock, lines of the example, is broken, the second one denies: nginx has the folder of the files only after a yes of the
-        daemon. It answers for a folder itself, by the error page that Ann may read, so `/web/` is left out."""
+        daemon. nginx answers for a folder itself, by the error page that Ann may read, so `/web/` is left out."""
         for name, of_all, line in LOCKS:
             self.restart_nginx(of_all, "", without=line)
             with self.subTest(name):
@@ -200,7 +200,7 @@ class Numbers(unittest.TestCase):
         self.assertLessEqual(40 * self.number(r"keepalive (\d+);"), 768)
 
     def test_rates(self) -> None:
-        """Requests of one address that show or leave certificates, of 18 ms each, take at most 0.1 of a core, and others, of 0.1 ms, 0.01."""
+        """Requests of an address that show or that leave certificates, each of 18 ms, take at most 0.1 of a core, and others, of 0.1 ms, 0.01."""
         self.assertLessEqual(self.number(r"zone=spki_showing:\w+ rate=(\d+)r/s") * 0.018, 0.1)
         self.assertLessEqual(self.number(r"zone=spki_leaving:\w+ rate=(\d+)r/s") * 0.018, 0.1)
         self.assertLessEqual(self.number(r"zone=spki:\w+ rate=(\d+)r/s") * 0.0001, 0.01)
@@ -255,7 +255,7 @@ class Changes(OfSite):
         self.check_ann()
 
     def test_daemon_ended(self) -> None:
-        """At SIGTERM the daemon ends with status 0, and leaves no socket."""
+        """At SIGTERM the daemon ends with status 0. nginx then grants nothing, until the daemon is started again."""
         self.site.daemon.terminate()
         self.assertEqual(self.site.daemon.wait(served.SECONDS), 0)
         self.assertGreaterEqual(self.site.status("ann", "GET", "/web/index.html"), 500)
@@ -372,7 +372,7 @@ class Limits(OfSite):
 
 @needs.needs(*served.NEEDS, *needs.LIBRARY)
 class Example(unittest.TestCase):
-    """examples/nginx/run.sh, the one command that shows the example. ANSWERS are the lines that it prints."""
+    """examples/nginx/run.sh, the one command that shows the example. ANSWERS are its lines. For the second one the daemon is stopped."""
 
     ANSWERS = ["nobody GET /web/index.html: 401", "ann GET /web/index.html: 500",
                "ann GET /web/index.html: 200", "ann PUT /web/new.txt: 201", "ann GET /web/new.txt: 200", "ann GET /secret/plan.txt: 401",
