@@ -1,7 +1,6 @@
-"""Makes the Debian packages twice, of two copies of the sources in two places, and compares all octets. Unpacks them, and looks at what is inside:
+"""Makes the Debian packages twice, of the repository and of a copy of its sources elsewhere, and compares all octets. Looks at what is inside:
 the program and the libraries without what is for debuggers, a C program that is compiled with the one package and runs with the other, the list of
 all files, the changelog, and what lintian says. Those for ARM must have the libraries for ARM.
-
 The packages are compressed less than usual, which takes less time: nothing else depends on it."""
 import hashlib
 import json
@@ -18,7 +17,7 @@ from harness import built, golang, needs
 from harness.support import EXAMPLES, TESTS, TOP, output_of, room_for, run, text_of
 
 VERSION = text_of("VERSION").strip()
-# The version without its last number, as the soname has it; the package of the shared library, and the folder of both libraries.
+# The version without its last number, as the soname has it; the package of the shared library, and the folder of both libraries on amd64.
 INTERFACE = VERSION.rpartition(".")[0]
 SHARED, PLACE = f"libspki-c{INTERFACE}", "usr/lib/x86_64-linux-gnu"
 MAINTAINER = "Ann Smith <ann@conguraki.org>"
@@ -32,7 +31,7 @@ FILES = {
                   "usr/share/man/man1/spki-cert.1.gz"],
     "spki-authd": ["usr/bin/spki-authd", "lib/systemd/system/spki-authd.service", "usr/share/man/man8/spki-authd.8.gz", "etc/spki-authd",
                    "usr/share/doc/spki-authd/examples/nginx/authd.json", "usr/share/doc/spki-authd/README.md"]}
-# What a package depends on, or is recommended with.
+# What a package depends on, or recommends: the line of its control file, and of spki-authd the beginning of this line.
 RELATIONS = {"spki": r"Depends: libc6 \(>= 2\.\d+\)$", SHARED: r"Depends: libc6 \(>= 2\.\d+\)$",
              "libspki-dev": rf"Depends: {SHARED} \(= {VERSION}\), libc6-dev$", "spki-cert": rf"Recommends: {SHARED}, python3-bcrypt$",
              "spki-authd": r"Depends: libc6 \(>= 2\.\d+\), adduser, init-system-helpers"}
@@ -72,7 +71,7 @@ def copy_sources(folder: str) -> str:
 
 @needs.needs("dpkg-deb", "go", *needs.LIBRARY)
 class Packages(built.OfLibrary):
-    """What is in the packages. `packages` has the path of each by its name, and `folder` is where they are."""
+    """What is in the packages. `packages` has the path of each by its name, `folder` is where they are, and `unpacked` where they are unpacked."""
 
     folder: str
     unpacked: str
@@ -177,7 +176,7 @@ class Packages(built.OfLibrary):
 
     @needs.needs("pkg-config")
     def test_linked(self) -> None:
-        """What is compiled with libspki-dev runs with the package of the shared library."""
+        """What is compiled with libspki-dev runs with the package of the shared library, or alone if it is linked with the static one."""
         root = self.root_with("libspki-dev", SHARED)
         linked, settings = os.path.join(root, "linked"), {**os.environ, "PKG_CONFIG_LIBDIR": os.path.join(root, PLACE, "pkgconfig"),
                                                           "PKG_CONFIG_SYSROOT_DIR": root}
@@ -191,7 +190,8 @@ class Packages(built.OfLibrary):
         self.assertEqual(output_of(linked), (0, ""))
 
     def test_same_octets(self) -> None:
-        """The same sources in another place, and for another user, make the same octets. In the long run Go compiles everything once more."""
+        """The same sources in another place, which is no clone, make the same octets with another home, time zone and language, and the maintainer in
+        the environment. In the long run Go compiles everything once more."""
         epoch = output_of("git", "log", "-1", "--format=%ct", cwd=TOP)[1].strip()
         name, address = MAINTAINER.rstrip(">").split(" <")
         with tempfile.TemporaryDirectory(suffix=" with a space") as room:
@@ -227,7 +227,7 @@ class Packages(built.OfLibrary):
         self.assertEqual(listed | {"SHA256SUMS"}, set(os.listdir(self.folder)))
 
     def test_list(self) -> None:
-        """The list in SPDX has each package and each file, with the digests of what was unpacked."""
+        """The list in SPDX has each package and each file, with the digests of what was unpacked, and what is linked into each package."""
         listed = json.loads(text_of(os.path.join(self.folder, f"spki_{VERSION}.spdx.json")))
         self.assertEqual((listed["spdxVersion"], listed["SPDXID"]), ("SPDX-2.3", "SPDXRef-DOCUMENT"))
         files = {file["SPDXID"]: file for file in listed["files"]}
@@ -276,7 +276,7 @@ class Scripts(unittest.TestCase):
     """What runs where a package is installed, and what packages.sh refuses."""
 
     def test_maintainer(self) -> None:
-        """Without the name and the address of a maintainer no packages are made."""
+        """Without the name and the address of a maintainer, or by an option that is misspelled, no packages are made."""
         rows: list[tuple[list[str], dict[str, str]]] = [
             ([], {}), ([], {"DEBFULLNAME": "Ann"}), ([], {"DEBEMAIL": "ann@conguraki.org"}), (["--maintainer"], {}), (["--maintainer", ""], {}),
             (["--maintainer", "ann"], {}), (["--maintainer", "ann@conguraki.org"], {}), (["--maintainer", "Ann <ann>"], {}),
@@ -290,14 +290,14 @@ class Scripts(unittest.TestCase):
                 self.assertEqual(os.listdir(room), [])
 
     def test_time(self) -> None:
-        """Sources that are no clone need SOURCE_DATE_EPOCH, the time of the files in the packages."""
+        """Sources that are no clone need SOURCE_DATE_EPOCH, the time of the files in the packages: without it the status is 2."""
         with tempfile.TemporaryDirectory() as room:
             status, output = make_packages(copy_sources(room), "--maintainer", MAINTAINER, os.path.join(room, "made"))
             self.assertEqual((status, "set SOURCE_DATE_EPOCH" in output), (2, True), output)
             self.assertFalse(os.path.exists(os.path.join(room, "made")))
 
     def test_installing_the_daemon(self) -> None:
-        """The script makes the user, gives the configuration's folder to root, and starts nothing. Its programs only print their words here."""
+        """The script makes the user, opens the configuration's folder to root and this user, and starts nothing. Its programs only print here."""
         with tempfile.TemporaryDirectory() as room:
             for name in ("adduser", "chown", "chmod", "systemctl", "deb-systemd-invoke", "runuser"):
                 with open(os.path.join(room, name), "w", encoding="ascii") as file:
