@@ -79,7 +79,7 @@ class Page:
 
     def ask(self, name, **question):
         """The server's answer, an object of JSON, to a question of the kind `name`, such as `tags`, with these fields. Its status must be 200."""
-        question = {"withCase": True, **question}
+        question = {"withCase": True, **question}  # (so the answer to a `question` has the case)
         headers = {"Origin": self.origin, "Content-Type": "application/json"}
         status, _, octets = self.reply("POST", self.address.path + name, json.dumps(question), **headers)
         if status != 200:
@@ -88,18 +88,18 @@ class Page:
 
 
 def line_of_reason(reason):
-    """The line that `explain` writes for a reason: `entry` and `item` are numbers or None, and `word` is its cause."""
+    """The line that `explain` writes for a reason of an answer: `entry` and `item` are numbers from 1, or None, and `word` is its cause."""
     parts = [reason["entry"] and f"entry {reason['entry']}", reason["item"] and f"item {reason['item']}", reason["word"]]
     return " ".join(part for part in parts if part)
 
 
 def lines_of(command, case):
-    """The lines that a command of the program writes of the text of a case."""
+    """The lines that a command of the program writes of the text of a case, without their ends."""
     return run(built.program(), command, case.encode())[1].decode().splitlines()
 
 
 def hostile():
-    """A question whose explanation takes long: tags of 500 patterns and 500 strings, and their intersection with the tags of 150 certificates."""
+    """A question whose explanation takes long: 40 entries, each with a tag of 500 patterns, and certificates, one of 500 strings and 150 others."""
     key = "(public-key (test a))"
     large = f"(* set {'(* prefix x) ' * 500})"
     cert = f"(cert (issuer {key}) (subject {key}) (propagate) (tag TAG))"
@@ -109,7 +109,7 @@ def hostile():
 
 
 def long_question():
-    """A question of about 64 KiB, most of it in the access list and the certificates."""
+    """A question of about 50,000 octets, most of it in the access list and the certificates, for bench/playground.py."""
     entries = "".join(f"\n (entry (public-key (test other{place})) (tag (packages read (* prefix /other{place}/))))" for place in range(360))
     paths = " ".join(f"/builds/web/{place:05}.html" for place in range(950))
     sequence = STORY["sequence"].replace("(* prefix /builds/web/)", f"(* set (* prefix /builds/web/) {paths})")
@@ -133,7 +133,7 @@ class Answers(OfPage):
     """What the server answers to the page where the program decides."""
 
     def test_examples_have_the_answers_of_the_program(self) -> None:
-        """The answer has the line of `check` and those of `explain`. `wanted` of an example is the first of these, `no entries`, or a refusal."""
+        """The answer has the line of `check` and those of `explain`. `wanted` of an example is the first reason there, `no entries`, or a refusal."""
         for example in EXAMPLES:
             with self.subTest(example["name"]):
                 answer = self.page.ask("question", **example["question"])
@@ -151,7 +151,7 @@ class Answers(OfPage):
         self.assertEqual([sum(example["wanted"].endswith(f" {word}") for example in EXAMPLES) for word in words], [1] * len(words))
 
     def test_the_case_is_of_what_was_typed(self) -> None:
-        """The case of an answer has what was typed, signatures that the page made up, the accepted ones, and the policy. A refused one has none."""
+        """The case of an answer has what was typed, signatures that the page made up, the accepted ones, and the policy. Refusals are left out."""
         for question in (example["question"] for example in EXAMPLES if not example["wanted"].startswith("refused")):
             answer = self.page.ask("question", **question)
             _, acl, accepted, sequence, key, request, at, *policy = read(run(built.program(), "canonical", answer["case"].encode())[1])
@@ -367,7 +367,7 @@ class Hostile(OfPage):
     seconds = HOSTILE_SECONDS
 
     def field_of_answer(self, word, **question):
-        """The field `word` of the answer to a question. On a slow machine it is asked up to TRIES times."""
+        """The field `word` of the answer to a question, which is asked until an answer has it, at most TRIES times: the machine may be slow."""
         for _ in range(TRIES):
             answer = self.page.ask("question", **question)
             if word in answer:
@@ -403,7 +403,7 @@ class Requests(OfPage):
     """Which requests are answered, and by which status the others are refused."""
 
     def post(self, path=None, body="{}", **headers):
-        """The status of a POST to the server, by default as the page sends it. A header that is None is left out."""
+        """The status of a POST to the server, by default as the page sends it. A header's name has `_` for `-`, and one that is None is left out."""
         usual = {"Origin": self.page.origin, "Content-Type": "application/json"}
         sent = {name.replace("_", "-"): value for name, value in {**usual, **headers}.items() if value is not None}
         return self.page.reply("POST", path or self.page.address.path + "question", body, **sent)[0]
@@ -464,7 +464,7 @@ class Requests(OfPage):
 
 
 class Faults(unittest.TestCase):
-    """What the server does if an answer fails, or a connection. It runs in this process, and its jobs raise an error."""
+    """What the server does if an answer fails, or a connection. It runs in this process, and its jobs do what `ask` is given."""
 
     def setUp(self) -> None:
         """Starts the server at a free port. A mock stands for the workers, which answer questions."""
@@ -477,7 +477,7 @@ class Faults(unittest.TestCase):
         self.addCleanup(self.server.shutdown)
 
     def ask(self, outcome):
-        """Asks a question. Returns the first line that the server sends, and what it prints. `outcome` is the answer, or an error to be raised."""
+        """Asks a question. Returns the first line that the server sends, or "", and what it prints. `outcome` is the answer, or an error to raise."""
         self.server.workers.answer.side_effect = [outcome]
         host = self.server.hosts[0][0]
         with contextlib.redirect_stderr(io.StringIO()) as printed, socket.create_connection(self.server.server_address, SECONDS) as connection:
@@ -525,7 +525,7 @@ class InChromium(OfPage):
         cls.addClassCleanup(cls.browser.quit)
 
     def setUp(self) -> None:
-        self.browser.get("about:blank")
+        self.browser.get("about:blank")  # (otherwise an address that differs only behind `#` would not be loaded anew)
         self.browser.get(self.page.address.geturl())
         self.until("return document.getElementById('kind').textContent === 'Yes'")
 
@@ -534,7 +534,7 @@ class InChromium(OfPage):
         self.assertEqual(faults, [])
 
     def until(self, script, *arguments):
-        """Waits until a script returns something true, and returns it. `arguments` are those of the script."""
+        """Waits until a script returns something true, and returns it. `arguments` are those of the script. Fails after SECONDS."""
         end = time.monotonic() + SECONDS
         while not (value := self.browser.execute_script(script, *arguments)):
             self.assertLess(time.monotonic(), end, f"{script} {arguments}: {self.text_shown('verdict')}")
