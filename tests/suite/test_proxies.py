@@ -48,7 +48,7 @@ class Proxies(unittest.TestCase):
         self.service = self.services[0]
 
     def start(self, words: list[str], text: str) -> None:
-        """Starts a proxy with this text as its configuration, and waits until it listens."""
+        """Starts a proxy by these words, with this text as its configuration, and waits until it listens. It is ended after the test."""
         with open(os.path.join(self.room, "conf"), "w", encoding="ascii") as file:
             file.write(text)
         with open(os.path.join(self.room, "log"), "wb") as log:
@@ -65,7 +65,7 @@ class Proxies(unittest.TestCase):
         waits_for("the proxy listens", listens)
 
     def start_nginx(self, more: str, to: str = "", http: str = "") -> None:
-        """Starts nginx before `to`, by default the first service. `more` are lines of its location, and `http` lines outside of its server."""
+        """Starts nginx before `to`, by default the first service. `more` has lines of its location, and `http` lines outside of its server."""
         as_user = "user root;" if os.getuid() == 0 else ""
         self.start(["nginx", "-p", self.room, "-c", "conf", "-e", "log", "-g", as_user],
                    NGINX.format(room=self.room, to=to or self.service.name, more=more, http=http))
@@ -113,7 +113,7 @@ class Proxies(unittest.TestCase):
     @needs.needs("nginx")
     def test_nginx_before_two_services(self) -> None:
         """Where nginx chooses between services by the nonce, a request that is sent again comes to the service that has seen its nonce, also with
-        tabs around the field, which nginx takes for a part of it. This is tried at least 20 times, and until both services have got a request."""
+        tabs around the field, which nginx takes for a part of it. This is tried 21 to 1,000 times, until both services have got a request."""
         servers = " ".join(f"server {service.name} max_fails=0;" for service in self.services)
         self.start_nginx(f"{OWN_HOST} proxy_next_upstream off;", "both", f"{BY_NONCE} upstream both {{ hash $spki_nonce consistent; {servers} }}")
         for turn in range(1000):

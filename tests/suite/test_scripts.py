@@ -14,18 +14,18 @@ LINE_LENGTH = 150
 # The folders whose modules are imported by their names alone, and the one whose modules have names that others have too.
 MODULES = ("tests", "examples", "examples/signed", "examples/database", "bindings/python", "bench", "apps/spki-cert", "apps/spki-store", ".ci")
 PAGE = "apps/playground"
-# The folders whose modules mypy reads apart from those of other folders.
+# The folders whose modules mypy reads apart from those of other folders. The rest is one more group.
 APART = (".ci", "tests", "bench", "apps/playground", "apps/spki-cert", "apps/spki-store", "bindings")
 
 
 def scripts() -> list[str]:
-    """The scripts of the repository, by their paths from the top."""
+    """The scripts in Python of the repository, by their paths from the top: also new ones, which git does not track yet, but none that it ignores."""
     listed = subprocess.run(["git", "ls-files", "-co", "--exclude-standard"], cwd=TOP, stdout=subprocess.PIPE, text=True, check=True)
     return [path for path in listed.stdout.splitlines() if path.endswith(".py") or is_script(path)]
 
 
 def is_script(path: str) -> bool:
-    """Whether a file without a suffix is a script in Python."""
+    """Whether a file, by its path from the top, has no suffix and is a script in Python."""
     if "." in path.rpartition("/")[2]:
         return False
     with open(f"{TOP}/{path}", encoding="utf-8", errors="replace") as file:
@@ -55,7 +55,7 @@ class Scripts(unittest.TestCase):
                 self.assertEqual(done.returncode, 0, done.stdout)
 
     def test_imports(self) -> None:
-        """A script outside of tests/ imports none of the tests' modules but `shared`."""
+        """A script outside of tests/ imports none of the packages of the tests. It may import their module `shared`."""
         theirs = re.compile(r"^ *(from|import) (harness|rows|suite|model|generators)\b", re.MULTILINE)
         self.assertEqual([path for path in scripts() if not path.startswith("tests/") and theirs.search(text_of(path))], [])
 

@@ -12,7 +12,7 @@ WITHOUT_END = ("apps/locate", "tests/run", ".ci/run", ".ci/deep")
 
 
 def files_here() -> Iterator[str]:
-    """The files of the repository, or of a copy of it, without what is built."""
+    """The files of the repository, or of a copy of it, without what is built, by their paths from the top."""
     for folder, folders, names in os.walk(TOP):
         folders[:] = sorted(set(folders) - {".git", "out", "__pycache__"})
         yield from (os.path.relpath(os.path.join(folder, name), TOP) for name in sorted(names))
@@ -20,7 +20,7 @@ def files_here() -> Iterator[str]:
 
 @needs.needs("codespell")
 class Spelling(unittest.TestCase):
-    """The spelling of the files of KINDS, and of those in specs/, which have no ending in common."""
+    """The spelling of the files of KINDS and WITHOUT_END, and of those in specs/."""
 
     def test_spelling(self) -> None:
         files = [path for path in files_here() if path.endswith(KINDS) or path in WITHOUT_END or "/specs/" in path]
