@@ -28,7 +28,7 @@ class BySecondCompiler(built.OfProgram):
 
 
 def made_test(row: Row) -> Test:
-    """A test method: the program must give the answer of the row."""
+    """A test method: the program must give the answer of the row, and by other commands answers that agree with it (`fault_of`)."""
     def test(self: built.OfProgram) -> None:
         fault = fault_of(self.program, row)
         if fault:
@@ -37,8 +37,8 @@ def made_test(row: Row) -> Test:
 
 
 def named_tests(rows: Iterable[Row]) -> Iterator[tuple[str, Test]]:
-    """Yields the name and the test of each row. The name is the place of the row, with the command if several have this place, and with a number
-    if several have both."""
+    """Yields the name and the test of each row. The name is the place of the row, with the command if several have this place, and with a number, 2
+    or more, behind the first one that has both."""
     listed = list(rows)
     places, named = Counter(row.place for row in listed), Counter[str]()
     for row in listed:

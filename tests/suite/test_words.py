@@ -1,7 +1,7 @@
 """Runs the program with words that ask for no command, and with those that ask for help.
 
 Wrong words end with status 2, nothing on standard output and a text on standard error that says what is wrong; help with status 0, nothing on
-standard output and the help on standard error, which names the exit statuses. The help of the program itself begins with what it does."""
+standard output and the help on standard error, which names the exit statuses 0, 2 and 3. The help of the program begins with what it does."""
 import subprocess
 
 from harness import built
@@ -12,7 +12,7 @@ WRONG = [(), (b"frob",), (b"check", b"check"), (b"",), (b"\xff",), (b"check", b"
 HELP = [(b"--help",), (b"-h",)] + [(command.encode(), b"--help") for command in COMMANDS]
 STATUSES = (b"\n  0  ", b"\n  2  ", b"\n  3  ")  # (1 is no, which only some commands answer)
 TEXT = b"(1:a)"
-NO_TEXT = (2, b"", b"error: the words aren't UTF-8\n")
+NO_TEXT = (2, b"", b"error: the words aren't UTF-8\n")  # (what the program does with a word that is no text)
 
 
 class Words(built.OfProgram):
