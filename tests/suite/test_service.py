@@ -81,7 +81,7 @@ def chains(story: LastingStory) -> Iterator[tuple[str, Sent, bool]]:
 
 
 def proofs(story: LastingStory) -> Iterator[tuple[str, Sent, bool]]:
-    """Requests that are signed rightly or wrongly, or not at all. Yields for each a remark, the request, and whether it must be granted."""
+    """Requests that are signed rightly, wrongly or not at all, to be sent in this order. Yields for each a remark, it, and whether it is granted."""
     alice, bob, carol = story.alice, story.bob, story.carol
     right = story.sequence(signed(story.to_carol, bob))
     once = asked_by(carol, READ, right)
@@ -117,7 +117,7 @@ def first_line_for(port: int, octets: bytes) -> bytes:
 
 
 def is_granted(port: int, sent: Sent) -> bool:
-    """Whether the service at a port grants a request."""
+    """Whether the service at a port grants a request: by the status 200. `Host` is NAME unless the fields have it."""
     method, target, fields = sent
     lines = [f"{method} {target} HTTP/1.1", *(f"{name}: {value}" for name, value in {"Host": NAME, "Connection": "close", **fields}.items()), "", ""]
     return b" 200 " in first_line_for(port, "\r\n".join(lines).encode("latin-1"))
@@ -139,13 +139,13 @@ class Service(built.OfLibrary):
     @classmethod
     def setUpClass(cls) -> None:
         super().setUpClass()
-        cls.room, tools.SPKI = room_for(cls), cls.program
+        cls.room, tools.SPKI = room_for(cls), cls.program  # (tools.py, by which the story is made, runs this program)
         cls.story, cls.path = LastingStory(), os.path.join(cls.room, "acl")
         pathlib.Path(cls.path).write_text(cls.story.access_list, encoding="ascii")
 
     def check_service(self, *words: str, **settings: str) -> None:
         """The service that these words start must grant what `chains` and `proofs` say, and nothing else. It must not start on a wrong list, such as
-        one of over 1,048,576 octets. No sanitizer or valgrind may report a fault on its standard error. `settings` are more environment variables."""
+        one of over 1,048,576 octets. Its standard error may have no report of a sanitizer or valgrind. `settings` are more environment variables."""
         environment = {**os.environ, **settings}
         with open(os.path.join(self.room, "errors"), "w+b") as errors, subprocess.Popen(
                 [*words, self.path, NAME], stdout=subprocess.PIPE, stderr=errors, env=environment) as service:

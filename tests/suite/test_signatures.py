@@ -30,19 +30,19 @@ KINDS = ("ed25519", "rsa", "p256", "p384")
 
 
 def spki_cert(*words: str, room: str, **settings: str) -> subprocess.CompletedProcess[bytes]:
-    """Runs `spki-cert` in the folder `room`, with more `settings` of the environment, and without those of the caller for ssh-agent and labels."""
+    """Runs `spki-cert` in the folder `room`, with more `settings` of the environment, and without the caller's for ssh-agent, labels and proxies."""
     others = {name: value for name, value in os.environ.items() if name not in ("SSH_AUTH_SOCK", "SPKI_LABELS")}
     return subprocess.run([sys.executable, COMMAND, *words], cwd=room, stdin=subprocess.DEVNULL, stdout=subprocess.PIPE, stderr=subprocess.PIPE,
                           timeout=SECONDS, env={**others, **settings, "no_proxy": "*"})
 
 
 class Handler(http.server.BaseHTTPRequestHandler):
-    """Adds each request to its server's `requests`, and answers by what the server's verifier says of it."""
+    """Adds each request, refused or not, to its server's `requests`, and answers by what the server's verifier says of it."""
 
     server: Service
 
     def answer_request(self) -> None:
-        """Answers with the proved key and 200, or with the refusal and 401."""
+        """Answers with the proved key and 200, or with the name of the refusal and 401. To HEAD it sends the header alone."""
         import spki_http
         body = self.rfile.read(int(self.headers.get("Content-Length", 0)))
         self.server.requests.append((self.command, self.path, body))
@@ -73,7 +73,7 @@ class Service(http.server.ThreadingHTTPServer):
         self.verifier = spki_http.Verifier(self.name, scheme="http")
 
     def serve_during(self, test: unittest.TestCase) -> None:
-        """Answers requests in a thread until the test has ended."""
+        """Begins to answer requests, in a thread, until the test has ended."""
         thread = threading.Thread(target=self.serve_forever)
         thread.start()
         test.addCleanup(thread.join)
@@ -176,7 +176,7 @@ class InC(unittest.TestCase):
         self.room = room_for(self)
 
     def answers(self, program: str, rows: list[Row]) -> list[str]:
-        """Runs a program compiled from `proving.c`, which says what it reads. Returns for each row what `answer_of` makes of its line."""
+        """Runs a program compiled from `proving.c`, which says what it reads. Returns what `answer_of` makes of its lines, one for each row."""
         strings: list[bytes] = []
         for _, message, now, again, _ in rows:
             words = [message.method, message.authority, message.target, str(now), "" if again is None else str(again),

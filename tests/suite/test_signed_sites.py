@@ -1,4 +1,4 @@
-"""Tests signed requests to spki-authd behind nginx, Caddy, HAProxy and Apache, without a certificate of TLS."""
+"""Tests signed requests to spki-authd behind nginx, Caddy, HAProxy and Apache, most without a certificate of TLS, and git and rsync by a key."""
 from __future__ import annotations
 
 import os
@@ -62,7 +62,7 @@ class OfSites(unittest.TestCase):
         self.check_chain()
 
     def check_chain(self) -> None:
-        """A request in which Ben shows Ann's certificate is granted only if his signature covers the certificate."""
+        """A request in which Ben shows Ann's certificate is granted only if his signature covers it. Leaves it in `b` for `check_left_chain`."""
         right = ("--tag", "(files read (* prefix /web/))", "--days", "9")
         self.site.cert("sign", "--by", "keys/ann", "--to", "keys/ben.pub", *right, "--force", "-o", "b")
         ben = self.fields("ben", PAGE, "--cert", "b")
@@ -73,7 +73,7 @@ class OfSites(unittest.TestCase):
 
     def check_left_chain(self) -> None:
         """Ben leaves Ann's certificate with the daemon, by a request that counts once. Then his requests need nothing but his key, by a signature or
-        by TLS. Before that each request of `wrong`, a method, a path, lines and a body, is refused."""
+        by TLS. Before that each request of `wrong`, a method, a path, lines and a body, is refused. `check_chain` has written the file `b`."""
         place, body = attacks.LEAVING, self.site.text("b")
         sent, nothing = self.fields("ben", place, "--body", "b"), list[str]()
         wrong: list[tuple[str, str, list[str], str]] = [
