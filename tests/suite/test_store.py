@@ -1,6 +1,5 @@
-"""Tests `spki-store` and `spki-authd` with a list in PostgreSQL, on a server in a temporary folder.
-
-Among the long tests 20,000 questions are asked while another client changes the store, and the primary, a replica and the network are cut."""
+"""Tests `spki-store` and `spki-authd` with a list in PostgreSQL, on a server in a temporary folder. While another client changes the store, 1,500
+questions are asked, 20,000 among the long tests. Only these ask daemons at replicas, while the primary is killed and a replica lags."""
 import argparse
 import contextlib
 import hashlib
@@ -51,7 +50,7 @@ def key_entry(name: bytes, tag: bytes = b"(1:*)") -> bytes:
 
 
 class OfStore(built.OfLibrary):
-    """Tests with a server. Each test has a schema of its own."""
+    """Tests with a server. Each test has a schema of its own, with an empty store in it, and a folder `room`."""
 
     server: databases.Server
 
@@ -75,7 +74,7 @@ class OfStore(built.OfLibrary):
         return path
 
     def spki_store(self, wanted: int, *words: str) -> str:
-        """Runs `spki-store`, which must end with the status `wanted`. Returns what it writes on both streams."""
+        """Runs `spki-store` in this process. It must end with the status `wanted`. Returns what it writes on both streams."""
         out, fault = io.StringIO(), io.StringIO()
         with contextlib.redirect_stdout(out), contextlib.redirect_stderr(fault):
             status = commands.main(["--database", self.server.address, "--schema", self.schema, *words])
@@ -83,7 +82,7 @@ class OfStore(built.OfLibrary):
         return out.getvalue() + fault.getvalue()
 
     def start_beat(self, address: str, *before: str) -> subprocess.Popen[bytes]:
-        """Starts `spki-store beat`, which is killed after the test. `before` are words before the command."""
+        """Starts `spki-store beat`, which is killed after the test. `address` has settings of libpq. `before` are words before the command."""
         process = subprocess.Popen([*before, STORE, "--database", address, "--schema", self.schema, "beat"], stderr=subprocess.DEVNULL)
         self.addCleanup(process.wait)
         self.addCleanup(process.kill)
@@ -123,7 +122,8 @@ class Command(OfStore):
         self.assertIn("not written over", self.spki_store(2, "export", to))
 
     def test_faults(self) -> None:
-        """A text that is no entry or no list, and a wrong digest, remark, schema or server end the command with status 2 or 3 and change nothing."""
+        """A text that is no entry or list, and a wrong digest, remark, file, schema or server end the command with status 2 or 3 and change nothing.
+        A server that only PGHOST names is found."""
         for text in (b"(entry (public-key (test a)))", b"(entry (public-key (test a)) (tag (*))) x", b"", b"(acl)", b"(entry (tag (*)))"):
             self.spki_store(2, "add", self.file(text))
         for text in (b"(3:acl" + A + b"(5:entry))", b"(3:acl(7:version1:1)" + A + b")"):
@@ -183,7 +183,7 @@ class Command(OfStore):
         return wanted, [(2 * place + 1, texts.principal_of(text), text) for place, text in enumerate(wanted)]
 
     def check_entries(self, wanted: list[bytes]) -> None:
-        """The store must have exactly these entries, in their order and numbered from 1 on, and each must be right."""
+        """The store must have exactly these entries, in their order and numbered from 1 on, each right, and as many changes in its log."""
         self.assertEqual([(row.number, row.text) for row in self.store.all()], list(enumerate(wanted, 1)))
         self.assertEqual(self.spki_store(0, "check"), f"entries checked: {len(wanted)}, wrong 0\n")
         self.assertEqual(self.store.rows("SELECT count(*) FROM {changes}"), [(len(wanted),)])
@@ -271,7 +271,7 @@ class Schema(OfStore):
         self.assertEqual(self.spki_store(1, "check").splitlines()[-1], "entries checked: 2, wrong 1")
 
     def test_roles(self) -> None:
-        """A `reader` cannot write. A `writer` adds, removes and ends, but cannot change a row or the log. Neither can the owner of the store."""
+        """A `reader` cannot write, nor read who changed what. A `writer` adds, removes and ends, but changes no row and no log. Neither does the owner."""
         self.store.add(A)
         no_privilege = psycopg.errors.InsufficientPrivilege
         for role in ("reader", "writer"):
@@ -364,7 +364,7 @@ class OfDaemon(OfStore):
     """Tests of the daemon with the driver of PostgreSQL."""
 
     def go(self, *words: str, **more: str) -> str:
-        """Runs a command of Go for the daemon, which must succeed. Returns what it writes."""
+        """Runs a command of Go for the daemon, which must succeed. Returns what it writes. `more` are environment variables."""
         done = golang.go(golang.DAEMON, list(words), self.library, None, **more)
         output = (done.stdout + done.stderr).decode(errors="replace")
         self.assertEqual(done.returncode, 0, output[-4000:])
@@ -410,7 +410,7 @@ class StoreDaemon:
         self.room, self.process = room, self.daemon.process
 
     def status(self, who: Person, sequence: bytes = b"") -> int:
-        """The status of the answer to a request of a person, who shows a sequence or none."""
+        """The status of the answer to a request of a person for /web/a, who shows a sequence or none."""
         return self.daemon.ask(who, "GET", "/web/a", sequence).status
 
     def wait_for_status(self, wanted: int, who: Person, sequence: bytes = b"") -> None:
@@ -459,13 +459,13 @@ class OfServed(OfDaemon):
         return asker
 
     def add_entry(self, who: Person, store: Store | None = None) -> int:
-        """Adds an entry for a person to a store, by default that of the test. Returns its number."""
+        """Adds an entry, by which a person reads below /web/ and delegates that, to a store, by default that of the test. Returns its number."""
         text = texts.entry_of(f"(entry {who.key} (propagate) (tag (files read (* prefix /web/))))".encode())
         return (store or self.store).add(text)
 
 
 class Served(OfServed):
-    """The daemon with the store of a server that is killed, stopped and hangs."""
+    """The daemon with the store of one server, which is also killed or hangs."""
 
     def test_one_server(self) -> None:
         """An entry that is added grants. One that is removed and a certificate that has ended do not. If the state of the store is stale, since there
@@ -549,7 +549,7 @@ def children_of(process: int) -> list[int]:
 
 
 class Asker(threading.Thread):
-    """Asks daemons for a person again and again. `granted` has for each granted request when it began and ended, in seconds of `time.monotonic`."""
+    """Asks daemons for a person again and again, whatever fails. `granted` has the begin and the end of each granted request, by `time.monotonic`."""
 
     def __init__(self, daemons: list[StoreDaemon], who: Person) -> None:
         super().__init__()

@@ -1,8 +1,8 @@
 """Tests `spki-authd` with a list in PostgreSQL while something fails: servers die, are cut from each other, lag behind, have a wrong clock or a full
 disk.
 
-Under each failure 20,000 questions are asked while the list changes. Each answer must be a failure, or that of the guard of the whole list as of a
-moment that is at most `stale_seconds` ago. All are long tests, and those with a network or a disk of their own need root."""
+Under each failure of `Questions` 20,000 questions are asked while the list changes. Each answer must be a failure, or that of the guard of the whole
+list as of a moment that is at most `stale_seconds` ago. All are long tests, and those with a network or a disk of their own need root."""
 import contextlib
 import os
 import secrets
@@ -61,7 +61,7 @@ def kill_twice(server: Server) -> None:
 
 
 def cut_twice(node: networks.Node) -> None:
-    """Cuts a node from its network two times, each time for FAILING seconds."""
+    """Cuts a node from its network two times, each time for FAILING seconds, and waits as long behind each."""
     for _ in range(2):
         node.cut()
         time.sleep(FAILING)
@@ -128,7 +128,7 @@ class Questions(Failing):
     def ask_while(self, host: str, writers: list[Server], fails: Callable[[], None], *before: str, root: str = "") -> None:
         """Runs the generated questions of the daemon's tests on the store at a host. A second later calls `fails`, which makes something fail and
         mends it. The questions go on until it returns, and all answers must be right. The list is changed on the one of `writers` that can be written
-        to. `before` are words before the command, and `root` is the path of the certificate by which TLS trusts the host: empty without TLS."""
+        to. `before` are words before the command. `root` is the path of the certificate that TLS trusts, or empty. Prints the counts of the run."""
         end = os.path.join(self.room, "end")
         settings = {**golang.settings(self.library), "SPKI_STORE_HOST": host, "SPKI_STORE_ROOT": root, "SPKI_STORE_SCHEMA": self.schema,
                     "SPKI_STORE_WRITERS": ",".join(each.folder for each in writers), "SPKI_STORE_SEED": str(secrets.randbelow(1 << 32)),
@@ -175,7 +175,7 @@ class Questions(Failing):
         self.ask_while(replicas[1].folder, [primary, *replicas], fails)
 
     def test_replica_that_lags(self) -> None:
-        """A replica replays nothing for FAILING seconds, and then the changes of 1, 4 and 2 seconds ago."""
+        """A replica replays nothing for FAILING seconds, and then for as long each the changes of 1, 4, 2 and 0 seconds ago."""
         primary = self.primary()
         replica = self.replica(primary)
 
@@ -323,7 +323,7 @@ class Daemons(Failing):
         authd.wait_for_status(401, alice)
 
     def removes(self, number: int) -> bool:
-        """Removes an entry by a new connection. Returns whether it was there, and False if the disk is full."""
+        """Removes an entry by a new connection. Returns True if it is removed, and False if it was not there or the disk is full."""
         with contextlib.closing(Store(self.server.address, self.schema)) as store, contextlib.suppress(psycopg.errors.DiskFull):
             return store.remove(number)
         return False
@@ -359,7 +359,7 @@ def received(replica: Server) -> int:
 
 
 def write_until_it_ends(server: Server) -> None:
-    """Writes to a server whose disk is full, until it has no room for its log and ends."""
+    """Writes to a server whose disk is full, until it has no room for its log and ends. Raises AssertionError if it does not end."""
     def is_over() -> bool:
         with contextlib.suppress(psycopg.Error):
             execute(server, "SELECT pg_switch_wal()", "SELECT txid_current()")
