@@ -47,7 +47,7 @@ class WrongUses(built.OfLibrary):
         self.environment = {**os.environ, "SPKI_LIBRARY": self.shared, "PYTHONPATH": PYTHON, "LC_ALL": "C"}
 
     def output(self, *words: str, folder: str = "", status: int | None = None) -> str:
-        """Runs a command in a folder, by default that of the test. Its status must be the given one, if any. Returns what it writes."""
+        """Runs a command in a folder, by default that of the test. Its status must be the given one, if any. Returns both outputs as one text."""
         done = subprocess.run(words, cwd=folder or self.room, stdout=subprocess.PIPE, stderr=subprocess.STDOUT, text=True, timeout=SECONDS,
                               env=self.environment)
         if status is not None:
@@ -125,7 +125,7 @@ class WrongUses(built.OfLibrary):
         for name, rows in (("wrong", wrong), ("run", others)):
             path, lines = self.write_program(f"{name}/main.go", shared, rows)
             pathlib.Path(self.room, name, "go.mod").write_text(GO_MODULE.format(module=golang.MODULE), encoding="utf-8")
-            words = ("go", "build", "-gcflags=-e", "-o", "program", ".")
+            words = ("go", "build", "-gcflags=-e", "-o", "program", ".")  # (-e: all errors, and not only the first ten)
             output = self.output(*words, folder=os.path.dirname(path), status=None if rows is wrong else 0)
             if rows is wrong:
                 self.check_refused(wrong, output, path, lines)
