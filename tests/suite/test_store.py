@@ -271,7 +271,7 @@ class Schema(OfStore):
         self.assertEqual(self.spki_store(1, "check").splitlines()[-1], "entries checked: 2, wrong 1")
 
     def test_roles(self) -> None:
-        """A `reader` cannot write, nor read who changed what. A `writer` adds, removes and ends, but changes no row and no log. Neither does the owner."""
+        """A reader cannot write or see who changed what. A writer adds, removes and ends, but cannot change a row or the log, nor can the owner."""
         self.store.add(A)
         no_privilege = psycopg.errors.InsufficientPrivilege
         for role in ("reader", "writer"):
