@@ -139,6 +139,7 @@ class OfWriting(Room):
         self.assertIn("is not there", self.sign("-o", "none/c.sexp", wanted=2))
 
     def test_a_file_that_is_there_needs_force(self):
+        """By `--force` it is written also through a link, and keeps its mode, but not if the mode lets nobody write."""
         self.write("c.sexp", "before")
         os.chmod(self.at("c.sexp"), 0o640)
         self.assertIn("--force writes over it", self.sign("-o", "c.sexp", wanted=2))
@@ -158,8 +159,7 @@ class OfWriting(Room):
         self.assertEqual(before, os.stat(self.at("c.sexp")))
 
     def test_a_list_is_edited_in_its_place(self):
-        """The file of a list keeps its mode and its owner. An entry that gives nothing new needs `--yes`, and a list that is read-only is not
-        changed."""
+        """The file of a list keeps its mode and owner. An entry that gives nothing new needs `--yes`. A list that is read-only is not changed."""
         adds = ("entry", "--to", "bob.pub", "--tag", "(packages read)", "--acl", "acl.sexp")
         os.chmod(self.at("acl.sexp"), 0o640)
         with contextlib.suppress(PermissionError):
@@ -334,6 +334,7 @@ class OfKeyFiles(Room):
             self.assertEqual((done.returncode, "Warning" in done.stderr), (2, False), done.stderr)
 
     def test_the_file_that_is_named_is_read(self):
+        """`check` reads a file of any name, but passes over a fifo in a folder. It says which file or folder it cannot read, and what a file has."""
         self.write("acl.conf", "(acl")
         self.assertIn("acl.conf:1:5: refused: form Short", self.cert("check", "acl.conf", wanted=2))
         self.write("acl.conf", "(acl)")
@@ -394,8 +395,7 @@ class OfTheRightOfAChain(OfChains):
         self.settings["SPKI_LIBRARY"] = built.shared()
 
     def sign_behind(self, *words, by="bob", to="carol.pub", tag="(packages read)", chain="to-bob", wanted=0):
-        """Runs `spki-cert sign --chain`, by which bob signs c.sexp behind the chain in a file. It must end with the
-        status `wanted`. Returns what it writes."""
+        """Runs `spki-cert sign --chain`: bob signs c.sexp behind the chain in a file. The status must be `wanted`. Returns what it writes."""
         return self.sign("--chain", chain, "--force", "-o", "c.sexp", *words, by=by, to=to, tag=tag, wanted=wanted, days=("--days", "5"))
 
     def test_what_the_issuer_has_is_signed(self):

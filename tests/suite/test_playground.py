@@ -1,10 +1,8 @@
-"""Tests apps/playground over HTTP, and in Chromium.
-
-Each example's answer must be that of the program on the case that the page shows for it, whichever of library and program decides. A mistake must
-be found at its place. Questions from another origin, with another host or without the token, and too long bodies are refused. Text stays text in
-every box. A hostile text is stopped, and the page goes on. In Chromium also: typing, the keyboard alone, a link, 360 pixels, and that nothing of an
-answer stays when it is not the answer to what is typed. The page starts where `tests/run --quick` has left the program, and says this command where
-nothing is built. `bench/playground.py` measures its times."""
+"""Tests apps/playground over HTTP, and in Chromium. Each example's answer must be that of the program on the case that the page shows for it,
+whichever of library and program decides. A mistake must be found at its place. Questions from another origin, with another host or without the
+token, and too long bodies are refused. Text stays text in every box. A hostile text is stopped, and the page goes on. In Chromium also: typing, the
+keyboard alone, a link, 360 pixels, and that nothing of an answer stays when it is not the answer to what is typed. The page starts where `tests/run
+--quick` has left the program, and says this command where nothing is built. `bench/playground.py` measures its times by `InChromium`."""
 import contextlib
 import http.client
 import io
@@ -435,7 +433,7 @@ class Requests(OfPage):
         self.assertEqual(self.post(self.page.address.path + "no-such-job"), 404)
 
     def test_bodies(self) -> None:
-        # The page answers before the body is sent.
+        """A body of over 1 MiB is refused by its length, before it is sent; also one without a length, of no type of JSON, or that is no object."""
         for length in (str((1 << 20) + 1), "9" * 30):
             self.assertEqual(self.post(body="", Content_Length=length), 413)
         self.assertEqual(self.post(body="", Content_Length="-1"), 411)
@@ -610,6 +608,7 @@ class InChromium(OfPage):
                 self.assertEqual(self.browser.execute_script(f"return [{marked}, typeof attacked]"), [0, "undefined"])
 
     def test_by_the_keyboard_alone(self) -> None:
+        """The tab key reaches all that can be used. A request is typed, a word a line. Arrow keys open another tab."""
         from selenium.webdriver.common.action_chains import ActionChains
         from selenium.webdriver.common.keys import Keys
         reached: list[str] = []
@@ -733,6 +732,7 @@ class InChromium(OfPage):
         self.until("return document.getElementById('title').textContent === 'an earlier answer'")
 
     def test_a_paste_over_the_limit(self) -> None:
+        """A text of over 1 MiB gets no answer, and nothing of the earlier one is left. After a shorter text no answer is marked as out of date."""
         self.put("acl", f"(acl {'(entry (public-key (test a)) (tag (*)))' * 30_000})")
         self.until("return document.getElementById('title').textContent.includes('too long for this page')")
         self.check_nothing_left()
