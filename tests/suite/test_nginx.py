@@ -296,7 +296,7 @@ class Limits(OfSite):
     def test_rate(self) -> None:
         """Past the rate a client sees 429, and the daemon is not asked."""
         self.check_ann()
-        before, count = len(self.lines()), 400
+        before, count = len(self.lines()), 400  # (more than files.conf lets through: a burst of 100, and 50 a second)
         request = "GET /web/index.html HTTP/1.1\r\nHost: localhost\r\n"
         answers = self.site.answer_at_once("ann", f"{request}\r\n".encode() * (count - 1) + f"{request}Connection: close\r\n\r\n".encode())
         codes = statuses(answers)
@@ -307,7 +307,7 @@ class Limits(OfSite):
     def test_rate_of_certificates(self) -> None:
         """A client that shows certificates has a lower rate. Past it the daemon is not asked."""
         field = f"Authorization: SPKI {in_braces(sequence(self.site, 'ann', 'ben', READ))}"
-        request, count = f"GET /web/index.html HTTP/1.1\r\nHost: localhost\r\n{field}\r\n", 80
+        request, count = f"GET /web/index.html HTTP/1.1\r\nHost: localhost\r\n{field}\r\n", 80  # (a burst of 20, and 5 a second, pass)
         requests = f"{request}\r\n".encode() * (count - 1) + f"{request}Connection: close\r\n\r\n".encode()
 
         def is_limited() -> bool:

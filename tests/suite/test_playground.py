@@ -301,7 +301,7 @@ class Answers(OfPage):
         self.assertFalse(answer["signatures"][0]["counts"])
 
     def test_what_is_no_question(self) -> None:
-        """The server answers whatever JSON object it is sent. It refuses a list with another type than its own, and names the field and the type."""
+        """The server answers whatever JSON object it is sent. It refuses a field that is no list of the right type, and names both."""
         for question in ({}, {"acl": 5, "request": "x", "refused": "x"}, {"request": [1, None]}, {"acl": "(" * 100_000}, {"acl": "\ud800"}):
             self.assertEqual(self.page.ask("question", **question)["kind"], "refused")
         for name, kind, values in (("request", "a list of strings", (5, "x", {}, [*STORY["request"], 5])),

@@ -1,6 +1,6 @@
-"""What happens where a call of the bindings is used wrongly, by the tables that rows/wrong_uses.py reads. Rows that do
-not compile are compiled together, in Rust each alone, and the compiler must name a line of each, with the word of its
-row. All others are run. A wrong use that is granted is of a kind that docs/GUIDE.md names."""
+"""What happens where a call of the bindings is used wrongly, by the tables that rows/wrong_uses.py reads. Rows that do not compile (in Python: that
+mypy refuses) are compiled together, in Rust each alone. The compiler must name a line of each, and print there what the row's pattern matches. All
+others are run. A wrong use that is granted is of a kind that docs/GUIDE.md names."""
 import os
 import pathlib
 import subprocess
@@ -63,14 +63,14 @@ class WrongUses(built.OfLibrary):
         return path, lines
 
     def check_refused(self, rows: list[Row], output: str, path: str, lines: dict[int, Row]) -> None:
-        """The compiler must name a line of each of these rows, and write the row's word there. `output` is what it writes about the program at a
-        path, and `lines` has for the number of each line the row whose code it is."""
+        """The compiler must name a line of each of these rows, and write there what the row's pattern matches. `output` is what it writes about the
+        program at a path, and `lines` has for the number of each line the row whose code it is."""
         faults: defaultdict[str, str] = defaultdict(str)
         for row, fault in wrong_uses.faults_in(output, path, lines):
             faults[row.name] += fault
         for row in rows:
             with self.subTest(row.name):
-                # (the word may be empty, which every text has)
+                # (the pattern may be empty, which every text matches)
                 self.assertIn(row.name, faults)
                 self.assertRegex(faults[row.name], f"(?s){row.said}")
 
