@@ -303,7 +303,7 @@ class OfKeyFiles(Room):
         subprocess.run(["ssh-keygen", "-q", "-t", "ed25519", "-N", "sesame", "-f", self.at("locked")], check=True, stdin=subprocess.DEVNULL)
         self.assertEqual(self.cert("key", "locked"), self.cert("key", "locked.pub"))
         self.assertIn("locked: a private key, Ed25519", self.cert("check", "locked"))
-        with mock.patch("importlib.util.find_spec", return_value=None):
+        with mock.patch("importlib.util.find_spec", return_value=None):  # (as if bcrypt were not installed)
             self.assertIn("encrypted OpenSSH keys need python3-bcrypt", self.sign("-o", "c.sexp", by="locked", wanted=2))
 
     def test_a_key_that_others_may_read_is_reported(self):
@@ -529,7 +529,7 @@ class OfStreams(Room):
         for name, words in self.EACH.items():
             for message, stdout in (("is closed", None), ("No space left", writing_to("/dev/full"))):
                 with self.subTest(name=name, message=message):
-                    for new in ("new", "new.pub"):
+                    for new in ("new", "new.pub"):  # (`key new` writes over no file)
                         pathlib.Path(self.at(new)).unlink(missing_ok=True)
                     status, errors = Child(self.room, words, self.settings, stdout=stdout).wait()
                     self.assertEqual((status, errors.count("\n")), (3, 1), errors)

@@ -743,7 +743,7 @@ class InChromium(OfPage):
         page = Page(self.engine, self.seconds)
         self.addCleanup(page.end)
         self.browser.get(page.address.geturl())
-        self.until("return document.getElementById('span').textContent")
+        self.until("return document.getElementById('span').textContent")  # (the text of the times, which are asked for apart)
         page.end()
         self.put("request", "packages\nwrite")
         self.until("return document.getElementById('title').textContent.includes('The server does not answer')")

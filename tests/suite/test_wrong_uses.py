@@ -38,7 +38,7 @@ class Table(unittest.TestCase):
 
 @needs.needs(*needs.LIBRARY)
 class WrongUses(built.OfLibrary):
-    """The rows of each language."""
+    """The rows of each language: the compiler must refuse those that `split` calls wrong, and the others are run and must print their outcomes."""
 
     room: str
 
@@ -79,7 +79,7 @@ class WrongUses(built.OfLibrary):
         self.assertEqual(output, "".join(f"{row.place} {row.outcome}\n" for row in rows), [f"{row.place}: {row.name}" for row in rows])
 
     def split(self, language: str) -> tuple[str, list[Row], list[Row]]:
-        """The code that all rows of a language share, the rows that must not compile, and the other rows."""
+        """The code that all rows of a language share, the wrong rows, which must not compile, and the other rows."""
         shared, rows = wrong_uses.parts_of(language)
         return shared, [row for row in rows if row.outcome == "does not compile"], [row for row in rows if row.outcome != "does not compile"]
 
