@@ -17,8 +17,8 @@ SEED = re.compile(r"^\d+ cases, seed ([0-9a-f]{8}): ", re.MULTILINE)
 
 
 def try_bodies(names: list[str], counts: Counts, sums: dict[str, str]) -> None:
-    """Tries wrong bodies of wrong/, over the libraries that `rt ci` has left. A name is CRATE/NAME, or a crate, for all of its. `sums` has what
-    `records.sum_of` returned for crates before `rt ci` proved them: if all wrong bodies of one are refused, this becomes its record."""
+    """Tries wrong bodies of wrong/, over the libraries that `rt ci` has left. If one is missing, a failure is counted and none is tried. A name is
+    CRATE/NAME, or a crate for all of its. `sums` has `records.sum_of` from before `rt ci`: if all of a crate's are refused, it becomes its record."""
     crates = toolchain.crates(*(name.partition("/")[0] for name in names))
     lacking = {it.name for crate in crates.values() for it in crate.below() if not os.path.isdir(it.rlib)}
     if lacking:
@@ -53,7 +53,7 @@ def try_all(names: list[str], counts: Counts) -> None:
 
 def run_all(counts: Counts) -> None:
     """Tries every wrong body, runs all tests, the long ones and the benches, one after the other, and prints the line for CONTRIBUTING.md. The line
-    names the commit of the beginning, since the repository may be at another one when all has ended."""
+    names the commit of the beginning, since the repository may be at another one when all has ended. What needs a missing program is left out."""
     begun, seed = time.monotonic(), "none"
     commit = subprocess.check_output(["git", "describe", "--always", "--dirty", "--abbrev=12", "--exclude=*"], cwd=toolchain.TOP, text=True).strip()
     try_all([], counts)
@@ -71,8 +71,8 @@ def run_all(counts: Counts) -> None:
 
 
 def main(about: str) -> int:
-    """Runs what the command line asks for. `about` is the text of its help. Returns the exit status. Ends the process with status 2 if `--alone` has
-    no names: a run that tries nothing must not pass."""
+    """Runs what the command line asks for. `about` is the text of its help. Returns 1 if something failed, else 0. Ends the process with status 2 if
+    the words are wrong, also if `--alone` has no names: a run that tries nothing must not pass."""
     parser = argparse.ArgumentParser(description=about)
     parser.add_argument("names", nargs="*", metavar="NAME", help="a crate whose wrong bodies are tried, or with --alone also CRATE/WRONG-BODY")
     parser.add_argument("--alone", action="store_true", help="prove nothing first, and write no record: take the libraries that `rt ci` left")

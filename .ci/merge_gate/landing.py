@@ -8,7 +8,7 @@ from merge_gate.toolchain import remove_kept_libraries
 
 
 def main() -> int:
-    """Runs the parts of the gate, one after the other, up to the first in which something fails. Returns the exit status."""
+    """Removes old libraries, then runs the parts of the gate up to the first in which something fails. Returns 1 if something fails, else 0."""
     counts = Counts()
     remove_kept_libraries()
     for minutes, words in plan.GATE:

@@ -22,8 +22,8 @@ class Counts:
         self.failed += not is_passed
 
     def add_log(self, output: str, status: int, has_counts: bool = True) -> None:
-        """Counts the output of a command that ended with this status, by its last line 'N passed, M failed'. A command without this line has failed,
-        and so has one whose status is not 0. If a command never writes the line (`has_counts` is false), the status alone says whether it passed."""
+        """Counts what a command passed and failed, by the last line of its output, 'N passed, M failed', and keeps its lines of what it left out. It
+        failed if its status is not 0 or this line is missing. If it may be missing (`has_counts` is false), the status alone says then."""
         counts = LAST.match(output.rstrip("\n").rpartition("\n")[2])
         passed, failed = (int(counts[1]), int(counts[2])) if counts else (int(not has_counts and status == 0), int(has_counts))
         self.passed += passed
@@ -31,6 +31,6 @@ class Counts:
         self.left_out += [tests or part for tests, part in LEFT_OUT.findall(output)]
 
     def end(self) -> int:
-        """Prints what was left out and the last line. Returns the exit status."""
+        """Prints what was left out and the last line. Returns the exit status: 1 if something failed, else 0."""
         print(*(f"skipped: {part}" for part in self.left_out), f"{self.passed} passed, {self.failed} failed", sep="\n", flush=True)
         return 1 if self.failed else 0

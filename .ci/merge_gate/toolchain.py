@@ -7,7 +7,7 @@ used stand here:
 | `checked` | checks a copy of a crate with other texts, over the libraries that `rt ci` leaves. `rt check` proves these libraries again |
 | `unread` | whether a line says that an edited text could not be read. The texts of such lines are the toolchain's own |
 | `must_fail`, `REFUSED` | the verdict on one edit. `rt must-fail` proves the whole crate first, and knows no file outside of must-fail/ |
-| `rtlib.crates_below`, `rtlib.ALLOW_C` | the crates as `checked` and `must_fail` take them, also with `below`, with no functions in C |
+| `rtlib.crates_below`, `rtlib.ALLOW_C` | the crates as `checked` and `must_fail` take them; a variable, removed here, that lets them have C |
 | `Kept`, `Crate` | what `rt ci` has kept of a crate. No command puts only the libraries of some crates in their places |
 | `rtlib.guarded` | ends the checks when this process ends. It must be called first in the main thread |
 """
@@ -29,7 +29,7 @@ ONE = ["--jobs", "1"]
 
 @functools.lru_cache(maxsize=None)
 def rt_module() -> Any:
-    """The toolchain's `rt`, loaded as a module. Python writes nothing beside it."""
+    """The toolchain's `rt`, loaded as a module. Python writes nothing beside it. Ends the process if `rt` is not in the path."""
     sys.dont_write_bytecode = True
     path = os.path.realpath(shutil.which("rt") or sys.exit("rt is not in the path"))
     loader = importlib.machinery.SourceFileLoader("rt", path)
@@ -78,8 +78,8 @@ def remove_kept_libraries() -> None:
 
 
 def give_libraries(names: set[str]) -> None:
-    """Puts the libraries of these crates, and of all below each, into their folders, as `rt ci` has kept them for the present files. It is needed
-    behind `rt ci NAME ..`, which works on a copy of the crates and leaves no libraries in these folders."""
+    """Puts the libraries of these crates into their folders, as `rt ci` has kept them for the present files. Where it kept none, the folder has none.
+    The names must have all crates below each. It is needed behind `rt ci NAME ..`, which works on a copy and leaves no libraries here."""
     chosen = crates(*names).values() if names else ()
     rt_module().Crate.cuts_libraries = True
     kept = rt_module().Kept(chosen, anew=False)
