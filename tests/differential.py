@@ -159,7 +159,7 @@ class Comparison:
 
     def fault(self, asked: Asked, number: int) -> str | None:
         """What is wrong with the answers to a case, None if nothing is. The number of the case says whether the program, or the library with a buffer
-        that is too small, is asked too."""
+        that is too small, is asked too. Without a library only texts are asked."""
         if isinstance(asked, Question):
             return self.fault_of_text(asked, number)
         if self.library is None:
@@ -169,7 +169,7 @@ class Comparison:
         return self.library.fault_of_string(asked) if isinstance(asked, StringQuestion) else self.fault_of_guard(self.library, asked, number)
 
     def fault_of_guard(self, library: Library, asked: GuardQuestion, number: int) -> str | None:
-        """What is wrong with the answer of a guard, None if nothing is. Each fifth case, by its number, is asked with too small a buffer too."""
+        """What is wrong with the answer of a guard, None if nothing is. Each fifth case by its number, but no misuse, gets too small a buffer too."""
         try:
             wanted = model_guard_answer(asked)
         except ModelDisagrees as why:
@@ -183,7 +183,7 @@ class Comparison:
 
     def fault_of_text(self, asked: Question, number: int) -> str | None:
         """What is wrong with the answers to a text, None if nothing is: that of the model breaks a law of model/laws.py, or that of the library or of
-        the program differs from it. The number of the case says whether the program and a buffer that is too small are tried."""
+        the program does. By the case's number the program (always without a library, never for `check_accepted`) and a small buffer are tried."""
         try:
             wanted = model_answer(asked)
             rng = random.Random(number)
@@ -223,7 +223,7 @@ def work(comparison: Comparison, numbers: range, at: MutableSequence[int], job: 
 def compare(comparison: Comparison, first: int, cases: int, jobs: int) -> tuple[list[int], list[int], Counter]:
     """Compares so many cases from the number `first` on, in `jobs` processes. Returns the numbers of the cases that differ, those of the cases that
     ended their process, and how often each row of the model was reached, by the title of its table and its name. A process that ended reports neither
-    its other cases nor its rows."""
+    its other cases nor its rows. While it waits, it prints how far the run is."""
     # (the number of the case that each process is at: each takes every `jobs`-th number, so the mean of all says how many cases are done)
     at = multiprocessing.Array("q", jobs)
     workers = []
@@ -278,8 +278,7 @@ def shared_object(archive: str, folder: str) -> str:
 
 
 def comparison_of(program: str, archive: str | None, folder: str, seed: str) -> Comparison:
-    """What is compared with the model: a program and the library of an archive, or without an archive the program alone. The folder is for a shared
-    object of the library."""
+    """What is compared with the model: a program, and the library of an archive, unless it is None. The folder is for the library's shared object."""
     library = Library(ctypes.CDLL(shared_object(os.path.abspath(archive), folder))) if archive else None
     return Comparison(library, os.path.abspath(program), seed)
 
@@ -312,7 +311,8 @@ def faults_of_run(cases: int, rows: Counter, by_program: int) -> list[str]:
 
 
 def main() -> int:
-    """Compares all cases, and prints what differs and the tables. Returns 1 if anything is wrong, else 0."""
+    """Compares all cases, and prints the tables and what differs, at most SHOWN cases. Returns 1 if anything is wrong, else 0. Ends the process with
+    status 1 if the program or the library is missing. `.ci/merge_gate/` reads the last two lines: `deep` the seed, `report` the counts."""
     options, begun = arguments(), time.monotonic()
     archive = None if options.program_alone else options.library
     for name in (options.program, *([archive] if archive else [])):

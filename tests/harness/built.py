@@ -1,5 +1,5 @@
-"""The built program and library as the tests take them, and the size of a run. `tests/run` builds them, and sets these variables of the
-environment:
+"""The built program and library as the tests take them, and the size of a run. `tests/run` builds them. These variables of the environment are for
+both. It sets all but ONE_CALL and LIBRARY, with which a person tests others:
 
     SPKI_TEST_PROGRAM   another program than crates/spki/out/spki
     SPKI_TEST_ONE_CALL  another program than crates/test_one_call/out/test_one_call
@@ -8,7 +8,7 @@ environment:
     SPKI_TEST_ALONE     the program alone is tested: there is no library
     SPKI_TEST_CASES     how many generated cases are compared with the model
     SPKI_TEST_LONG      the long tests too, which `.ci/deep` runs
-    SPKI_TEST_ANEW      nothing is left out since it passed on the same sources before
+    SPKI_TEST_ANEW      tests run also if they passed on the same sources before
 """
 import os
 import unittest

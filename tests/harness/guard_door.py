@@ -115,7 +115,7 @@ class GuardDoor:
         return int(decision.status)
 
     def fault_of_answer(self, question: GuardQuestion, wanted: tuple[Answer, list[Signed]]) -> str | None:
-        """What is wrong with the answer or the listed signatures, None if nothing is. `wanted` is what `model_answer` returns."""
+        """What is wrong with the answer, what is said of a decision, or the listed signatures, else None. `wanted` is what `model_answer` returns."""
         handle, asked = c_void_p(), c_void_p()
         self.truths = ()
         try:

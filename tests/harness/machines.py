@@ -20,7 +20,7 @@ OTHERS, BY_WORD = ("python3-venv",), {"Python": "python3", "Go 1.": "golang-go",
 
 
 def packages_of(page: str) -> list[str]:
-    """The packages of Debian that the text of a page names: in backticks, or as words if it has no backticks, as a page of the manual."""
+    """The packages of OTHERS, or that the tests use, which a page names in backticks, or as words if it has none; and those by BY_WORD. Sorted."""
     # (a page of the manual has `\-` for a hyphen)
     words = re.findall(r"`([^`\n]+)`", page) or re.split(r"[^\w.+-]+", page.replace("\\-", "-"))
     packages = {*(need.package for need in needs.NEEDS), *OTHERS}

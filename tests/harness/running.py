@@ -172,7 +172,7 @@ def parts_of(tests: Iterable[unittest.TestCase]) -> list[tuple[str, list[unittes
 
 
 def print_faults(outcome: Outcome, command: str) -> None:
-    """Prints all about what failed in a part, and the notes of its tests. `command`, with the name of a test behind it, runs this test alone."""
+    """Prints what failed in a part and what its tests wrote, each up to FAULT_LENGTH, and their notes. `command` with a test's name runs it alone."""
     for name, text in outcome.failed.items():
         print(f"\nFAILED {name}\n{text[:FAULT_LENGTH]}alone  {command} '{name}'\n", flush=True)
     if outcome.failed and outcome.output:
@@ -197,7 +197,7 @@ class Report:
         self.outcomes: list[Outcome] = []
 
     def add(self, outcome: Outcome) -> None:
-        """Adds the outcome of a part."""
+        """Adds the outcome of a part, and prints its faults. Behind the last part of a class it prints the line of the class."""
         self.outcomes.append(outcome)
         print_faults(outcome, self.command)
         self.left[outcome.name] -= 1
@@ -240,7 +240,7 @@ def run_all(tests: list[unittest.TestCase], jobs: int, is_fast: bool, command: s
 
 
 def skipped_lines(outcomes: Iterable[Outcome]) -> Iterator[str]:
-    """A line for each class and each reason by which tests of it were skipped."""
+    """A line for each class and each reason by which tests of it were skipped, sorted. `.ci/merge_gate/report.py` reads them by `skipped: `."""
     reasons = Counter((outcome.name, reason) for outcome in outcomes for _, reason in outcome.skipped)
     for (name, reason), count in sorted(reasons.items()):
         yield f"skipped: {count} of {name} ({reason})"

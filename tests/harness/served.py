@@ -185,7 +185,7 @@ class Site:
 
     def status(self, who: str | None, method: str, path: str, *lines: str, body: str = "") -> int:
         """The status of the answer to a request, with these lines added to its header. `who` names the client's certificate and key. None: it has no
-        certificate."""
+        certificate. Raises IndexError if there is no answer."""
         header = [f"{method} {path} HTTP/1.1", "Host: localhost", "Connection: close", *lines]
         header += [f"Content-Length: {len(body)}"] if body else []
         return int(self.answer(who, "\r\n".join([*header, "", body]).encode("latin-1")).split(b" ", 2)[1])

@@ -32,8 +32,8 @@ def is_called(name: str, body: str) -> bool:
 
 
 def faults(page: str, bodies: dict[str, list[str]]) -> Iterator[str]:
-    """A line for each fault of the tables of calls on a page: a function or a call that the sources lack, a row whose function no row before calls,
-    or a table of another form. `bodies` is what `bodies_of` returns."""
+    """A line for each fault of the tables of calls on a page: no table, a table of another form or with over MOST_ROWS rows, a function that does not
+    do its call, or a later row of a function that no row before calls and that C cannot call. `bodies` is what `bodies_of` returns."""
     tables = TABLE.findall(text_of(page))
     if not tables:
         yield f"{page} has no table of calls"

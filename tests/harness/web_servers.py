@@ -163,7 +163,7 @@ class HAProxy(Behind):
         self.behind = FileServer(self.at("run/files/socket"), self.at("files"))
 
     def replaced(self, text: str) -> str:
-        """The text of a file of the example for this site: HAProxy listens on its port, and waits 1 s at most for a client."""
+        """The text of a file of the example for this site: HAProxy changes no user, listens on its port, and waits 1 s at most for a client."""
         text = re.sub("(?m)^    (user|group) .*\n", "", super().replaced(text))
         text = text.replace("timeout http-request 10s", "timeout http-request 1s").replace("timeout client 10s", "timeout client 1s")
         return text.replace("bind :443", f"bind 127.0.0.1:{self.port}")
