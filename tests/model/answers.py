@@ -60,7 +60,7 @@ def answer(command: str, text: bytes) -> Answer:
 
 
 def check_accepted(text: bytes, rows_text: bytes) -> Answer:
-    """What `spki_check_accepted` answers to a case whose accepted signatures, the rows, are a text of their own."""
+    """What `spki_check_accepted` answers to a case whose accepted signatures, the rows, are a text of their own, with a status of the program."""
     try:
         case = read_case(text)
         with case_limits():
@@ -161,7 +161,7 @@ def intersect(value: Value) -> bytes:
 
 
 def first_granted(case: Case, rows: list[Row], grants: Callable[[Entry, Steps], bool]) -> Answer:
-    """The line with the first entry that grants the request, or no. `grants` says whether an entry with all certificates does."""
+    """The line with the first entry that grants the request, or no, also if evidence fails. `grants`: whether an entry with all certificates does."""
     try:
         steps = evidence.proved_tuples(case.items, rows, case.strict)
     except evidence.Stopped:

@@ -85,7 +85,7 @@ def part(name: str, read_part: Callable[[Value], Any], value: Value) -> Any:
 
 
 def read_rows(value: Value) -> list[Row]:
-    """Reads `(accepted row ..)`."""
+    """Reads `(accepted row ..)`. Raises StructureFault for a list of another head, and ItemFault with the number of a row that has a fault."""
     return [structures.numbered(number, read_row, member) for number, member in enumerate(Members(value, b"accepted").left, 1)]
 
 

@@ -9,7 +9,7 @@ LIMIT = Rows("limit of the canonical form", ["TooLong, though the text is not"])
 
 
 def read(text: bytes) -> Value:
-    """The value of a text in any of the three forms, or the first fault."""
+    """The value of a text in any of the three forms. Raises FormFault with the first fault."""
     if text[past_whitespace(text, 0):][:1] == b"{":
         value = transport.read(text)
         FORMS.count_use("transport")

@@ -110,7 +110,7 @@ def open_guard(text: bytes, strict: bool, limits: Limits) -> Guard:
 
 
 def case_of(guard: Guard, question: Parts, rows: list[Row]) -> Case:
-    """The case of a question to a guard, with these accepted signatures (rows). Its parts are read in their order. Raises Refused."""
+    """The case of a question, with these accepted signatures (rows). Octets are counted, then parts read in order, then counts. Raises Refused."""
     if octets_of(question) > guard.limits.octets:
         REFUSED.count_use("question TooLong")
         raise Refused("question TooLong")
@@ -241,7 +241,7 @@ def last_second(date: bytes) -> int:
 
 
 def compare_with_check(case: Case, decided: Answer) -> None:
-    """Raises ModelDisagrees unless the guard's decision is that of `check`, or check is refused as TooLarge. It is by the limits of the guard."""
+    """Raises ModelDisagrees unless the guard's decision is that of `check`, or `check` is refused as TooLarge: it runs within the guard's limits."""
     try:
         checked = answers.check(case, case.rows)
     except Refused:

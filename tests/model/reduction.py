@@ -38,7 +38,7 @@ def of_entry(entry: Entry) -> Authorization:
 
 
 def fold(entry: Entry, steps: list[tuple[int, Tuple]], strict: bool) -> Authorization:
-    """The authorization that the entry becomes with all steps, each an item's number and its tuple. Raises Stopped where one does not join."""
+    """The authorization that an entry becomes with all steps, each an item's number and tuple. Raises Stopped where one does not join; TooLarge."""
     authorization = of_entry(entry)
     with counting_work(entry.tag, [step.tag if isinstance(step, Authorization) else None for _, step in steps]):
         for item, step in steps:
@@ -70,7 +70,7 @@ def joined(left: Authorization, right: Authorization, strict: bool) -> Authoriza
 
 
 def resolved(left: Authorization, name: Definition, strict: bool) -> Authorization:
-    """The authorization whose subject has its first name replaced by what the name means. Raises NoJoin."""
+    """The authorization whose subject has its first name replaced by what the name means. Raises NoJoin, and TooLarge if work is spent."""
     if not left.subject.names:
         raise no_join("NotTheName: no name left")
     if not names(left.subject.principal, name.key, strict):
