@@ -131,8 +131,8 @@ class Builder:
         return following
 
     def sign(self, certificate: Value, key: Value) -> None:
-        """Adds a certificate with its signature by a key, and the row that says that the signature was verified. By a small chance the certificate,
-        its digest, the signer or the row is wrong, or the row is missing."""
+        """Adds a certificate with its signature by a key, by chance `(do ..)` between them, and the row that says that the signature was verified. By
+        a small chance the certificate, its digest, the signer or the row is wrong, or the row is missing."""
         if self.wrong():
             certificate = mutated(certificate, self.rng)
         octets = canonical(certificate)
@@ -153,7 +153,7 @@ class Builder:
         """Adds certificates from a subject on. Returns the subject that the chain ends with."""
         for left in range(length, 0, -1):
             subject = self.certificate(subject, left == 1)
-        # what names are left is mostly defined
+        # what names are left is mostly defined, while there are not so many items that a case takes long
         while subject.names and not self.wrong(0.1) and len(self.items) < 24:
             subject = self.certificate(subject, True)
         return subject

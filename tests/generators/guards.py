@@ -12,7 +12,7 @@ from .nearly import maybe_changed, maybe_wrong_text
 
 ODDITIES = [*MISUSES.counts, *ALLOWED.counts]
 NO_POLICY, OCTETS_ABOVE, NODES_ABOVE, WORK_ABOVE, *_ = OPENED
-# The first and last second that is a moment and those beside them, moments of 2023 to 2024, 2000-02-29, 1900-03-01, and the year 0.
+# The first and last second that is a moment and those beside them, 2023 to 2024, 2000-02-29, 1900-03-01, the year 0, 1971, and the ends of 64 bits.
 SECONDS = (0, -1, 1_704_067_199, 1_704_067_200, 1_718_440_200, 951_782_400, -2_203_891_200, -62_167_219_200,
            FIRST_SECOND + 31_622_400, LAST_SECOND, LAST_SECOND + 1, -2**63, 2**63 - 1)
 STRINGS = (b"", b"ftp", b"x) (at ", b"1:a", b"\x00\xff", b"(", b"a.o read")
@@ -68,7 +68,7 @@ def limits_for(wish: str, rng: random.Random) -> Limits:
 
 def with_oddity(question: GuardQuestion, rng: random.Random, oddity: str) -> GuardQuestion:
     """The question with an oddity, the name of a row of MISUSES or ALLOWED. For four of them its policy or a limit is set wrong here. The others are
-    made in the calls (harness/guard_door.py)."""
+    made in the calls (harness/guard_door.py). Its other limits become the usual ones."""
     policy = rng.choice((2, 3, 255, 2**31, 2**32 - 1)) if oddity == NO_POLICY else question.policy
     octets = rng.choice((HIGHEST.octets + 1, 2**63, 2**64 - 1)) if oddity == OCTETS_ABOVE else USUAL.octets
     nodes = rng.choice((HIGHEST.nodes + 1, 2**63, 2**64 - 1)) if oddity == NODES_ABOVE else USUAL.nodes

@@ -65,7 +65,7 @@ def without_one(members: tuple[Any, ...]) -> Iterator[tuple[Any, ...]]:
 
 
 def smaller_texts(text: bytes) -> Iterator[bytes]:
-    """Smaller texts: of a value without one of its parts, or without some octets."""
+    """Smaller texts: shorter ones of the same value or of one of `smaller_values`, unless the text is LARGE, and the text without some octets."""
     try:
         value = forms.read(text) if len(text) < LARGE else None
     except FormFault:

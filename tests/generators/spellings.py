@@ -51,7 +51,7 @@ def with_whitespace(body: bytes, rng: random.Random) -> bytes:
 
 
 def advanced(value: Value, rng: random.Random, wild: float) -> bytes:
-    """A text of a value in advanced form. `wild` is the chance that a string is not written as it would be printed. Between two members there is
+    """A text of a value in advanced form. `wild` is the chance that a string is written in any of the ways (`string`). Between two members there is
     whitespace where they would run together, and elsewhere by chance."""
     if isinstance(value, Atom):
         body = string(value.body, rng, wild)
@@ -78,7 +78,7 @@ def advanced(value: Value, rng: random.Random, wild: float) -> bytes:
 
 def string(octets: bytes, rng: random.Random, wild: float) -> bytes:
     """A string in one of the ways of advanced form: a token, hexadecimal digits, base64, quotes, or its length, `:` and its octets. `wild` is the
-    chance that it is not written as it would be printed."""
+    chance that a way is drawn. Else it is a token if it can be one, or has its length."""
     if rng.random() >= wild:
         if TOKEN.fullmatch(octets):
             return octets
