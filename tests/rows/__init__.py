@@ -10,8 +10,8 @@ between them. `any` stands for each of the commands. A line that begins with `;`
     %[PATH]     is what the file has, the path being one from the top of the repository
 
 and every other octet stands for itself. Of each text that `canonical` converts, what `advanced` and `transport` write must be
-read again as the same canonical form. Each text that `check` refuses `reduce` and `explain` must refuse by the same line; of each
-that it decides, the first entry that `explain` says grants must be the one that `check` names."""
+read again as the same canonical form. Each text that `check` refuses `reduce` and `explain` must refuse by the same line. Of each that it
+decides, the first entry that `explain` says grants must be the one that `check` names, unless both others refuse it as TooLarge."""
 import os
 import re
 from collections.abc import Iterator
@@ -55,7 +55,7 @@ def octets_of(escape: re.Match[bytes]) -> bytes:
 
 
 def unescaped(field: bytes) -> bytes:
-    """The octets that a field of a row stands for."""
+    """The octets that a field of a row stands for. Raises ValueError for an escape without a meaning."""
     return ESCAPE.sub(octets_of, field)
 
 

@@ -1,8 +1,8 @@
-"""Attacks on the example of nginx: what is tried, who tries it, and the octets that are sent. None may be answered with a status 2xx, nor with
-the content of a file.
+"""Attacks on the examples of web servers: what is tried, who tries it, and the octets that are sent. None but those of GRANTED may be answered with
+a status 2xx, or with the content of a file.
 
-In the octets, {ann} is Ann's certificate as nginx passes it, {key} the hash of her key, and {ben} the sequence by which Ann lets Ben read /web/.
-The others are sequences that give nothing: see attackers.py. A line that ends in \\n ends in \\r\\n where it is sent."""
+In the octets, {ann} is Ann's certificate as the server passes it, {key} the hash of her key, and {ben} the sequence by which Ann lets Ben read /web/.
+The others are sequences that give nothing: see attackers.py. Lines end in CR LF (`request` and `raw` make them), but for one attack."""
 import re
 from collections.abc import Iterator
 from typing import NamedTuple, Optional
