@@ -2,7 +2,7 @@
  * question is opened, guards that are closed before their questions or beside them, refused memory, and several threads on one guard and on one
  * question. Is linked with --wrap=malloc and --wrap=realloc. Ends with 99 where a call does otherwise, with a line on standard error.
  *
- * Usage: cguard THREADS REFUSALS LIST SEQUENCE KEY     each of the last three is a text */
+ * Usage: cguard THREADS REFUSALS LIST SEQUENCE KEY     at most 64 threads; each of the last three is a text */
 #include "cguard.h"
 
 #include <pthread.h>
@@ -334,7 +334,7 @@ static void octets_of_strings(void)
     expect(spki_string("3:abc", 5, NULL, 0, NULL, &length) == SPKI_MISUSED && !length, "no place for octets");
 }
 
-/* Each of the first `most` requests for memory is refused in turn while a string is looked for. */
+/* Each of the first `most` requests for memory is refused in turn while a string is looked for. That must make one request at least. */
 static void strings_without_memory(size_t most)
 {
     static const char good[] = "(10:public-key(4:test1:a))";

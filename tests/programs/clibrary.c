@@ -3,10 +3,9 @@
  *
  * Usage: clibrary THREADS REFUSALS < QUESTIONS > ANSWERS
  *
- * A question is a line with the number of a command, 7 being spki_check_accepted, and the lengths of its two texts, and then their
- * octets. An answer is a line with the status and the length, and then its octets. Of each question the first requests for memory,
- * as many as REFUSALS says, are refused in turn. Ends with 99 where a call does otherwise than `spki.h` says, with a line on
- * standard error. */
+ * A question is a line with the number of a command, 7 for spki_check_accepted, and the lengths of its two texts, then their octets. At most MOST are
+ * read. An answer is a line with the status and the length, then its octets. Of each question the first REFUSALS requests for memory are refused in
+ * turn. THREADS are at most 64. Ends with 99 and a line on standard error where a call does otherwise than `spki.h` says, or a text is cut off. */
 #include "refusals.h"
 
 #include <pthread.h>

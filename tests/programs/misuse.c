@@ -21,7 +21,7 @@ static spki_asked *asked;
 static spki_guard *no_guard;
 static spki_asked *no_asked;
 
-/* A call that has no buffer, or cannot write to it, must have been misuse: `needed` is 0, and `buffer` is unchanged. */
+/* A call that has no buffer, or cannot write to it, must have been misuse: `needed` is 0, and `buffer` is unchanged. Sets `needed` anew. */
 static void expect_misused_unwritten(enum spki_status status, const char *what)
 {
     expect(status == SPKI_MISUSED && !needed, what);

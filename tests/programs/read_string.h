@@ -7,7 +7,7 @@
 #include <stdlib.h>
 
 /* Reads LENGTH:OCTETS from standard input into a block that the caller frees. An octet 00 that does not count is behind the octets, for atoll. False
- * at the end of the input, and if memory ran out. */
+ * at the end of the input, also within a string, for another form, and if memory ran out. */
 static bool read_string(struct spki_text *string)
 {
     size_t length;

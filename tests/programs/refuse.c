@@ -2,12 +2,12 @@
  *
  *   REFUSE_MEMORY=N, REFUSE_READ=N, REFUSE_WRITE=N   the Nth request for memory, read of standard input, write of standard
  *                                                    output; with N.. each one behind it too
- *   REFUSE_WITH=E    what a refused read or write returns: the error E, or with 0 that it took no octet
+ *   REFUSE_WITH=E    what a refused read or write returns: the error E, by default EIO, or with 0 that it took no octet
  *   REFUSE_STEP=1    a read or a write takes one octet at most
  *   REFUSE_IN=WORD   where the program was started by another word it is left alone
  *
  * At the end it writes to descriptor 3 how many were asked and refused of each, and how many requests for memory came before
- * the first read. A program that hangs is ended by SIGALRM.
+ * the first read. A program that hangs is ended by SIGALRM after SECONDS.
  */
 #define _GNU_SOURCE
 #include <dlfcn.h>

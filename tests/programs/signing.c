@@ -1,5 +1,5 @@
 /* Signs by libgcrypt. The words are a file with a private key and one with what libgcrypt signs, each an S-expression. Writes the value of the
- * signature in canonical form. */
+ * signature in canonical form. If it cannot, it ends with 1, mostly with a line on standard error. */
 #include <gcrypt.h>
 #include <stdio.h>
 

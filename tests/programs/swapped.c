@@ -1,5 +1,5 @@
 /* Changes a guard while threads ask it, as the head of spki.h says: each asks while it holds a lock for reading, and the pointer is changed while one
- * thread holds it for writing. Questions that are open are decided after their guard is closed. Ends with the line of what is wrong. */
+ * thread holds it for writing. Questions that are open are decided after their guard is closed. Prints the line of what is wrong, and ends with 1. */
 #define _XOPEN_SOURCE 700
 #include <spki.h>
 

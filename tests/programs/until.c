@@ -1,7 +1,7 @@
 /* Asks until when a question is a yes, and whether it is one then and a second later: `until.py`.
  *
  * Usage: until LIST SEQUENCE KEY MOMENT. Prints the status and the last second of the decision, and 1 or 0 for each of the two seconds if they can be
- * asked. */
+ * asked. Ends with 1 for other words or a list that is refused, 2 for a question that is refused, 3 if spki_asked_granted differs. */
 #include <inttypes.h>
 #include <spki.h>
 #include <stdio.h>
@@ -44,7 +44,7 @@ int main(int count, char **words)
     const struct spki_decision decision = decide(guard, &question);
     printf("%d %" PRId64, decision.status, decision.until);
     question.moment = (struct spki_text){0};
-    /* (seconds cannot be asked before 1970, nor from the last second of the year 9999 on) */
+    /* (both seconds must be ones that can be asked: not before 1970, and not after the year 9999) */
     for (int64_t later = 0; later < 2 && decision.until >= 0 && decision.until < 253402300799; later++) {
         const int64_t seconds = decision.until + later;
         question.seconds = &seconds;
