@@ -52,8 +52,8 @@ def try_all(names: list[str], counts: Counts) -> None:
 
 
 def run_all(counts: Counts) -> None:
-    """Tries every wrong body, runs all tests, the long ones and the benches, one after the other, and prints the line for CONTRIBUTING.md. The line
-    names the commit of the beginning, since the repository may be at another one when all has ended. What needs a missing program is left out."""
+    """Tries every wrong body, runs all tests, the long ones and the benches, one after the other, without what needs a missing program. Prints the
+    line for CONTRIBUTING.md, which `test_layout` reads there. It names the commit of the beginning, since the present one may be another by then."""
     begun, seed = time.monotonic(), "none"
     commit = subprocess.check_output(["git", "describe", "--always", "--dirty", "--abbrev=12", "--exclude=*"], cwd=toolchain.TOP, text=True).strip()
     try_all([], counts)

@@ -101,7 +101,7 @@ def always(question: Asked) -> Maker:
 
 
 def to_command(command: str, value: Value) -> Maker:
-    """A maker of a command and some text of a value."""
+    """A maker of a command and some text of a value. For `check_accepted` there are no rows."""
     return lambda rng: Question(command, spellings.text_of(value, rng), NO_ROWS if command == "check_accepted" else b"")
 
 

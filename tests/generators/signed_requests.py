@@ -548,7 +548,7 @@ def changed_ecdsa() -> None:
 
 
 def main() -> None:
-    """Writes the table, in the place of the one that is there."""
+    """Writes the table, in the place of the one that is there. The docstring of each part stands in it as a remark."""
     for rows in (valid, changed_requests, changed_bodies, changed_certificates, changed_fields, changed_inputs, changed_parameters, changed_keys,
                  other_keys, changed_signatures, changed_ecdsa):
         LINES.append(f"# {rows.__doc__}\n")

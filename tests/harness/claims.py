@@ -24,7 +24,7 @@ WORD = re.compile(r"[\w-]+")
 
 class Sources:
     """What sources have: `contracts` of functions by name, also with the name of a type before it, and [] for a type; the same contracts `of_crate`
-    by crate; and which words each definition of the specifications has (`cited`)."""
+    by crate; and which words each definition of the specifications has (`cited`). Both arguments are paths from the top, as `crates/NAME/..`."""
 
     def __init__(self, sources: Iterable[str], specs: Iterable[str]) -> None:
         self.contracts: dict[str, list[str]] = {}
@@ -60,7 +60,7 @@ class Sources:
     def faults_of(self, cell: str, default: list[str]) -> Iterator[str]:
         """A line for each name of a cell that is not where the cell says. A phrase, up to a semicolon, has functions and then names of their clauses;
         the definitions in parentheses are those to which these contracts lead. `default` are the contracts of the crates of its section: those of a
-        phrase without a function. Behind the word `calls` or `readers` each name is a clause."""
+        phrase without a function. Behind the word `call`, `calls` or `readers` each name is a clause, up to the next phrase."""
         # `contracts` are those of the functions named last. Behind a clause (is_closed) the next function begins a new list of them.
         contracts, is_closed, is_in_parentheses, are_all_clauses = default, True, False, False
         for mark, word, name in re.findall(r"([();])|\b(calls?|readers)\b|`([\w:-]+)`", cell):

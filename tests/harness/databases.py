@@ -22,13 +22,13 @@ sys.path.append(needs.DEBIAN)
 
 # What a server with a store needs.
 NEEDED = (needs.INITDB, f"{needs.DEBIAN}/psycopg")
-# How long a server may take to start, to follow or to end.
+# How long a program that `Server.run` runs may take, as one that makes the files of a server or of a replica.
 SECONDS = 600
 SETTINGS = {"listen_addresses": "", "fsync": "off", "max_connections": "100", "wal_keep_size": "256MB", "hot_standby": "on", "max_wal_senders": "8"}
 
 
 def program(name: str) -> str:
-    """The path of a program of PostgreSQL, of the installed version whose folder is last by name. Debian has them in no folder of PATH."""
+    """The path of a program of the PostgreSQL whose folder of a version is last by name: Debian has none in PATH. Raises IndexError without one."""
     return sorted(glob.glob(f"/usr/lib/postgresql/*/bin/{name}"))[-1]
 
 

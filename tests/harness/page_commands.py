@@ -92,7 +92,7 @@ def tracked() -> list[str]:
 
 
 def pages() -> list[str]:
-    """All pages, also of the manual, by their paths from the top."""
+    """All pages, also of the manual, but none below a folder `out`, sorted, by their paths from the top."""
     paths = itertools.chain.from_iterable(glob.glob(pattern, root_dir=TOP, recursive=True) for pattern in PAGES)
     return sorted(path for path in set(paths) if f"{os.sep}out{os.sep}" not in path)
 

@@ -8,7 +8,7 @@ from dataclasses import dataclass, field, replace
 
 from harness.support import TESTS
 
-# A run takes at most so long, except one by `Program.run`, which only the bound of the whole gate ends.
+# A run takes at most so long, except one by `Program.run`, which refuse.c ends by SIGALRM after 30 seconds.
 SECONDS = 600
 # So many octets fit into a pipe.
 PIPE = 65536

@@ -17,7 +17,7 @@ CALLS = ("memory", "spki_answer", "spki_check_accepted", "spki_guard_open", "spk
          "spki_asked_explain", "spki_asked_reduce", "spki_asked_close", "spki_string")
 ARGUMENTS = 8
 PARTS = ("sequence", "key", "request", "moment")
-# A longer text, or more strings, are misuse: no octet of them is read.
+# In the tests a longer text, or more strings, are misuse: no octet of them is read.
 MOST_OCTETS, MOST_WORDS = 1 << 22, 2000
 # The type of what `byref` returns, and the base of all types of ctypes that are one number or pointer: ctypes has no public names for them.
 REFERENCE: Any = type(byref(c_int()))

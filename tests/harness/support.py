@@ -55,7 +55,7 @@ def run(program, command, text, seconds=SECONDS):
 
 
 def output_of(*words, text=None, seconds=SECONDS, **settings):
-    """The exit status of a command, and all that it writes to both outputs. `settings` are those of `subprocess.run`."""
+    """The exit status of a command, and all that it writes to both outputs. Raises TimeoutExpired. `settings` are those of `subprocess.run`."""
     done = subprocess.run(words, input=text, stdout=subprocess.PIPE, stderr=subprocess.STDOUT, timeout=seconds, text=True, **settings)
     return done.returncode, done.stdout
 

@@ -1,5 +1,5 @@
-// A client whose certificate for TLS is of another key than the one it holds, which the programs of OpenSSL refuse to be.
-// Usage: go run foreign.go ADDRESS CERTIFICATE OWN-CERTIFICATE OWN-KEY. Prints what the server answers to a request, or the error of the connection.
+// A client whose certificate for TLS is of another key than the one it holds, which the programs of OpenSSL refuse to be. Prints what it reads first
+// of an answer and the error of reading, or that of the connection. Usage: go run foreign.go ADDRESS CERTIFICATE OWN-CERTIFICATE OWN-KEY.
 package main
 
 import (
