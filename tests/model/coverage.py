@@ -5,7 +5,7 @@ TABLES: list["Rows"] = []
 
 
 class Rows:
-    """The rows of one table: their names, and how often each was used."""
+    """The rows of one table: their names, and how often each was used. Each table that is made is added to TABLES."""
 
     def __init__(self, title: str, names: Iterable[str]) -> None:
         self.title = title

@@ -15,7 +15,7 @@ ISSUERS = Rows("evidence, the issuer's key", ["as written", "shown before", "sho
 
 
 class Stopped(Exception):
-    """The first certificate that fails a test of evidence: the number of its item, and the first test that it fails."""
+    """The first certificate that fails a test of evidence: the number of its item, and the first test that it fails. Counts the row of STOPS."""
 
     def __init__(self, item: int, stop: str) -> None:
         super().__init__(item, stop)

@@ -34,7 +34,7 @@ FORMS = Rows("structure that is read", [
 
 
 class StructureFault(Exception):
-    """Why a value has no reading: a kind, which has the tag's fault behind it if it is Tag."""
+    """Why a value has no reading: a kind, which has the tag's fault behind it if it is Tag. To make one counts the row of FAULTS."""
 
     def __init__(self, kind: str) -> None:
         super().__init__(kind)
@@ -150,7 +150,7 @@ Item = Union[Key, Operation, Certificate, Signature]
 
 
 class Members:
-    """The members of a list behind its head, taken from the left."""
+    """The members of a list behind its head, taken from the left. Raises Shape for any other value."""
 
     def __init__(self, value: Value, head: bytes) -> None:
         if head_of(value) != head:
