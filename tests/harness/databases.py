@@ -62,10 +62,10 @@ class Server:
             mount(self.folder, mib)
         if os.geteuid() == 0:
             shutil.chown(self.folder, "postgres", "postgres")
-        os.chmod(self.folder, 0o755)
+        os.chmod(self.folder, 0o755)  # (so that clients of other users reach its socket)
 
     def __enter__(self) -> Server:
-        if not os.path.exists(self.data):
+        if not os.path.exists(self.data):  # (a replica has those of its primary)
             self.run("initdb", "-D", self.data, "-U", "postgres", "-A", "trust", "-E", "UTF8", "--locale=C", "--no-sync")
             with open(os.path.join(self.data, "pg_hba.conf"), "a", encoding="utf-8") as file:
                 file.write(f"host all,replication all {networks.ALL} trust\n")
@@ -94,7 +94,7 @@ class Server:
         return f"host={self.folder} user=postgres dbname=postgres"
 
     def run(self, name: str, *words: str) -> str:
-        """Runs a program of PostgreSQL, and returns what it writes. Raises CalledProcessError if it fails."""
+        """Runs a program of PostgreSQL, and returns what it writes. Raises CalledProcessError if it fails, TimeoutExpired after SECONDS."""
         return subprocess.run([*self.words, program(name), *words], cwd=self.folder, check=True, stdout=subprocess.PIPE, stderr=subprocess.STDOUT,
                               text=True, timeout=SECONDS).stdout
 

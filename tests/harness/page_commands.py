@@ -1,8 +1,8 @@
 """The commands that the pages and the help name, and what the tests do with each.
 
-A command is a line after `$ ` in a block `console` and in a manual's block without filling, a line of an indented block, a text in backticks that
-has words after the command, and the example of a help. `kind` says which. A line is a command if its first word is one of `FIRST`, or a program of
-this repository.
+A command is a line after `$ ` in a block `console` and in a manual's block without filling, each line of an indented block of which one is a command,
+a text in backticks that is a command with words after it, and an example of a help. `kind` says which. In blocks and backticks a text is a command if
+its first word is one of `FIRST`, or a program of this repository.
 
 `RUN` says which test runs the commands of a kind on a page. `NOT_RUN` names commands that no test runs as they are written, and why."""
 from __future__ import annotations
@@ -21,11 +21,11 @@ from typing import NamedTuple
 from harness.support import TOP, text_of
 
 PAGES = ("*.md", "docs/*.md", "docs/*.[1-8]", "examples/**/*.md", "apps/**/*.md", "apps/**/*.[1-8]", "bindings/**/*.md", "crates/*/CALLING.md")
-FENCED = re.compile(r"^```(\w*)(?: (\S+))?\n(.*?)^```$", re.MULTILINE | re.DOTALL)
-UNFILLED = re.compile(r"^\.nf\n(.*?)^\.fi$", re.MULTILINE | re.DOTALL)
+FENCED = re.compile(r"^```(\w*)(?: (\S+))?\n(.*?)^```$", re.MULTILINE | re.DOTALL)  # (a block: its kind, a word behind it, its text)
+UNFILLED = re.compile(r"^\.nf\n(.*?)^\.fi$", re.MULTILINE | re.DOTALL)  # (a block of the manual)
 TICKS = re.compile(r"`([^`\n]+)`")
 SNIPPET_BELOW = re.compile(r"\*\*(C|Rust|Python|Go)\.\*\*")
-EXAMPLE = re.compile(r"^(?:example: | {2})(spki-cert .*)$", re.MULTILINE)
+EXAMPLE = re.compile(r"^(?:example: | {2})(spki-cert .*)$", re.MULTILINE)  # (in a help)
 SPKI_CERT = os.path.join(TOP, "apps", "spki-cert", "spki-cert")
 FIRST = set("apt-get cc cd chmod chown cmake cp curl dot echo eval export for go install kill ldconfig ln locate mkdir mv openssl pip pkg-config "
             "printf python3 rm rt runuser sed spki spki-authd spki-cert ssh-keygen sudo systemctl timeout useradd usermod".split())

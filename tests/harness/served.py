@@ -75,7 +75,7 @@ class Site:
             file.write(text)
 
     def sh(self, *words: str) -> str:
-        """Runs a command in the folder, which must succeed. Returns what it writes on both streams."""
+        """Runs a command in the folder. Returns what it writes on both streams. Raises AssertionError, which says that too, if it fails."""
         done = subprocess.run(words, cwd=self.room if os.path.isdir(self.room) else None, env=self.settings, stdout=subprocess.PIPE,
                               stderr=subprocess.STDOUT, text=True, timeout=SECONDS)
         if done.returncode:
@@ -83,7 +83,7 @@ class Site:
         return done.stdout
 
     def cert(self, *words: str) -> str:
-        """Runs `spki-cert` in the folder, which must succeed. Returns what it writes."""
+        """Runs `spki-cert` in the folder, as `sh` does. Returns what it writes."""
         return self.sh(sys.executable, os.path.join(TOP, "apps", "spki-cert", "spki-cert"), *words)
 
     # ---- the programs

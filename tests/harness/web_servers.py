@@ -130,7 +130,7 @@ class Caddy(Behind):
         return f"https://localhost:{self.port}"
 
     def command(self) -> list[str]:
-        self.settings.update(HOME=self.at("tmp"), XDG_DATA_HOME=self.at("tmp"), XDG_CONFIG_HOME=self.at("tmp"))
+        self.settings.update(HOME=self.at("tmp"), XDG_DATA_HOME=self.at("tmp"), XDG_CONFIG_HOME=self.at("tmp"))  # (it writes files there)
         return ["caddy", "run", "--config", self.at("etc/Caddyfile"), "--adapter", "caddyfile"]
 
 

@@ -32,7 +32,7 @@ REFUSALS = Rows("line, refused", [
     "TooLarge: reduce, by a guard's product", "TooLarge: explain, by a guard's work", "TooLarge: reduce, by a guard's work", "case", "rows TooLong",
     "rows TooDeep", "rows Short", "rows Bad", "rows Trailing", "rows Shape", "rows"])
 STATUSES = Rows("status", [f"{command}: {status}" for command in (*COMMANDS, "check_accepted") for status in (YES, NO, REFUSED)
-                           if status != NO or COMMANDS.index(command if command in COMMANDS else "check") > 3])
+                           if status != NO or COMMANDS.index(command if command in COMMANDS else "check") > 3])  # (only on a case)
 FIVES = Rows("five", ["a principal", "a hash", "a name", "(propagate)", "no valid", "valid with not-before", "valid with not-after",
                       "valid with both"])
 BRACKETS = Rows("every bracketing was tried", [f"{count} certificates" for count in range(SHORT_CHAIN + 1)] + ["one grants"])

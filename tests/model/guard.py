@@ -104,7 +104,7 @@ def open_guard(text: bytes, strict: bool, limits: Limits) -> Guard:
     except StructureFault as fault:
         REFUSED.count_use("list, item 0")
         raise Refused(f"acl 0 {fault}") from None
-    if limits != USUAL:
+    if limits != USUAL:  # (higher ones count too)
         GIVEN.count_use("limits that are lower")
     return Guard(entries, strict, limits)
 

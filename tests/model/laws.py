@@ -15,8 +15,8 @@ TRIED = Rows("law that was tried", [
 
 
 def check_laws(command: str, text: bytes, answer: Answer, requests: Callable[[tuple[Tag, ...]], Iterable[Value]]) -> None:
-    """Raises ModelDisagrees if an answer of the model breaks a law. Refusals and other commands are not tried, nor answers over half the limit of a
-    text: the canonical form of such an intersection may be over the limit. `requests` gives some requests that are near some tags."""
+    """Raises ModelDisagrees if an answer of the model breaks a law. Refusals, other commands and intersections that are too deep to be read are not
+    tried, nor answers over half the limit of a text: their canonical form may be over it. `requests` gives some requests near some tags."""
     status, octets = answer
     if status or command not in ("canonical", "advanced", "transport", "intersect") or len(octets) > LONGEST // 2:
         return
