@@ -153,7 +153,7 @@ class Builder:
         """Adds certificates from a subject on. Returns the subject that the chain ends with."""
         for left in range(length, 0, -1):
             subject = self.certificate(subject, left == 1)
-        # what names are left is mostly defined, while there are not so many items that a case takes long
+        # what names are left is mostly defined. Each definition may leave more of them, so the items have a bound
         while subject.names and not self.wrong(0.1) and len(self.items) < 24:
             subject = self.certificate(subject, True)
         return subject

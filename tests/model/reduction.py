@@ -38,7 +38,7 @@ def of_entry(entry: Entry) -> Authorization:
 
 
 def fold(entry: Entry, steps: list[tuple[int, Tuple]], strict: bool) -> Authorization:
-    """The authorization that an entry becomes with all steps, each an item's number and tuple. Raises Stopped where one does not join; TooLarge."""
+    """The authorization that an entry becomes with all steps (an item's number and tuple). Raises Stopped where one does not join, and TooLarge."""
     authorization = of_entry(entry)
     with counting_work(entry.tag, [step.tag if isinstance(step, Authorization) else None for _, step in steps]):
         for item, step in steps:

@@ -34,7 +34,7 @@ FORMS = Rows("structure that is read", [
 
 
 class StructureFault(Exception):
-    """Why a value has no reading: a kind, which has the tag's fault behind it if it is Tag. To make one counts the row of FAULTS."""
+    """Why a value has no reading: a kind, which has the tag's fault behind it if it is Tag. Each that is made counts in FAULTS."""
 
     def __init__(self, kind: str) -> None:
         super().__init__(kind)
