@@ -183,7 +183,7 @@ class Comparison:
 
     def fault_of_text(self, asked: Question, number: int) -> str | None:
         """What is wrong with the answers to a text, None if nothing is: that of the model breaks a law of model/laws.py, or that of the library or of
-        the program does. By the case's number the program (always without a library, never for `check_accepted`) and a small buffer are tried."""
+        the program differs. By its number the program (always without a library, never for `check_accepted`) and a small buffer are tried too."""
         try:
             wanted = model_answer(asked)
             rng = random.Random(number)
@@ -284,7 +284,7 @@ def comparison_of(program: str, archive: str | None, folder: str, seed: str) -> 
 
 
 def arguments() -> argparse.Namespace:
-    """The words of the command line, parsed."""
+    """The words of the command line, parsed. Ends the process with status 2 if they are wrong."""
     parser = argparse.ArgumentParser(description="Compares the library and the program with the model on generated texts.")
     parser.add_argument("--cases", type=positive, default=20_000)
     parser.add_argument("--seed", default=secrets.token_hex(4))

@@ -277,7 +277,7 @@ def answer(wish: str, list_text: bytes, question: Parts, rows: list[Row], policy
            ) -> tuple[Answer, list[Signed]]:
     """What the library answers to a question, and the signatures that it lists. `wish` is the call: decide, explain or reduce. The verifier accepts
     the signatures of the rows. The oddity is a row of MISUSES or of ALLOWED: what is misuse in the calls, or which optional pointer is null. It
-    is empty if nothing is odd."""
+    is empty if nothing is odd. Raises ModelDisagrees if a decision is not that of `check`."""
     if row := misuse_of_opening(policy, limits, oddity):
         return misused(row)
     listed: list[Signed] = []

@@ -1,7 +1,7 @@
 /* Proves requests by examples/c/http_request.c. Reads strings LENGTH:OCTETS from standard input, for each request: the method, the authority, the
  * target, the time (seconds since 1970), how many seconds before the same came or an empty string, `1` if it has a body that no field says or an
  * empty string, the number of fields, and the name and the value of each. Writes a line for each: the refusal, or `valid` and the body's digest in
- * hexadecimal digits. Ends with 1 for over MOST_FIELDS fields or too few, if that earlier one is refused, another key is proved, or without memory. */
+ * hexadecimal digits. Ends with 1 for over MOST_FIELDS fields or too few, if the earlier one is refused, another key is proved, or without memory. */
 #include "http_request.h"
 #include "read_string.h"
 
