@@ -103,7 +103,7 @@ def has_clause(contracts: list[str], name: str) -> bool:
 
 
 def faults(page: str, sources: Sources) -> Iterator[str]:
-    """A line for each name that a row of a page cites, and that is not in the sources where the row says. `page` is a path."""
+    """A line for each name that a row of a page, a path, cites, and that is not in the sources where the row says. OTHER_SECTIONS are left out."""
     for head, rows in SECTION.findall(text_of(page)):
         crates = re.findall(r"`(\w+)`", head) or list(sources.of_crate)
         default = [contract for crate in crates for contract in sources.of_crate.get(crate, [])]

@@ -148,7 +148,7 @@ class GuardDoor:
 
     def answer_and_signatures(self, question: GuardQuestion, handle: c_void_p, asked: c_void_p) -> tuple[Answer, list[Signed] | None]:
         """The answer, and the signatures that are listed, or None if they are not listed. Opens the guard and the question in the handles, which the
-        caller closes, but closes the guard itself before the question is answered. Where a call is misuse, the answer is the status of that call."""
+        caller closes, but closes the guard itself before the question is answered. Where a call refuses, or is misuse, the answer is that call's."""
         status, line = self.open_guard(question, handle, ROOM)
         if status != DONE:
             return (status, line), None

@@ -41,7 +41,7 @@ def positive(text: str) -> int:
 
 def given_program(place=1):
     """The path of the program that word `place` of this script's command line names, from 1, or of the built one if there are fewer words. Ends the
-    script if the program is not there."""
+    script if the program is not there or cannot be run."""
     program = os.path.abspath(sys.argv[place] if len(sys.argv) > place else PROGRAM)
     if not os.access(program, os.X_OK):
         sys.exit(f"{program} is not there: build it by rt run in crates/spki")

@@ -243,7 +243,7 @@ class OfFiles(Handler):
     """Reads, writes or deletes the file that is asked for: so a request that should not have come can be seen by the folder."""
 
     def answer(self, status: int, octets: bytes = b"") -> None:
-        """Sends an answer, with fields by which a cache may keep it."""
+        """Sends an answer, to HEAD without its octets, with fields by which a cache may keep it."""
         self.send_head(status, f"Content-Length: {len(octets)}", "Cache-Control: max-age=60", "Last-Modified: Thu, 01 Jan 2026 00:00:00 GMT")
         if self.command != "HEAD" and octets:
             self.wfile.write(octets)

@@ -172,7 +172,7 @@ class Members:
 
 
 def read_key(value: Value) -> Key:
-    """Reads `(public-key (alg part*))`."""
+    """Reads `(public-key (alg part*))`. A list `(uri ..)` behind the inner list is the fault KeyUris."""
     members = Members(value, b"public-key")
     if head_of(members.next()) is None:
         raise shape("an algorithm that is no plain string")
@@ -389,7 +389,7 @@ def window_of(contents: dict[bytes, Any]) -> Window:
 
 
 def read_entry(value: Value) -> Entry:
-    """Reads `(entry subject field*)`."""
+    """Reads `(entry subject field*)`. The subject must not be a relative name, and one field must be a tag."""
     members = Members(value, b"entry")
     subject = read_subject(members.next())
     if subject.principal is None:
@@ -418,7 +418,7 @@ def numbered(number: int, read: Callable[[Value], Any], value: Value) -> Any:
 
 
 def read_certificate(value: Value) -> Certificate:
-    """Reads `(cert field*)`. A relative name as its subject becomes one of the issuer."""
+    """Reads `(cert field*)`, which has either an issuer with a name or a tag. A relative name as its subject becomes one of the issuer."""
     contents = read_fields(Members(value, b"cert").left, CERTIFICATE)
     require_fields(contents, b"issuer", b"subject")
     issuer, subject = contents[b"issuer"], contents[b"subject"]
