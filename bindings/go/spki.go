@@ -75,8 +75,8 @@ func (k ProvenKey) Text() string {
 	return k.text
 }
 
-// String returns the octets of the key in quotes, with all that is not visible ASCII escaped: it is one line of a log, and different keys have different
-// strings.
+// String returns the octets of the key in quotes, as Go writes a string: all but visible ASCII and spaces is escaped, and so are `"` and `\`. It is
+// one line of a log, and different keys have different strings.
 func (k ProvenKey) String() string {
 	return strconv.QuoteToASCII(k.text)
 }

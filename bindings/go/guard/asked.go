@@ -73,8 +73,8 @@ func (a *Asked) Count() int {
 }
 
 // Each calls a function with the place, from 0, of each signature that the decision depends on, and with the signature, in order, until it returns
-// false. A signature is copied when it is its turn, and one whose key is that of the signature before has the same octets for it: do not change
-// them. The error is ErrClosed if the question is closed, also meanwhile and also if it has no signature, or ErrMemory.
+// false: then the error is nil. A signature is copied when it is its turn, and one whose key is that of the signature before has the same octets for
+// it: do not change them. The error is ErrClosed if the question is closed, also meanwhile and also if it has no signature, or ErrMemory.
 func (a *Asked) Each(use func(place int, signed Signature) bool) error {
 	var previous Signature
 	for place := 0; place < a.count; place++ {
@@ -100,7 +100,8 @@ func (a *Asked) Signatures() []Signature {
 	return listed
 }
 
-// signature returns a copy of the signature at a place, from 0. If its key equals `key`, the result has `key` itself, so that no key is copied twice.
+// signature returns a copy of the signature at a place, from 0, which must be below the count. If its key equals `key`, the result has `key` itself,
+// so that no key is copied twice. The error is ErrClosed or ErrMemory.
 func (a *Asked) signature(place int, key []byte) (Signature, error) {
 	handle, err := a.lock()
 	if err != nil {
@@ -139,8 +140,9 @@ func (a *Asked) Verify(verify Verify) error {
 	})
 }
 
-// VerifyContext is Verify by a function that may fail. The context is tested before the first signature and after each. The error is that of the
-// function or of the context, and then nothing is marked, or that of Each.
+// VerifyContext is Verify by a function that may fail. The context is tested before the first signature and after each. The marks are set after the
+// last call. The error is that of the function, of the context or of Each, and then nothing is marked, or ErrClosed if the question is closed while
+// the marks are set.
 func (a *Asked) VerifyContext(ctx context.Context, verify VerifyContext) error {
 	valid, failure := 0, ctx.Err()
 	if failure != nil {
@@ -177,7 +179,7 @@ func (a *Asked) Possible() bool {
 	return possible(handle)
 }
 
-// Decide decides whether the request is granted, if exactly the marked signatures are valid. The error is ErrClosed after Close.
+// Decide decides whether the request is granted, if exactly the marked signatures are valid. The error is ErrClosed after Close, or ErrMemory.
 func (a *Asked) Decide() (Decision, error) {
 	handle, err := a.lock()
 	if err != nil {
@@ -207,7 +209,7 @@ func (a *Asked) Close() {
 	}
 }
 
-// lines returns the lines of Explain or of Reduce, by the command, without the last line feed.
+// lines returns the lines of Explain or of Reduce, by the command, without the last line feed. The errors are those of Explain.
 func (a *Asked) lines(command command) (string, error) {
 	handle, err := a.lock()
 	if err != nil {

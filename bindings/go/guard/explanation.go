@@ -29,7 +29,8 @@ func (e Explanation) String() string {
 	return e.text
 }
 
-// Reasons returns the lines one by one. There is none if the access list is empty: then the text is `no entries`.
+// Reasons returns the lines one by one. There is none if the access list is empty and no certificate stops all entries. Then the text is
+// `no entries`.
 func (e Explanation) Reasons() []Reason {
 	var reasons []Reason
 	for _, parts := range reasonLine.FindAllStringSubmatch(e.text, -1) {

@@ -49,14 +49,15 @@ type Guard struct {
 type Event struct {
 	Question Question
 	Decision Decision
-	Err      error
+	// Err is nil for a no, also for one that Require returns as ErrDenied.
+	Err error
 	// Took is the time from the call to the decision, with the verifier's.
 	Took time.Duration
 }
 
-// Logged returns the same guard, which calls a function after each Decide, DecideContext, DecideVerified and Require, before they return. The
-// function may be called by several goroutines at the same time. If it panics, so does the decision, and nothing is granted. It is not called for a
-// decision whose verifier panics.
+// Logged returns the same guard, which calls a function after each Decide, DecideContext, DecideVerified and Require, before they return. It calls
+// this function in place of that of an earlier Logged. The function may be called by several goroutines at the same time. If it panics, so does the
+// decision, and nothing is granted. It is not called for a decision whose verifier panics.
 func (g *Guard) Logged(log func(Event)) *Guard {
 	return &Guard{g.shared, log, g.answerOctets}
 }
@@ -99,8 +100,9 @@ type Verify func(signature Signature) bool
 // signature is valid, and nothing is granted.
 type VerifyContext func(ctx context.Context, signature Signature) (bool, error)
 
-// Open reads an access list, `(acl entry ..)`, in any of the three forms of RFC 9804. The error is a *Refusal if the text is no access list,
-// ErrMisused if there is no such policy, or a limit is over the highest or below zero, and another one if the library is of another version.
+// Open reads an access list, `(acl entry ..)`, in any of the three forms of RFC 9804. The error is a *Refusal if the text is no access list or an
+// allocation failed, ErrMisused if there is no such policy, or a limit is over the highest or below zero, and another one if the library is of
+// another version.
 func Open(list []byte, policy Policy, limits Limits) (*Guard, error) {
 	if err := limits.check(); err != nil {
 		return nil, err
@@ -192,7 +194,7 @@ func (g *Guard) decide(question *Question, verify Verify) (Decision, error) {
 }
 
 // DecideContext is Decide by a function that may fail. The context is tested before the first signature and after each, and also if none is verified.
-// The error is that of Ask, or it is or wraps that of the context or of the function. With an error the decision is a no.
+// The error is or wraps that of Ask, of the context or of the function. With an error the decision is a no.
 func (g *Guard) DecideContext(ctx context.Context, question Question, verify VerifyContext) (Decision, error) {
 	return g.decideAndLog(question, func() (Decision, error) { return g.decideContext(ctx, &question, verify) })
 }
@@ -215,8 +217,8 @@ func (g *Guard) decideContext(ctx context.Context, question *Question, verify Ve
 	return asked.Decide()
 }
 
-// Require decides as DecideContext does, and returns the number of the entry that grants the request, from 1. A no is an error too: ErrDenied. So a
-// caller tests nothing but the error.
+// Require decides as DecideContext does, and returns the number of the entry that grants the request, from 1, or 0 with an error. A no is an error
+// too: ErrDenied. So a caller tests nothing but the error.
 func (g *Guard) Require(ctx context.Context, question Question, verify VerifyContext) (int, error) {
 	decision, err := g.DecideContext(ctx, question, verify)
 	if err == nil && !decision.Granted() {

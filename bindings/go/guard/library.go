@@ -58,7 +58,7 @@ func octetsOf(text C.struct_spki_text) []byte {
 	return unsafe.Slice((*byte)(text.octets), int(text.length))
 }
 
-// policyOf returns a policy as an argument of the library. For one that does not exist it is a number that the library refuses too.
+// policyOf returns a policy as an argument of the library. For one that does not exist it is a number to which the library answers SPKI_MISUSED.
 func policyOf(policy Policy) C.enum_spki_policy {
 	switch policy {
 	case Strict:
@@ -78,6 +78,7 @@ func lineIn(result *C.struct_library_result) string {
 }
 
 // errorOf returns the error of a call that failed, by its status. The line is used for SPKI_REFUSED alone: it is the one that the call has written.
+// A status other than the three that are named here means a library of another version.
 func errorOf(status C.enum_spki_status, line string) error {
 	switch status {
 	case C.SPKI_REFUSED:
@@ -90,7 +91,8 @@ func errorOf(status C.enum_spki_status, line string) error {
 	return fmt.Errorf("libspki_c is of another version than this module: status %d", uint(status))
 }
 
-// open reads an access list. The caller closes the guard. A library of another version is an error too.
+// open reads an access list. The caller closes the guard. A library of another version is an error too. The caller has tested by Limits.check that no
+// limit is below zero.
 func open(list []byte, policy Policy, limits Limits) (guardHandle, error) {
 	if linked := C.GoString(C.spki_version()); !isCompatible(linked) {
 		return nil, fmt.Errorf("libspki_c has the version %s, and this module needs %s", linked, Version)
@@ -116,8 +118,8 @@ func entries(guard guardHandle) int {
 	return int(C.spki_guard_entries(guard))
 }
 
-// The arguments of a call that takes a question: `parts` says how request and time are given, `joined` has all texts but the sequence in one piece,
-// and `lengths` the length of each. Each pointer is an argument by itself, since memory of Go's must have no pointer to other memory of Go's.
+// The arguments of a call that takes a question: `parts` is what a question has besides its texts, `joined` has all texts but the sequence in one
+// piece, and `lengths` the length of each. Each pointer is an argument by itself, since memory of Go's must have no pointer to other memory of Go's.
 type arguments struct {
 	parts            C.struct_library_question
 	sequence, joined *C.char
@@ -160,7 +162,7 @@ func signature(asked askedHandle, place int, key []byte) (Signature, error) {
 	if own := octetsOf(signed.key); !bytes.Equal(own, key) {
 		key = append([]byte(nil), own...)
 	}
-	// (one allocation for both)
+	// (one allocation for both. The capacity of Message is its length, so that an append to it does not change Value)
 	message, value := octetsOf(signed.message), octetsOf(signed.value)
 	both, length := make([]byte, len(message)+len(value)), len(message)
 	copy(both, message)
@@ -207,7 +209,7 @@ func decisionIn(result *C.struct_library_result) (Decision, error) {
 }
 
 // lines returns the lines of a command without the last line feed. They have at most `most` octets, the guard's limit of an answer, or roomForLine if
-// that is more: a refusal must fit.
+// that is more: a refusal must fit. The error is ErrTooLarge or ErrMemory.
 func lines(asked askedHandle, command command, most int) (string, error) {
 	if most < roomForLine {
 		most = roomForLine

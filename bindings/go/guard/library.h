@@ -50,7 +50,8 @@ static inline struct spki_text library_next_text(const char **joined, const size
     return text;
 }
 
-/* Opens a question, and counts its signatures. The caller closes `asked`. `line` is that of a refusal, if there is one. */
+/* Opens a question, and counts its signatures. The caller closes `asked`. `line` is that of a refusal, if there is one. SPKI_NO_MEMORY if the list of
+ * the strings cannot be allocated. */
 static inline struct library_result library_ask(const spki_guard *guard, struct library_question parts, const char *sequence, const char *joined,
                                                 const size_t *lengths)
 {
@@ -84,7 +85,8 @@ static inline struct library_result library_decide(const spki_asked *asked)
 }
 
 /* Opens a question, marks its first `valid` signatures, decides and closes it: one call of C for what would be four. SPKI_MISUSED unless it has
- * `listed` signatures, the number of them when the `valid` ones were verified. */
+ * `listed` signatures, the number of them when the `valid` ones were verified, and `valid` is at most `listed`. If the question is not opened, the
+ * result is that of library_ask. */
 static inline struct library_result library_decide_verified(const spki_guard *guard, struct library_question parts, const char *sequence,
                                                             const char *joined, const size_t *lengths, size_t listed, size_t valid)
 {

@@ -14,7 +14,7 @@ var noCertificates = []byte("(8:sequence)")
 
 // Verified returns the sequence of a question with the marks that were set in order: the first signature, then the second, and so on. A mark that was
 // set before that of an earlier place is left out, with all behind it. So a service need not verify a sequence again that it is shown again. Verified
-// may be called after Close too.
+// may be called after Close too. That of the zero Asked is the zero Verified.
 func (a *Asked) Verified() Verified {
 	if a.shared == nil {
 		return Verified{}
@@ -37,8 +37,8 @@ func (v Verified) text() []byte {
 	return v.sequence
 }
 
-// First returns the same sequence with the first `most` of its marks, or with all if it has fewer. So a service can leave out the mark of a signature
-// that its verifier would now reject, and all behind it.
+// First returns the same sequence with the first `most` of its marks, or with all if it has fewer. A number below 0 is 0. So a service can leave out
+// the mark of a signature that its verifier would now reject, and all behind it.
 func (v Verified) First(most int) Verified {
 	if most < 0 {
 		most = 0

@@ -7,7 +7,7 @@ func isCompatible(version string) bool {
 	return firstTwoNumbers(version) == firstTwoNumbers(Version)
 }
 
-// firstTwoNumbers returns `0.2` of `0.2.0`.
+// firstTwoNumbers returns `0.2` of `0.2.0`. A version has three numbers.
 func firstTwoNumbers(version string) string {
 	numbers := strings.SplitN(version, ".", 3)
 	return strings.Join(numbers[:len(numbers)-1], ".")
