@@ -3,8 +3,8 @@
 // It reads strings from standard input, each as LENGTH:OCTETS, and writes each answer as one string, without its last line feed.
 // A list of strings is first the number of its strings, itself a string, and then these. A question is, in this order:
 //
-//   - the strings COMMAND (`decide`, `explain` or `reduce`), POLICY (`strict`, or any other word for AllowSHA1), LIMITS (`usual` or
-//     `highest`), ACL, SEQUENCE and KEY
+//   - the strings COMMAND (`explain`, `reduce`, or any other word for a decision), POLICY (`strict`, or any other word for AllowSHA1), LIMITS
+//     (`highest`, or any other word for the usual ones), ACL, SEQUENCE and KEY
 //   - the request: `text` and a list of one string, its text, or `words` and the list of its strings
 //   - the moment: `text` and a date, or `seconds` and the number of seconds since 1970
 //   - a list of the signatures that the verifier accepts, three strings each: a key, a message and a value
@@ -94,7 +94,7 @@ func (i *input) task() task {
 }
 
 // answer opens a guard of the ACL and asks it the question. The command `explain` or `reduce` asks for an explanation or a reduction, any other one for
-// the decision. It returns the lines of the answer without the last line feed, or the error of a refusal, whose text is its line.
+// the decision. It returns the lines of the answer without the last line feed, or the error of a guard. The text of a refusal is its line.
 func (t task) answer() (string, error) {
 	policy, limits := guard.AllowSHA1, guard.Limits{}
 	if t.policy == "strict" {
@@ -122,8 +122,8 @@ func (t task) answer() (string, error) {
 	return decision.String(), err
 }
 
-// linesOf returns the lines of an explanation, each put together from the parts of its Reason, so that the test compares these too. The line for an
-// empty ACL is `no entries`.
+// linesOf returns the lines of an explanation, each put together from the parts of its Reason, so that the test compares these too. Where there is no
+// Reason, the line is `no entries`.
 func linesOf(explanation guard.Explanation) string {
 	lines := make([]string, 0)
 	for _, reason := range explanation.Reasons() {
@@ -135,7 +135,8 @@ func linesOf(explanation guard.Explanation) string {
 	return strings.Join(lines, "\n")
 }
 
-// main writes the answer to each question, LENGTH:OCTETS, until the input ends.
+// main writes the answer to each question, LENGTH:OCTETS, in order, until the input ends. The answer to a question with an error is the text of the
+// error.
 func main() {
 	input, output := &input{Reader: bufio.NewReader(os.Stdin)}, bufio.NewWriter(os.Stdout)
 	defer output.Flush()

@@ -23,7 +23,7 @@ func must[T any](value T, err error) T {
 	return value
 }
 
-// main answers each line with one: `denied`, that the text is written or not and its octets, the content of the file, or that nothing is there.
+// main answers each line: `denied`, `written N` or `not written N` for a text of N octets, what the file has, or `nothing is there`.
 func main() {
 	if len(os.Args) != 5 {
 		log.Fatal("usage: cache ACL FOLDER KEY SEQUENCE")

@@ -28,7 +28,8 @@ func isGranted(list *guard.Guard, sequence []byte, key spki.ProvenKey, words []s
 	return decision.Granted(), nil
 }
 
-// run prints `granted` or `denied` for the arguments ACL SEQUENCE KEY WORD .. It returns an error if a file cannot be read or a text is refused.
+// run prints `granted` or `denied` for the arguments ACL SEQUENCE KEY WORD .. It returns an error if arguments are missing, a file cannot be read, or
+// a text is refused.
 func run(arguments []string) error {
 	if len(arguments) < 4 {
 		return errors.New("usage: decide ACL SEQUENCE KEY WORD [WORD ..]")
@@ -55,7 +56,7 @@ func run(arguments []string) error {
 	return nil
 }
 
-// main ends with status 1 and a message if there is neither `granted` nor `denied`.
+// main ends with status 0 after `granted` and after `denied`, and otherwise with status 1 and a message.
 func main() {
 	if err := run(os.Args[1:]); err != nil {
 		fmt.Fprintln(os.Stderr, err)

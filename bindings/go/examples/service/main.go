@@ -16,7 +16,7 @@ import (
 	"conguraki/spki/verify"
 )
 
-// main serves at a free port of this machine, which it prints. The answer is 200 with an empty body if the request is granted, and otherwise 403.
+// main serves at a free port, which it prints, or ends with status 1. A GET of a normal path that is granted gets 200 and no body, all else 403.
 func main() {
 	flag.Parse()
 	octets, fileError := os.ReadFile(flag.Arg(0))

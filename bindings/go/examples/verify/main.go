@@ -1,7 +1,7 @@
 // Command verify verifies signatures, so that a test can compare verifiers.
 //
 // It reads strings from standard input, each as LENGTH:OCTETS: a key, a message and the value of a signature, and so on. It writes 1 for each
-// signature that is valid, and 0 for each other.
+// signature that is valid, and 0 for each other, without anything between them, and a line feed at the end.
 package main
 
 import (
@@ -14,7 +14,7 @@ import (
 	"conguraki/spki/verify"
 )
 
-// next reads a string, LENGTH:OCTETS, and returns its octets. The error is one of reading, also at the end of the input.
+// next reads a string, LENGTH:OCTETS, and returns its octets. There is an error at the end of the input, and where no such string is.
 func next(input *bufio.Reader) ([]byte, error) {
 	var length int
 	if _, err := fmt.Fscanf(input, "%d:", &length); err != nil {
@@ -25,7 +25,7 @@ func next(input *bufio.Reader) ([]byte, error) {
 	return octets, err
 }
 
-// main verifies one signature after the other, and ends with a line feed at the end of the input.
+// main verifies one signature after the other. It ends with a line feed where next has an error, as at the end of the input.
 func main() {
 	input, output := bufio.NewReader(os.Stdin), bufio.NewWriter(os.Stdout)
 	defer output.Flush()
