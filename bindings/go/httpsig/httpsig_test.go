@@ -76,7 +76,7 @@ func (r *row) set(word, text string) {
 	}
 }
 
-// unescaped returns a text of the table without its escapes, such as `\n` and `\xff`.
+// unescaped returns a text of the table without its escapes, such as `\n` and `\xff`. It panics at an escape that Go does not know.
 func unescaped(text string) string {
 	plain, err := strconv.Unquote(`"` + strings.ReplaceAll(text, `"`, `\"`) + `"`)
 	if err != nil {
@@ -93,7 +93,7 @@ func verifierAt(now *int64) *Verifier {
 	return verifier
 }
 
-// answerOf returns what a verifier answers as a row gives it: `valid` or the name of a refusal.
+// answerOf returns what a verifier answers as a row gives it: `valid` or the name of a refusal. Any other answer is a text that no row gives.
 func answerOf(proof *Proof, err error) string {
 	var refusal Refusal
 	if err == nil && proof.Key.Text() != "" {
@@ -108,7 +108,7 @@ func answerOf(proof *Proof, err error) string {
 // TestRows compares what the verifier answers to each row with the answer in the table.
 func TestRows(t *testing.T) {
 	rows := rowsOf(t)
-	if len(rows) < 200 {
+	if len(rows) < 200 { // (the table was not read whole)
 		t.Fatal(len(rows))
 	}
 	for _, row := range rows {
@@ -250,7 +250,7 @@ func TestClientAndServer(t *testing.T) {
 }
 
 // TestCovered names fields to be covered. Each is covered once. One that the request lacks is an error, also if it must be covered where it is
-// present.
+// present. So is a name with a capital letter.
 func TestCovered(t *testing.T) {
 	signer, verifier := signers(t)[Ed25519], NewVerifier("example.com")
 	for covered, want := range map[string]error{"x-job x-job @path": nil, "x-jobs": AbsentField, "content-digest": AbsentField, "X-Job": UnknownComponent} {
@@ -310,7 +310,7 @@ func TestMethodsAreTokens(t *testing.T) {
 	}
 }
 
-// TestTakenLate takes a nonce after the end of its signature: it may have been used before, and be forgotten.
+// TestTakenLate takes a nonce that was used, before and after the end of its signature. After it the nonce may be forgotten, so it is Expired.
 func TestTakenLate(t *testing.T) {
 	now := time.Now().Unix()
 	verifier, message := NewVerifier("example.com"), Message{Method: "GET", Authority: "example.com", Target: "/", Header: http.Header{}}

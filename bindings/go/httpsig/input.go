@@ -13,7 +13,8 @@ const (
 	tag   = "spki"
 )
 
-// The most octets of `Signature-Input` and of `Signature`, the most components, and the most digits of a number, as RFC 8941 has them.
+// The most octets of `Signature-Input` and of `Signature`, which a verifier reads before it knows the client, the most components, as
+// docs/SIGNATURES.md has it, and the most digits of a number, as RFC 8941 has it.
 const (
 	mostInput      = 8192
 	mostComponents = 32
@@ -69,7 +70,7 @@ func (p *parser) skipLabel() error {
 	return nil
 }
 
-// expectEnd returns nil if nothing follows the first member, TwoSignatures for a second member, and otherwise Malformed.
+// expectEnd returns nil if nothing follows the first member, TwoSignatures if a comma does, perhaps behind spaces and tabs, and otherwise Malformed.
 func (p *parser) expectEnd() error {
 	switch {
 	case p.rest == "":
@@ -97,7 +98,8 @@ func isNameOctet(octet byte, place int) bool {
 		place > 0 && ('0' <= octet && octet <= '9' || octet == '_' || octet == '-' || octet == '.')
 }
 
-// string reads a string in quotes. Everything else is Malformed, also an escape: no string of a request needs one.
+// string reads a string of visible ASCII and spaces in quotes, and returns it without these. Everything else is Malformed, also an escape: no string
+// of a request needs one.
 func (p *parser) string() (string, error) {
 	if !p.trySkip(`"`) {
 		return "", Malformed
@@ -130,7 +132,8 @@ func (p *parser) integer() (int64, error) {
 	return strconv.ParseInt(text, 10, 64)
 }
 
-// components reads the list of components, `("@method" ..)`, and returns their names in order. The error is a Refusal.
+// components reads the list of components, `("@method" ..)`, and returns their names in order. The error is UnknownComponent, ComponentTwice or
+// Malformed, which more than mostComponents are too.
 func (p *parser) components() ([]string, error) {
 	if !p.trySkip("(") {
 		return nil, Malformed
@@ -201,7 +204,7 @@ func inputOf(text string) (*input, error) {
 	switch {
 	case !input.hasComponents():
 		return nil, MissingComponent
-	case count != len(input.parameterFields()):
+	case count != len(input.parameterFields()): // (each that was read is known and there once)
 		return nil, MissingParameter
 	}
 	return input, nil
@@ -221,7 +224,8 @@ func (i *input) parameterFields() map[string]any {
 	}
 }
 
-// parameters reads the parameters, `;created=1700000000 ..`, up to the end of the text, and returns their number. The error is a Refusal.
+// parameters reads the parameters, `;created=1700000000 ..`, up to the end of the text, into the fields of i, and returns their number. The error is
+// a Refusal.
 func (i *input) parameters(p *parser) (int, error) {
 	// (the pointer of a parameter that was read becomes nil, so a second one is ParameterTwice)
 	fields, count := i.parameterFields(), 0
@@ -248,7 +252,8 @@ func (i *input) parameters(p *parser) (int, error) {
 	return count, p.expectEnd()
 }
 
-// readInto reads a number or a string, whichever the field is that a pointer of parameterFields points to, and sets the field.
+// readInto reads a number or a string, whichever the field is that a pointer of parameterFields points to, and sets the field. The error is
+// Malformed.
 func (p *parser) readInto(field any) (err error) {
 	switch field := field.(type) {
 	case *int64:

@@ -8,7 +8,7 @@ import (
 	"strconv"
 )
 
-// An algorithm, as RFC 9421 calls it.
+// The algorithms, as RFC 9421 calls them.
 const (
 	Ed25519 = "ed25519"
 	P256    = "ecdsa-p256-sha256"
@@ -16,7 +16,7 @@ const (
 	RSA     = "rsa-v1_5-sha256"
 )
 
-// The most characters of a key in transport form.
+// The most characters of a key in transport form, as docs/SIGNATURES.md has it.
 const mostKey = 4096
 
 // By algorithm: the canonical texts of keys and of the values of signatures, with `%` for each string that differs, and how many octets a signature

@@ -21,12 +21,13 @@ type Message struct {
 	Header http.Header
 	// Whether the request has a body. It may be false if Content-Length or Transfer-Encoding is in the header, which say so too.
 	HasBody bool
-	// The body, or nil if it is not known: then it is not compared.
+	// The body, or nil if there is none or it is not known: then it is not compared. Where HasBody or a field says that there is one, nil is a body
+	// that is not known.
 	Body []byte
 }
 
 // MessageOf returns the message of a request to a server of net/http, whose body stays unread. Its header is a copy, with the field Host, which
-// net/http takes out.
+// net/http takes out. A body of unknown length counts as a body.
 func MessageOf(request *http.Request) Message {
 	header := http.Header{}
 	if request.Header != nil {
@@ -38,12 +39,13 @@ func MessageOf(request *http.Request) Message {
 	}
 }
 
-// mayHaveBody says whether the message may have a body, so that its digest must be covered. Each method but GET and HEAD may have one.
+// mayHaveBody says whether the message may have a body, so that its digest must be covered. Each method but GET and HEAD may have one, and these if
+// Body has octets or a body is announced.
 func (m *Message) mayHaveBody() bool {
 	return m.Method != http.MethodGet && m.Method != http.MethodHead || len(m.Body) > 0 || m.announcesBody()
 }
 
-// announcesBody says whether HasBody or a field says that the message has a body.
+// announcesBody says whether HasBody or a field says that the message has a body: Content-Length, unless it is `0`, or Transfer-Encoding.
 func (m *Message) announcesBody() bool {
 	for _, length := range m.Header.Values("Content-Length") {
 		if strings.Trim(length, " \t") != "0" {

@@ -32,8 +32,8 @@ func NewMemory(most int) *Memory {
 	return &Memory{seed: maphash.MakeSeed(), most: most, old: map[uint64]struct{}{}, young: map[uint64]struct{}{}}
 }
 
-// Take keeps a nonce of a key for `seconds` from `now`, which is in seconds since 1970. The error is NonceSeen if it was used before, and StoreFull
-// if the young set is full: nothing is forgotten early.
+// Take keeps a nonce of a key for at least `seconds` from `now`, which is in seconds since 1970. The error is NonceSeen if it was used before and is
+// still kept, and StoreFull if the young set is full: nothing is forgotten early.
 func (m *Memory) Take(key []byte, nonce string, now, seconds int64) error {
 	var hasher maphash.Hash
 	hasher.SetSeed(m.seed)

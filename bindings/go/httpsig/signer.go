@@ -43,12 +43,12 @@ func NewSigner(private crypto.Signer) (*Signer, error) {
 
 // Sign puts the fields of a signature into the header of a request, which must not be nil: also the key, the certificates, and the digest of the
 // body if it may have one. All other fields must be in the header before. The scheme is `https` or `http`. `covered` names more fields that the
-// signature covers, in small letters. The signature is for this request alone.
+// signature covers, in small letters, or `@target-uri`. The signature is for this request alone.
 //
-// The error is BodyWithoutDigest for a body that is not known, UnknownComponent for a name in `covered` that no field can have, BadTarget for a target
-// or a method in another form, AbsentField if the request lacks a field of `covered`, RepeatedField or BadValue for a covered field in two lines or
-// with other octets than visible ASCII, spaces and tabs, or one of the private key or of randomness. Some of the fields may be set then, but not
-// `Signature`.
+// The error is BodyWithoutDigest for a body that is not known, UnknownComponent for a name in `covered` that no signature may cover, such as
+// `signature` or one with a capital letter, BadTarget for a target or a method in another form, AbsentField if the request lacks a field of
+// `covered`, RepeatedField or BadValue for a covered field in two lines or with other octets than visible ASCII, spaces and tabs, or one of the
+// private key or of randomness. Some of the fields may be set then, but not `Signature`.
 func (s *Signer) Sign(scheme string, message Message, covered ...string) error {
 	if err := message.addDigest(); err != nil {
 		return err
@@ -101,9 +101,10 @@ func componentsOf(header http.Header, covered []string) ([]string, error) {
 	return names, nil
 }
 
-// parameters returns the value of `@signature-params` for components of these names, created now, with a new nonce.
+// parameters returns the value of `@signature-params` for components of these names, created now, for mostWindow seconds, with a new nonce. The error
+// is one of randomness.
 func (s *Signer) parameters(names []string) (string, error) {
-	nonce := make([]byte, 16)
+	nonce := make([]byte, 16) // (22 characters of base64, of the 16 to 64 that a verifier takes)
 	if _, err := s.random(nonce); err != nil {
 		return "", err
 	}
@@ -113,7 +114,7 @@ func (s *Signer) parameters(names []string) (string, error) {
 }
 
 // signText returns the octets of the signature of a text, as RFC 9421 has them. With ECDSA these are r and s in equal halves. (Go's signer writes
-// ASN.1.)
+// ASN.1.) Ed25519 signs the text itself, and the others sign its digest. The error is one of the private key.
 func (s *Signer) signText(text []byte) ([]byte, error) {
 	if s.algorithm == Ed25519 {
 		return s.private.Sign(rand.Reader, text, crypto.Hash(0))

@@ -53,7 +53,8 @@ func isToOneOf(names []string, request *http.Request) bool {
 	return false
 }
 
-// hasLostTLS says whether a request is not by https, but a redirection that led to it came by https.
+// hasLostTLS says whether a request is not by https, but a redirection that led to it came by https. In a request that follows a redirection,
+// http.Client sets Response to that redirection.
 func hasLostTLS(request *http.Request) bool {
 	if request.URL.Scheme == "https" {
 		return false

@@ -28,9 +28,9 @@ const (
 type Verifier struct {
 	// The names of this service, each with its port unless that is the default one of the scheme. A request for any other is refused.
 	Authorities []string
-	// `https`, unless `http` is set.
+	// `https`, as NewVerifier sets it, or `http`.
 	Scheme string
-	// The field with the client's certificates, in small letters: `x-spki-sequence`, unless another is set.
+	// The field with the client's certificates, in small letters: `x-spki-sequence`, as NewVerifier sets it, or another.
 	Sequence string
 	// Keeps the nonces that were used.
 	Nonces Nonces
@@ -92,7 +92,8 @@ func (p *Proof) Body(from io.Reader, most int64) ([]byte, error) {
 	return body, nil
 }
 
-// Request returns the proof of a request to a server of net/http, and uses up its nonce. The body stays unread: Proof.Body reads it.
+// Request returns the proof of a request to a server of net/http, and uses up its nonce. The body stays unread: Proof.Body reads it. The error is
+// that of Message.
 func (v *Verifier) Request(request *http.Request) (*Proof, error) {
 	return v.Message(MessageOf(request))
 }
