@@ -102,7 +102,7 @@ func publicOf(text *reader) crypto.PublicKey {
 			return ed25519.PublicKey(octets)
 		}
 	case text.trySkip(beforeModulus):
-		if modulus, ok := text.string(MostBits/8 + 1); ok && text.trySkip(beforeE) {
+		if modulus, ok := text.string(MostBits/8 + 1); ok && text.trySkip(beforeE) { // (+ 1: an octet 00 may be in front)
 			if exponent, ok := text.string(MostExponentBits/8 + 1); ok && text.restIs(afterKey) {
 				return rsaKey(modulus, exponent)
 			}

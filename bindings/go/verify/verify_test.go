@@ -57,7 +57,7 @@ func TestCertificatesOfSpkiCert(t *testing.T) {
 	}
 }
 
-// TestEachChangedOctet flips one bit of each octet of a key, message or value. None is valid then.
+// TestEachChangedOctet flips one bit of one octet at a time, of each octet of a key, message or value. No signature is valid then.
 func TestEachChangedOctet(t *testing.T) {
 	for _, row := range bySpkiCert(t) {
 		for _, octets := range [][]byte{row.Key, row.Message, row.Value} {
@@ -205,7 +205,8 @@ func TestKeysOfOtherKinds(t *testing.T) {
 	}
 }
 
-// TestPSS signs with three lengths of salt, of which 32 octets alone are valid, and for SignatureOrPSS alone.
+// TestPSS signs with three lengths of salt: 32 octets, the longest, which is the option 0, and 20. Those with 32 alone are valid, and for
+// SignatureOrPSS alone. This accepts what Signature accepts, too.
 func TestPSS(t *testing.T) {
 	private, err := rsa.GenerateKey(rand.Reader, LeastBits)
 	if err != nil {
@@ -237,7 +238,8 @@ func TestPSS(t *testing.T) {
 	}
 }
 
-// TestFewerZerosInFront looks for a signature by RSA that begins with one octet 00. Its value is valid without that octet, and with more of them.
+// TestFewerZerosInFront looks for a signature by RSA that begins with one octet 00, as one in 256 does. Its value is valid without that octet, and
+// with more of them.
 func TestFewerZerosInFront(t *testing.T) {
 	private, err := rsa.GenerateKey(rand.Reader, LeastBits)
 	if err != nil {
