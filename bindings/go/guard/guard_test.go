@@ -180,7 +180,7 @@ func verifiedOf(t *testing.T, opened *guard.Guard, question guard.Question, plac
 }
 
 // TestVerifiedBefore decides by signatures that are known to be valid. A row has the places that are marked, how many marks count, and the entry that
-// grants the request, or 0.
+// grants the request, or 0. At the end, the function of a log changes the sequence that it gets, which is a copy.
 func TestVerifiedBefore(t *testing.T) {
 	opened, question := openGuard(t, list), questionWith(1)
 	withSequence := question
@@ -218,7 +218,8 @@ func TestVerifiedBefore(t *testing.T) {
 	}
 }
 
-// TestVerifiedIsOfItsSequence shows that what is known of one sequence counts for no other one, for no other policy, and not without its marks.
+// TestVerifiedIsOfItsSequence shows that what is known of one sequence counts for no other one, for no other policy, and not after Close. The zero
+// Verified grants nothing here. Octets that are changed after Ask do not matter.
 func TestVerifiedIsOfItsSequence(t *testing.T) {
 	opened, question := openGuard(t, list), questionWith(1)
 	withSequence, otherSequence := question, append([]byte(nil), question.Sequence...)
@@ -464,7 +465,8 @@ func TestTwoWaysAreMisuse(t *testing.T) {
 	}
 }
 
-// TestUsualLimits exceeds the usual limits of 16 certificates, 64 words and 65,536 octets. The highest limits allow more.
+// TestUsualLimits exceeds the usual limits of 16 certificates, 64 words and 65,536 octets. The highest limits allow more. A limit above the highest,
+// and a policy that does not exist, are ErrMisused.
 func TestUsualLimits(t *testing.T) {
 	opened := openGuard(t, list)
 	many, words, long := questionWith(17), questionWith(1), questionWith(1)
@@ -501,7 +503,7 @@ func TestUsualLimits(t *testing.T) {
 	}
 }
 
-// TestLogged logs a yes, a no and a refusal. A log that panics lets nothing be granted.
+// TestLogged logs a yes, a no, a refusal, and a no of Require, which is logged once. A panic of the log goes on to the caller, so nothing is granted.
 func TestLogged(t *testing.T) {
 	var events []guard.Event
 	opened := openGuard(t, list).Logged(func(event guard.Event) { events = append(events, event) })
@@ -528,7 +530,8 @@ func TestLogged(t *testing.T) {
 	_, _ = opened.Logged(func(guard.Event) { panic("the disk is full") }).Decide(questionWith(1), valid)
 }
 
-// TestMisuseIsLogged decides a question with a sequence of its own by a Verified.
+// TestMisuseIsLogged decides a question with a sequence of its own by a Verified. The log gets the error. The guard is the zero one, since the
+// question does not reach it.
 func TestMisuseIsLogged(t *testing.T) {
 	var opened guard.Guard
 	var events []guard.Event
