@@ -9,7 +9,7 @@ use std::fmt;
 /// The octets that each decision and each refusal fits in.
 pub(crate) const LINE: usize = 128;
 
-/// A line that begins with `refused`: a text is no input, or an allocation failed. Nothing is granted.
+/// A line that begins with `refused`: a text is no input, a limit is exceeded, or an allocation failed. Nothing is granted.
 ///
 /// The lines are those of the program `spki`; its manual lists them. A call that was made wrongly has a line that begins with `misused`.
 ///
@@ -52,8 +52,8 @@ impl Refusal {
         &self.line
     }
 
-    /// What is wrong: the last word of the line with a capital letter, such as `Trailing` in `refused sequence Trailing 11`. `Fault::Misused` for a
-    /// call that was made wrongly.
+    /// What is wrong: the last word of the line that begins with a capital letter, such as `Trailing` in `refused sequence Trailing 11`.
+    /// `Fault::Misused` for a call that was made wrongly.
     #[must_use]
     pub fn fault(&self) -> Fault {
         let is_name = |word: &&str| word.starts_with(|first: char| first.is_ascii_uppercase());
@@ -79,7 +79,7 @@ impl fmt::Display for Refusal {
 
 impl Error for Refusal {}
 
-/// The text of an answer, without the line feed at its end.
+/// The text of an answer, without the line feed at its end. Panics if it is no UTF-8: each line of the library is ASCII.
 pub(crate) fn line_of(answer: &[u8]) -> &str {
     std::str::from_utf8(answer)
         .expect("lines are ASCII")

@@ -105,7 +105,8 @@ impl Asked {
             _ => return Err(Refusal::of(status, b"")),
         }
         let octets_of = |text: sys::Text| {
-            // SAFETY: the texts last and do not change until the handle is closed, which only dropping `self` does.
+            // SAFETY: the texts last and do not change until the handle is closed, which only dropping `self` does. A text in canonical form has
+            // octets, so none of the three pointers is null.
             unsafe { slice::from_raw_parts(text.octets.cast::<u8>(), text.length) }
         };
         Ok(Signature {
@@ -135,7 +136,7 @@ impl Asked {
     }
 
     /// Calls a function with each signature, in order, and marks those that it says are valid. After the first that is not valid the function is
-    /// called no more: no entry can grant the request then.
+    /// called no more: no entry can grant the request then. With an error, too, the signatures before stay marked.
     ///
     /// To explain why a request is denied, verify also where the request [cannot be granted](Asked::is_possible).
     ///
@@ -187,7 +188,7 @@ impl Asked {
         })
     }
 
-    /// Says of each entry why it grants the request or does not, or which certificate stops all of them.
+    /// Says of each entry why it grants the request or does not, or which certificate stops all of them, if exactly the marked signatures are valid.
     ///
     /// # Errors
     ///
@@ -197,7 +198,8 @@ impl Asked {
         Ok(Explanation { text })
     }
 
-    /// Writes which right remains of each entry after all certificates: the lines of the program's command `reduce`.
+    /// Returns which right remains of each entry after all certificates, if exactly the marked signatures are valid: the lines of the program's
+    /// command `reduce`.
     ///
     /// # Errors
     ///
@@ -206,7 +208,7 @@ impl Asked {
         self.lines(sys::spki_asked_reduce)
     }
 
-    /// The lines that `explain` or `reduce` writes, without the last line feed. `call` is that call of the library.
+    /// The lines of `explain` or `reduce`, without the last line feed. `call` is the call of the library that writes them.
     fn lines(&self, call: sys::Answers) -> Result<String, Refusal> {
         let (status, lines) = with_answer(self.most_answer, |buffer, room, needed| {
             self.call(call, (buffer, room, needed)).status

@@ -31,7 +31,7 @@ impl Explanation {
         &self.text
     }
 
-    /// The lines one by one. There is none if the access list is empty.
+    /// The lines one by one. There is none if the access list is empty and no certificate stops all entries: then the text is `no entries`.
     pub fn reasons(&self) -> impl Iterator<Item = Reason<'_>> {
         self.text
             .lines()
@@ -55,7 +55,8 @@ impl fmt::Display for Explanation {
     }
 }
 
-/// The number after a word at the beginning of a line, and what follows. `None` and the whole line if the word is not there.
+/// The number after a word at the beginning of a line, and what follows. `None` and the whole line if the word is not there. The word ends with a
+/// space.
 fn take_number<'l>(word: &str, line: &'l str) -> (Option<usize>, &'l str) {
     let number_and_rest = line
         .strip_prefix(word)

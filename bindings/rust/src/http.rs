@@ -115,7 +115,7 @@ impl<N: TakeNonce> Requests<N> {
             .take(proof.key.text(), &proof.nonce, now, seconds)
     }
 
-    /// The proof of a request, whose nonce is not yet used up. `take` must follow.
+    /// The proof of a request at `now`, in seconds since 1970. Its nonce is not yet used up: `take` must follow.
     ///
     /// # Errors
     /// If the request proves no key, or the verifier fails.
@@ -184,7 +184,7 @@ impl<N: TakeNonce> Requests<N> {
 
     /// Tests the method, the target and the authority of a message, that the covered fields are there, and that its authorization, certificates and
     /// digest are covered, as far as it has them. Returns the signed text, and the digest of the body if one is covered. Fails if none is covered
-    /// although the request may have a body.
+    /// although the request may have a body, or if the digest cannot be read.
     fn check_message(
         &self,
         message: &Message,

@@ -13,7 +13,7 @@ pub fn library_version() -> &'static str {
 }
 
 /// Ensures that the library is of a version that has the calls of this crate: a shared library may be another than at the build. The version is
-/// compared once. `Guard::read` and the functions on texts call this first, and all else needs a guard.
+/// compared once. `Guard::read` and the functions on texts call this first, and each other call but that for the version needs a guard.
 ///
 /// # Panics
 ///

@@ -9,11 +9,15 @@ use std::ptr;
 /// The octets of a string inside a value in canonical form. Each number of the path is that of a member to go into, from 0; the head of
 /// a list is member 0. An empty path is for a text that is a string itself.
 ///
-/// `None` if no string is there, or the text is no value in canonical form.
+/// `None` if no string is there, or the text is no value in canonical form of at most 1,048,576 octets and 64 open lists.
 ///
 /// # Errors
 ///
 /// An allocation failed.
+///
+/// # Panics
+///
+/// If the library is of a version that this crate does not know.
 ///
 /// ```
 /// let key = spki::canonical(b"(public-key (rsa (n #00c0ffee#) (e #010001#)))")?;
@@ -42,6 +46,7 @@ pub fn string_at<'t>(text: &'t [u8], path: &[usize]) -> Result<Option<&'t [u8]>,
     if status != sys::DONE {
         return Ok(None);
     }
+    // (the string lies inside `text`)
     let start = octets as usize - text.as_ptr() as usize;
     Ok(text.get(start..start + length))
 }
@@ -51,6 +56,10 @@ pub fn string_at<'t>(text: &'t [u8], path: &[usize]) -> Result<Option<&'t [u8]>,
 /// # Errors
 ///
 /// The text is not one value within the limits, or an allocation failed.
+///
+/// # Panics
+///
+/// If the library is of a version that this crate does not know.
 ///
 /// ```
 /// assert_eq!(spki::canonical(b"(packages read)")?, b"(8:packages4:read)");
@@ -66,6 +75,10 @@ pub fn canonical(text: &[u8]) -> Result<Vec<u8>, Refusal> {
 ///
 /// The text is not one value within the limits, or an allocation failed.
 ///
+/// # Panics
+///
+/// If the library is of a version that this crate does not know.
+///
 /// ```
 /// assert_eq!(spki::advanced(b"(8:packages4:read)")?, b"(packages read)\n");
 /// # Ok::<(), spki::Refusal>(())
@@ -80,6 +93,10 @@ pub fn advanced(text: &[u8]) -> Result<Vec<u8>, Refusal> {
 ///
 /// The text is not one value within the limits, or an allocation failed.
 ///
+/// # Panics
+///
+/// If the library is of a version that this crate does not know.
+///
 /// ```
 /// assert_eq!(spki::transport(b"(a)")?, b"{KDE6YSk=}\n");
 /// # Ok::<(), spki::Refusal>(())
@@ -91,8 +108,8 @@ pub fn transport(text: &[u8]) -> Result<Vec<u8>, Refusal> {
 /// A text in another form: `command` is `sys::CANONICAL`, `sys::ADVANCED` or `sys::TRANSPORT`.
 fn convert(command: c_int, text: &[u8]) -> Result<Vec<u8>, Refusal> {
     library::check();
-    // (an octet that is printed in base64 takes 7 for the 3 of its canonical text; `a(b)`, again and again, takes 8 for 3 in transport form. A longer
-    // text is refused)
+    // (an octet that is printed in base64 takes 7 for the 3 of its canonical text; `a(b)`, again and again, takes 8 for 3 in transport form. A text
+    // of more than `MOST_OCTETS` is refused. The other 64 octets are room for braces and a line feed)
     let (status, answer) = with_answer(
         3 * text.len().min(sys::MOST_OCTETS) + 64,
         |buffer, room, needed| {

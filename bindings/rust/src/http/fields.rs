@@ -48,7 +48,8 @@ struct Parser<'a> {
 }
 
 impl<'a> Parser<'a> {
-    /// A parser behind the label of the first member, which must be `spki`. An octet beyond ASCII ends the text, and is malformed.
+    /// A parser behind the label of the first member, which must be `spki`. An octet beyond ASCII ends the text, and is malformed. Fails with
+    /// `OtherLabel` for another label, and with `Malformed` for none, or for more than `MOST_INPUT` octets.
     fn new(value: &'a [u8]) -> Result<Parser<'a>, Unproved> {
         if value.len() > MOST_INPUT {
             return Err(Unproved::Malformed);
@@ -185,6 +186,7 @@ impl<'a> Input<'a> {
                 "nonce" => self.nonce = parser.string()?,
                 "keyid" => self.keyid = parser.string()?,
                 "alg" => self.alg = parser.string()?,
+                // (`tag`, the last of `PARAMETERS`)
                 _ => self.tag = parser.string()?,
             }
             seen.push(name);
@@ -227,7 +229,7 @@ pub(super) fn input_of(value: &[u8]) -> Result<Input<'_>, Unproved> {
     Ok(input)
 }
 
-/// The octets of the signature in the value of `Signature`.
+/// The octets of the signature in the value of `Signature`. Fails with `OtherLabel`, `TwoSignatures` or `Malformed`.
 pub(super) fn signature_of(value: &[u8]) -> Result<Vec<u8>, Unproved> {
     let mut parser = Parser::new(value)?;
     let octets = parser.octets()?;
@@ -235,7 +237,7 @@ pub(super) fn signature_of(value: &[u8]) -> Result<Vec<u8>, Unproved> {
     Ok(octets)
 }
 
-/// Reads the value of `Content-Digest`: one member, by SHA-256 or SHA-512.
+/// Reads the value of `Content-Digest`: one member, by SHA-256 or SHA-512. Anything else is `BadDigest`.
 pub(super) fn digest_of(value: &[u8]) -> Result<ContentDigest, Unproved> {
     let text = std::str::from_utf8(value).map_err(|_| Unproved::BadDigest)?;
     let (name, rest) = text.split_once('=').ok_or(Unproved::BadDigest)?;

@@ -3,7 +3,7 @@
 use super::fields::decode_base64;
 use super::Unproved;
 
-/// The most octets of a key in transport form.
+/// The most octets of a key in transport form, as docs/SIGNATURES.md has it.
 const MOST_KEY: usize = 4096;
 /// The canonical text of a signature value by ECDSA, with `%` for each of its two strings.
 const ECDSA: &str = "(7:sig-val(5:ecdsa(1:r%)(1:s%)))";

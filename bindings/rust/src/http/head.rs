@@ -14,8 +14,8 @@ pub struct Head<'a> {
 }
 
 impl<'a> Head<'a> {
-    /// Parses a head, which ends with its empty line. `None` if it is none, if the value of a field goes on in a second line, or if there is not one
-    /// `Host`.
+    /// Parses a head, which ends with its empty line. `None` if it is none of HTTP/1.1, if the value of a field goes on in a second line, or if there
+    /// is not exactly one `Host`. The method and the target are not tested here.
     #[must_use]
     pub fn read(head: &'a str) -> Option<Head<'a>> {
         let mut lines = head.strip_suffix("\r\n\r\n")?.split("\r\n");

@@ -79,7 +79,7 @@ impl<'a> Message<'a> {
         Ok(value.to_vec())
     }
 
-    /// Whether the request may have a body, so that a digest must be covered.
+    /// Whether the request may have a body, by `with_body`, by its method or by a field, so that a digest must be covered.
     pub(super) fn may_have_body(&self) -> bool {
         self.has_body
             || !matches!(self.method, "GET" | "HEAD")
@@ -90,6 +90,7 @@ impl<'a> Message<'a> {
     /// The signature base: the text that is signed. `authority` is as `authority_of` returns it. Fails if `field` refuses one of the
     /// covered fields.
     pub(super) fn base(&self, authority: &str, input: &Input) -> Result<Vec<u8>, Unproved> {
+        // (most have fewer octets: one allocation)
         let mut text = Vec::with_capacity(1024);
         for name in &input.components {
             let value = self.component(authority, name)?;
@@ -133,7 +134,7 @@ pub(super) fn authority_of(name: &str) -> String {
     name.to_ascii_lowercase()
 }
 
-/// Whether a target is one of a request: a path and perhaps a query, of visible characters.
+/// Whether a target is a path and perhaps a query, of visible ASCII characters other than `#`.
 pub(super) fn is_target(target: &str) -> bool {
     target.starts_with('/')
         && target

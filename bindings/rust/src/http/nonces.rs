@@ -8,7 +8,7 @@ use std::sync::{Mutex, PoisonError};
 
 /// Keeps which nonces were used.
 pub trait TakeNonce {
-    /// Keeps a nonce of a key for so many seconds from `now`, the time in seconds since 1970.
+    /// Keeps a nonce of a key for at least so many seconds from `now`, the time in seconds since 1970.
     ///
     /// # Errors
     /// If the nonce was used before, or there is no room for it.

@@ -6,7 +6,7 @@ use std::fmt;
 /// Makes the enum of the refusals, and its function from each to its name.
 macro_rules! unproved {
     ($($variant:ident $name:literal,)*) => {
-        /// Why a request proves no key. The names are those of docs/SIGNATURES.md.
+        /// Why a request proves no key. The names are those of docs/SIGNATURES.md, and `verifier-failed` for an error of the verifier.
         #[non_exhaustive]
         #[derive(Clone, Copy, Debug, PartialEq, Eq, Hash)]
         pub enum Unproved {
@@ -14,7 +14,7 @@ macro_rules! unproved {
         }
 
         impl Unproved {
-            /// The name in docs/SIGNATURES.md.
+            /// The name, such as `absent`.
             #[must_use]
             pub fn name(self) -> &'static str {
                 match self {
