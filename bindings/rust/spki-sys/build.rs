@@ -3,7 +3,7 @@
 //! The static library is linked if the folder has it, so that programs need no library where they run. `SPKI_SHARED=1` chooses the shared one.
 //! `pkg-config` is the program that `PKG_CONFIG` names, and each of its variables may have the target at its end, as in
 //! `PKG_CONFIG_PATH_aarch64-unknown-linux-gnu`. For another target than the host it is asked only if `PKG_CONFIG_SYSROOT_DIR`,
-//! `PKG_CONFIG_ALLOW_CROSS` or a `PKG_CONFIG` of the target is set: otherwise it would name a library of the host.
+//! `PKG_CONFIG_ALLOW_CROSS` or `PKG_CONFIG` is set, with or without the target at its end: otherwise it would name a library of the host.
 
 use std::env;
 use std::ffi::OsString;
@@ -17,7 +17,8 @@ const END: &str = "0.3";
 const PLACES: [&str; 2] = ["PKG_CONFIG_PATH", "PKG_CONFIG_LIBDIR"];
 const PERMISSIONS: [&str; 2] = ["PKG_CONFIG_SYSROOT_DIR", "PKG_CONFIG_ALLOW_CROSS"];
 
-/// Prints the lines that link the library. docs.rs makes pages and no program, and has no library, so nothing is linked there.
+/// Prints the lines that link the library, or ends with a message and status 1. docs.rs makes pages and no program, and has no library, so nothing is
+/// linked there.
 fn main() {
     if variable("DOCS_RS").is_some() {
         return;
@@ -53,7 +54,8 @@ fn variable_for_target(name: &str) -> Option<OsString> {
         .or_else(|| variable(name))
 }
 
-/// The lines that tell Cargo to link the library of a folder, without `cargo:` in front. The error says that it has none.
+/// The lines that tell Cargo to link the library of a folder, without `cargo:` in front. `SPKI_SHARED` chooses the shared one, unless it is `0`.
+/// `libdir` is for the build scripts of crates that depend on this one. The error says that the folder has none.
 fn link_lines(folder: &Path) -> Result<Vec<String>, String> {
     let (archive, shared) = (folder.join("libspki_c.a"), folder.join("libspki_c.so"));
     let wants_shared = variable("SPKI_SHARED").is_some_and(|value| value != "0");
@@ -105,7 +107,8 @@ fn folder_by_pkg_config() -> Result<PathBuf, String> {
     }
 }
 
-/// The folder that the first `-L` of the words of `pkg-config` names, up to a space without a backslash before it. `None` if there is no `-L`.
+/// The folder that the first `-L` of the words of `pkg-config` names, up to a space without a backslash before it. Each backslash stands for the
+/// letter behind it. `None` if there is no `-L`, or no letter behind a backslash.
 fn first_folder(words: &str) -> Option<String> {
     let (_, rest) = words.split_once("-L")?;
     let (mut letters, mut folder) = (rest.chars(), String::new());

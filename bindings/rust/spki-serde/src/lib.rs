@@ -71,7 +71,7 @@ fn seconds_of(time: SystemTime) -> i64 {
     }
 }
 
-/// Writes the line of a refusal.
+/// Writes the line of a refusal as a string.
 ///
 /// # Errors
 ///
@@ -80,7 +80,7 @@ pub fn refusal<S: Serializer>(refusal: &Refusal, to: S) -> Result<S::Ok, S::Erro
     to.serialize_str(refusal.line())
 }
 
-/// Writes the lines of an explanation.
+/// Writes the lines of an explanation as a sequence of strings.
 ///
 /// # Errors
 ///

@@ -5,7 +5,7 @@ use serde::Serializer;
 use spki::Limits;
 use std::fmt;
 
-/// Writes the limits that are set.
+/// Writes the limits that are set, as a map. One of 0 is not set.
 ///
 /// # Errors
 ///
