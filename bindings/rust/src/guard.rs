@@ -151,8 +151,8 @@ impl Default for Limits {
 /// An access list that is read once and asked often, also by several threads at the same time.
 ///
 /// [`decide`](Guard::decide) opens a question, calls `verify` with each [`Signature`] that the answer depends on, in order, up to the first that is
-/// not valid, and decides. Where the request cannot be granted, whatever is valid, it calls `verify` not at all. `verify` returns whether the signature
-/// is valid, as a `bool` or as a `Result`.
+/// not valid, and decides. Where the request cannot be granted, whatever is valid, it calls `verify` not at all. `verify` returns whether the
+/// signature is valid, as a `bool` or as a `Result`.
 ///
 /// A thread that calls must have 256 KiB of stack left. No call may be made in a child that a process with several threads forked.
 pub struct Guard {
