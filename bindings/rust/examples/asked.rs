@@ -3,8 +3,8 @@
 //! Reads strings from standard input, each as LENGTH:OCTETS, and writes each answer as one string, without its last line feed.
 //! A list of strings is first the number of its strings, itself a string, and then these. A question is, in this order:
 //!
-//! - the strings COMMAND (`decide`, `explain` or `reduce`), POLICY (`strict`, or any other word for `AllowSha1`), LIMITS (`usual` or
-//!   `highest`), ACL, SEQUENCE and KEY
+//! - the strings COMMAND (`explain`, `reduce`, or any other word for a decision), POLICY (`strict`, or any other word for `AllowSha1`), LIMITS
+//!   (`highest`, or any other word for the usual ones), ACL, SEQUENCE and KEY
 //! - the request: `text` and a list of one string, its text, or `words` and the list of its strings
 //! - the moment: `text` and a date, or `seconds` and the number of seconds since 1970
 //! - a list of the signatures that the verifier accepts, three strings each: a key, a message and a value
@@ -23,7 +23,8 @@ struct Input {
 }
 
 impl Input {
-    /// Reads the next string, LENGTH:OCTETS, and returns its octets. `None` at the end of the input. Panics if the octets are cut off.
+    /// Reads the next string, LENGTH:OCTETS, and returns its octets. `None` at the end of the input, or if LENGTH is no number. Panics if the octets
+    /// are cut off.
     fn next(&mut self) -> Option<&[u8]> {
         let rest = &self.octets[self.at..];
         let colon = rest.iter().position(|octet| *octet == b':')?;
@@ -37,7 +38,7 @@ impl Input {
         String::from_utf8(self.next()?.to_vec()).ok()
     }
 
-    /// Reads the number of strings, and then these. `None` at the end of the input.
+    /// Reads the number of strings, and then these. `None` at the end of the input, or if the first string is no number.
     fn list(&mut self) -> Option<Vec<Vec<u8>>> {
         let count = self.text()?.parse().ok()?;
         (0..count)
@@ -58,7 +59,8 @@ fn line_of(reason: Reason) -> String {
     )
 }
 
-/// Reads the next question, and returns its answer without the last line feed. `None` at the end of the input.
+/// Reads the next question, and returns its answer without the last line feed. `None` at the end of the input, or if a part of the question is not as
+/// the head of this file says.
 fn answer(input: &mut Input) -> Option<Result<String, Refusal>> {
     let (command, policy, limits) = (input.text()?, input.text()?, input.text()?);
     let mut next = || input.next().map(<[u8]>::to_vec);
@@ -90,7 +92,7 @@ fn answer(input: &mut Input) -> Option<Result<String, Refusal>> {
     Some(guard.and_then(|guard| answer_to(&command, &guard, &question, &accepted)))
 }
 
-/// Asks the guard the question, and answers by the command: `reduce`, `explain`, or else `check`, which decides. A signature is valid if its key,
+/// Asks the guard the question, and answers by the command: `reduce`, `explain`, or any other for a decision. A signature is valid if its key,
 /// message and value are a row of `accepted`, which has three strings for each. A refusal alone is an error: a denial is the answer `no`.
 fn answer_to(
     command: &str,
@@ -130,6 +132,8 @@ fn answer_to(
     }
 }
 
+/// Writes the answer to each question, LENGTH:OCTETS, in order, until there is none. The answer to a question that is refused is the line of the
+/// refusal.
 fn main() -> Result<(), Box<dyn Error>> {
     let mut input = Input {
         octets: Vec::new(),

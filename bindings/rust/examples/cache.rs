@@ -15,7 +15,7 @@ fn is_normal(path: &str) -> bool {
         && parts.all(|part| !["", ".", ".."].contains(&part))
 }
 
-/// Decides whether the client may do an action, `read` or `write`, with a path. An error is that of the command `openssl`.
+/// Decides whether the client may do an action, such as `read` or `write`, with a path. The verifier's error is that of the command `openssl`.
 fn decide(
     guard: &Guard,
     client: &ProvenKey,
@@ -28,7 +28,7 @@ fn decide(
     guard.decide_by(&question, &mut Openssl)
 }
 
-/// Answers each line of the input with one. While its grant holds, the same request is not decided again.
+/// Answers each line: `denied`, `written N` (octets), `not written`, what the file has, or `nothing is there`. A grant is kept while it holds.
 fn main() -> Result<(), Box<dyn Error>> {
     let arguments: Vec<String> = env::args().collect();
     let [_, list, folder, key, sequence] = &arguments[..] else {

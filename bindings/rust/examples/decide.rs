@@ -15,7 +15,8 @@ use std::os::unix::ffi::OsStrExt;
 use std::time::SystemTime;
 use std::{env, error::Error, fs, io};
 
-/// Succeeds if a request is granted now. Each word is one string of it, whatever octets it has.
+/// Succeeds if a request is granted now. Each word is one string of it, whatever octets it has. `Denied` is a no, a refusal, or an error of the
+/// command `openssl`.
 fn require_grant(
     guard: &Guard,
     sequence: &[u8],
@@ -27,6 +28,7 @@ fn require_grant(
     Ok(())
 }
 
+/// Prints `granted` or `denied`, and ends with status 0 after both. Anything else, such as a text that is refused, is a message and status 1.
 fn main() -> Result<(), Box<dyn Error>> {
     let arguments: Vec<OsString> = env::args_os().collect();
     let [_, list, sequence, key, words @ ..] = &arguments[..] else {

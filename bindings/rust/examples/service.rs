@@ -1,4 +1,4 @@
-//! Lets clients read packages, by signed requests. Usage: service ACL NAME, behind a server with TLS.
+//! Lets clients read packages, by signed requests. Usage: service ACL NAME, behind a server with TLS. It prints the port that it serves.
 
 mod by_openssl;
 
@@ -9,7 +9,7 @@ use std::io::{self, BufRead, BufReader, Read, Write};
 use std::net::{TcpListener, TcpStream};
 use std::time::{Duration, SystemTime, UNIX_EPOCH};
 
-/// The most octets of a request that are read.
+/// The most octets of a request that are read. A longer head is 403.
 const MOST_OCTETS: u64 = 65_536;
 
 /// Whether the key that has signed a request may read what it asks for: `Some` if it may, and `None` for all else. `head` is the head of the request.
@@ -19,7 +19,7 @@ fn grant(guard: &Guard, requests: &Requests, head: &str) -> Option<()> {
     let seconds = now.duration_since(UNIX_EPOCH).ok()?.as_secs();
     let verify = |signature: Signature<'_>| Openssl.verify(signature);
     let proof = requests.prove(&head.message(), seconds, verify).ok()?;
-    let excluded = ["%", "?", "//", "/."];
+    let excluded = ["%", "?", "//", "/."]; // (escapes, queries, empty parts, `.` and `..`)
     let is_normal = !excluded.iter().any(|part| head.target.contains(part));
     if head.method != "GET" || !is_normal {
         return None;
@@ -29,7 +29,7 @@ fn grant(guard: &Guard, requests: &Requests, head: &str) -> Option<()> {
     guard.decide_by(&question, &mut Openssl).ok().map(|_| ())
 }
 
-/// Reads the head of one request, and answers by its status alone. A client that sends nothing for 5 seconds gets no answer.
+/// Reads the head of one request, and answers by its status alone. A client that sends nothing for 5 seconds, or no UTF-8, gets no answer.
 fn answer(guard: &Guard, requests: &Requests, mut client: TcpStream) -> io::Result<()> {
     client.set_read_timeout(Some(Duration::from_secs(5)))?;
     let mut reader = BufReader::new(client.try_clone()?.take(MOST_OCTETS));

@@ -98,7 +98,7 @@ pub fn sha256(octets: &[u8]) -> [u8; 32] {
     try_sha256(octets).unwrap_or_default()
 }
 
-/// The SHA-256 hash of octets, or `None` if the command fails.
+/// The SHA-256 hash of octets, or `None` if the command or a file fails.
 fn try_sha256(octets: &[u8]) -> Option<[u8; 32]> {
     let folder = Folder::new().ok()?;
     fs::write(folder.path.join("message"), octets).ok()?;
@@ -193,7 +193,8 @@ fn is_of_large_order(point: &[u8]) -> bool {
     y[..8] != [0; 8] && is_below(&y, LAST_Y) && !is_eighth
 }
 
-/// A key of a curve, and a signature by ECDSA. `None` for others, and for those that docs/FORMATS.md excludes.
+/// A key of a curve, and a signature by ECDSA. `None` for others, and for those that docs/FORMATS.md excludes. That the point is on the curve is left
+/// to `openssl`.
 fn ecdsa(curve: &Curve, key: &[u8], value: &[u8]) -> Option<Signed> {
     let [point] = strings(key, curve.form)?;
     let numbers: [&[u8]; 2] = strings(value, b"(7:sig-val(5:ecdsa(1:r%)(1:s%)))")?;
@@ -211,7 +212,7 @@ fn ecdsa(curve: &Curve, key: &[u8], value: &[u8]) -> Option<Signed> {
     })
 }
 
-/// A key and a signature of RSA. `None` for others, and for those that docs/FORMATS.md excludes.
+/// A key and a signature of RSA. `None` for others, and for those that docs/FORMATS.md excludes. An odd exponent of 2 bits is 3, the least.
 fn rsa(key: &[u8], value: &[u8]) -> Option<Signed> {
     let [modulus, exponent] = strings(key, b"(10:public-key(3:rsa(1:n%)(1:e%)))")?;
     let [number] = strings(value, b"(7:sig-val(3:rsa(1:s%)))")?;
@@ -221,6 +222,7 @@ fn rsa(key: &[u8], value: &[u8]) -> Option<Signed> {
     let is_within = !number.is_empty() && is_below(number, &hex(modulus));
     (is_allowed && is_within).then(|| {
         let numbers = [der(INTEGER, modulus), der(INTEGER, exponent)].concat();
+        // (a BIT STRING begins with the number of bits that are not used: 0)
         let octets = [&[0], &der(SEQUENCE, &numbers)[..]].concat();
         Signed {
             key: der(SEQUENCE, &[RSA, &der(BIT_STRING, &octets)].concat()),
@@ -250,7 +252,7 @@ fn is_below(number: &[u8], limit: &str) -> bool {
     (number.len(), number) < (limit.len(), limit)
 }
 
-/// The strings of a canonical text that are at the N marks `%` of a form. `None` if the text has another form.
+/// The strings of a canonical text that are at the N marks `%` of a form. `None` if the text has another form, or more than `MOST_OCTETS`.
 fn strings<'t, const N: usize>(text: &'t [u8], form: &[u8]) -> Option<[&'t [u8]; N]> {
     if text.len() > MOST_OCTETS {
         return None;
@@ -277,7 +279,7 @@ fn trimmed(number: &[u8]) -> &[u8] {
     &number[zeros..]
 }
 
-/// A number with an octet 00 in front exactly if its first bit is set, as DER and keys have it.
+/// A number with an octet 00 in front exactly if its first bit is set, as DER and keys have it. The number 0 is one octet 00.
 fn signed_number(number: &[u8]) -> Vec<u8> {
     let number = trimmed(number);
     let is_high = number.first().map_or(true, |first| *first >= 0x80);
