@@ -78,6 +78,7 @@ fn lines(explanation: &Explanation) -> Vec<(Option<usize>, Option<usize>, &str)>
         .collect()
 }
 
+/// The verifier is called once, with SIGNED. Where no signature is valid, nothing is granted.
 #[test]
 fn a_verifier_is_given_what_is_signed() -> Outcome {
     let sequence = sequence_of(1);
@@ -616,7 +617,7 @@ fn questions_have_limits() -> Outcome {
     Ok(())
 }
 
-/// The limits of explanations: the entry has a tag of three nodes.
+/// Each of three limits is too low for an explanation, whose entry has a tag of three nodes. A decision needs none of them.
 #[test]
 fn explanations_have_limits() -> Outcome {
     let (one, usual) = (sequence_of(1), Limits::default());
@@ -705,6 +706,7 @@ fn several_threads_serve_two_clients() {
     });
 }
 
+/// The library that is linked has the version of this crate.
 #[test]
 fn the_library_says_its_version() {
     assert_eq!(spki::library_version(), env!("CARGO_PKG_VERSION"));

@@ -80,7 +80,8 @@ fn hexadecimal(digits: &str) -> Vec<u8> {
         .collect()
 }
 
-/// Reads the table. A line is a word and its value, and each line `row NAME` begins a row.
+/// Reads the table. A line is a word and its value, and each line `row NAME` begins a row. Lines before the first row are passed over, and so are those
+/// with another word, such as `#`.
 fn rows() -> Vec<Row> {
     let mut rows: Vec<Row> = Vec::new();
     for line in fs::read_to_string(ROWS).expect("the table").lines() {
@@ -131,7 +132,8 @@ fn is_digest_of(digest: Option<&ContentDigest>, body: &[u8]) -> bool {
     hexadecimal(digits) == digest.octets
 }
 
-/// Proves the request of a row at `now`, in seconds since 1970, and compares its body with the digest. Returns `valid`, or the name of the refusal.
+/// Proves the request of a row at `now`, in seconds since 1970, and compares its body, if the row has one, with the digest. Returns `valid`, or the
+/// name of the refusal.
 fn answer(requests: &Requests, row: &Row, now: u64) -> &'static str {
     let fields = row.fields();
     let message = row.message(&fields);
@@ -265,7 +267,7 @@ fn the_published_signature_is_valid() {
 
 /// A row has a nonce, the second at which it comes, and the refusal, empty if the nonce is taken. Each set has room for 2, and a nonce is kept for
 /// 360 seconds. A young set begins at 1000, 1360, 1720 and 3000. The one before it is then the old set, and is dropped at 3000, since it is over 720
-/// seconds old. At 900 the clock has gone back.
+/// seconds old. At 900 the clock has gone back. At the end another key uses a nonce of the first one, which is not refused.
 #[test]
 fn nonces_are_kept_in_two_sets() {
     let store = Nonces::new(2);
@@ -291,7 +293,7 @@ fn nonces_are_kept_in_two_sets() {
     assert!(store.take(b"another key", "a", 3360, 360).is_ok());
 }
 
-/// After the end of its signature a nonce may have been used before, and be forgotten.
+/// A nonce that was used is `NonceSeen` up to the end of its signature. After that it may be forgotten, so it is `Expired`.
 #[test]
 fn a_nonce_is_not_taken_late() {
     let rows = rows();
