@@ -563,7 +563,8 @@ func TestNonces(t *testing.T) {
 	}
 }
 
-// FuzzFields shows that there is no panic whatever is in the fields, and that Check takes only what the verifier found signed.
+// FuzzFields shows that there is no panic whatever is in the fields, and that Check takes only what the verifier found signed. This verifier accepts
+// each text that has the form of a signed request.
 func FuzzFields(f *testing.F) {
 	for _, row := range rowsOf(f) {
 		header := row.message.Header

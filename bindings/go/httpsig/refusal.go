@@ -1,5 +1,5 @@
 // Package httpsig proves the client's key in each HTTP request, by HTTP Message Signatures (RFC 9421) of the profile in docs/SIGNATURES.md. A
-// Verifier is for services, a Signer and a Transport for clients. It needs no library for C.
+// Verifier is for services, a Signer and a Transport for clients. It does not need libspki_c.
 package httpsig
 
 // A Refusal is why a request proves no key: a name of docs/SIGNATURES.md. It is an error, and errors.Is compares it.

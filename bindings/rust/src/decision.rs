@@ -19,7 +19,7 @@ pub struct Grant {
 }
 
 impl Grant {
-    /// The grant by an entry until a second since 1970, which is negative for a window that ended before. `i64::MAX` means that no window ends.
+    /// The grant by an entry until a second since 1970, which is negative for a window that ended before 1970. `i64::MAX` means that no window ends.
     pub(crate) fn new(entry: usize, until_second: i64) -> Grant {
         let distance = Duration::from_secs(until_second.unsigned_abs());
         let until = match until_second {

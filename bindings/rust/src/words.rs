@@ -132,7 +132,7 @@ words! {
         Acl,
         /// The moment.
         At,
-        /// A text in none of the three forms.
+        /// An access list, or a text to be converted, that is in none of the three forms within the limits.
         Form,
         /// The client's key.
         Key,

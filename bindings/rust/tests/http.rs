@@ -80,8 +80,8 @@ fn hexadecimal(digits: &str) -> Vec<u8> {
         .collect()
 }
 
-/// Reads the table. A line is a word and its value, and each line `row NAME` begins a row. Lines before the first row are passed over, and so are those
-/// with another word, such as `#`.
+/// Reads the table. A line is a word and its value, and each line `row NAME` begins a row. Lines before the first row are passed over, and so are
+/// those with another word, such as `#`.
 fn rows() -> Vec<Row> {
     let mut rows: Vec<Row> = Vec::new();
     for line in fs::read_to_string(ROWS).expect("the table").lines() {

@@ -185,7 +185,7 @@ fn ed25519(key: &[u8], value: &[u8]) -> Option<Signed> {
 }
 
 /// Whether the coordinate y of a point of Ed25519, 32 octets, is from 2^192 to below p - 1, and not that of a point of order 8. Then the point has no
-/// small order and no second text. That it is a point is not tested.
+/// small order and no second text: those of order 1, 2 and 4 have the y 1, p - 1 and 0. That it is a point is not tested.
 fn is_of_large_order(point: &[u8]) -> bool {
     let mut y = reversed(point);
     y[0] &= 0x7f;
