@@ -60,8 +60,8 @@ func AssumeKey(key []byte) ProvenKey {
 	return ProvenKey{string(key)}
 }
 
-// ProveKey returns the key that has signed a message. The service itself must have made the message, with a nonce that it accepts once: a signature of
-// anything else may be an old one, or have another purpose. `verify` says whether the signature is valid, as verify.Signature does. The error is
+// ProveKey returns the key that has signed a message. The service itself must have made the message, with a nonce that it accepts once: a signature
+// of anything else may be an old one, or have another purpose. `verify` says whether the signature is valid, as verify.Signature does. The error is
 // ErrNotProved if it is not, or if the message is a certificate: anyone can show a certificate, which proves nothing about who shows it.
 func ProveKey(signed Signature, verify func(Signature) bool) (ProvenKey, error) {
 	if bytes.HasPrefix(signed.Message, []byte("(4:cert")) || !verify(signed) {

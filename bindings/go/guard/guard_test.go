@@ -309,8 +309,8 @@ func TestMarksAreOfOnePlace(t *testing.T) {
 	}
 }
 
-// TestVerifierThatFailsMarksNothing has a verifier fail at the second signature. The first, which is valid, is not marked then, so a mark of the second
-// alone grants nothing.
+// TestVerifierThatFailsMarksNothing has a verifier fail at the second signature. The first, which is valid, is not marked then, so a mark of the
+// second alone grants nothing.
 func TestVerifierThatFailsMarksNothing(t *testing.T) {
 	question, fault := questionWith(0), errors.New("no such key")
 	question.Sequence, question.Key = []byte("(sequence "+own+own+")"), spki.AssumeKey([]byte("(public-key (test a))"))
@@ -346,8 +346,8 @@ func TestNothingIsVerifiedInVain(t *testing.T) {
 	}
 }
 
-// TestSignaturesAreOfTheSequence asks with other keys, requests, times and lists. The signatures depend on the sequence alone: a Verified keeps places of
-// a sequence for other questions.
+// TestSignaturesAreOfTheSequence asks with other keys, requests, times and lists. The signatures depend on the sequence alone: a Verified keeps
+// places of a sequence for other questions.
 func TestSignaturesAreOfTheSequence(t *testing.T) {
 	otherDigest := strings.Replace(pair, "#d7", "#d8", 1)
 	for _, text := range []string{pair, pair + pair, pair + otherDigest + pair, "(public-key (test c)) " + pair} {
@@ -567,8 +567,8 @@ func TestLimitsBelowZero(t *testing.T) {
 	}
 }
 
-// TestAClockThatFailed asks at times that no clock gives: before 1970, and from the year 10000 on, which begins at 253,402,300,800. An expired right is
-// not granted. Each time has a nanosecond more, so that none is the zero Time, which would say that no time is given.
+// TestAClockThatFailed asks at times that no clock gives: before 1970, and from the year 10000 on, which begins at 253,402,300,800. An expired right
+// is not granted. Each time has a nanosecond more, so that none is the zero Time, which would say that no time is given.
 func TestAClockThatFailed(t *testing.T) {
 	opened := openGuard(t, `(acl (entry (public-key (test b)) (tag (*)) (not-after "1999-12-31_23:59:59")))`)
 	question := questionWith(0)

@@ -152,8 +152,8 @@ func ask(guard guardHandle, question *Question) (asked askedHandle, count int, e
 	return result.asked, int(result.count), nil
 }
 
-// signature returns a copy of the signature at a place, from 0, which must be below the count. `key` is the key of the signature before it, or nil: if both
-// are equal, the result has `key` itself, so that no key is copied twice. The error says that an allocation failed.
+// signature returns a copy of the signature at a place, from 0, which must be below the count. `key` is the key of the signature before it, or nil:
+// if both are equal, the result has `key` itself, so that no key is copied twice. The error says that an allocation failed.
 func signature(asked askedHandle, place int, key []byte) (Signature, error) {
 	var signed C.struct_spki_signed
 	if status := C.spki_asked_signature(asked, C.size_t(place), &signed); status != C.SPKI_DONE {

@@ -333,8 +333,8 @@ func TestTakenLate(t *testing.T) {
 	}
 }
 
-// putForward returns a moment as Go has it after the system's clock was put forward by some seconds, as by `date -s`: the reading of the monotonic clock
-// stays. (The first field of such a Time has 30 bits for the nanoseconds of the system's clock, and above these its seconds.)
+// putForward returns a moment as Go has it after the system's clock was put forward by some seconds, as by `date -s`: the reading of the monotonic
+// clock stays. (The first field of such a Time has 30 bits for the nanoseconds of the system's clock, and above these its seconds.)
 func putForward(moment time.Time, seconds uint64) time.Time {
 	*(*uint64)(unsafe.Pointer(&moment)) += seconds << 30
 	return moment
@@ -369,8 +369,8 @@ func TestStartByClockThatWasBehind(t *testing.T) {
 	}
 }
 
-// TestServerHasWhatWasSent covers the field Host, which net/http takes out of the header, and a field of certificates without octets, which is not the
-// same as none.
+// TestServerHasWhatWasSent covers the field Host, which net/http takes out of the header, and a field of certificates without octets, which is not
+// the same as none.
 func TestServerHasWhatWasSent(t *testing.T) {
 	header := http.Header{"Host": {"example.com"}, "X-Spki-Sequence": {""}}
 	if err := signers(t)[Ed25519].Sign("https", Message{Method: "GET", Authority: "example.com", Target: "/", Header: header}, "host"); err != nil {
@@ -486,8 +486,8 @@ func serverByHTTP2(verifier *Verifier) *httptest.Server {
 	return server
 }
 
-// TestBodyByHTTP2 sends GET by HTTP/2, where a body may come without Content-Length. A Transport signs the digest of what it sends. A body that is put
-// behind a signed request without one is refused.
+// TestBodyByHTTP2 sends GET by HTTP/2, where a body may come without Content-Length. A Transport signs the digest of what it sends. A body that is
+// put behind a signed request without one is refused.
 func TestBodyByHTTP2(t *testing.T) {
 	verifier := NewVerifier()
 	server := serverByHTTP2(verifier)
@@ -520,8 +520,8 @@ func TestBodyByHTTP2(t *testing.T) {
 	}
 }
 
-// TestUnknownBodyIsNotSigned signs messages with a body, without one, and with one that is announced, by HasBody or Content-Length, but is not there: the
-// last are refused, since nothing can be digested.
+// TestUnknownBodyIsNotSigned signs messages with a body, without one, and with one that is announced, by HasBody or Content-Length, but is not there:
+// the last are refused, since nothing can be digested.
 func TestUnknownBodyIsNotSigned(t *testing.T) {
 	signer := signers(t)[Ed25519]
 	for _, row := range []struct {
@@ -541,8 +541,8 @@ func TestUnknownBodyIsNotSigned(t *testing.T) {
 	}
 }
 
-// TestNonces takes nonces at times in seconds. Each is kept for 360 s at least, in two sets of at most 2 nonces. A young set begins at 1000, 1360, 1720
-// and 3000. The one before it is then the old set, and is dropped at 3000, since it is over 720 s old. At 900 the clock has gone back.
+// TestNonces takes nonces at times in seconds. Each is kept for 360 s at least, in two sets of at most 2 nonces. A young set begins at 1000, 1360,
+// 1720 and 3000. The one before it is then the old set, and is dropped at 3000, since it is over 720 s old. At 900 the clock has gone back.
 func TestNonces(t *testing.T) {
 	store := NewMemory(2)
 	for _, row := range []struct {

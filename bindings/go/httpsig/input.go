@@ -6,8 +6,8 @@ import (
 	"strings"
 )
 
-// The label of `Signature-Input` and `Signature`, as in `spki=..`, and the value of the parameter `tag`. docs/SIGNATURES.md says what else a request must
-// have.
+// The label of `Signature-Input` and `Signature`, as in `spki=..`, and the value of the parameter `tag`. docs/SIGNATURES.md says what else a request
+// must have.
 const (
 	label = "spki"
 	tag   = "spki"

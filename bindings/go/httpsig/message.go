@@ -66,8 +66,8 @@ func (m *Message) addDigest() error {
 	return nil
 }
 
-// AuthorityOf returns the name of a host, perhaps with a port, as it is signed: in small letters, without the default port of the scheme, which is `https`
-// or `http`.
+// AuthorityOf returns the name of a host, perhaps with a port, as it is signed: in small letters, without the default port of the scheme, which is
+// `https` or `http`.
 func AuthorityOf(scheme, authority string) string {
 	defaultPort := map[string]string{"https": ":443", "http": ":80"}[scheme]
 	return strings.TrimSuffix(strings.ToLower(authority), defaultPort)
@@ -98,15 +98,15 @@ func isTarget(target string) bool {
 	return true
 }
 
-// A base is a message of which the signature base, the signed text of RFC 9421, is made. `scheme` is `https` or `http`, and `authority` is that of the
-// message as AuthorityOf returns it.
+// A base is a message of which the signature base, the signed text of RFC 9421, is made. `scheme` is `https` or `http`, and `authority` is that of
+// the message as AuthorityOf returns it.
 type base struct {
 	*Message
 	scheme, authority string
 }
 
-// text returns the signed text of these components. The parameters are what follows `spki=` in `Signature-Input`, as it was sent. The error is that of
-// value.
+// text returns the signed text of these components. The parameters are what follows `spki=` in `Signature-Input`, as it was sent. The error is that
+// of value.
 func (b *base) text(components []string, parameters string) ([]byte, error) {
 	text := make([]byte, 0, 1024) // (most have fewer octets: one allocation)
 	for _, name := range components {

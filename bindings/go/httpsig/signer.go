@@ -81,8 +81,9 @@ func (s *Signer) Sign(scheme string, message Message, covered ...string) error {
 	return nil
 }
 
-// componentsOf returns the names of what a signature covers: what docs/SIGNATURES.md requires, as far as a header has it, and those named by `covered`.
-// The error is UnknownComponent for a name of these that no signature may cover (isComponent). Whether the header has such a field is tested later.
+// componentsOf returns the names of what a signature covers: what docs/SIGNATURES.md requires, as far as a header has it, and those named by
+// `covered`. The error is UnknownComponent for a name of these that no signature may cover (isComponent). Whether the header has such a field is
+// tested later.
 func componentsOf(header http.Header, covered []string) ([]string, error) {
 	names := []string{method, authority, path, query, publicKey}
 	for _, name := range []string{authorization, "x-spki-sequence", contentDigest} {

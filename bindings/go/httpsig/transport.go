@@ -8,8 +8,8 @@ import (
 
 // A Transport signs each request of an http.Client to one of some names. A request to any other, as one that a redirection leads to, goes out as
 // it is: its server learns no key and no certificates. So does a request whose Host is another name than that of its URL: the server that gets it
-// could use the signature at the other one. And so does one by http to which a server with https has redirected: no signature has the scheme, so whoever
-// reads the request on its way could send it by https.
+// could use the signature at the other one. And so does one by http to which a server with https has redirected: no signature has the scheme, so
+// whoever reads the request on its way could send it by https.
 //
 //	client := http.Client{Transport: &httpsig.Transport{Signer: signer, Names: []string{"files.example.org"}}}
 type Transport struct {
@@ -36,8 +36,8 @@ func (t *Transport) RoundTrip(request *http.Request) (*http.Response, error) {
 	return sender.RoundTrip(signed)
 }
 
-// isToOneOf says whether the URL of a client's request has one of some names as its host and port, its field Host has the same name, and TLS was not lost
-// on the way there (hasLostTLS).
+// isToOneOf says whether the URL of a client's request has one of some names as its host and port, its field Host has the same name, and TLS was not
+// lost on the way there (hasLostTLS).
 func isToOneOf(names []string, request *http.Request) bool {
 	scheme := request.URL.Scheme
 	host := AuthorityOf(scheme, request.URL.Host)

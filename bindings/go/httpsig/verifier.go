@@ -111,8 +111,8 @@ func (v *Verifier) Message(message Message) (*Proof, error) {
 }
 
 // Take uses up the nonce of a proof that Check has returned. The error is that of Nonces, such as NonceSeen or StoreFull, or Expired if the signature
-// has expired since. NO PROOF COUNTS WITHOUT IT: a caller of Check takes the nonce before it acts. It may decide before that, so that strangers do not
-// fill the store.
+// has expired since. NO PROOF COUNTS WITHOUT IT: a caller of Check takes the nonce before it acts. It may decide before that, so that strangers do
+// not fill the store.
 func (v *Verifier) Take(proof *Proof) error {
 	now := v.Now().Unix()
 	if proof.expires <= now {
@@ -221,8 +221,8 @@ func (v *Verifier) checkParameters(input *input) error {
 	return nil
 }
 
-// startBy returns the second since 1970 of the start, by the clock as it is set at `now`: `now` less the time since `start`. Go takes that time by the
-// monotonic clock, which nobody puts forward. If one of the two has no reading of it, the result is the second of `start`.
+// startBy returns the second since 1970 of the start, by the clock as it is set at `now`: `now` less the time since `start`. Go takes that time by
+// the monotonic clock, which nobody puts forward. If one of the two has no reading of it, the result is the second of `start`.
 func startBy(now, start time.Time) int64 {
 	return now.Add(-now.Sub(start)).Unix()
 }
@@ -262,8 +262,8 @@ func (v *Verifier) checkMessage(message Message, input *input) (text []byte, dig
 	return text, digest, err
 }
 
-// isOwnName says whether an authority, as AuthorityOf returns it, is a name of this service. An empty one never is, even if AuthorityOf makes an empty
-// one of a name of the service, such as `:443`.
+// isOwnName says whether an authority, as AuthorityOf returns it, is a name of this service. An empty one never is, even if AuthorityOf makes an
+// empty one of a name of the service, such as `:443`.
 func (v *Verifier) isOwnName(authority string) bool {
 	for _, name := range v.Authorities {
 		if authority != "" && AuthorityOf(v.Scheme, name) == authority {

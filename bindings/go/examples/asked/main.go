@@ -93,8 +93,8 @@ func (i *input) task() task {
 	return task
 }
 
-// answer opens a guard of the ACL and asks it the question. The command `explain` or `reduce` asks for an explanation or a reduction, any other one for
-// the decision. It returns the lines of the answer without the last line feed, or the error of a guard. The text of a refusal is its line.
+// answer opens a guard of the ACL and asks it the question. The command `explain` or `reduce` asks for an explanation or a reduction, any other one
+// for the decision. It returns the lines of the answer without the last line feed, or the error of a guard. The text of a refusal is its line.
 func (t task) answer() (string, error) {
 	policy, limits := guard.AllowSHA1, guard.Limits{}
 	if t.policy == "strict" {

@@ -18,8 +18,8 @@ import (
 	"conguraki/spki/verify"
 )
 
-// isGranted says whether a request is granted. Each word is one string of it, whatever octets it has. The error, such as of a text that cannot be read,
-// is a no too.
+// isGranted says whether a request is granted. Each word is one string of it, whatever octets it has. The error, such as of a text that cannot be
+// read, is a no too.
 func isGranted(list *guard.Guard, sequence []byte, key spki.ProvenKey, words []string, now time.Time) (bool, error) {
 	decision, err := list.Decide(guard.Question{Sequence: sequence, Key: key, Words: words, Time: now}, verify.Signature)
 	if err != nil {

@@ -167,8 +167,8 @@ impl<'a> Parser<'a> {
 }
 
 impl<'a> Input<'a> {
-    /// Reads the parameters, each `;name=value`, up to the end of the field. Fails also if a parameter is missing, or a component that is required. The
-    /// components are read before.
+    /// Reads the parameters, each `;name=value`, up to the end of the field. Fails also if a parameter is missing, or a component that is required.
+    /// The components are read before.
     fn read_parameters(&mut self, parser: &mut Parser<'a>) -> Result<(), Unproved> {
         let mut seen = Vec::new();
         while parser.try_skip(";") {

@@ -15,8 +15,8 @@ pub trait TakeNonce {
     fn take(&self, key: &[u8], nonce: &str, now: u64, seconds: u64) -> Result<(), Unproved>;
 }
 
-/// Nonces in two sets, as hashes of key and nonce. New ones go into the young set. Once the young set is as old as the time for which a nonce is kept,
-/// it becomes the old set, and the old set is dropped. If two nonces have the same hash, the second is refused.
+/// Nonces in two sets, as hashes of key and nonce. New ones go into the young set. Once the young set is as old as the time for which a nonce is
+/// kept, it becomes the old set, and the old set is dropped. If two nonces have the same hash, the second is refused.
 #[derive(Debug)]
 pub struct Nonces {
     /// How many each of the two sets may have.
