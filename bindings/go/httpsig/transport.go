@@ -8,8 +8,8 @@ import (
 
 // A Transport signs each request of an http.Client to one of some names. A request to any other, as one that a redirection leads to, goes out as
 // it is: its server learns no key and no certificates. So does a request whose Host is another name than that of its URL: the server that gets it
-// could use the signature at the other one. And so does one by http to which a server with https has redirected: no signature has the scheme, so
-// whoever reads the request on its way could send it by https.
+// could use the signature at the other one. And so does one by http to which a server with https has redirected: the signatures of a Transport do not
+// cover the scheme, so whoever reads the request on its way could send it by https.
 //
 //	client := http.Client{Transport: &httpsig.Transport{Signer: signer, Names: []string{"files.example.org"}}}
 type Transport struct {

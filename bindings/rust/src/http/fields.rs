@@ -241,6 +241,7 @@ pub(super) fn signature_of(value: &[u8]) -> Result<Vec<u8>, Unproved> {
 pub(super) fn digest_of(value: &[u8]) -> Result<ContentDigest, Unproved> {
     let text = std::str::from_utf8(value).map_err(|_| Unproved::BadDigest)?;
     let (name, rest) = text.split_once('=').ok_or(Unproved::BadDigest)?;
+    // (octets beyond ASCII are not base64)
     let mut parser = Parser {
         rest,
         is_cut: false,
