@@ -78,6 +78,7 @@ pub struct Openssl;
 impl Verifier for Openssl {
     type Error = io::Error;
 
+    /// False also for a key or a value of another form, and for an empty message. The error is that of `Signed::verifies`.
     fn verify(&mut self, signature: Signature<'_>) -> io::Result<bool> {
         let Signature {
             key,
@@ -139,7 +140,7 @@ struct Folder {
 
 impl Folder {
     /// Makes a folder, whose name has the number of this process and a count. A name that is there is passed over: an earlier process of the same
-    /// number may have been killed.
+    /// number may have been killed. The error is any other fault of making it.
     fn new() -> io::Result<Folder> {
         static COUNT: AtomicUsize = AtomicUsize::new(0);
         loop {
@@ -156,6 +157,7 @@ impl Folder {
 
 impl Drop for Folder {
     fn drop(&mut self) {
+        // (a folder that cannot be removed stays)
         let _ = remove_dir_all(&self.path);
     }
 }

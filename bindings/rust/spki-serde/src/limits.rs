@@ -33,6 +33,7 @@ impl<'de> Visitor<'de> for Named {
         f.write_str("limits by their names")
     }
 
+    /// Reads the names in their order. The error is the first of those that `deserialize` names.
     fn visit_map<A: MapAccess<'de>>(self, mut map: A) -> Result<Limits, A::Error> {
         let (mut limits, mut seen) = (Limits::default(), Vec::new());
         while let Some(name) = map.next_key::<String>()? {

@@ -46,6 +46,7 @@ impl Nonces {
 }
 
 impl TakeNonce for Nonces {
+    /// Fails with `NonceSeen` for a nonce whose hash is kept, and with `StoreFull` if the young set is full.
     fn take(&self, key: &[u8], nonce: &str, now: u64, seconds: u64) -> Result<(), Unproved> {
         let hash = self.hasher.hash_one((key, nonce));
         let mut sets = self.sets.lock().unwrap_or_else(PoisonError::into_inner);
