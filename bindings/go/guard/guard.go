@@ -231,7 +231,7 @@ func (g *Guard) Require(ctx context.Context, question Question, verify VerifyCon
 }
 
 // Explain asks a question, verifies its signatures in order, up to the first that is not valid, and says of each entry why it grants the request or
-// does not, or which certificate stops all of them. The error is that of Ask, or ErrTooLarge. Its time grows with the number of all entries.
+// does not, or which certificate stops all of them. The error is that of Ask, or ErrTooLarge. The time of a call grows with the number of entries.
 func (g *Guard) Explain(question Question, verify Verify) (Explanation, error) {
 	asked, err := g.ask(&question)
 	if err != nil {

@@ -248,7 +248,8 @@ func convert(command command, source []byte) ([]byte, error) {
 	return append([]byte(nil), buffer[:length]...), nil
 }
 
-// Canonical returns the canonical form of the one value that a text is, in any of the three forms of RFC 9804. The error is a *Refusal.
+// Canonical returns the canonical form of the one value that a text is, in any of the three forms of RFC 9804. The error is a *Refusal if the text is
+// no such value, has more than 1,048,576 octets or more than 64 lists open at once, or if an allocation failed.
 func Canonical(text []byte) ([]byte, error) {
 	return convert(C.SPKI_CANONICAL, text)
 }

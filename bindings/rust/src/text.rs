@@ -55,7 +55,7 @@ pub fn string_at<'t>(text: &'t [u8], path: &[usize]) -> Result<Option<&'t [u8]>,
 ///
 /// # Errors
 ///
-/// The text is not one value within the limits, or an allocation failed.
+/// The text is not one value of at most 1,048,576 octets with at most 64 lists open at once, or an allocation failed.
 ///
 /// # Panics
 ///
@@ -73,7 +73,7 @@ pub fn canonical(text: &[u8]) -> Result<Vec<u8>, Refusal> {
 ///
 /// # Errors
 ///
-/// The text is not one value within the limits, or an allocation failed.
+/// The text is not one value of at most 1,048,576 octets with at most 64 lists open at once, or an allocation failed.
 ///
 /// # Panics
 ///
@@ -91,7 +91,7 @@ pub fn advanced(text: &[u8]) -> Result<Vec<u8>, Refusal> {
 ///
 /// # Errors
 ///
-/// The text is not one value within the limits, or an allocation failed.
+/// The text is not one value of at most 1,048,576 octets with at most 64 lists open at once, or an allocation failed.
 ///
 /// # Panics
 ///
