@@ -19,7 +19,7 @@ fn grant(guard: &Guard, requests: &Requests, head: &str) -> Option<()> {
     let seconds = now.duration_since(UNIX_EPOCH).ok()?.as_secs();
     let verify = |signature: Signature<'_>| Openssl.verify(signature);
     let proof = requests.prove(&head.message(), seconds, verify).ok()?;
-    let excluded = ["%", "?", "//", "/."]; // (escapes, queries, empty parts, `.` and `..`)
+    let excluded = ["%", "?", "//", "/."]; // (escape, query, empty part, part that begins with `.`)
     let is_normal = !excluded.iter().any(|part| head.target.contains(part));
     if head.method != "GET" || !is_normal {
         return None;

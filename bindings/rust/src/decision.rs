@@ -55,7 +55,7 @@ pub enum Denied<E = Infallible> {
 }
 
 impl<E> Denied<E> {
-    /// The refusal, if it is one. `None` if the library decided, or the verifier failed.
+    /// The refusal, if the request is denied by one. `None` if the library decided, or the verifier failed.
     #[must_use]
     pub fn refusal(&self) -> Option<&Refusal> {
         match self {
