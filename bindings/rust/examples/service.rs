@@ -51,7 +51,7 @@ fn main() -> Result<(), Box<dyn std::error::Error>> {
     let listener = TcpListener::bind("127.0.0.1:0")?;
     println!("{}", listener.local_addr()?.port());
     for client in listener.incoming() {
-        let _ = answer(&guard, &requests, client?);
+        let _ = answer(&guard, &requests, client?); // (a fault of one client ends nothing)
     }
     Ok(())
 }
