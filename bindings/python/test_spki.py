@@ -173,7 +173,7 @@ class Opened(unittest.TestCase):
         with self.guard.ask(new_question()) as opened:
             self.assertTrue(opened.is_possible)
             self.assertEqual(opened.decide(), None)
-            for place in (1, -1, -255, 0x101, 2 ** 64, -2 ** 64):
+            for place in (1, -1, -256, 0x100, 0x101, 2 ** 64, -2 ** 64):
                 with self.assertRaises(IndexError):
                     opened.mark(place)
             for place in (True, False, None, "0", b"\0", 0.0, [0]):

@@ -54,7 +54,7 @@ static void delegation(const char *list, const char *sequence, const char *key)
  * memory: until_refusal = 1 would refuse the first request for it. */
 static void wrong_places(const char *list, const char *sequence, const char *key)
 {
-    static const size_t none[] = {1, 2, 255, 0x101, (size_t)-1, (size_t)-255, SIZE_MAX / 2 + 1};
+    static const size_t none[] = {1, 2, 255, 0x100, 0x101, (size_t)-1, (size_t)-255, SIZE_MAX / 2 + 1};
     spki_guard *guard = open_guard(list, SPKI_ALLOW_SHA1);
     struct spki_question question = question_of(sequence, key, "(ftp)");
     spki_asked *asked = open_question(guard, &question);

@@ -151,7 +151,7 @@ func TestMarks(t *testing.T) {
 	if listed := asked.Signatures(); len(listed) != 1 || string(listed[0].Message) != signed[1] || !asked.Possible() {
 		t.Errorf("%q", listed)
 	}
-	for _, place := range []int{1, 2, 0x101, -1, -255, math.MaxInt, math.MinInt} {
+	for _, place := range []int{1, 2, 0x100, 0x101, -1, -256, math.MaxInt, math.MinInt} {
 		if err := asked.Mark(place); !errors.Is(err, guard.ErrMisused) || isGranted(t, asked) {
 			t.Errorf("%d: %v", place, err)
 		}

@@ -558,8 +558,11 @@ func TestNonces(t *testing.T) {
 			t.Errorf("%+v: %v", row, err)
 		}
 	}
-	if err := NewMemory(1).Take([]byte("other key"), "a", 1000, 360); err != nil {
-		t.Error(err)
+	ofKeys := NewMemory(2)
+	for _, key := range []string{"key", "other key"} {
+		if err := ofKeys.Take([]byte(key), "a", 1000, 360); err != nil {
+			t.Errorf("the same nonce of %s: %v", key, err)
+		}
 	}
 }
 

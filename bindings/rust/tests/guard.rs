@@ -193,7 +193,7 @@ fn other_numbers_are_no_places() -> Outcome {
     let guard = guard(LIST);
     let sequence = sequence_of(1);
     let mut asked = guard.ask(&question_showing(&sequence))?;
-    for place in [1, 0x101, usize::MAX, usize::MAX - 254] {
+    for place in [1, 0x100, 0x101, usize::MAX, usize::MAX - 255] {
         assert!(asked.signature(place).is_err());
         let refusal = asked.mark(place).expect_err("a refusal");
         assert_eq!(
