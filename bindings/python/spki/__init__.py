@@ -16,7 +16,7 @@ The parts of a question come from different sources, so each is a separate text.
 octets of one part can become another part. The client must have proved that it holds the key: `ProvenKey` says how. The moment is the time of
 the service's own clock. A grant holds from this moment to `Grant.until`, and a no for its moment alone.
 
-`decide` returns a `Grant`, or `None` for a no. `require` raises `Denied` instead.
+`decide` returns a `Grant`, or `None` for a no. `require` raises `Denied` instead. Each call raises `Refused` also if an allocation failed.
 Several threads may use one guard and one opened question. A thread that calls has 256 KiB of stack left: `threading.stack_size` must not be
 lower.
 
@@ -117,7 +117,7 @@ class _Closable(_NotCopied):
 
     def close(self) -> None:
         """Closes it. Calls that are under way in other threads end as usual, and then its memory is freed. Later calls
-        raise `ValueError`, but for `close`, `repr` and `len`."""
+        raise `ValueError`, but for `close`, `repr`, `len`, `bool` and the begin of a `with`."""
         self._handle = None
 
 
@@ -130,10 +130,11 @@ class Asked(_Closable, NoDecision):
 
     def __init__(self, guard: c_void_p, question: Question, answer_octets: int) -> None:
         """Opens a question for `Guard.ask`. `guard` is the handle of the guard, and `answer_octets` the most octets of
-        an explanation or a reduction. Raises `Refused` if a part of the question cannot be read or exceeds a limit."""
+        an explanation or a reduction. Raises what `Guard.ask` raises."""
         self._handle, self._answer_octets = _AskedHandle(_open_question(guard, question)), answer_octets
         self._count = _library.count(self._handle)
-        # (while a signature is marked, the library permits no other call on the question)
+        # (while a signature is marked, the library permits no other call on the question. Calls that keep the GIL, `_library.signature`
+        # for one, do without the lock: `_library.mark` keeps it too)
         self._lock = threading.Lock()
 
     def __len__(self) -> int:
@@ -156,7 +157,8 @@ class Asked(_Closable, NoDecision):
 
     def mark(self, place: int) -> None:
         """Says that the signature at this place, from 0, is valid. The mark is for its place alone, also if the same signature is there twice.
-        Raises `IndexError` if there is no such place, and then nothing is marked. `True` is no place, and raises `TypeError`."""
+        Raises `IndexError` if there is no such place, and `TypeError` for a place that is no `int`, or is `True` or `False`. Then nothing is
+        marked."""
         handle, index = self._open_handle(), int_of(place)
         if index not in range(self._count):
             raise IndexError(f"there are {self._count} signatures, and none at the place {index}")
@@ -221,8 +223,8 @@ class Guard(_Closable):
     """
 
     def __init__(self, access_list: bytes, policy: Policy = Policy.STRICT, limits: Limits = Limits()) -> None:
-        """Reads `(acl entry ..)`, in any of the three forms. Raises `Refused` if the text is no access list, and
-        `TypeError` for arguments of other types."""
+        """Reads `(acl entry ..)`, in any of the three forms. Raises `Refused` if the text is no access list, or is longer
+        than 1,048,576 octets, and `TypeError` for arguments of other types."""
         if not isinstance(policy, Policy) or not isinstance(limits, Limits):
             raise TypeError("a guard has a `Policy` and `Limits`")
         text, self._policy, self._answer_octets = octets_of(access_list), policy, limits.answer or _library.USUAL_ANSWER
@@ -246,7 +248,7 @@ class Guard(_Closable):
 
     def ask(self, question: Question) -> Asked:
         """Opens a question, whose signatures the caller marks. Raises `Refused` if a part of it cannot be read or
-        exceeds a limit."""
+        exceeds a limit, and `TypeError` if it is no `Question`."""
         return Asked(self._open_handle(), question, self._answer_octets)
 
     def decide(self, question: Question, verify: Verify) -> Grant | None:
@@ -290,8 +292,9 @@ def string_at(text: bytes, *path: int) -> bytes | None:
     """The octets of a string inside a value in canonical form. Each number of the path is that of a member to go into, from 0; the head
     of a list is member 0.
 
-    `None` if no string is there, or the text is no value in canonical form. Raises `Refused` if an allocation failed. Of
-    `(public-key (rsa (n ..) (e #010001#)))` the path 1, 1, 1 is that of the modulus.
+    `None` if no string is there, or the text is no value in canonical form within the limits. Raises `Refused` if an allocation failed, and
+    `TypeError` if the text is not bytes or a number no `int`. Of `(public-key (rsa (n ..) (e #010001#)))`
+    the path 1, 1, 1 is that of the modulus.
     """
     octets, length, text, places = c_void_p(), c_size_t(), octets_of(text), list(map(int_of, path))
     # (`c_size_t` would cut other numbers, and a text has fewer members than octets)
@@ -324,9 +327,9 @@ def transport(text: bytes) -> bytes:
 def _convert(command: int, text: bytes) -> bytes:
     """What `_library.CANONICAL`, `_library.ADVANCED` or `_library.TRANSPORT`, the command, makes of a text. Raises
     `Refused`."""
-    # No form has more than three times the octets of another: an octet that is printed in base64 takes 7 for the 3 of
-    # its canonical text, and `a(b)`, again and again, takes 8 for 3 in transport form. A longer text is refused, so the
-    # room is bounded.
+    # No form of a long text has more than three times the octets of another: an octet that is printed in base64 takes 7
+    # for the 3 of its canonical text, and `a(b)`, again and again, takes 8 for 3 in transport form. For a short text
+    # `_call_for_answer` has more room. A text over the limit is refused, so the room is bounded.
     room = 3 * min(len(text), _library.MOST_OCTETS)
     status, answer = _call_for_answer(room, library.spki_answer, command, text, len(text))
     _raise_unless_done(status, answer)
@@ -412,8 +415,9 @@ def _call_for_answer(most: int, call: Callable[..., int], *arguments: object) ->
 
 
 def _open_question(guard: c_void_p, question: Question) -> int | None:
-    """Opens a question and returns its address, which the caller must free by `_library.close`. Raises `Refused` if a
-    part of it cannot be read or exceeds a limit, and `TypeError` if it is no `Question`."""
+    """Opens a question and returns its address, which the caller must free by `_library.close`. It is never null, which
+    would be `None`. Raises `Refused` if a part of the question cannot be read or exceeds a limit, and `TypeError` if it
+    is no `Question`."""
     if not isinstance(question, Question):
         raise TypeError(f"a guard is asked a `Question`, and not {type(question).__name__}")
     memory = _take_call_memory()
@@ -445,8 +449,8 @@ def _signature(handle: c_void_p, place: int, keys: dict[bytes, bytes]) -> Signat
 
 
 def _count_valid(handle: c_void_p, count: int, verify: Verify) -> int:
-    """How many of the `count` signatures of an opened question are valid before the first that is not. Raises
-    `TypeError` if `verify` returns neither `True` nor `False`."""
+    """How many of the `count` signatures of an opened question are valid before the first that is not. It marks none.
+    Raises `TypeError` if `verify` returns neither `True` nor `False`."""
     memory, call_memory, last_key = _library.memory, _take_call_memory(), b""
     try:
         for place in range(count):

@@ -11,7 +11,7 @@ from typing import Protocol, cast
 # `enum spki_status`, and `enum spki_command`.
 NO, REFUSED, TOO_SMALL, DONE, NO_MEMORY, YES = 1, 2, 4, 6, 8, 9
 CANONICAL, ADVANCED, TRANSPORT = 0, 1, 2
-# The most that limits may set, and the usual limit of an answer.
+# The most that limits may set, and the usual limit of an answer. HIGHEST is for the other limits: the highest `size_t`.
 MOST_OCTETS = 1_048_576
 MOST_NODES = 1_000_000
 MOST_WORK = 1_000_000_000
@@ -76,8 +76,8 @@ memory = cast(Memory, (ctypes.c_char * sys.maxsize).from_address(0))
 
 
 def file_of_this_version() -> str | None:
-    """The file name of the library of this version, `libspki_c.so.0.2`, or None if the loader does not find it. Other
-    versions may be installed beside it, and `find_library` returns any."""
+    """The file name of the library of this version, `libspki_c.so.0.2`, or None if the loader does not find it or cannot
+    load it. Other versions may be installed beside it, and `find_library` returns any. What is found is loaded."""
     name = f"libspki_c.so.{VERSION}"
     try:
         ctypes.CDLL(name)
@@ -98,8 +98,8 @@ def library_path() -> str:
 
 
 def load(path: str) -> ctypes.CDLL:
-    """Loads the library at a path. Raises ImportError if it is of another version than this module, and OSError if it
-    cannot be loaded."""
+    """Loads the library at a path. Raises ImportError if the first two numbers of its version are not `VERSION`, and
+    OSError if it cannot be loaded."""
     loaded = ctypes.CDLL(path)
     call: Callable[[], bytes] | None = getattr(loaded, "spki_version", None)
     if call is not None:

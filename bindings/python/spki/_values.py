@@ -13,8 +13,8 @@ from typing import NamedTuple, NoReturn, Union
 from . import _library
 from ._words import Cause, Fault, Part
 
-# The last word with a capital letter of a line; and a line of an explanation: the numbers of the entry and of the item,
-# and the word.
+# The last word of a line that begins with a capital letter; and a line of an explanation: the numbers of the entry and of
+# the item, which a line may lack, and the word.
 FAULT = re.compile(r".*\b([A-Z]\w*)")
 REASON = re.compile(r"^(?:entry (\d+) )?(?:item (\d+) )?(\w+)$", re.MULTILINE)
 EPOCH, SECOND = datetime(1970, 1, 1, tzinfo=timezone.utc), timedelta(seconds=1)
@@ -159,7 +159,7 @@ class ProvenKey:
     @classmethod
     def assume(cls, key: bytes) -> ProvenKey:
         """The key `(public-key ..)` of a client that has proved to hold it elsewhere, as by TLS or SSH. Nothing checks that here: each client
-        gets the rights of the key that is named."""
+        gets the rights of the key that is named. Raises `TypeError` if the key is not bytes."""
         proven = cls.__new__(cls)
         object.__setattr__(proven, "_text", octets_of(key))
         return proven
@@ -169,7 +169,8 @@ class ProvenKey:
         """The key that has signed a message. The service itself must have made the message, with a nonce that it
         accepts once: a signature of anything else may be an old one, or have another purpose. `verify` says whether the
         signature is valid. Raises `NotProved` if it is not, or if the message is a certificate: anyone can show a
-        certificate, which proves nothing about who shows it."""
+        certificate, which proves nothing about who shows it. `verify` is not called for one. Raises `TypeError` if
+        `verify` returns neither `True` nor `False`."""
         if signed.message.startswith(b"(4:cert") or not answer_of(verify(signed)):
             raise NotProved("the client has not proved that it holds the key")
         return cls.assume(signed.key)
@@ -286,8 +287,8 @@ class Grant:
 
     def holds_at(self, moment: datetime) -> bool:
         """Whether a grant that was kept still holds at a moment, which must not precede the question's. It does not
-        before 1970, since only a clock that failed gives such a moment. Raises `TypeError` for a moment without a time
-        zone.
+        before 1970, since only a clock that failed gives such a moment. Raises `TypeError` for what is no `datetime`
+        with a time zone.
 
         It does not know whether another list was read since, nor whether the verifier would now reject a signature."""
         seconds = seconds_of(moment)
@@ -325,7 +326,7 @@ class Explanation(NoDecision):
         return self.text
 
     def reasons(self) -> Iterator[Reason]:
-        """The lines one by one. There is none if the access list is empty."""
+        """The lines one by one, in their order. There is none if the access list is empty: `text` is `no entries` then."""
         for entry, item, word in REASON.findall(self.text):
             yield Reason(int(entry) if entry else None, int(item) if item else None, Cause(word))
 
