@@ -68,8 +68,8 @@ class Input:
 
 
 class Parser:
-    """Reads the value of a field from the left. Each method raises `Refused` if what it reads is not there. `position`
-    is that of the rest, which is not read yet."""
+    """Reads the value of a field from the left. Each method but `skip_if` raises `Refused` if what it reads is not there.
+    `position` is that of the rest, which is not read yet."""
 
     def __init__(self, text: str) -> None:
         """Reads the label `spki=` of `text`, the value of a field. Raises `Refused`: `other-label` for another label, and
@@ -108,7 +108,9 @@ class Parser:
             raise Refused("two-signatures" if MORE.match(self.text, self.position) else "malformed")
 
     def components(self) -> list[str]:
-        """Reads the list of components, `("@method" ..)`. Returns their names in order."""
+        """Reads the list of components, `("@method" ..)`. Returns their names in order. Raises `Refused`:
+        `unknown-component` for one that may not be covered or has parameters, `component-twice`, and `malformed` for
+        another form or over `MOST_COMPONENTS`."""
         names: list[str] = []
         self.expect("(")
         while not self.skip_if(")"):
@@ -127,7 +129,8 @@ class Parser:
 
     def parameters(self) -> dict[str, str]:
         """Reads the parameters, `;created=1700000000 ..`, and the end. Returns the texts of their values by name,
-        without quotes."""
+        without quotes. Raises `Refused`: `unknown-parameter`, `parameter-twice`, `malformed`, and what `expect_end`
+        raises."""
         texts: dict[str, str] = {}
         while self.skip_if(";"):
             name = self.take(NAME)[0]
@@ -181,7 +184,8 @@ def decoded(text: str) -> bytes | None:
 
 
 def digest_of(value: str) -> tuple[str, bytes]:
-    """The algorithm, `sha-256` or `sha-512`, and the octets in the value of `Content-Digest`. Raises `Refused`."""
+    """The algorithm, `sha-256` or `sha-512`, and the octets in the value of `Content-Digest`. Raises `Refused` with the
+    name `bad-digest` for any other value, also for two digests."""
     name, _, rest = value.partition("=")
     match = OCTETS.fullmatch(rest)
     octets = decoded(match[1]) if match else None
@@ -206,7 +210,8 @@ def in_braces(key: bytes) -> str:
 
 
 def key_of(text: str) -> tuple[bytes, str, int]:
-    """Reads a key in transport form. Returns its canonical text, its algorithm, and how many octets a signature by it has. Raises `Refused`."""
+    """Reads a key in transport form. Returns its canonical text, its algorithm, and how many octets a signature by it has. Raises `Refused` with
+    the name `bad-key`, also for a text over `MOST_KEY`."""
     key = decoded(text[1:-1]) if len(text) <= MOST_KEY and text.startswith("{") and text.endswith("}") else None
     if not key:
         raise Refused("bad-key")
@@ -236,8 +241,8 @@ def octets_of(value: bytes, length: int = 0) -> bytes:
     """The octets of a signature, as RFC 9421 sends them, from its canonical value: the strings of the value, joined.
     `length` is how many octets a signature by the key has. Signers write more or fewer octets 00 in front of a number,
     so each string gets its equal share of the length by these. With a length of 0 the strings stay as they are, and the
-    two of ECDSA must be equally long. Those of Ed25519 always stay, since they are no numbers. Raises `ValueError` for
-    a text that is no value of a signature."""
+    caller ensures that the two of ECDSA are equally long. Those of Ed25519 always stay, since they are no numbers.
+    Raises `ValueError` for a text that is no value of a signature."""
     for algorithm, (_, template, _) in FORMS.items():
         if strings := strings_of(value, template):
             share = 0 if algorithm == "ed25519" else length // len(strings)

@@ -33,7 +33,7 @@ class Message:
     has_body: bool = False
 
     def values(self, name: str) -> list[str]:
-        """The values of a field, whose name is given in small letters, without the spaces around them."""
+        """The values of a field, whose name is given in small letters, in order, without the spaces and tabs around them."""
         return [value.strip(" \t") for field, value in self.fields if field.lower() == name]
 
     def may_have_body(self) -> bool:
@@ -49,14 +49,14 @@ def authority_of(scheme: str, authority: str) -> str:
 
 def base_of(message: Message, scheme: str, components: list[str], parameters: str) -> bytes:
     """The signature base: the text that is signed. `components` are names, and `parameters` is the rest of `Signature-Input` after `spki=`. Raises
-    `Refused` if a component is a field that is absent, repeated, or neither printable ASCII nor tabs."""
+    `Refused` if a component is a field that is absent, is repeated, or has an octet that is neither printable ASCII nor a tab."""
     lines = [f'"{name}": {value_of(message, scheme, name)}' for name in components]
     return "\n".join([*lines, f'"@signature-params": {parameters}']).encode("ascii")
 
 
 def value_of(message: Message, scheme: str, name: str) -> str:
     """The value of a component by its name, such as `@path` or the name of a field. That of `@query` begins with `?`, also without a query.
-    Raises `Refused` if the component is a field that is absent, repeated, or neither printable ASCII nor tabs."""
+    Raises `Refused` if the component is a field that is absent, is repeated, or has an octet that is neither printable ASCII nor a tab."""
     path, separator, query = message.target.partition("?")
     authority = authority_of(scheme, message.authority)
     match name:

@@ -35,9 +35,9 @@ class Signer:
         has. The signature covers what docs/SIGNATURES.md requires, and the fields of `covered`, which are names in small
         letters.
 
-        Raises `ValueError` for an address or a method that cannot be signed, and if the request has no field of a name
-        in `covered`: it would be unsigned. Raises `Refused` for a covered field in two lines, or with other octets than
-        visible ASCII, spaces and tabs."""
+        Raises `ValueError` for an address or a method that cannot be signed, if `sign` returns no value of a signature,
+        and if the request has no field of a name in `covered`: it would be unsigned. Raises `Refused` for a covered
+        field in two lines, or with other octets than visible ASCII, spaces and tabs."""
         parts = urllib.parse.urlsplit(url)
         if parts.scheme not in PORTS or not parts.hostname or parts.username is not None:
             raise ValueError("no address of https or http, or one with a name and a password")
@@ -61,7 +61,8 @@ class Signer:
         return {**added, "Signature-Input": f"{LABEL}={parameters}", "Signature": f"{LABEL}=:{signature}:"}
 
     def _parameters(self, names: list[str]) -> str:
-        """The value of `@signature-params` for components of these names, created now, with a new nonce."""
+        """The value of `@signature-params` for components of these names, created now, with a new nonce. It expires
+        `MOST_WINDOW` seconds later."""
         created, components = int(time.time()), " ".join(f'"{name}"' for name in names)
         keyid, nonce = hash_of(self.key), secrets.token_urlsafe(16)
         return (f'({components});created={created};expires={created + MOST_WINDOW};nonce="{nonce}";keyid="{keyid}"'
@@ -105,8 +106,9 @@ class Auth(_ToNames):
     """
 
     def __call__(self, request: Any) -> Any:
-        """Adds the fields to a request to one of the names, and returns the request. `requests` and `httpx` call it for each request. Raises
-        `TypeError` for a body that is a stream, or in `httpx` its exception `RequestNotRead`."""
+        """Adds the fields to a request to one of the names, and returns the request. A body that is a string becomes octets, by UTF-8. `requests`
+        and `httpx` call it for each request. Raises `TypeError` for a body that is a stream, or in `httpx` its exception `RequestNotRead`, and
+        what `Signer.fields` raises."""
         if self._is_to_one(str(request.url)):
             # (`httpx` has `content`, and `requests` has `body`)
             body = (request.content if hasattr(request, "content") else request.body) or b""

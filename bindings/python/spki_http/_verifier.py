@@ -39,14 +39,14 @@ class Nonces(Protocol):
     """Keeps which nonces were used. Several verifiers may share one."""
 
     def take(self, key: bytes, nonce: str, now: int, seconds: int) -> None:
-        """Keeps a nonce of a key for `seconds` from `now`, which is in seconds since 1970. Raises `Refused` if it was
+        """Keeps a nonce of a key for at least `seconds` from `now`, which is in seconds since 1970. Raises `Refused` if it was
         used before, or if there is no room."""
 
 
 class Memory:
     """Keeps nonces in two sets of at most `most` each, as digests of key and nonce. New ones go into the young set.
-    Once the young set is as old as the time for which a nonce is kept, it becomes the old set, and the old set is
-    dropped. `young_since` is when the young set was begun, in seconds since 1970."""
+    Once the young set is as old as the time for which a nonce is kept, the next `take` makes it the old set, and drops
+    the one before. `young_since` is when the young set was begun, in seconds since 1970."""
 
     def __init__(self, most: int = USUAL_NONCES) -> None:
         self.most, self.young_since, self.lock = most, 0, threading.Lock()
@@ -54,8 +54,8 @@ class Memory:
         self.young: set[bytes] = set()
 
     def take(self, key: bytes, nonce: str, now: int, seconds: int) -> None:
-        """Keeps a nonce of a key for `seconds` from `now`, which is in seconds since 1970. Raises `Refused` if it was
-        used before, or if the young set is full: nothing is forgotten early."""
+        """Keeps a nonce of a key for at least `seconds` from `now`, which is in seconds since 1970. Raises `Refused` if it
+        was used before, or if the young set is full: nothing is forgotten early."""
         # (the octet 0 separates key and nonce: a nonce has none. 16 octets of the digest are enough)
         digest = hashlib.sha256(key + b"\0" + nonce.encode()).digest()[:16]
         with self.lock:
@@ -104,6 +104,7 @@ class Verifier:
     def __init__(self, *authorities: str, scheme: str = "https", sequence: str = "x-spki-sequence", nonces: Nonces | None = None,
                  start: float | None = None, now: Callable[[], float] = time.time,
                  verify: Callable[[Signed], bool] | None = None) -> None:
+        # (without the empty name, which a request has whose Host is the default port alone)
         self.authorities = {authority_of(scheme, name) for name in authorities} - {""}
         self.scheme, self.sequence, self.now = scheme, sequence, now
         self.verify = usual_verify() if verify is None else verify
@@ -112,7 +113,7 @@ class Verifier:
 
     def prove(self, method: str, authority: str, target: str, fields: Iterable[tuple[str, str]], body: bytes | None = None) -> Proof:
         """The proof of a request, whose nonce is used up. `authority` is the value of Host, `target` the path with the query, and `fields` has
-        pairs of name and value. Raises `Refused`. If `body` is None, the caller must test the body later by `Proof.covers`."""
+        pairs of name and value. Raises what `check` and `take` raise. If `body` is None, the caller must test the body later by `Proof.covers`."""
         proof = self.check(Message(method, authority, target, fields, body))
         self.take(proof)
         return proof

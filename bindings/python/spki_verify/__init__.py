@@ -82,8 +82,8 @@ def verify(signature: Signed) -> bool:
 
 
 def verify_texts(*, key: bytes, message: bytes, value: bytes) -> bool:
-    """Whether `value` is a valid signature of `message` by `key`, the two in canonical form. Those in another form, and
-    an empty message, have no valid signature."""
+    """Whether `value` is a valid signature of `message` by `key`. `key` and `value` are canonical texts, and `message` is
+    any octets. False if `key` or `value` is in another form, and for an empty message."""
     public = public_of(key)
     try:
         return public is not None and message != b"" and _is_valid(public, message, value)
@@ -131,7 +131,7 @@ def _are_coordinates(curve: Curve, q: bytes) -> bool:
 
 def _rsa_key(modulus: bytes, exponent: bytes) -> RSAPublicKey | None:
     """The key of a modulus and an exponent. None if one is not as `number` writes it, or is even, or is beyond the
-    limits at the top of this file."""
+    limits at the top of this file, or if the exponent is 1, by which anyone can sign."""
     n, e = int.from_bytes(modulus, "big"), int.from_bytes(exponent, "big")
     is_written = (modulus, exponent) == (number(n), number(e))
     is_within = LEAST_BITS <= n.bit_length() <= MOST_BITS and 3 <= e < 2**MOST_EXPONENT_BITS
