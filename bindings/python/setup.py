@@ -35,7 +35,7 @@ def installed():
 
 
 def library():
-    """The path of the library that goes into the wheel. Ends setup if there is none."""
+    """The path of the library that goes into the wheel. Ends setup if there is none, or if SPKI_LIBRARY is no whole path."""
     named = os.environ.get("SPKI_LIBRARY")
     if named and not os.path.isabs(named):
         raise SystemExit(f"SPKI_LIBRARY must be a whole path, and is {named}: pip builds in another folder")
@@ -46,7 +46,7 @@ def library():
 
 
 class BuildWithLibrary(build_py):
-    """Builds the packages, with the library beside the module that loads it."""
+    """Builds the packages, with the library beside the module that loads it, unless SPKI_LIBRARY is `none`."""
 
     def run(self):
         super().run()

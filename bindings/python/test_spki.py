@@ -1,7 +1,7 @@
 """What the package `spki` does beside the library: opened questions, marks, its buffers, its types and its exceptions.
 
-`tests/suite/test_bindings.py` compares the answers to many questions with the program's. Usage: SPKI_LIBRARY=../../crates/spki_c/out/libspki_c.so
-python3 -m unittest
+`tests/suite/test_bindings.py` compares the answers to many questions with the program's. Usage, in this folder:
+SPKI_LIBRARY=../../crates/spki_c/out/libspki_c.so python3 -m unittest
 """
 import asyncio
 import copy
@@ -644,7 +644,7 @@ class Guards(unittest.TestCase):
                 guard.explain(new_question(), accept_all)
             self.assertEqual((raised.exception.line, raised.exception.part), ("refused TooLarge", None))
 
-    # After `close` each call on a guard or an opened question raises `ValueError`, and `close` may be called again.
+    # After `close` each of these calls on a guard or an opened question raises `ValueError`, and `close` may be called again.
     def test_closing(self):
         with spki.Guard(LIST) as guard:
             self.assertTrue(guard.decide(new_question(), accept_all))

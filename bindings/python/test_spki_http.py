@@ -81,7 +81,7 @@ def verifier_at(clock: list[int]) -> spki_http.Verifier:
 
 
 def answer(verifier: spki_http.Verifier, message: spki_http.Message) -> str:
-    """What the service says of a request: `valid`, or the name of the refusal."""
+    """What the service says of a request: `valid`, or the name of the refusal. `no key` if the proof has none, which no row expects."""
     try:
         proof = verifier.prove(message.method, message.authority, message.target, iter(message.fields), message.body)
     except spki_http.Refused as why:
@@ -176,7 +176,7 @@ class Requests(unittest.TestCase):
         return next((message, now) for _, message, now, _, gives in rows() if gives == "valid")
 
     def test_verifiers_answer_true_or_false(self) -> None:
-        """What a verifier returns beside these proves nothing, also if Python takes it for true."""
+        """Every other answer of a verifier is a `TypeError`, also one that Python takes for true."""
         async def later(signature: object) -> bool:
             return True
 

@@ -13,8 +13,9 @@ import spki_verify
 
 
 async def is_granted(guard: spki.Guard, sequence: bytes, key: spki.ProvenKey, words: list[bytes], now: datetime) -> bool:
-    """Whether a request is granted. All signatures are verified at the same time. The valid ones are marked, and the
-    marks decide. Raises `spki.Refused` if the sequence, the key or the request cannot be read, which is a no too."""
+    """Whether a request is granted. All signatures are verified at the same time, or none if they cannot make it a yes.
+    The valid ones are marked, and the marks decide. Raises `spki.Refused` if the sequence, the key or the request cannot
+    be read, which is a no too."""
     question = spki.Question(sequence, key, words=words, moment=now)
     with guard.ask(question) as asked:
         signatures = asked.signatures() if asked.is_possible else []
@@ -26,8 +27,8 @@ async def is_granted(guard: spki.Guard, sequence: bytes, key: spki.ProvenKey, wo
 
 
 async def main() -> None:
-    """Prints `granted` or `denied` for the arguments ACL SEQUENCE KEY WORD .. Raises an exception if a file cannot be
-    read or a text is refused."""
+    """Prints `granted` or `denied` for the arguments ACL SEQUENCE KEY WORD .. and ends with status 0 for both. Ends with
+    the usage if there are fewer. Raises an exception if a file cannot be read or a text is refused."""
     if len(sys.argv) < 5:
         sys.exit("usage: asynchronous.py ACL SEQUENCE KEY WORD ..")
     texts = []

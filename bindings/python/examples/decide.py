@@ -22,8 +22,8 @@ def is_granted(guard: spki.Guard, sequence: bytes, key: spki.ProvenKey, words: l
 
 
 def main() -> None:
-    """Prints `granted` or `denied` for the arguments ACL SEQUENCE KEY WORD .. Raises an exception if a file cannot be
-    read or a text is refused."""
+    """Prints `granted` or `denied` for the arguments ACL SEQUENCE KEY WORD .. and ends with status 0 for both. Ends with
+    the usage if there are fewer. Raises an exception if a file cannot be read or a text is refused."""
     if len(sys.argv) < 5:
         sys.exit("usage: decide.py ACL SEQUENCE KEY WORD ..")
     texts = []
