@@ -35,6 +35,7 @@ MADE = "out/libspki_c.a"
 # Of each target: the folder of its libraries, its C compiler, how its other tools begin, and the Debian packages of the two.
 TARGETS = {OWN: ("out", "cc", "", "gcc", "binutils"),
            ARM: (f"out/{ARM}", "aarch64-linux-gnu-gcc", "aarch64-linux-gnu-", "gcc-aarch64-linux-gnu", "binutils-aarch64-linux-gnu")}
+# A declaration of a call. What the header defines itself does not match, since its line has a parenthesis before the name: SPKI_INLINE(..).
 CALL = re.compile(r"^\w[\w *]*\b(spki_\w+)\(", re.MULTILINE)
 OF_C = ["-std=c11", "-O2", "-fPIC", "-Wall", "-Wextra", "-Wpedantic", "-Werror"]
 
@@ -55,6 +56,7 @@ def built_over_gate(rt, flags, to):
     below = crate.below()
     if all(it.is_built() for it in below) or not all(os.path.isdir(it.rlib) for it in below):
         return False
+    # (`rt ci` leaves the statements of these libraries without their proofs)
     rt.Crate.cuts_libraries = True
     return crate.compile(flags, to) == 0
 
@@ -84,7 +86,7 @@ def build_proved(rt, asked, to):
 
 
 def exports():
-    """The calls that the header declares."""
+    """The names of the calls that spki.h declares, in its order. This folder must be the current one."""
     with open("spki.h", encoding="ascii") as header:
         return CALL.findall(header.read())
 
@@ -128,7 +130,7 @@ def link(target, kit, proved):
 
 
 def arguments():
-    """What the command line asks for."""
+    """The parsed command line: `over_gate`, `again` and `target`."""
     asked = argparse.ArgumentParser(description="Builds the proved library for C programs, static and shared.")
     how = asked.add_mutually_exclusive_group()
     how.add_argument("--over-gate", action="store_true", help="over what rt ci has left of the libraries below")
@@ -138,6 +140,7 @@ def arguments():
 
 
 def main():
+    """Builds both libraries. Ends with a message if a tool is missing, and by CalledProcessError if a command fails."""
     asked = arguments()
     os.chdir(CRATE)
     folder, cc, prefix, package_of_cc, package = TARGETS[asked.target]

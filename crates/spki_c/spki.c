@@ -39,7 +39,7 @@ static bool is_misuse(const void *at, size_t count, size_t size)
 }
 
 /* Begins a call that returns an answer: replaces a null buffer by one that is not used, and a null `needed` by `unused`, sets `**needed` to 0, and
- * empties the line in the buffer. False if the buffer is misuse. */
+ * sets the first octet of the buffer, if it has one, to 0. False if the buffer is misuse: it is not written then. */
 static bool begin_answer(void **buffer, size_t length, size_t **needed, size_t *unused)
 {
     static unsigned char no_buffer;
@@ -66,7 +66,7 @@ static void must_be_at(const void *value, struct handle back)
         __builtin_trap();
 }
 
-/* Frees a guard or a question. One of the other kind is given back. */
+/* Frees a guard or a question. One of the other kind is given back, and stays open. */
 static void close_handle(bool is_question, void *value)
 {
     struct handle back = {0};

@@ -227,8 +227,8 @@ typedef struct spki_guard spki_guard;
 SPKI_RESULT enum spki_status spki_guard_open(const void *list, size_t list_length, enum spki_policy policy, const struct spki_limits *limits,
                                  spki_guard **guard, void *buffer, size_t buffer_length, size_t *needed);
 
-/* Frees a guard, once the questions that were opened with it are closed too. The caller does not use the pointer again. A null pointer
- * has no effect, nor has that of a question. */
+/* Closes a guard. The questions that were opened with it stay open, and its memory is freed when they are closed too. The caller does not
+ * use the pointer again. A null pointer has no effect, nor has that of a question. */
 void spki_guard_close(spki_guard *guard);
 
 /* The number of entries of the access list; 0 if the pointer is null. */
@@ -295,8 +295,8 @@ typedef struct spki_asked spki_asked;
  * null. SPKI_REFUSED: the line says what is refused. `refused sequence Bad 5` is for what is no text of a value, and
  * `refused sequence 3 Shape` for a value that is no sequence. Other lines are `refused key ..`, `refused request ..`, `refused at ..`,
  * `refused question TooLong`, `refused question TooManyCertificates`, `refused question TooManyWords` and `refused Memory`.
- * SPKI_TOO_SMALL: the line does not fit the buffer. SPKI_MISUSED: a pointer is null, the question is not read by its size, or it has a
- * request both as a text and as strings, or a moment both as a text and in seconds. */
+ * SPKI_TOO_SMALL: the line does not fit the buffer. SPKI_MISUSED: `guard`, `question` or `asked` is null, `guard` is a question, the
+ * structure is not read by its size, or it has a request both as a text and as strings, or a moment both as a text and in seconds. */
 SPKI_RESULT enum spki_status spki_guard_ask(const spki_guard *guard, const struct spki_question *question, spki_asked **asked, void *buffer,
                                 size_t buffer_length, size_t *needed);
 
@@ -306,7 +306,7 @@ size_t spki_asked_count(const spki_asked *asked);
 /* Sets `*signature` to the signature at this place, from 0.
  *
  * SPKI_DONE: it is set. With every other status all of it is null and 0. SPKI_NONE: the question has no more signatures than `place`.
- * SPKI_NO_MEMORY: an allocation failed. SPKI_MISUSED: a pointer is null. */
+ * SPKI_NO_MEMORY: an allocation failed. SPKI_MISUSED: a pointer is null, or `asked` is that of a guard. */
 SPKI_RESULT enum spki_status spki_asked_signature(const spki_asked *asked, size_t place, struct spki_signed *signature);
 
 /* Says that the signature at this place, from 0, is valid. Nothing is valid that is not marked. A mark is for its place alone, also if the

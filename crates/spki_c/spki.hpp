@@ -140,6 +140,7 @@ public:
     {
         if (!*this || result.until == INT64_MAX)
             return std::nullopt;
+        // (time::min() lies within its second, whose beginning the clock does not have)
         const auto first = seconds_of(time::min()) + 1, last = seconds_of(time::max());
         return time(std::chrono::seconds(std::clamp<std::int64_t>(result.until, first, last)));
     }
@@ -175,7 +176,8 @@ public:
     /* How many signatures are to be verified. */
     std::size_t size() const noexcept { return spki_asked_count(handle.get()); }
 
-    /* The signature at a place, from 0. Its texts last as long as this object. Throws std::logic_error if there is none. */
+    /* The signature at a place, from 0. Its texts last as long as this object. Throws std::logic_error if there is none, or if an
+     * allocation failed. */
     spki::signature signature(std::size_t place) const
     {
         spki_signed texts;
@@ -189,14 +191,14 @@ public:
     /* Whether the request would be granted if all signatures were valid. If not, none has to be verified. True grants nothing. */
     bool possible() const noexcept { return spki_asked_possible(handle.get()); }
 
-    /* Marks each signature that is valid, up to the first that is not. */
+    /* Marks each signature that is valid, in order, up to the first that is not. If `verify` throws, those before stay marked. */
     template <typename Verify> void verify(Verify &&verify)
     {
         for (std::size_t place = 0; place < size() && is_valid(verify, signature(place)); place++)
             mark(place);
     }
 
-    /* Whether the request is granted, if exactly the marked signatures are valid. */
+    /* Whether the request is granted, if exactly the marked signatures are valid. A no too if an allocation failed. */
     decision decide() const noexcept
     {
         char line[64];
@@ -204,7 +206,7 @@ public:
     }
 
     /* The lines that say of each entry why it grants the request or does not, and which right remains of it. Throws `refused` if they, or tags, are
-     * too large. */
+     * too large, or if an allocation failed. */
     std::string explain() const { return lines(spki_asked_explain); }
     std::string reduce() const { return lines(spki_asked_reduce); }
 
@@ -251,7 +253,7 @@ public:
     /* The number of entries of the list. */
     std::size_t entries() const noexcept { return spki_guard_entries(handle.get()); }
 
-    /* Reads a question. Throws `refused` if a part cannot be read or exceeds a limit. */
+    /* Reads a question. Throws `refused` if a part cannot be read or exceeds a limit, or if an allocation failed. */
     spki::asked ask(const question &question) const
     {
         char line[line_room];
@@ -264,7 +266,7 @@ public:
         return asked;
     }
 
-    /* Reads a question, verifies its signatures, unless no signature can help, and decides. Throws like `ask`. */
+    /* Reads a question, verifies its signatures, unless no signature can help, and decides. Throws like `ask`, and what `verify` throws. */
     template <typename Verify> decision decide(const question &question, Verify &&verify) const
     {
         spki::asked asked = ask(question);
