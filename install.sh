@@ -3,7 +3,7 @@
 # C++, the files for pkg-config and CMake, the manual pages and `spki-cert`, the command for those who hold keys. Needs the toolchain's `rt` in
 # the path and a C compiler, unless PROGRAM and LIBRARY are given. If the loader looks into the folder of the libraries, it is told of them by
 # ldconfig, which only root may run; otherwise the last line says what to do.
-# --uninstall removes the files that this version installs, and leaves the folders.
+# --uninstall removes the files that this version installs, and leaves the folders, but for those of compiled modules.
 # LIBDIR is the folder of the libraries below the prefix, if it is not `lib`, such as lib/x86_64-linux-gnu.
 # Usage: ./install.sh [PREFIX [PROGRAM [LIBRARY]]]        the default prefix is /usr/local; libspki_c.so is beside the LIBRARY
 #        ./install.sh --uninstall [PREFIX]

@@ -23,7 +23,7 @@ TOP = os.path.dirname(os.path.dirname(os.path.realpath(__file__)))
 # The heading of a release in CHANGELOG.md: its version, and its date or other words.
 SECTION = re.compile(r"^## (\d+\.\d+\.\d+), (.*)$", re.MULTILINE)
 DATE = re.compile(r"\d{4}-\d\d-\d\d")
-# The letters of a line of the changelog.
+# The most letters of a line of the changelog.
 WIDTH = 78
 # What a program or a library says of itself: the logic by which the toolchain has proved it, and the version of Go whose libraries it has.
 LINKED = {"rattle-logic": re.compile(rb"rattle logic=([0-9a-f]{64})"), "go": re.compile(rb"\xff Go buildinf:.{19}go([\d.]+)", re.DOTALL)}
@@ -38,7 +38,7 @@ def text_of(name: str) -> str:
 
 
 def moment() -> datetime:
-    """The time of the sources, SOURCE_DATE_EPOCH."""
+    """The time of the sources, SOURCE_DATE_EPOCH. Raises KeyError if it is not set."""
     return datetime.fromtimestamp(int(os.environ["SOURCE_DATE_EPOCH"]), timezone.utc)
 
 
@@ -56,7 +56,7 @@ def releases(text: str, version: str) -> Iterator[tuple[str, str, str]]:
 
 
 def items(text: str) -> Iterator[str]:
-    """Yields the paragraphs and the items of lists in a section, each on one line."""
+    """Yields the paragraphs and the items of lists in a section, each on one line, without the marks of bold type."""
     for part in re.split(r"\n\s*\n|\n(?=- )", text):
         if part.strip():
             yield " ".join(part.strip().removeprefix("- ").split()).replace("**", "")
@@ -153,7 +153,7 @@ def contents(maintainer: str, paths: list[str]) -> str:
 
 
 def main() -> None:
-    """Writes what the words of the command line say to standard output. Ends with the usage for other words."""
+    """Writes what the words of the command line say to standard output. Ends with the usage and status 1 for other words."""
     match sys.argv[1:]:
         case ["changelog", maintainer]:
             print(changelog(maintainer), end="")
