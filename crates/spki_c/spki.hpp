@@ -176,8 +176,8 @@ public:
     /* How many signatures are to be verified. */
     std::size_t size() const noexcept { return spki_asked_count(handle.get()); }
 
-    /* The signature at a place, from 0. Its texts last as long as this object. Throws std::logic_error if there is none, or if an
-     * allocation failed. */
+    /* The signature at a place, from 0. Its texts last as long as this object. Throws std::logic_error if there is none, or if the
+     * library gets no memory. */
     spki::signature signature(std::size_t place) const
     {
         spki_signed texts;
@@ -198,7 +198,7 @@ public:
             mark(place);
     }
 
-    /* Whether the request is granted, if exactly the marked signatures are valid. A no too if an allocation failed. */
+    /* Whether the request is granted, if exactly the marked signatures are valid. A no too if the library gets no memory. */
     decision decide() const noexcept
     {
         char line[64];
@@ -206,7 +206,7 @@ public:
     }
 
     /* The lines that say of each entry why it grants the request or does not, and which right remains of it. Throws `refused` if they, or tags, are
-     * too large, or if an allocation failed. */
+     * too large, or if the library gets no memory. */
     std::string explain() const { return lines(spki_asked_explain); }
     std::string reduce() const { return lines(spki_asked_reduce); }
 
@@ -253,7 +253,7 @@ public:
     /* The number of entries of the list. */
     std::size_t entries() const noexcept { return spki_guard_entries(handle.get()); }
 
-    /* Reads a question. Throws `refused` if a part cannot be read or exceeds a limit, or if an allocation failed. */
+    /* Reads a question. Throws `refused` if a part cannot be read or exceeds a limit, or if the library gets no memory. */
     spki::asked ask(const question &question) const
     {
         char line[line_room];
