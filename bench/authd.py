@@ -49,7 +49,8 @@ def arguments():
 
 
 def measure_ways(site, seconds):
-    """The Figures of each of WAYS, by its name, with the number of connections that gets the highest rate. Each number is measured twice."""
+    """The Figures of each of WAYS, by its name, with the number of connections that gets the highest rate. Each number is measured twice.
+    Prints all."""
     best = {}
     for connections in 2 * CONNECTIONS:
         for name, port in zip(WAYS, site.nginx):
@@ -69,7 +70,8 @@ def print_processor_time(site, daemon, seconds):
 
 
 def at_half_load(site, seconds, full):
-    """The figures at about half of the rate of `full`, which are figures too: each connection waits some random time before each request."""
+    """The figures at about half of the rate of `full`, which are figures too: each connection waits some random time before each request. Prints
+    them."""
     connections = CONNECTIONS[-1]
     delay = round(1000 * connections / (full.rate / 2))
     figures = site.load(site.nginx[2], seconds, connections, delay)
@@ -78,7 +80,7 @@ def at_half_load(site, seconds, full):
 
 
 def run_soak(site, process, seconds):
-    """The figures under load with a reload each second, and a list of the daemon's resident memory after each reload, in KiB."""
+    """The figures under load with a reload each second, and a list of the daemon's resident memory a second after each reload, in KiB."""
     memory = []
     with ThreadPoolExecutor(1) as pool:
         load = pool.submit(site.load, site.nginx[2], seconds, CONNECTIONS[0])
@@ -97,7 +99,8 @@ def growth(memory):
 
 
 def faults_of_races(site):
-    """Asks a daemon with the race detector under load, and returns a list of what is wrong, which is empty if nothing is."""
+    """Asks a daemon with the race detector under load, with a reload each second. Prints the figures, and returns a list of what is wrong: a race,
+    wrong answers, or a daemon that ends with another status than 0. It is empty if nothing is."""
     site.build("-race")
     process = site.start_all()
     figures, _ = run_soak(site, process, RACE_SECONDS)

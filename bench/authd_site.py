@@ -99,7 +99,7 @@ def connect(at):
 
 
 def free_ports(count):
-    """Numbers of ports of loopback on which no process listens now."""
+    """A list of the numbers of so many ports of loopback on which no process listens now."""
     with contextlib.ExitStack() as stack:
         sockets = [stack.enter_context(socket.create_server(("127.0.0.1", 0))) for _ in range(count)]
         return [each.getsockname()[1] for each in sockets]
@@ -158,7 +158,7 @@ class Site:
     # ---- programs
 
     def build(self, *flags):
-        """Builds the daemon, with these flags of Go, and the handler."""
+        """Builds the daemon, with these flags of Go, and the handler. Raises CalledProcessError if one does not compile."""
         self.program = golang.build_daemon(self.library, self.path("spki-authd"), *flags)
         golang.go(BENCH, ["build", "-o", self.path("yes"), "yes.go"], self.library).check_returncode()
 
@@ -194,6 +194,7 @@ class Site:
     def start_all(self):
         """Starts the daemon, the handler and nginx, and returns the daemon's process."""
         daemon = self.start_daemon()
+        # (an earlier handler has left its socket, at which a new one could not listen)
         with contextlib.suppress(FileNotFoundError):
             os.remove(self.path("yes.socket"))
         self.handler = self.start(self.path("yes"), self.path("yes.socket"), at=self.path("yes.socket"))

@@ -1,6 +1,6 @@
 #!/usr/bin/env python3
 """Times `spki check` on long chains of certificates and on wide texts, and beside `openssl`. Each text is a case: an access list, certificates and a
-question in one. `linear.py` has slower texts. Times are processor times, the least of some runs.
+question in one. `linear.py` has slower texts. Times are processor times, the least of some runs, and of a wide text that of one run.
 
 Build the program first (`rt run` in crates/spki). Usage: bench/chains.py [PROGRAM]
 """
@@ -93,7 +93,8 @@ def large_tags():
 
 
 def beside_openssl():
-    """The seconds of a decision by three certificates, and those of the SHA-256 of the same octets by `openssl`, each a process."""
+    """The seconds of a decision by three certificates, and those of the SHA-256 of the same octets by `openssl`, each a process and the least of 50
+    runs."""
     text = by_keys(3)
     decided = min(run(text, b"yes entry 1\n") for _ in range(50))
     words = ["openssl", "dgst", "-sha256"]

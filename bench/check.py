@@ -112,7 +112,7 @@ def run(text, wanted, timeout=None):
 
 
 def main():
-    """Measures all. Ends with status 1 if a limit is passed."""
+    """Measures all. Ends with status 1 if a limit is passed or an answer is wrong."""
     worst_ratio, worst_memory = 0.0, 0.0
     print(f"{'case':<16}" + "".join(f"{size // 1024:>9} KiB" for size in SIZES) + "   ratios      peak")
     for make in (many_entries, many_structures, many_certificates, many_members, lists_in_lists, one_string, no_value):

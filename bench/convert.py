@@ -158,14 +158,14 @@ def ratio_beside_peer(form, text, seconds, peer_seconds):
 
 
 def print_target(name, worst, limit):
-    """Prints the worst value beside its limit. Returns whether it is within the limit."""
+    """Prints the worst value beside its limit, the most that it may be. Returns whether it is within the limit."""
     is_within = worst <= limit
     print(f"{name}: {worst:.2f} (at most {limit}): {'pass' if is_within else 'miss'}")
     return is_within
 
 
 def main():
-    """Measures all. Ends with status 1 if a limit is passed."""
+    """Measures all. Ends with status 1 if a limit is passed, if a program is missing, or if the two write other canonical forms of a text."""
     for program in (PROGRAM, PEER):
         if shutil.which(program) is None:
             sys.exit(f"{program} is not there")

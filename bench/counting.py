@@ -11,7 +11,8 @@ import tempfile
 
 
 def counted_by_perf(command, text):
-    """The instructions that a command takes on an open text, counted by perf. None if perf cannot count them here."""
+    """The instructions that a command takes on an open text, counted by perf. None if perf cannot count them here. Raises OSError if there is no
+    perf."""
     done = subprocess.run(["perf", "stat", "-x", ",", "-e", "instructions:u"] + command, stdin=text, capture_output=True)
     # (the last line is the number and further fields, or begins with `<not` where perf cannot count)
     line = re.match(rb"(\d+),", done.stderr.splitlines()[-1]) if done.stderr else None
@@ -19,7 +20,8 @@ def counted_by_perf(command, text):
 
 
 def counted_by_valgrind(command, text, *flags, settings=None):
-    """The instructions that a command takes on an open text, counted by valgrind, with flags of valgrind and settings added to the environment."""
+    """The instructions that a command takes on an open text, counted by valgrind, with flags of valgrind and settings added to the environment.
+    Raises OSError if there is no valgrind."""
     with tempfile.NamedTemporaryFile() as out:
         words = ["valgrind", "--tool=callgrind", f"--callgrind-out-file={out.name}", *flags]
         done = subprocess.run(words + command, stdin=text, capture_output=True, env={**os.environ, **(settings or {})})
@@ -27,7 +29,7 @@ def counted_by_valgrind(command, text, *flags, settings=None):
 
 
 def counted_inside(function):
-    """Returns a counter of the instructions inside a function of the program, by valgrind."""
+    """Returns a counter of the instructions inside a function of the program and in what it calls, by valgrind."""
     return lambda command, text: counted_by_valgrind(command, text, f"--toggle-collect={function}")
 
 
@@ -68,7 +70,8 @@ def can_count():
 
 def of_one_call(count, words, calls=100):
     """What the counter `count` counts of one call, by a program whose last word is the number of calls: what further calls add, divided by their
-    number. What the program does besides is the same for each number of calls."""
+    number. What the program does besides is the same for each number of calls. Raises CalledProcessError if the program fails."""
+    # (a counter does not look at the status of the program)
     subprocess.run([*words, "1"], stdout=subprocess.DEVNULL, check=True)
     few, many = (counted(count, [*words, str(number)], b"") for number in (1, 1 + calls))
     return (many - few) / calls

@@ -2,7 +2,7 @@
 """Counts the instructions of `spki explain` on cases, texts with an access list, certificates and a question, and shows what `reduce` may write. The
 limits are:
 
-- On cases of one entry, at most 4 times the instructions of `check`, which intersects no tags there.
+- On cases of one entry, at most 4 times the instructions of `check`, which intersects no tags there, and at most 128 MiB of memory.
 - On many entries with many certificates, at most 1.5 times the entries times what one entry takes with the certificates: each is folded.
 - `reduce` of a text of 1 MiB, of which half is the key that stands in each line: at most 32 MiB of memory.
 
@@ -24,7 +24,8 @@ COPIES = 999
 
 
 def measure_one_entry(count):
-    """The largest ratio of the instructions of `explain`, by the counter `count`, to those of `check` on one entry, and the most MiB."""
+    """The largest ratio of the instructions of `explain`, by the counter `count`, to those of `check` on one entry, and the most MiB.
+    Prints a line for each case."""
     texts = [("a chain by keys", by_keys(1500, asks=key("other"))), ("a chain by hashes", by_hashes(1500)),
              ("a chain through names", through_names(1500))]
     # (the first of `widest` has many entries)
@@ -74,7 +75,7 @@ def print_reductions():
 
 def most_of_long_keys():
     """The most MiB of `reduce` of entries whose certificate is for a key of half the text. The key has one string, or very many. Prints a line for
-    each of the two. Ends the process if `reduce` does not answer."""
+    each of the two. Raises CalledProcessError if `reduce` fails."""
     most = 0.0
     issuer, other = keys_of(1)
     # (an empty string has two octets, so 250,000 of them are about half the text too)

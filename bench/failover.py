@@ -102,7 +102,8 @@ def span_of_503(answers, failed):
 
 
 def is_wrong(answer, removed, stale):
-    """Whether an answer, as an Asker has it, is wrong. `removed` is when the entry was removed, `stale` is `stale_seconds`."""
+    """Whether an answer, as an Asker has it, is wrong, by the head of this file. A 503 is not. `removed` is when the entry was removed, `stale` is
+    `stale_seconds`."""
     begun, _, name, status = answer
     if name == GOES and status == 200:
         return begun > removed + stale

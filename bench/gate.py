@@ -117,7 +117,7 @@ def table(totals, whole, clock, fixed):
 
 
 def main():
-    """Runs the fixed check and the command. Returns the status of the command."""
+    """Runs the fixed check and the command, and prints the table. Returns the status of the command. Ends with status 1 if the fixed check fails."""
     command = sys.argv[1:] or [os.path.join(ROOT, ".ci", "run")]
     status, fixed = run_timed(FIXED)
     if status:

@@ -5,7 +5,8 @@
  * macaroons CASE PARTS              prints the microseconds of each way
  * macaroons CASE PARTS WAY CALLS    grants CALLS times by one way, for counting instructions
  *
- * CASE is the file of the case, and PARTS that of its parts. */
+ * CASE is the file of the case, and PARTS that of its parts. Ends with 1 if a way does not grant or there is no such way, 2 for other words or a file
+ * that cannot be read, and 3 if the list is refused. */
 #define _POSIX_C_SOURCE 199309L
 #include <macaroons.h>
 #include <time.h>

@@ -5,7 +5,7 @@ for it or was before.
 
 They do not do the same work: a macaroon is checked with a secret that the service shares with whoever mints it, and its caveats
 are compared as whole texts. Of the certificates the digests are taken, and names, tags and windows are joined; that their signatures
-are right another tool has found before (for what that takes see bench/chains.py).
+are right another tool has found before.
 
 Build the library first (crates/spki_c/archive.py), and install libmacaroons (Debian: libmacaroons-dev).
 Usage: bench/macaroons.py

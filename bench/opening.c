@@ -1,7 +1,10 @@
 /* Counts what is taken while a question is opened, for `service.py`. Is linked with --wrap=malloc, --wrap=realloc and --wrap=free.
  *
  * opening FILE      the octets of the question in the file, the most octets of memory that are taken at once until its signatures are listed,
- *                   those that are kept, and the ms of the processor */
+ *                   those that are kept, and the ms of the processor
+ *
+ * Ends with 4 if the question is not opened or a decision is misuse, 3 if the list is refused, and 2 for other words or a file that cannot be
+ * read. */
 #define _GNU_SOURCE
 #include "question.h"
 #include "taken.h"

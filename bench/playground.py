@@ -37,7 +37,7 @@ class Timed(InChromium):
     engine = "library" if os.path.exists(f"{LIBRARY[:-2]}.so") else "program"
 
     def to_the_answer(self, question):
-        """The median of the seconds from a keystroke to the answer, for the parts of a question by their names."""
+        """The median of the seconds from a keystroke to the answer. `question` is a dictionary, whose `acl` and `sequence` are put into the page."""
         for name in ("acl", "sequence"):
             self.put(name, question[name])
         # (until the page has answered to these texts)

@@ -6,7 +6,7 @@ The toolchain writes a file for each part of a proof once it is done. So a part 
 of a function are in `Lts`: they grow with what it owns at each place where it may return. Its goals are in `Proof`. What is in files of
 `proofs/` that are no function's is one row, `chapters`. Measure on a quiet machine.
 
-Usage: bench/proofs.py CRATE [ROWS]
+Usage: bench/proofs.py CRATE [ROWS]        20 rows unless another number is given
 """
 import os
 import re

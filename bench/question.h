@@ -28,6 +28,7 @@ static struct spki_text read_text(FILE *file)
     size_t length;
     if (fscanf(file, "%zu", &length) != 1 || fgetc(file) != '\n')
         exit(2);
+    /* (malloc(0) may return null) */
     unsigned char *octets = malloc(length + 1);
     if (!octets || fread(octets, 1, length, file) != length)
         exit(2);
@@ -74,7 +75,7 @@ static inline enum spki_status decision_of(const spki_asked *asked, void *buffer
     return spki_asked_decide(asked, buffer, length, needed).status;
 }
 
-/* Decides the opened question. */
+/* Decides the opened question. Returns the status. */
 static inline enum spki_status decided(struct held *held)
 {
     return answered(held, decision_of);

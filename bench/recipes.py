@@ -177,7 +177,8 @@ class Recipe:
 
 
 def greatest(fits: Callable[[int], bool], most: int = 1 << 20) -> int:
-    """The greatest number up to `most` for which `fits` is true. It must be true for each lower number from 1 on. 0 if it is true for none."""
+    """The greatest number up to `most` for which `fits` is true, 0 if there is none. If it is true for a number, it must be for each lower one from 1
+    on."""
     low, high = 0, 1
     while high <= most and fits(high):
         low, high = high, 2 * high

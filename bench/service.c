@@ -11,7 +11,10 @@
  *
  * service ask FILE CALLS        CALLS times the question opened, the signatures listed and a decision
  * service reopen LIST CALLS     CALLS guards of a list
- * service answer CASE CALLS     CALLS decisions of a case, each from its text */
+ * service answer CASE CALLS     CALLS decisions of a case, each from its text
+ *
+ * Ends with 2 for other words or a file that cannot be read, 3 for a list that is refused, 4 for another answer than is timed, and 5 if a thread
+ * cannot be started. */
 #define _GNU_SOURCE
 #include "question.h"
 #include <malloc.h>
@@ -44,7 +47,7 @@ static void keep_least(double *least, double took)
         *least = took;
 }
 
-/* The mean µs of CALLS calls in a row. Ends the program if one returns another status than `wanted`. */
+/* The mean µs of CALLS calls in a row. Ends the program with status 4 if one returns another status than `wanted`. */
 static double time_of(enum spki_status (*call)(struct held *), struct held *held, enum spki_status wanted)
 {
     double begun = now();
@@ -66,7 +69,7 @@ static void decide_file(const char *path)
     printf("%.2f %.2f\n", listing, deciding);
 }
 
-/* Reads a file, at most its first 2 MiB. Ends the program if it cannot. */
+/* Reads a file, at most its first 2 MiB. Ends the program with status 2 if it cannot. */
 static struct spki_text whole_file(const char *path)
 {
     struct spki_text text = {malloc(2 << 20), 0};

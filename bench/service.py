@@ -16,7 +16,8 @@ an access list, certificates, which signatures are valid, and a question.
 - The questions that 8 threads open and decide, each with a guard of its own, beside those of one, as on four free cores: how many cores are
   free is how far 8 threads count beside one. A thread that decides must not wait for another one.
 
-The first four and Rust are compared by instructions, and where valgrind is not there they are left out; the questions by processor time.
+The first four and Rust are compared by instructions. Where neither perf nor valgrind is there they are left out, and the digests and Rust where
+valgrind is not. `.ci/deep` reads the lines that say so, which end with `is left out` or `are left out`. The questions are compared by processor time.
 Other programs only add to a time. So each time is the least of some turns, and while it is over its limit, of more turns with pauses. The time to
 open a question of 1 MiB alone is taken once.
 All ratios are taken in one run. Build the library first (crates/spki_c/archive.py).
@@ -102,8 +103,8 @@ class Driver:
         return program
 
     def run(self, *words):
-        """Runs service.c with these words, and returns the numbers that it prints. Large blocks of memory lie apart, so that the pages in use
-        do not depend on the gaps that earlier blocks left."""
+        """Runs service.c with these words, and returns the numbers that it prints. Ends the script if it fails. Large blocks of memory lie apart, so
+        that the pages in use do not depend on the gaps that earlier blocks left."""
         done = subprocess.run([self.program, *map(str, words)], stdout=subprocess.PIPE, text=True, timeout=SECONDS, env={**os.environ, **APART})
         if done.returncode:
             sys.exit(f"service {' '.join(map(str, words))}: status {done.returncode}")
@@ -249,7 +250,8 @@ def turns(is_limit_kept):
 
 
 def time_through_python(driver, text):
-    """The least µs of a decision through Python, with all signatures valid. `text` is a case whose question is granted."""
+    """The least µs of a decision through Python, with all signatures valid. `text` is a case whose question is granted. Sets SPKI_LIBRARY, which the
+    first import of `spki` reads."""
     os.environ["SPKI_LIBRARY"] = driver.library.removesuffix(".a") + ".so"
     sys.path.insert(1, os.path.join(TOP, "bindings", "python"))
     import spki
@@ -530,7 +532,7 @@ def print_and_check(what, value):
 
 
 def main():
-    """Measures all. Ends with status 1 if a limit is passed."""
+    """Measures all, and then prints each value beside its limit. Ends with status 1 if a limit is passed or an answer is wrong."""
     library = os.path.abspath(sys.argv[1] if len(sys.argv) > 1 else LIBRARY)
     with tempfile.TemporaryDirectory() as folder:
         driver = Driver(folder, library)

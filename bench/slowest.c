@@ -4,7 +4,7 @@
  *
  * CALL is `list` (a guard is opened), `question` (a question is opened), `decide`, `explain` or `reduce`. LIMITS are `usual` or `highest`, and
  * MARKS are `all` of the signatures or `half`, every second one. FILE is that of question.h. Prints the status, the least ms of the processor of
- * some runs, and the most octets of memory that a run takes. Is linked with --wrap=malloc, --wrap=realloc and --wrap=free. */
+ * some runs, and the most octets of memory that the last run takes. Is linked with --wrap=malloc, --wrap=realloc and --wrap=free. */
 #define _GNU_SOURCE
 #include "question.h"
 #include "taken.h"
@@ -22,7 +22,7 @@ static double used(void)
     return time.tv_sec * 1e3 + time.tv_nsec / 1e6;
 }
 
-/* Opens the question, and marks each of its signatures, or with `every` 2 every second one. */
+/* Opens the question, and marks each of its signatures, or with `every` 2 every second one. Returns the status of opening it. */
 static enum spki_status ask(struct held *held, size_t every)
 {
     size_t needed;
@@ -40,7 +40,8 @@ static bool is(const char *word, const char *other)
 }
 
 /* Does one call, and takes its time in ms. The question is opened before an explanation or a reduction. A decision's time has the opening in
- * it, which finds out what the request would be granted by. What was opened is closed after the time is taken. */
+ * it, which finds out what the request would be granted by. What was opened is closed after the time is taken. Returns the status of the last
+ * call. */
 static enum spki_status time_call(struct held *held, const char *call, const struct spki_limits *limits, size_t every, double *took)
 {
     size_t needed;

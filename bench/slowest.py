@@ -181,7 +181,8 @@ class Measure:
             file.write(octets)
 
     def run(self, words: list[str], seconds: float, **more: Any) -> subprocess.CompletedProcess[bytes]:
-        """Runs a program. Raises TooSlow if it takes more than so many seconds of the processor."""
+        """Runs a program, with further settings for `subprocess.run`. Raises TooSlow if it takes more than so many seconds of the processor, or up to
+        one more: prlimit takes whole seconds."""
         limit = int(seconds) + 1
         done = subprocess.run(["prlimit", f"--cpu={limit}", *words], **more)
         if done.returncode in (-signal.SIGXCPU, -signal.SIGKILL):
@@ -259,7 +260,8 @@ def found_size(call: Call, recipe: Any, list_octets: int, question_octets: int) 
 
 
 def searched(measure: Measure, call: Call, first: Any, chance: random.Random, steps: int) -> Iterator[tuple[float, Any]]:
-    """Searches from a first recipe. Yields each that took more time for an octet than those before: the seconds for an octet, and the recipe."""
+    """Searches from a first recipe. Yields each that took more time for an octet than those before: the seconds for an octet, and the recipe
+    before it was made as large."""
     change: Any = changed_form if call.word in FORMED else changed
     at, most = first, 0.0
     for step in range(steps + 1):
@@ -301,7 +303,8 @@ def most_mebibytes(call: Call, recipe: Any) -> float:
 
 
 def least_cost(measure: Measure, call: Call, recipe: Any) -> Cost:
-    """The least that a call takes on a text, with memory and output. It is measured again while its time is over the limit, but not over twice."""
+    """The least that a call takes on a text, with memory and output. It is measured again, at most TURNS times, while its time is over the limit, but
+    not over twice."""
     most = 3 * most_seconds(call, recipe) + MOST_SECONDS
     least = measure.cost_of(call, recipe, most, True)
     for _ in range(TURNS):
@@ -313,7 +316,7 @@ def least_cost(measure: Measure, call: Call, recipe: Any) -> Cost:
 
 
 def faults_of(measure: Measure, call: Call, steps: int, seed: int) -> Iterator[str]:
-    """Measures a call. Yields a line for each text that takes more than it may."""
+    """Measures a call, and prints its texts. Yields a line for each text that takes more than it may. The status of a call is printed alone."""
     print(f"{call.what}: at most {call.seconds:g} s, {call.mebibytes:g} MiB", flush=True)
     for what, recipe in recipes_of(measure, call, steps, seed):
         if recipe is None:

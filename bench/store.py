@@ -272,7 +272,8 @@ def faults_of_growth(counts, library):
 
 
 def faults_of_scaling(counts, library, share, times):
-    """Measures daemons with shares of a processor, with stores of these numbers of entries. Returns a line for each limit that is passed."""
+    """Measures daemons with shares of a processor, with stores of these numbers of entries. Returns a line for each limit that is passed.
+    Where no shares can be made it says so, measures nothing, and returns no line."""
     if why := shares.fault():
         print(f"skipped: here no daemon can have a share of a processor: {why}")
         return []
