@@ -60,6 +60,7 @@ def part_of(process, words):
     crate = words[words.index("--crate-name") + 1]
     if not os.path.isdir(os.path.join(ROOT, "crates", crate)):
         return None
+    # (the toolchain checks each edit in a folder of its own, whose name begins so)
     if os.path.basename(os.readlink(f"/proc/{process}/cwd")).startswith("rt-edit-"):
         return crate, "edits"
     return crate, "tests" if "--test" in words else "proofs"

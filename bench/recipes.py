@@ -247,7 +247,8 @@ def formed(form: Form, octets: int) -> Form | None:
 
 
 def near(chance: random.Random, number: int, most: int) -> int:
-    """A number from 1 to `most`: in seven of ten calls one that is up to 2.8 times more or less than `number`, and otherwise any."""
+    """A number from 1 to `most`: in seven of ten calls one that is up to 2.8 times more or less than `number`, and otherwise any, of each
+    length in bits as often."""
     if chance.random() < 0.3:
         return min(most, int(2 ** chance.uniform(0, most.bit_length())))
     return max(1, min(most, int(number * 2 ** chance.uniform(-1.5, 1.5)) + chance.choice((-1, 0, 1))))

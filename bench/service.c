@@ -13,6 +13,7 @@
  * service reopen LIST CALLS     CALLS guards of a list
  * service answer CASE CALLS     CALLS decisions of a case, each from its text
  *
+ * To list the signatures is to open the question, to list them and to mark them: `list_signed` of question.h.
  * Ends with 2 for other words or a file that cannot be read, 3 for a list that is refused, 4 for another answer than is timed, and 5 if a thread
  * cannot be started. */
 #define _GNU_SOURCE

@@ -29,7 +29,8 @@ from shared import BENCH, LIBRARY, PROGRAM, TOP
 
 KIB, MIB = 1 << 10, 1 << 20
 FLAGS = ["-std=c11", "-O2", "-Wall", "-Wextra", "-Wpedantic", "-Werror", "-Wl,--wrap=malloc,--wrap=realloc,--wrap=free"]
-# How many steps of a search, from how many texts by chance, and how many of the slowest are measured in full.
+# How many steps the searches for one call have together, their seed, how many of them begin with the plainest text, and how many of the slowest
+# texts are measured in full.
 STEPS, SEED, STARTS, IN_FULL = 160, 72, 2, 2
 # What a text of the search has, and the seconds after which a run is ended.
 SEARCHED_LIST, SEARCHED_QUESTION, MOST_SECONDS = 64 * KIB, 16 * KIB, 20
@@ -41,6 +42,7 @@ MOST_MEMORY = 8 << 30
 SECONDS_AN_ENTRY, SECONDS_AN_OCTET = 0.1, 2e-9
 # The most entries of a text that the search makes for a call whose limit is by the entry: 10,000 would take a quarter of an hour, and show no more.
 MOST_ENTRIES = 100
+# More certificates and entries than any text has.
 MANY = 1 << 30
 
 

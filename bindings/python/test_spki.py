@@ -766,7 +766,7 @@ class Texts(unittest.TestCase):
             spki.string_at(b"3:abc")
         self.assertEqual(raised.exception.fault, "Memory")
 
-    # The library is replaced by calls that return a status which they do not have.
+    # The library is replaced by calls that return a status which the module expects of none of them.
     def test_an_unknown_status_is_no_answer(self):
         opened = spki.Guard(LIST).ask(new_question())
         for status in (0, 3, 5, 7, 10):

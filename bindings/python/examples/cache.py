@@ -17,7 +17,7 @@ for line in sys.stdin.buffer:
         if request != decided or not grant or not grant.holds_at(now):  # (while its grant holds, the same request is not decided again)
             question = spki.Question(sequence.read_bytes(), client, words=[b"cache", *request], moment=now)
             decided, grant = request, guard.decide(question, spki_verify.verify)
-        file, is_normal = folder / os.fsdecode(path[1:]), re.fullmatch(rb"(/(?!\.\.?(/|$))[^/]+)+", path)
+        file, is_normal = folder / os.fsdecode(path[1:]), re.fullmatch(rb"(/(?!\.\.?(/|$))[^/]+)+", path)  # (no part is empty, `.` or `..`)
         if grant and is_normal and action == b"write":
             answer = b"written %d" % file.write_bytes(text)
         elif grant and is_normal and action == b"read":
