@@ -42,12 +42,12 @@ inline std::string_view view_of(spki_text text) noexcept
     return {static_cast<const char *>(text.octets), text.length};
 }
 
-/* The usual limits, whose fields may be changed, and the highest. A field of 0 is the usual limit, and `answer` is at most SPKI_MOST_ANSWER. */
+/* The usual limits and the highest. A copy of one may be changed. A field of 0 is the usual limit, and `answer` is at most SPKI_MOST_ANSWER. */
 inline constexpr spki_limits usual_limits = SPKI_USUAL_LIMITS;
 inline constexpr spki_limits highest_limits = SPKI_HIGHEST_LIMITS;
 
 /* A signature that is to be verified: whether `value` is one of `message` by `key`, all in canonical form. `octets` are those of a value that is
- * one string. The texts last as long as the question. */
+ * one string, and empty for a list. The texts last as long as the question. */
 struct signature {
     std::string_view key, message, value, octets;
 };
@@ -126,7 +126,7 @@ private:
     std::int64_t seconds;
 };
 
-/* A decision. It is true only where the request is granted, and only an `if` or `!` reads it so. */
+/* A decision. It is true only where the request is granted. It becomes a bool only in a condition, as of `if`, or by `!`, `&&` and `||`. */
 class [[nodiscard]] decision {
 public:
     using time = std::chrono::system_clock::time_point;
