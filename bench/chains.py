@@ -59,7 +59,7 @@ def widest():
 
 def behind_a_large_tag(more, tag):
     """A case of an entry and a certificate whose tags have an intersection of 998,001 strings of one octet, and behind it `more` certificates
-    with `tag`."""
+    with `tag`. tests/suite/test_hostile.py alone asks it."""
     large = a_set(string("a"))
     keys = keys_of(more + 1)
     links = [(certificate(keys[0], keys[1], large), keys[0])]

@@ -116,6 +116,8 @@ class Site:
     order, if the primary is to be cut off; otherwise each is None. `number` is that of the entry that is removed."""
 
     def __init__(self, stack, folder, program, stale, is_cut):
+        """Starts all but the askers, and waits until both daemons have the entries. `stack` is the context that ends all, `folder` is for files,
+        `program` is the path of the daemon, `stale` its `stale_seconds`, and `is_cut` says whether the primary is to be cut off."""
         self.nodes, self.stale = nodes_of(stack) if is_cut else [None] * 4, stale
         self.primary = stack.enter_context(databases.Server(at=self.nodes[0], fsync="on"))
         self.store = store.new_store(self.primary)

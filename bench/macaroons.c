@@ -2,7 +2,7 @@
  * that is open already, of a question that is open too (1); the verification of a macaroon with three caveats by libmacaroons, from its text
  * to yes (2); and the question opened, its signatures listed, and the decision (3).
  *
- * macaroons CASE PARTS              prints the microseconds of each way
+ * macaroons CASE PARTS              prints the microseconds of each way, for macaroons.py
  * macaroons CASE PARTS WAY CALLS    grants CALLS times by one way, for counting instructions
  *
  * CASE is the file of the case, and PARTS that of its parts. Ends with 1 if a way does not grant or there is no such way, 2 for other words or a file

@@ -15,6 +15,7 @@ class Share:
         self.path, self.cores = os.path.join(TOP, f"spki-{os.getpid()}-{secrets.token_hex(3)}"), cores
 
     def __enter__(self):
+        """Makes the group. Raises OSError if it cannot be made, or its share not be set: then there is no group."""
         os.mkdir(self.path)
         try:
             self.write("cpu.cfs_period_us", PERIOD)
@@ -25,6 +26,7 @@ class Share:
         return self
 
     def __exit__(self, *fault):
+        """Removes the group. Raises OSError if that fails for 5 seconds, as while a process is in it."""
         # (the kernel may still count a process that has ended)
         for _ in range(100):
             try:

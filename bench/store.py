@@ -53,6 +53,7 @@ DAEMONS, RATES, SECONDS = (1, 2, 4), (0, 10_000), 8
 # DAEMONS answer than one.
 LEAST_USED, MOST_USED, LEAST_MORE = 0.9, 0.9, 3.0
 DRIVER = "-modfile=postgres.mod", "-tags", "spki_postgres"
+# A line that a test of spki-authd prints: the name of a figure, and the rest, which is words and numbers in turn.
 FIGURE = re.compile(r"^figure (\w+) (.*)$", re.M)
 SERVER = {"fsync": "on", "shared_buffers": "256MB", "max_wal_size": "4GB", "checkpoint_timeout": "30min"}
 

@@ -430,7 +430,7 @@ def _open_question(guard: c_void_p, question: Question) -> int | None:
 
 def _signature_addresses(handle: c_void_p, place: int, memory: _CallMemory) -> tuple[int, ...]:
     """Eight numbers: address and length of the key, the message and the value of the signature at a place, from 0, and
-    of the octets of the value. `memory` is for the call."""
+    of the octets of the value. `memory` is for the call. Another place is a `RuntimeError`."""
     status = _library.signature(handle, _size_argument(place), memory.at_signed)
     if status != _library.DONE:
         raise _exception_of(status, b"")
