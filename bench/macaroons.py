@@ -37,8 +37,8 @@ def is_there():
 
 
 def build(folder, library=LIBRARY):
-    """Builds macaroons.c in a folder. Returns the words that start it, or None if libmacaroons is not installed. Ends the script if it does not
-    compile."""
+    """Builds macaroons.c in a folder, and writes the files that it reads there. Returns the words that start it, or None if libmacaroons is not
+    installed. Ends the script if it does not compile."""
     if not is_there():
         return None
     program, case, parts = (os.path.join(folder, name) for name in ("macaroons", "case", "parts"))

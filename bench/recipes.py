@@ -38,7 +38,7 @@ class Tag:
     lists: int = 0
 
     def leaf(self, kind: str, number: int = 0) -> bytes:
-        """A string, a prefix, or a range without or with limits. All begin with the same octets."""
+        """A string, a prefix, or a range without or with limits. Strings, prefixes and limits begin with the same octets."""
         octets = b"m" * self.octets + (b"" if self.are_equal else b"%04d" % number)
         if kind == "string":
             return string(octets)
@@ -97,8 +97,9 @@ class Link:
 
 @dataclass(frozen=True)
 class Recipe:
-    """A list and a question. `grown` is the place of the certificate of which a number grows, and `grows` the field that has this number, empty if
-    none grows. The request has `words` strings of `word_octets` octets each. `is_by_other`: a key asks that nothing is granted to."""
+    """A list and a question. `grown`, modulo their number, is the place of the certificate of which a number grows, and `grows` the field that has
+    this number, empty if none grows. The request has `words` strings of `word_octets` octets each. `is_by_other`: a key asks that nothing is granted
+    to."""
 
     entries: Entries = Entries()
     links: tuple[Link, ...] = ()

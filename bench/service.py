@@ -302,7 +302,7 @@ def ten_large_sets(entries, certificates, members):
 
 def one_answer(driver, kind, path, enough):
     """The quickest of some runs that answer the question of a file: its status, the milliseconds, those of them that list the signatures, and
-    the MiB. `kind` is `decide`, `explain` or `reduce`. More runs are made until one takes at most `enough` milliseconds."""
+    the MiB. `kind` is `decide`, `explain` or `reduce`. More runs are made, up to MOST_TURNS, until one takes at most `enough` milliseconds."""
     runs = []
     for _ in turns(lambda: min(took for _, took, *_ in runs) <= enough):
         runs.append(driver.run("widest", kind, path))
@@ -466,7 +466,8 @@ def empty_strings(count):
 
 
 def two_long_keys(count):
-    """The parts of a question with so many certificates of two long keys that differ late. The certificates name them by their hashes."""
+    """The parts of a question with so many certificates, or one fewer if that is odd, of two long keys that differ late. The certificates name them
+    by their hashes."""
     keys = [key("k" * (MOST_OCTETS // 3) + end) for end in "ab"]
     links = [(certificate(digest(issuer), key("s")), digest(issuer)) for issuer in keys for _ in range(count // 2)]
     return parts_of(case([entry(digest(keys[0]))], links, keys, asks=key("s")))

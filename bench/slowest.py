@@ -245,7 +245,8 @@ def size_of(call: Call, recipe: Any) -> int:
 
 def sized(call: Call, recipe: Any, list_octets: int, question_octets: int, entries: int = MANY) -> Any:
     """The recipe with the largest text that a call may have, with at most so many octets of the list and of the question, and so many entries. None
-    if none is small enough. For a conversion the recipe is a Form, and `list_octets` is for its whole text."""
+    if none is small enough, or if a command's text of it has over 1 MiB. For a conversion the recipe is a Form, and `list_octets` is for its whole
+    text."""
     list_octets, question_octets = min(list_octets, call.listed), min(question_octets, call.asked)
     if call.word in FORMED:
         return formed(recipe, list_octets)

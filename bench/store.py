@@ -243,7 +243,7 @@ def adds_a_second(store):
 
 @contextlib.contextmanager
 def server_with_store(count):
-    """A context with a server, and a store there with so many entries."""
+    """A context with a server, and a store there with so many entries. Prints what their import took."""
     with databases.Server(**SERVER) as server, tempfile.TemporaryDirectory() as folder:
         with contextlib.closing(new_store(server)) as store:
             fill(store, count, folder)

@@ -16,7 +16,7 @@ The parts of a question come from different sources, so each is a separate text.
 octets of one part can become another part. The client must have proved that it holds the key: `ProvenKey` says how. The moment is the time of
 the service's own clock. A grant holds from this moment to `Grant.until`, and a no for its moment alone.
 
-`decide` returns a `Grant`, or `None` for a no. `require` raises `Denied` instead. Each call raises `Refused` also if an allocation failed.
+`decide` returns a `Grant`, or `None` for a no. `require` raises `Denied` instead. A failed allocation of the library raises `Refused`.
 Several threads may use one guard and one opened question. A thread that calls has 256 KiB of stack left: `threading.stack_size` must not be
 lower.
 
