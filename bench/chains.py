@@ -21,8 +21,8 @@ STRINGS = 399
 
 
 def largest_growth():
-    """Prints the times of long chains. Returns the largest ratio of the time of a chain to that of one with a quarter of its certificates. Ends the
-    script if the peak is too high."""
+    """Prints the times and the most memory of long chains. Returns the largest ratio of the time of a chain to that of one with a quarter of its
+    certificates. Ends the script if the peak is too high."""
     worst = 0.0
     print(f"{'chain':<16}" + "".join(f"{length:>9} certs" for length in LENGTHS) + "   ratios      peak")
     for make in (by_keys, by_hashes, through_names):

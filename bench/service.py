@@ -311,7 +311,7 @@ def one_answer(driver, kind, path, enough):
 
 def one_question(driver, what, text):
     """A dictionary of the milliseconds and the MiB of a question's answers, by `decide`, `explain` and `reduce`. `what` says in words what the case
-    `text` is."""
+    `text` is. Prints them."""
     path = driver.question("wide", text)
     list_octets, question_octets = len(parts_of(text)[0]), question_of(text)
     print(f"{what}: list of {list_octets:,} octets, question of {question_octets:,}")
