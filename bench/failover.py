@@ -11,7 +11,7 @@ long it was after the promotion; the last grant by the removed entry; and how ma
 An answer is wrong if the removed entry grants in a request that began over `stale_seconds` after the removal, if the entry that stays does not grant,
 or if somebody without an entry is granted something. A promise is broken if there is a 503 though the promotion ended `stale_seconds` - 2 after the
 failure, or if 503 lasts over `stale_seconds` though it ended 2 * `stale_seconds` - 2 after it. The heartbeat leaves a primary that is cut off after 4
-seconds, so that an earlier promotion counts as one after 4. Without --wait the promotions are such that both can just be kept.
+seconds, so that an earlier promotion counts as one after 4. Without --wait promotions begin at once, as late as just keeps each promise, and between.
 
 Build the library first. Needs PostgreSQL, psycopg, Go, its driver and `cryptography` (Debian: postgresql, python3-psycopg, golang-go,
 golang-github-lib-pq-dev, python3-cryptography); with --cut also iproute2 and root.

@@ -1,5 +1,5 @@
-/* A guard and a question, read from a file that `service.py` writes: the access list, the sequence, the key, the request and the moment,
- * each as its number of octets on a line and the octets. Every signature is marked as valid. For the benches' programs. */
+/* A guard and a question, read from a file that service.py, slowest.py or macaroons.py writes: the access list, the sequence, the key, the request
+ * and the moment, each as its number of octets on a line and the octets. `list_signed` marks every signature as valid. For the benches' programs. */
 #ifndef QUESTION_H
 #define QUESTION_H
 

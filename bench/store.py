@@ -15,7 +15,7 @@ temporary folder, with a quarter of a GiB of its own memory.
   Those who ask, 20,200 people, have entries in the store meanwhile.
 - add: single entries a second, each in a transaction.
 
-The medians of the largest number must be at most 1.5 times those of the smallest for misses, and 3 times when cold.
+The medians of the last number of --entries must be at most 1.5 times those of the first for misses, and 3 times when cold.
 
 One daemon and those who ask it can use all processors of a small machine, so that more daemons add nothing there. --share 0.25 measures what they add
 where there are processors for them: each daemon has a quarter of one and no more (by a cgroup), and all the rest is for PostgreSQL and the clients.

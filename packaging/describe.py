@@ -1,7 +1,7 @@
 #!/usr/bin/env python3
 """Writes what packages.sh puts beside and into the packages: the changelog in Debian's form, and the list of what is inside in SPDX 2.3.
 
-SOURCE_DATE_EPOCH is the time of both. Usage: packaging/describe.py changelog MAINTAINER
+SOURCE_DATE_EPOCH is the time of the list, and of a release without a date. Usage: packaging/describe.py changelog MAINTAINER
        packaging/describe.py contents MAINTAINER PACKAGE.deb ..
 """
 from __future__ import annotations
