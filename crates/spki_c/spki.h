@@ -118,7 +118,7 @@ enum spki_status {
     SPKI_YES = 9        /* a decision: the request is granted. Only decisions return it */
 };
 
-/* The name of a status, for a log. No name is a decision. */
+/* The name of a status, for a log and not to decide by. "no status" for a number that is none. */
 SPKI_INLINE(const char *) spki_status_text(enum spki_status status)
 {
     switch (status) {

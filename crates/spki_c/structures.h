@@ -7,7 +7,8 @@
 enum { MOST_SIZE = 4096 };
 
 /* Copies a caller's structure, whose first field states its size, to one of `size` octets. Fields that the caller's lacks are 0. Those that this
- * library does not know must be 0. `least` is the size in version 0.2.0. False if the structure is null or cannot be read: `to` is unchanged then. */
+ * library does not know must be 0. `least` is the size in version 0.2.0. False, and `to` unchanged, if the structure is null, a field that is not
+ * known is not 0, or the stated size is less than `least`, more than MOST_SIZE, or no multiple of that of a size_t. */
 static bool copy_structure(void *to, size_t size, size_t least, const void *from)
 {
     const size_t stated = from ? *(const size_t *)from : 0;
