@@ -12,7 +12,7 @@ REQUEST_IDENTITIES, IDENTITIES, SIGN_REQUEST, SIGN_RESPONSE = 11, 12, 13, 14
 RSA_SHA2_256 = 2
 # How many octets each of the two numbers of a signature has, by the algorithm.
 CURVES = {b"ecdsa-sha2-nistp256": 32, b"ecdsa-sha2-nistp384": 48}
-# The most octets of an answer, as OpenSSH's agent has it, and how many seconds one is waited for: its user may have to touch a token.
+# The most octets of an answer, as OpenSSH's agent has it, and how many seconds each part of one is waited for: its user may have to touch a token.
 MOST_OCTETS, SECONDS = 262144, 60
 
 
@@ -59,7 +59,7 @@ class AgentSigner:
     """Signs by an SPKI key that the agent holds."""
 
     def __init__(self, key: Value) -> None:
-        """Raises BadKey if the agent does not hold the key, which is a public one, or if SSH has no such key."""
+        """Raises BadKey if the agent does not hold the key, which is a public one, if SSH has no such key, or if there is no agent."""
         public = public_of(key)
         if public is None:
             raise BadKey("a key in a form that ssh-agent does not know")
@@ -69,6 +69,7 @@ class AgentSigner:
 
     def sign(self, message: bytes) -> Value:
         """The value `(sig-val ..)` of a signature of these octets. Whether it is valid is not tested. Raises BadKey."""
+        # (the flag is for RSA: OpenSSH's agent ignores it for other keys)
         body = ssh_string(self.blob) + ssh_string(message) + struct.pack(">I", RSA_SHA2_256)
         answer = ask_agent(SIGN_REQUEST, body, SIGN_RESPONSE, "ssh-agent refuses to sign by this key")
         signature, _ = split_string(answer)

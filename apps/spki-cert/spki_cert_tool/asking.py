@@ -83,7 +83,8 @@ class Answer:
     reasons: list[Reason]
     reduced: list[str]
     unused: int = 0
-    """How many certificates are at hand, if no chain of them was found that leads from an entry to the key. Otherwise 0."""
+    """How many certificates are at hand, if they are in several sequences and no chain of them was found that leads from an entry to the key.
+    Otherwise 0."""
     is_cut: bool = False
     """Whether the search for chains ended at its bound."""
 
@@ -158,15 +159,16 @@ def best_answer(asked: Asked) -> Answer:
 
 
 def rank(answer: Answer) -> tuple[bool, int]:
-    """A key for `max` among answers that do not grant: how far the chain goes. One that joins to its end at the key goes furthest, else one that is
-    stopped by a later item."""
+    """A key for `max` among answers that do not grant: how far the chain goes. One that joins to its end at the key goes furthest, else one that
+    joins to its end at another key, else one that is stopped by a later item."""
     chosen = answer.chosen
     return (chosen is not None and chosen.word in ("TagLacks", "WindowLacks"), (chosen.item or sys.maxsize) if chosen else 0)
 
 
 def sequences_to(asked: Asked, steps: Steps) -> Iterator[Value]:
-    """The sequences of the chains that lead from an entry to the key, from the certificates at hand whose signatures are valid. If there is no such
-    chain, one of all certificates, so that it can be said what stops it. Sets `steps.is_cut` if some are left out."""
+    """Yields the sequences of the chains that lead from an entry to the key, from the certificates at hand whose signatures are valid: at most
+    MOST_CHAINS. If there is none, yields that of the first chain with invalid signatures, if there is one, so that it can be said what stops it.
+    Sets `steps.is_cut` if some are left out."""
     keys = keys_at_hand(asked)
     certificates = [signed for sequence in asked.sequences for signed in certificates_in(sequence)]
     # (in a case the rows decide about signatures, and each certificate may be in a chain)
@@ -214,13 +216,15 @@ class Words:
         self.asker = self.labels.of(asked.key)
 
     def lines(self) -> Iterator[str]:
-        """Yields the lines that say the answer: the decision, the chain, and what grants or stops the request."""
+        """Yields the lines that say the answer: the decision, the chain, what grants or stops the request, and what the search for chains did
+        not find or left out."""
         chosen = self.answer.chosen
         wants = f"{self.asker} requests {on_one_line(self.asked.request)} at {self.asked.moment.decode()}"
         yield f"{'yes' if self.answer.entry is not None else 'no'}: {wants}"
         if chosen is None:
             yield "the access list has no entries"
             return
+        # (a signature that is not valid stops the chains of all entries, so its reason has no entry)
         if chosen.entry is not None:
             yield from (f"  {name}: {self.statement_of(terms)}" for name, terms in self.links_of(chosen, with_stop=True))
         yield from self.lines_of_cause(chosen)

@@ -74,7 +74,7 @@ def remarks_on(path: str, moment: bytes, is_given: bool = True) -> tuple[str | N
 
 
 def remarks_on_key_file(path: str, octets: bytes) -> tuple[str, list[Remark]]:
-    """What a file is, in words, that has keys of OpenSSH or PEM, or a private key, and the remarks on it. An encrypted key has no remark."""
+    """What a file is, in words, that has keys of OpenSSH or PEM, or a private key, and the remarks on it. That a key is encrypted is none."""
     has_private = is_private(octets)
     pieces = [octets] if has_private else pieces_of(octets)
     on_keys, kind, lines, end = list[Remark](), "a file of keys", Lines(octets), 0
@@ -126,7 +126,7 @@ def tag_of(node: Node) -> Node:
 
 def probable_mistakes(node: Node, moment: bytes) -> Iterator[tuple[int, str]]:
     """Yields what is legal and probably a mistake in a value: for each the offset in the text, and a remark. A value whose head is in neither table,
-    BY_HEAD nor ALONE, is a request or a tag. A request, and a signature or a hash alone, have no remarks."""
+    BY_HEAD nor ALONE, is a request or a tag. A request, rows, two tags, and a signature or a hash alone, have no remarks."""
     kind = BY_HEAD.get(node.head or b"")
     if kind in ("acl", "sequence", "case") or node.head in (b"cert", b"entry"):
         yield from mistakes_in_parts(node, moment)

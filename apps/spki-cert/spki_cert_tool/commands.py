@@ -213,7 +213,8 @@ def labels_of(given: argparse.Namespace, *paths: str) -> Labels:
 
 
 def show(given: argparse.Namespace) -> int:
-    """Says what access lists, certificates, sequences and cases say: in words, in JSON, in braces or as a picture. Returns DONE."""
+    """Says what access lists, certificates, sequences and cases say: in words or in JSON, and the first one also as a picture; or writes all of them
+    in braces, and nothing else. Returns DONE."""
     labels, moment = labels_of(given), given.at or now()
     values = [(path, value_headed(path, (b"acl", b"cert", b"sequence", b"case"), NOT_SHOWN)) for path in given.files]
     if given.braces:
@@ -276,7 +277,8 @@ def sequences_below(paths: list[str]) -> Iterator[str]:
 
 
 def check(given: argparse.Namespace) -> int:
-    """Says what is wrong in files. Returns REFUSED if a service would refuse one of them, NO if there are other remarks, and else DONE."""
+    """Says what is wrong in files. How many they are is in the JSON, or else on standard error. Returns REFUSED if a service would refuse one of
+    them, NO if there are other remarks, and else DONE."""
     from .checking import files_below, remarks_on
     moment = now()
     # (for each file its path, whether that itself is given, what the file is, or None if it is left out, and the remarks on it)
@@ -302,7 +304,8 @@ COMMANDS: dict[str, Callable[[argparse.Namespace], int]] = {
 
 
 def main() -> int:
-    """Runs the command of the command line. Returns the exit status, and tells why it failed."""
+    """Runs the command of the command line. Returns the exit status, and tells why it failed. --help and --version raise SystemExit behind their
+    text."""
     words = sys.argv[1:]
     READ.clear()
     try:

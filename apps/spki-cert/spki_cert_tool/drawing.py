@@ -1,6 +1,7 @@
 """Draws the delegation chain of a case, which is one text with a whole question, as SVG. A certificate is an arrow, and what stops the chain is red.
+`svg_of` also draws the arrows of an access list, a certificate or a sequence.
 
-The chain is that of the entry that grants the request, else of the entry whose chain goes furthest. The library says what stops it, and
+The chain of a case is that of the entry that grants the request, else of the entry whose chain goes furthest. The library says what stops it, and
 what right is left at its end. Other entries are left out. Long texts are broken into lines, and nothing but white space is cut off.
 """
 from __future__ import annotations
@@ -59,7 +60,7 @@ class Drawing:
         self.arrows: list[Arrow] = []
 
     def in_lines(self, text: str) -> list[str]:
-        """A text in lines of at most `width` letters."""
+        """A text in lines of at most `width` letters: one empty line for an empty text."""
         return textwrap.wrap(text, self.width, break_on_hyphens=False) or [""]
 
     def shape_of(self, subject: Value) -> bytes:
@@ -99,7 +100,8 @@ class Drawing:
 
     def ends(self, case: Value, entry: int, word: str, left: Value) -> None:
         """Adds the request, and the arrow to it from the subject of `left`, the right `(five ..)` that the chain leaves of entry number `entry`.
-        `word` is `grants`, or a cause of MEANINGS for which it does not grant."""
+        `word` is `grants`, or a cause of MEANINGS for which it does not grant. For NotTheKey it adds an arrow from the key that asks to the request
+        too."""
         key, request, moment = members(case)[3:6]
         colour = GREEN if word == "grants" else RED
         title = [f"yes entry {entry}"] if word == "grants" else [f"{word}:", MEANINGS[word]]

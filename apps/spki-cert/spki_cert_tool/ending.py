@@ -74,8 +74,8 @@ def lines_in(path: str) -> list[bytes]:
 
 def lines_by_hand(path: str) -> tuple[list[bytes], bool]:
     """The lines of a file that people have written or changed, rewritten in the form of the file, and whether they have as many digests as its last
-    line says. A last line that begins with `end `, right or wrong, is left out. If there is none, the second value is True. Raises Refused for a line
-    that is neither a digest, a comment nor empty, and OSError if there is no file."""
+    line says. A last line that begins with `end `, right or wrong, is left out. If there is none, the second value is True, and for one in another
+    form False. Raises Refused for a line that is neither a digest, a comment nor empty, and OSError if there is no file."""
     octets = read_ended(path)
     lines = octets.removesuffix(b"\n").split(b"\n") if octets else []
     last = lines.pop() if lines and lines[-1].startswith(b"end ") else None

@@ -1,4 +1,5 @@
-"""Reads the files and words that a command is given. One function writes files: whole or not at all, and never over what was read or holds a key."""
+"""Reads the files and words that a command is given. One function writes files: whole or not at all, never over a key, and over a file that was read
+only if the command edits it."""
 import contextlib
 import errno
 import fcntl
@@ -33,7 +34,7 @@ Signer = Union[FileSigner, AgentSigner]
 CONTROLS = re.compile("[\0-\x08\x0b-\x1f\x7f-\x9f]")
 # How the file of ended certificates begins, and an S-expression.
 ENDED, HEAD = re.compile(rb"(?:#[^\n]*\n|\s)*(?:[0-9a-f]{64}\b|end \d)"), re.compile(rb"\s*\(\s*(?:\d+:)?([\w-]+)")
-# The files that this command has read, by device and inode, and whether it has read standard input. None of them is written over.
+# The files that this command has read, by device and inode, and INPUT once it has read standard input. Only a file that is edited is written over.
 READ: set[tuple[int, int]] = set()
 INPUT = (-1, -1)
 # What names of files hardly have, and keys do.
@@ -55,7 +56,7 @@ class Refused(Exception):
 
 
 class Failed(Refused):
-    """Reading or writing failed."""
+    """Writing failed."""
 
     status = FAILED
 
@@ -234,7 +235,7 @@ def octets_of_key(path: str) -> Iterator[bytes]:
 
 def remark_on_mode(path: str) -> Iterator[str]:
     """Yields a remark if a file has a private key and others have some access to it, else nothing. Standard input, `-`, has no mode. Raises Refused
-    if the file is there and cannot be read."""
+    if others have access and the file cannot be read."""
     with contextlib.suppress(OSError):
         state = os.stat(path)
         mode = stat.S_IMODE(state.st_mode)
@@ -275,7 +276,8 @@ def moment_of(text: str, time_of_day: str = "_00:00:00") -> bytes:
 
 def target_of(path: str, new: bytes, force: bool, edits: bool) -> tuple[str, os.stat_result | None]:
     """The file that a path leads to, and its state before it is written, or None if there is none. Raises Refused if it must not be written:
-    with `force` it may be there already, and with `edits` it may be one that was read. `new` are the octets to be written."""
+    with `force` it may be there already, unless it may be a key or the file of ended certificates, and with `edits` it may be one that was read.
+    `new` are the octets to be written."""
     place = os.path.realpath(path)
     try:
         before = os.stat(place)
@@ -430,7 +432,8 @@ def not_on_disk(place: str, why: OSError) -> Failed:
 
 @contextlib.contextmanager
 def locked(path: str) -> Iterator[None]:
-    """Holds the lock of the folder of a file that is edited, so that no other edit is lost. Raises Refused if it is not free for SECONDS_TO_LOCK."""
+    """Holds the lock of the folder of a file that is edited, so that no other edit is lost. Raises Refused if it is not free for SECONDS_TO_LOCK,
+    or if the folder cannot be opened."""
     end = time.monotonic() + SECONDS_TO_LOCK
     try:
         folder = os.open(os.path.dirname(os.path.realpath(path)), os.O_RDONLY)

@@ -33,7 +33,8 @@ HALF = 32
 MOST_OCTETS = 4098
 PRIVATE = (b"(private-key", b"(11:private-key")
 PEM = re.compile(rb"-----BEGIN ([A-Z0-9 ]+)-----")
-# A line of a public key of OpenSSH, also behind the options of authorized_keys: the key, and its comment.
+# A line of a public key of OpenSSH: the key, and its comment. At most two fields are before it, as the options in authorized_keys, or a marker and
+# names in known_hosts.
 FIELD = rb'(?!ssh-|ecdsa-|sk-)(?:\\"|\\(?!")|[^ \t\r\n"\\]|"(?:\\"|\\(?!")|[^"\r\n\\])*")+[ \t]+'
 # (no more blanks than `foreign` takes, which refuses certificates and FIDO keys)
 KEY = rb"(?:ssh-|ecdsa-|sk-)[\w@.-]+[ \t]{1,64}AAAA[A-Za-z0-9+/=]+"
@@ -122,7 +123,8 @@ def value_of_octets(kind: str, octets: bytes) -> Value:
 
 
 def value_of_numbers(r: int, s: int, octets: int = HALF) -> Value:
-    """The value `(sig-val ..)` of a signature of ECDSA, whose numbers are `r` and `s`. Each is written in so many octets."""
+    """The value `(sig-val ..)` of a signature of ECDSA, whose numbers are `r` and `s`. Each is written in so many octets. Raises
+    OverflowError if one needs more."""
     return [b"sig-val", [b"ecdsa", [b"r", r.to_bytes(octets, "big")], [b"s", s.to_bytes(octets, "big")]]]
 
 
@@ -173,7 +175,7 @@ def is_text(octets: bytes) -> bool:
 
 def read_public(octets: bytes, asking: Asking, number: int | None = None) -> Value:
     """The public key of the octets of a file: OpenSSH, PEM or S-expression, public or private. Of several it is the one with this number, from 1,
-    which must be given then. `asking` is called for the passphrase of an encrypted private key in PEM. Raises BadKey, or Wrong for an S-expression
+    which must be given then. `asking` is called for the passphrase of an encrypted private key in PEM. Raises BadKey, or Wrong for another text
     that is no key."""
     if is_private(octets):
         octets = public_part(octets) or openssh_line(read_private(octets, asking).public_key())
@@ -292,8 +294,8 @@ def read_private(octets: bytes, asking: Asking) -> Private:
 
 
 def private_of_text(octets: bytes) -> Private:
-    """The private key of an S-expression, as libgcrypt has it. Raises Wrong if it is no S-expression, BadKey for another form, and ValueError or
-    ArithmeticError, which `read_private` catches, for numbers that are no key."""
+    """The private key of an S-expression, as libgcrypt has it. For a curve the public point `q` is not read, but computed. Raises Wrong if it is no
+    S-expression, BadKey for another form, and ValueError or ArithmeticError, which `read_private` catches, for numbers that are no key."""
     from cryptography.hazmat.primitives.asymmetric import ec, ed25519, rsa
     match Parser(octets).whole().value:
         case [b"private-key", [b"ecc", [b"curve", b"Ed25519"], [b"flags", b"eddsa"], [b"q", _], [b"d", bytes() as secret]]]:

@@ -1,6 +1,7 @@
 """Finds where a text is refused, and why, and shows the place: line, column and the text around it.
 
-A text headed `case`, `intersect`, `accepted`, `acl`, `sequence` or `public-key` is read as that, another value only as an S-expression.
+A text headed `case`, `intersect`, `accepted`, `acl`, `sequence` or `public-key` is read as that, and so is `cert`, `signature`, `hash` or `entry`
+where no refusal is to be explained. Another value is read only as an S-expression, unless such a refusal says as what it is to be read.
 """
 import bisect
 import functools
@@ -52,11 +53,12 @@ PASTED = [(pattern, f"this is {called}, and no S-expression; {wanted}") for patt
 INSIDE = "; replace the whole `(public-key ..)` by that S-expression"
 EMPTY = {"acl": "an access list begins as `(acl)`, and `spki-cert entry --acl FILE` adds an entry",
          "sequence": "`spki-cert sign` writes a certificate with its signature", "key": "`spki-cert key FILE` writes a key"}
+# What a private key has. `K..` is how `(11:private-key` and `(private-key` begin in base64, and below `b3..` is `openssh-key-v1`.
 SECRET = re.compile(rb"(?i)private.?key|K(?:DExOn|H)ByaXZhdGUta2V5|AGE-SECRET-KEY")
 # What is in no word of a command but a private key itself. A file may be called `private-key`.
 PRIVATE = re.compile(rb"BEGIN [A-Z0-9 ]{0,40}PRIVATE KEY|private-key\s*\((?:\d:)?(?:ecc|rsa|dsa|ec?dsa|eddsa|elg)\b|PuTTY-User-Key-File|PrivateKey ="
                      rb"|AGE-SECRET-KEY-1|b3BlbnNzaC1rZXktdjE|K(?:DExOn|H)ByaXZhdGUta2V5")
-# A line that is meant as a comment, and how a text begins that may follow other words.
+# A line that is meant as a comment, behind a `#` one with a letter that is no hexadecimal digit; and how a text begins that may follow other words.
 COMMENT = rb"[ \t]*(?:#[^#()]{0,40}[G-Zg-z][^#]*|//.*|--.*)\Z"
 BEGINS = rb"^\((?:acl|case|cert|entry|public-key|sequence)[\s()]"
 FLAGS = re.DOTALL | re.MULTILINE
@@ -102,7 +104,8 @@ def name_foreign(text: bytes, wrong: Wrong) -> None:
 
 
 def read_part(name: str, read: Reader, node: Node) -> None:
-    """Reads a part of a text by its reader. A fault that it raises gets the part's name in front of its kind, as in `acl 1 Tag Hint`."""
+    """Reads a part of a text by its reader. A fault that it raises gets the part's name in front of its kind, and between them the word `Tag` for a
+    fault of a tag in a list or a sequence, as in `acl 1 Tag Hint`."""
     try:
         read(node)
     except Wrong as wrong:
@@ -165,7 +168,7 @@ def read_case(node: Node) -> None:
 
 
 def read_outline(node: Node) -> None:
-    """Tests that a case has its parts, by their heads and in their order. Raises Wrong if not."""
+    """Tests that a case has its parts, by their heads and in their order, and behind them `(policy strict)` or nothing. Raises Wrong if not."""
     read_part("case", partial(Members, head=b"case", what="the text"), node)
     parts = node.rest
     for place, head in enumerate(PARTS):
@@ -312,8 +315,8 @@ def lines_in(text: bytes) -> Lines:
 
 
 def place_shown(text: bytes, places: list[int] | None, at: int) -> tuple[str, str]:
-    """A place, the offset `at`, in words, as line and column, and the text around it with a mark below. If the text was in braces, `places` has for
-    each of its octets the offset in the file; otherwise it is None."""
+    """A place, the offset `at`, in words, as line and column, and its line of the text with a mark below, at most WIDTH octets on each side. If the
+    text was in braces, `places` has for each of its octets the offset in the file, and the words say the octet; otherwise it is None."""
     line, column = lines_in(text).line_and_column(at)
     line_begin, line_end = at - column + 1, text.find(b"\n", at)
     first, last = max(line_begin, at - WIDTH), min(len(text) if line_end < 0 else line_end, at + WIDTH)
