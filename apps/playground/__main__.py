@@ -25,7 +25,7 @@ MOST_SECONDS = 3600
 
 def seconds_of(text):
     """The seconds of a word of the command line. Raises ArgumentTypeError if they are no number from 1 to MOST_SECONDS."""
-    # (`isascii`, since `isdigit` also takes other digits than 0 to 9)
+    # (`isascii`, since `isdigit` also takes other digits than 0 to 9; and four digits, since `int` raises ValueError for thousands of them)
     if not (text.isascii() and text.isdigit() and len(text) < 5 and 1 <= int(text) <= MOST_SECONDS):
         raise argparse.ArgumentTypeError(f"{text} is no number from 1 to {MOST_SECONDS}")
     return int(text)
@@ -42,7 +42,8 @@ def options():
 
 
 def start_file(name):
-    """The octets of `start.json`, by which the page begins: the examples, and `name`, which is that of what decides."""
+    """The octets of `start.json`, by which the page begins: the examples, the texts of the other boxes, how many octets a question may have, and
+    `name`, which is that of what decides."""
     with open(os.path.join(TOP, "examples", "guide", "granted.sexp"), encoding="utf-8") as file:
         others = {**OTHERS, "case": file.read()}
     return json.dumps({"engine": name, "examples": EXAMPLES, "others": others, "mostOctets": MOST_BODY}).encode()
@@ -60,7 +61,8 @@ def print_or_say_why(text):
 
 
 def main():
-    """Serves the page until it is ended by ctrl-c or SIGTERM. Returns the exit status: 2 if it cannot start, and says why."""
+    """Serves the page until it is ended by ctrl-c or SIGTERM. The first line that it prints is the address, which a program that starts it reads, and
+    the second says what decides. Returns the exit status: 0, or 2 if it cannot start or print these lines, and says why."""
     given = options()
     try:
         engine = choose_engine(given.engine)

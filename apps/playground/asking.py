@@ -1,5 +1,5 @@
-"""What the page asks, and the answers as it shows them. Each job yields its answer in parts, the decision first: a part is a dictionary, and its
-fields replace those of earlier parts. `engine` is who decides, an `Engine`, and `sent` the object that the page sent.
+"""What the page asks, and the answers as it shows them. Each job yields its answer in parts, a decision before its explanation: a part is a
+dictionary, and its fields replace those of earlier parts. `engine` is who decides, an `Engine`, and `sent` the object that the page sent.
 
 A job that takes too long is ended by the one who asked for it, who keeps the parts that were yielded.
 """
@@ -32,7 +32,8 @@ def labels_of(engine, sent):
 
 
 def question(engine, sent):
-    """Yields the answer to the question that the page sent in several boxes, in parts, the decision first. If it cannot be read, a part says why."""
+    """Yields the answer to the question that the page sent in several boxes, in parts: the faults of the labels, the decision and its explanation,
+    the signatures, and the question as a case if the page wants it. If it cannot be read, the last part says why."""
     labels = labels_of(engine, sent)
     yield {"labelFaults": labels.faults}
     try:
@@ -52,7 +53,8 @@ def question(engine, sent):
 
 
 def case(engine, sent):
-    """Yields the answer to the whole case that the page sent in one box, in parts, the decision first."""
+    """Yields the answer to the whole case that the page sent in one box, in parts: the faults of the labels, the decision and its explanation. If
+    the case is refused, the last part says why."""
     given, labels = GivenCase(engine, sent), labels_of(engine, sent)
     yield {"labelFaults": labels.faults}
     try:
@@ -85,7 +87,8 @@ def decision_parts(given, labels):
 
 
 def reasons_part(story, reasons, line):
-    """The part of an answer that has a sentence for each reason, in their order, and the picture of the first. `line` is that of the decision."""
+    """The part of an answer that has a sentence for each of the first MOST_REASONS reasons, in their order, how many `more` there are, and the
+    picture of the first. `line` is that of the decision."""
     sentences = [sentence_of(story, reason) for reason in reasons[:MOST_REASONS]]
     return {"reasons": sentences, "more": max(0, len(reasons) - MOST_REASONS), "title": title(sentences, line),
             "chain": chain(story, reasons[0] if reasons else None)}

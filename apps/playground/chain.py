@@ -86,8 +86,8 @@ class Chain:
         self.subject_box(subject_after(self.subject or issuer, item) if state == "plain" else subject_of(item), "faint" if word else "plain")
 
     def end(self, reason, left):
-        """Adds the box of the request, and the arrow to it, which says whether the chain of `reason` grants it. `left` is the right at the end of the
-        chain, or None if it is not known."""
+        """Adds the box of the request, and the arrow to it, which says whether the chain of `reason` grants it. For NotTheKey a gap and the box
+        of the key that asks come first. `left` is the right at the end of the chain, or None if it is not known."""
         story, word = self.story, reason.word
         is_granted = word == "grants"
         if word == "NotTheKey":

@@ -36,7 +36,8 @@ class SignedText:
 
 
 def with_signatures(engine, text):
-    """A sequence, given as octets, as a SignedText, with a signature behind each certificate. A text that cannot be read is left as it is."""
+    """A sequence, given as octets, as a SignedText, with a signature behind each certificate. A text that cannot be read, or is in braces, is
+    left as it is."""
     signed = SignedText(text)
     # (an operation `(do ..)` may be between a certificate and its signature)
     items = [item for item in items_of(text) or () if item.head != b"do"]

@@ -108,6 +108,7 @@ class ByLibrary(Engine):
         self.spki = spki
         # (the function of the library that the package has loaded, with the types of its arguments)
         self.spki_answer = spki.library.spki_answer
+        # (the guards of the last two lists stay open, so that a keystroke in another box opens none)
         self.guard = functools.lru_cache(2)(self.open_guard)
 
     def answer(self, name, text):

@@ -126,7 +126,7 @@ class Given:
 
 
 class GivenCase:
-    """A whole case in one box, with the same methods as `Given`."""
+    """A whole case in one box, with those methods of `Given` by which `asking.py` decides, explains and refuses it."""
 
     def __init__(self, engine, sent):
         self.engine, self.octets = engine, text(sent, "text").encode(errors="replace")

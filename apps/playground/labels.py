@@ -77,7 +77,8 @@ def field(value, head):
 
 
 def short(principal):
-    """A short form of a key or a hash: the only part of a key if that is plain text, else the beginning of a digest in hexadecimal."""
+    """A short form of a key or a hash: the only part of a key if that is plain text, else its algorithm and the beginning of a digest in
+    hexadecimal."""
     if principal[0] == b"hash":
         return f"{principal[1].decode()} {principal[2].hex()[:8]}.."
     parts = principal[1][1:]

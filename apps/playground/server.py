@@ -27,7 +27,7 @@ HEADERS = {"Content-Security-Policy": POLICY, "X-Content-Type-Options": "nosniff
 
 
 def files():
-    """The files of the folder `page` by their names, each as the value of `Content-Type` and its octets."""
+    """The files of the folder `page` whose suffix is in KINDS, by their names: each as the value of `Content-Type` and its octets."""
     by_name = {}
     for name in sorted(os.listdir(PAGE)):
         kind = KINDS.get(os.path.splitext(name)[1])
@@ -100,8 +100,8 @@ class Handler(http.server.BaseHTTPRequestHandler):
             self.reply(http.HTTPStatus.OK, KINDS[".json"], json.dumps(answer).encode())
 
     def name_asked(self, default):
-        """The name behind the token in the path, or the default if it is empty. If the host or the token is wrong, refuses the request and returns
-        None."""
+        """The name behind the token in the path, without a query, or the default if it is empty. If the host or the token is wrong, refuses the
+        request and returns None."""
         if self.headers.get_all("Host") not in self.server.hosts:
             self.refuse(http.HTTPStatus.MISDIRECTED_REQUEST)
             return None
@@ -112,7 +112,7 @@ class Handler(http.server.BaseHTTPRequestHandler):
         return name or default
 
     def body(self):
-        """Reads the object that was sent. If it is too large, or no object in JSON, refuses the request and returns None."""
+        """Reads the object that was sent. If its length is missing or too large, or it is no object in JSON, refuses the request and returns None."""
         length = self.headers.get("Content-Length", "")
         if not length.isascii() or not length.isdigit() or "Transfer-Encoding" in self.headers:
             self.refuse(http.HTTPStatus.LENGTH_REQUIRED)

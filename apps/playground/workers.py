@@ -23,8 +23,8 @@ TOO_LARGE = "The text is too large for this page."
 
 def serve(pipe, wanted, seconds):
     """Runs in a process until the pipe is closed: takes a job from it, its name in JOBS and what the page sent, and sends back the parts of its
-    answer, which are dictionaries, then None. `wanted` is `library`, `program` or None, for `choose_engine`. A job that takes over `seconds` + GRACE
-    ends the process."""
+    answer, which are dictionaries, then None. `wanted` is `library`, `program` or None, for `choose_engine`. If the text is too large or the
+    program fails, the last part is a notice. A job that takes over `seconds` + GRACE ends the process."""
     # (so the programs that it runs can be ended with it, as a group, and ctrl-c in the terminal of the server does not reach them)
     os.setsid()
     signal.signal(signal.SIGINT, signal.SIG_IGN)
@@ -108,7 +108,8 @@ class Workers:
 
     def answer(self, page, name, sent):
         """The answer to a job of a page, a dictionary. `page` is the page's own name, `name` that of the job, and `sent` the object that the page
-        sent. Ends the job of the same name that the page has under way, and may wait for a free process."""
+        sent. Ends the job of the same name that the page has under way. Waits for a free process: if none is within `seconds`, the answer is a
+        notice."""
         with self.lock:
             replaced = self.busy.pop((page, name), None)
             if replaced is not None:
@@ -128,7 +129,8 @@ class Workers:
         return worker
 
     def answer_by(self, worker, page, name, sent):
-        """The answer of a process. Then the process is idle, or ended if there are enough idle ones, or if it cannot be asked again."""
+        """The answer of a process. Then the process is idle, or ended if there are enough idle ones, or if it cannot be asked again: then `refill`
+        starts another one in its place."""
         whole, is_usable = worker.answer(name, sent)
         with self.lock:
             if self.busy.get((page, name)) is worker:

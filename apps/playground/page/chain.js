@@ -56,7 +56,8 @@ function box(step, width) {
   return { element: group, height };
 }
 
-/** The arrow of a step with its lines as `element`, and its `height` in pixels. Where the chain does not join, it is a gap with a cross. */
+/** The arrow of a step with its lines as `element`, and its `height` in pixels. Where the chain does not join, it is a gap with a cross and without a
+ * head. One in the state `bad` has a cross too. */
 function arrow(step, width) {
   // (a state other than these two ends the chain: then the first line says why, and whole texts are shown)
   const stops = step.state !== "plain" && step.state !== "faint";
