@@ -122,8 +122,8 @@ def check(store: Store, given: argparse.Namespace) -> int:
 
 
 def log(store: Store, given: argparse.Namespace) -> int:
-    """Writes who changed what, the last changes last: number, moment, account, `add`, `remove` or `end`, the entry's number, the digest of its
-    principal or of the ended certificate, and the text of a removed entry."""
+    """Writes who changed what in the last changes, as many as --last says, the latest one last: number, moment, account, `add`, `remove` or `end`,
+    the entry's number, the digest of its principal or of the ended certificate, and the text of a removed entry."""
     for number, moment, who, what, entry, digest, text in store.rows(
             "SELECT * FROM (SELECT number, moment, who, what, entry, digest, text FROM {changes} ORDER BY number DESC LIMIT %s) last ORDER BY number",
             given.last):
@@ -144,8 +144,9 @@ def diff(store: Store, given: argparse.Namespace) -> int:
 
 
 def beat(store: Store, given: argparse.Namespace) -> int:
-    """Increases the number of the heartbeat each second, as often as --times says, or for 0 until it is ended. After any fault of the database it
-    looks five times a second for a server that takes it: another one may be the primary. A fault that stays is told once."""
+    """Increases the number of the heartbeat each second, as often as --times says, or for 0 until it is ended. A beat that fails does not count.
+    After any fault of the database it looks five times a second for a server that takes it: another one may be the primary. A fault that stays is
+    told once."""
     beats, count, last_fault = Beats(store), 0, ""
     while not given.times or count < given.times:
         # (the seconds from the beginning of this beat to that of the next one)

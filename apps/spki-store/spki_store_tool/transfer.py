@@ -20,8 +20,8 @@ PAUSE = 0.5
 
 
 class Progress:
-    """A line on the terminal that says how far an import is, if `is_shown`. `octets` is the length of the list, and `entries_before` how many of its
-    entries an earlier import has added."""
+    """A line on standard error that says how far an import is, if `is_shown`. `octets` is the length of the list, and `entries_before` how many of
+    its entries an earlier import has added."""
 
     def __init__(self, octets: int, entries_before: int, is_shown: bool) -> None:
         self.octets, self.entries_before, self.is_shown = octets, entries_before, is_shown
