@@ -5,7 +5,7 @@
 #include <stdio.h>
 #include <time.h>
 
-enum { MOST = 65536 };
+enum { MOST = 65536 }; /* the most octets of a line, of the client's key, of its certificates, and of what is printed of a file */
 
 /* The first octets of a file, at most `most`, which are read into `room`. An empty text if it cannot be read. */
 static struct spki_text octets_of(const char *path, void *room, size_t most)
@@ -49,7 +49,7 @@ static void answer(bool writes, const char *folder, const char *path, const char
         printf("%.*s\n", (int)length, content);
 }
 
-/* Answers each line of standard input. The exit status is 0 at its end, 1 for a line that is too long, 2 for wrong arguments or no access list. */
+/* Answers each line of its input. Exit status: 0 at the end, 1 for a line that is too long or has an octet 00, 2 for wrong arguments or no list. */
 int main(int count, char **given)
 {
     static char list[1 << 20], key[MOST], sequence[MOST], line[MOST], asked[2 * MOST], last[2 * MOST];

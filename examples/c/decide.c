@@ -50,7 +50,8 @@ static struct spki_text text_of(const char *path, unsigned char *octets)
     return text;
 }
 
-/* Prints the decision. The exit status is 0 for granted, 1 for denied, 2 for wrong arguments or no access list, 3 for a file that cannot be read. */
+/* Prints the decision. The exit status is 0 for granted, 1 for denied, 2 for wrong arguments or no access list, 3 for a file that cannot be read
+ * or is too long. */
 int main(int count, char **given)
 {
     static unsigned char octets[3][MOST_OCTETS], line[256];

@@ -203,7 +203,8 @@ static bool is_token_octet(unsigned char octet)
     return (lower_case(octet) >= 'a' && lower_case(octet) <= 'z') || (octet >= '0' && octet <= '9') || (octet && strchr("!#$%&'*+-.^_`|~", octet));
 }
 
-/* Whether a name is one of a field in small letters, or of the components that are derived. */
+/* Whether a component of this name may be covered: one of `derived`, or a field in small letters, but neither `signature` nor `signature-input`.
+ * Whether the request has the field is not tested. */
 static bool is_component(struct spki_text name)
 {
     const unsigned char *octets = name.octets;
@@ -225,6 +226,7 @@ static const char *read_components(struct cursor *in, struct input *input)
         struct spki_text name;
         if (input->count == MOST_COMPONENTS || (input->count > 0 && !try_skip(in, " ")) || !read_string(in, &name))
             return malformed;
+        /* (a `;` begins a parameter of the component, and none is supported) */
         if (!is_component(name) || (in->at != in->end && *in->at == ';'))
             return "unknown-component";
         for (size_t i = 0; i < input->count; i++)

@@ -47,7 +47,7 @@ struct http_proof {
 
 /* Parses the head of a request of HTTP/1.1, a C string that ends with its empty line. The texts of `request` and `fields` are parts of `head`. In it
  * the method, the target and each name and value are ended by an octet 00. The authority is that of `Host`. False if it is no head of at most `most`
- * fields, each in one line. */
+ * fields, each in one line, or has not exactly one `Host`. */
 bool http_request_read(char *head, struct http_field *fields, size_t most, struct http_request *request);
 
 /* Null if a request proves a key at a time, in seconds since 1970. Otherwise the name of the refusal in docs/SIGNATURES.md, or "memory". With null
@@ -60,8 +60,8 @@ static inline struct spki_proven_key http_proven_key(const struct http_proof *pr
     return spki_assume_key((struct spki_text){proof->key, proof->key_length});
 }
 
-/* Nonces in memory, as hashes of eight octets: room for `most` in each of two sets. Null if `most` is 0, or there is no memory or no randomness.
- * `http_nonces_take` is for `take` of a service. One thread at a time may call. */
+/* Nonces in memory, as hashes of eight octets: room for `most` in each of two sets. Null if `most` is 0 or too large, or there is no memory or no
+ * randomness. `http_nonces_take` is for `take` of a service. One thread at a time may call. */
 struct http_nonces;
 struct http_nonces *http_nonces_open(size_t most);
 const char *http_nonces_take(void *nonces, struct spki_text key, struct spki_text nonce, long long now, long long seconds);

@@ -11,7 +11,7 @@
 
 enum { MOST_HEAD = 65536, MOST_LIST = 1048576, MOST_FIELDS = 64, MOST_NONCES = 100000, TIMEOUT_SECONDS = 5 };
 
-/* Whether `head`, a C string, is a GET whose signer may read its path, which must be normal. http_request_read cuts `head` into its parts. */
+/* Whether `head`, a C string, which is cut into its parts here, is a GET whose signer may read its path. One with `%`, `?`, `//` or `/.` is none. */
 static bool is_granted(const spki_guard *guard, const struct http_service *service, char *head)
 {
     struct http_field fields[MOST_FIELDS];
@@ -40,7 +40,7 @@ static void read_head(int client, char head[MOST_HEAD])
     }
 }
 
-/* Listens on a free port of loopback, prints it, and answers one client after the other. The exit status is 2 if it cannot start, 1 if it ends. */
+/* Listens on a free port of loopback, prints it, and answers clients one by one. The exit status is 2 without a port or list, 1 if it ends later. */
 int main(int count, char **given)
 {
     static char list[MOST_LIST + 1], head[MOST_HEAD];

@@ -15,7 +15,8 @@
 #include <stdbool.h>
 #include <string.h>
 
-/* Whether a signature is valid: `value` is one of `message` by `key`, all in canonical form. Several threads may call at the same time. */
+/* Whether a signature is valid: `value` is one of `message` by `key`. Key and value are canonical texts, and the message is any octets. False for an
+ * empty message. Several threads may call at the same time. */
 SPKI_RESULT bool verifies(const struct spki_signed *signature);
 
 enum { VERIFY_HASH = 32 };

@@ -10,7 +10,7 @@
 #include <openssl/param_build.h>
 #include <string.h>
 
-/* The octets of the largest signature, that of RSA: one by ECDSA in DER has at most 107. */
+/* The octets of the largest signature, that of RSA: one by ECDSA in DER has at most 104. */
 enum { MOST_SIGNATURE = VERIFY_MOST_BITS / 8 };
 
 /* OpenSSL's public key of a kind, such as "RSA", by its parameters. Null if they are null or no key, or if memory ran out. */
@@ -105,7 +105,8 @@ bool verify_hash(struct spki_text octets, unsigned char hash[VERIFY_HASH])
     return EVP_Digest(octets.octets, octets.length, hash, NULL, EVP_sha256(), NULL) == 1;
 }
 
-/* Whether a signature is valid: `value` is one of `message` by `key`, all in canonical form. False too if memory ran out. */
+/* Whether a signature is valid: `value` is one of `message` by `key`. False for an empty message, as docs/FORMATS.md has it, and if
+ * memory ran out. */
 bool verifies(const struct spki_signed *signature)
 {
     unsigned char octets[MOST_SIGNATURE];
