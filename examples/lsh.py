@@ -3,7 +3,8 @@
 
 Makes keys by `lsh-keygen`, splits and locks them by `lsh-writekey`, lets `lsh-authorize` put them on its list, and goes to OpenSSH's
 form and back by `lsh-export-key` and `ssh-conv`, all in an empty home. `examples/lsh/captured` is what `lsh --capture-to` wrote of a
-host's key. docs/PEERS.md says what is alike and what is not. Prints a line for each thing that is tried; the last line counts.
+host's key. docs/PEERS.md says what is alike and what is not. Prints a line for each thing that is tried. The last line is 'N passed, M failed',
+which the tests read.
 
 Build the program first (`rt run` in crates/spki), and install the tools (Debian: lsh-utils, nettle-bin).
 Usage: examples/lsh.py [PROGRAM]
@@ -121,7 +122,8 @@ def tries_of_captured_list(home):
 
 
 def main():
-    """Tries everything in an empty home, and prints a line for each try. Returns the exit status: 0 if all is as wanted, otherwise 1."""
+    """Tries everything in an empty home, and prints a line for each try. Returns the exit status: 0 if all is as wanted, otherwise 1.
+    Ends with 1 too if one of TOOLS is not there."""
     for program in TOOLS:
         if shutil.which(program) is None:
             sys.exit(f"{program} is not there")

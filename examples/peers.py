@@ -3,7 +3,9 @@
 
 Of each text: its canonical form by both programs; then what each program writes in each of its forms, read by the other
 one, must be that canonical form again. Of a text on which both are known to differ only what `spki` writes is read back.
-Prints a line for each text, and ends with status 1 on a difference that docs/PEERS.md does not list.
+Prints a line for each text. The status is 1 if a text is not as wanted: on a difference that KNOWN does not have (docs/PEERS.md says why they
+differ), or where a program fails. It is 1 as well if the texts of this repository do not show each difference of KNOWN, and 2 if something is
+missing.
 
 Build the program first (`rt run` in crates/spki), and install `sexp-conv` (Debian: nettle-bin).
 Usage: examples/peers.py [PROGRAM [FOLDER]]
@@ -105,8 +107,8 @@ def compare(name, text):
 
 
 def main():
-    """Compares the programs on each file of FOLDER, and prints the lines. Ends with status 1 if one is not as wanted, and 2 if something is
-    missing."""
+    """Compares the programs on each file of FOLDER that is not hidden, and prints the lines. Ends with status 1 if one is not as wanted, or if TEXTS
+    does not show each difference of KNOWN, and with 2 if FOLDER or `sexp-conv` is missing."""
     for name, is_there in ((PEER, shutil.which(PEER) is not None), (FOLDER, os.path.isdir(FOLDER))):
         if not is_there:
             print(f"{name} is not there", file=sys.stderr)

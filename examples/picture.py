@@ -73,7 +73,8 @@ def dot_of(drawing):
 
 
 def main():
-    """Prints the drawing of the case that the command line names. Returns the exit status: 0, or 2 if it cannot be drawn."""
+    """Prints the drawing of the case that the command line names. Returns the exit status: 0, or 2 if it cannot be drawn. If it names none, the
+    program ends with the help and status 1."""
     if len(sys.argv) < 2 or sys.argv[1].startswith("-"):
         sys.exit(__doc__)
     try:

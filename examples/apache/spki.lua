@@ -8,7 +8,8 @@ local function line(name, value)
     return name .. ": " .. value .. "\r\n"
 end
 
--- Asks the daemon about a request. Returns the status of its answer and X-Spki-Answer, each as a string, or nil if there is none.
+-- Asks the daemon about a request. Returns the status of its answer and X-Spki-Answer, each as a string, or nil if there is none. Fails if
+-- the daemon gives no whole answer, or if 5 seconds pass without a part of it.
 local function ask_daemon(r)
     -- (X-Client-Cert takes a certificate as base64: PEM without its first and last line and without white space)
     local certificate = (r:ssl_var_lookup("SSL_CLIENT_CERT") or ""):gsub("%-%-%-%-%-[A-Z ]+%-%-%-%-%-", ""):gsub("%s", "")

@@ -26,7 +26,7 @@ team dan data gus joy
 spki-cert check acl.sexp certs
 spki-cert show --labels . acl.sexp certs/web-ann.sexp certs/app-ann.sexp
 
-# asks WHO ACTION PATH: asks with all certificates at hand. spki-cert finds those that lead to the key.
+# asks WHO ACTION PATH: asks with all certificates at hand. spki-cert finds those that lead to the key. A no has status 1, and the story goes on.
 asks() {
     echo; spki-cert ask --acl acl.sexp --key "$1.pub" --labels . --cert certs -- cache "$2" "$3" || true
 }

@@ -8,7 +8,7 @@ after the entry is removed, and after it is added again. The keys are made as in
 The store is in the schema `spki_story` of the PostgreSQL whose settings of libpq are given. It must not be there, and is dropped at the end. Needs
 psycopg (Debian: python3-psycopg). Build the program and the library first (`rt run` in crates/spki, crates/spki_c/archive.py).
 
-Prints what it does. The last line counts the answers that are as wanted.
+Prints what it does. The last line, 'N passed, M failed', counts the answers that are as wanted: the tests read it.
 Usage: examples/database/story.py SETTINGS        as 'host=/run/postgresql dbname=acl'
 """
 import os
@@ -69,7 +69,8 @@ def answers(store):
 
 
 def main():
-    """Makes the store, asks, and removes the store. Returns the exit status: 0 if each answer is the expected one, otherwise 1."""
+    """Makes the store, asks, and removes the store. Returns the exit status: 0 if each answer is the expected one, otherwise 1. Ends with 1 too for
+    wrong arguments, or if no store can be made."""
     if len(sys.argv) != 2:
         sys.exit("Usage: examples/database/story.py SETTINGS")
     try:

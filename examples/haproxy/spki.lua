@@ -1,5 +1,5 @@
--- /etc/haproxy/spki.lua: asks spki-authd about a request, and sets txn.spki_answer to `yes`, `no` or, for its status 401, `unauthenticated`. If it does
--- not answer within 5 seconds, or by a status from 500 on, nothing is set.
+-- /etc/haproxy/spki.lua: asks spki-authd about a request, and sets txn.spki_answer to `yes`, `no` or, for its status 401, `unauthenticated`. Nothing
+-- is set if it does not answer within 5 seconds, for a status from 500 on, and for one below that is not 401 and has no X-Spki-Answer.
 
 -- A list of all values of a header, as the client has sent them. nil if there is none. (HAProxy counts them from 0, and a list of Lua from 1)
 local function values(headers, name)

@@ -1,8 +1,9 @@
 #!/bin/sh
 # Runs the example: starts nginx and spki-authd on loopback as an ordinary user, with all files in one temporary folder, and asks by curl. Each
-# line is who asks for what, and the status. Afterwards all is ended and removed. With `stay` it goes on until it is interrupted.
+# line is who asks for what, and the status; one that begins with # says why. Afterwards all is ended and removed. With `stay` it goes on until it
+# is interrupted.
 # Needs Debian's nginx, curl, openssl and python3-cryptography, and golang-go unless SPKI_AUTHD names the program. Build the library first:
-# crates/spki_c/archive.py. PORT is another port than 8443.
+# crates/spki_c/archive.py. The variable PORT names another port than 8443.
 # Usage: examples/nginx/run.sh [stay]
 set -eu
 here=$(dirname "$(realpath "$0")") top=$(realpath "$(dirname "$0")/../..") PORT=${PORT:-8443}

@@ -9,8 +9,9 @@ The service verifies the certificates' signatures, and writes the question as a 
 none: docs/GUIDE.md.
 
 Needs Python (3.10) and `cryptography` (Debian: python3-cryptography). New keys are made at each run, and the private ones are thrown
-away. The keys and signatures are those of `spki-cert`, whose code this example uses. Prints what it does. The last line counts the requests
-and answers that are as wanted. With a folder, which must exist, it keeps the texts of the cases there.
+away. The keys and signatures are those of `spki-cert`, whose code this example uses. Prints what it does. The last line, 'N passed, M failed',
+counts the requests, sequences and answers that are as wanted: the tests read it. With a folder, which must exist, it keeps the texts of the
+cases there.
 
 Build the program first (`rt run` in crates/spki).
 Usage: examples/signed/run.py [PROGRAM [FOLDER]]
@@ -134,7 +135,8 @@ class Service:
         """The case (`sexp.Value`), and the status and the answer of `spki check` for it. The client sends all but `moment`, a date in the form of
         NOON.
 
-        Raises `spki_http.Refused` if the request proves no key, and `ValueError` for another method and for a sequence that is too long or is none.
+        Raises `spki_http.Refused` if the request proves no key, and `ValueError` for another method and for a sequence that is too long, is none,
+        or has too many certificates.
         """
         proof = self.verifier.prove(method, NAME, target, fields.items(), b"")
         if method not in METHODS:
@@ -248,7 +250,7 @@ def wanted_lines(wrong):
 
 def attempt(story, folder, name, remark, sequence, holder, words, moment, wrong):
     """Asks a new service by a row of `attempts`, whose members are the arguments behind `folder`. Prints the answers, writes the case to the file
-    NAME.sexp of the folder, and returns whether the answers are as wanted."""
+    NAME.sexp of the folder, and returns whether the answers are as wanted and this text is read as the case."""
     case, status, answer = Service(story.access_list).ask(*asked_by(holder, words, sequence), moment)
     answer, text = answer.decode(), laid_out(case) + "\n"
     explained = spki("explain", text)[1].decode()
