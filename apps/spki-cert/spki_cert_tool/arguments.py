@@ -55,6 +55,7 @@ class CommandParser(argparse.ArgumentParser):
     def parse_known_args(self, args: Sequence[str] | None = None, namespace: Any = None) -> Any:
         """Parses the words as argparse does, which calls this also for the words of a command, by the command's own parser. Raises Refused for a word
         that is not known, and says which option or command may be meant. Returns the values, and the words left over, of which there are none."""
+        # (the main parser has commands, and that of a command has none)
         options = [name[2:] for action in self._actions for name in action.option_strings if name.startswith("--")]
         commands = [name for action in self._actions if isinstance(action, argparse._SubParsersAction) for name in action.choices]
         for word in itertools.takewhile(lambda word: word != "--", args or []):

@@ -354,6 +354,7 @@ def what_cannot_be_given(chain: Value, certificate: Value, key: Value, label: st
     certificates = certificates_in(chain)
     if not certificates:
         return ["the chain has no certificate"]
+    # (whom the chain begins with: the key that issues the first certificate, or the name that this defines)
     first = certificates[0].terms
     begin: Value = [b"name", first.issuer or b"", first.name] if first.name is not None else first.issuer or b""
     labels = Labels()
@@ -371,6 +372,7 @@ def tag_after(subject: Value, sequence: Value, certificate: Value, key: Value, l
     """The tag that remains after a sequence whose access list would give everything to a subject, and an empty list. Or an empty string and why none
     remains, in the words of `ask`. The certificate, which `key` issues, counts as signed. Raises Refused."""
     access_list: Value = [b"acl", [b"entry", subject, [b"propagate"], [b"tag", [b"*"]]]]
+    # (any request and moment: the tag that remains does not depend on them)
     asked = Asked(access_list, key, b"", now(), labels, [sequence], unsigned=canonical(certificate))
     with guard_of(asked) as guard:
         answer = answer_of(guard, asked, sequence)

@@ -160,8 +160,8 @@ def make(given: argparse.Namespace) -> int:
 
 
 def add(given: argparse.Namespace) -> int:
-    """Ends certificates: adds their digests to the file, each with today's date and --reason as a comment. Says which of them had ended before: they
-    are not written twice. Returns DONE."""
+    """Ends certificates: adds their digests to the file, each with today's date in UTC and at most MOST_REASON letters of --reason as a
+    comment. Says which of them had ended before: they are not written twice. Returns DONE."""
     meant = meant_by(given)
     # (of the present moment, as 2026-03-01_12:00:00, the first 10 octets are the date)
     comment = f"{now()[:10].decode()} {visible(given.reason)[:MOST_REASON]}".rstrip()
@@ -203,7 +203,7 @@ def line_listed(row: re.Match[bytes]) -> str:
 
 
 def list_all(given: argparse.Namespace) -> int:
-    """Prints all digests, and the last line, by which two copies of the file are compared."""
+    """Prints all digests with their dates and reasons, and the last line, by which two copies of the file are compared. Returns DONE."""
     lines = lines_in(given.ended)
     return say(*map(line_listed, rows_of(lines)), last_line(lines).decode())
 

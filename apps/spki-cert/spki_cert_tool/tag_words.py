@@ -124,6 +124,7 @@ def remarks(node: Node, is_outermost: bool = True) -> Iterator[Place]:
         yield node.begin, f"`(*{word} ..)` is a list that begins with the string `*{word}`; with a space behind the star it is `(* {word} ..)`"
     elif head in STARS:
         yield node.begin, f"`({head.decode()} ..)` is a list that begins with this word; with a star it is `(* {head.decode()} ..)`"
+    # (a list of words alone, inside a tag or of nothing but ACTIONS, is probably meant as a set)
     elif None not in words and len(words) > 1 and (not is_outermost or ACTIONS.issuperset(word or b"" for word in words)):
         text = on_one_line(node.value)
         yield node.begin, f"`{text}` contains only lists that begin so; what contains each of these words is `(* set {text[1:]}`"
