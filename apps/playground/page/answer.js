@@ -19,8 +19,8 @@ export function showNotice(id, text) {
 }
 
 export class Answer {
-  /** `boxes` are all boxes of the page by their names. `changed` is called when a signature was ticked or no longer is. The field `refused` has the
-    * places, from 0, of the signatures that do not count. */
+  /** `boxes` are all boxes of the page by their names. `changed` is called when a signature was ticked or no longer is, or all at once. The field
+    * `refused` has the places, from 0, of the signatures that do not count. Draws the picture again when its width changes. */
   constructor(boxes, changed) {
     this.boxes = boxes;
     this.changed = changed;
