@@ -334,7 +334,8 @@ def main() -> int:
 
 
 def end_by_signal(number: int, frame: object) -> NoReturn:
-    """Handles a signal: ends the program with status FAILED. No file is half written, since a signal waits until a file is in its place."""
+    """Handles a signal: gives the terminal its settings back, tells which signal it was, and ends the program with status FAILED. No file is half
+    written, since a signal waits until a file is in its place."""
     for descriptor, attributes in TERMINAL:
         # (a terminal that was closed, the reason of SIGHUP, has no settings any more)
         with contextlib.suppress(termios.error):

@@ -135,7 +135,7 @@ class FileSigner:
         self.private, self.key = private, key_of(private.public_key())
 
     def sign(self, message: bytes) -> Value:
-        """The value `(sig-val ..)` of a signature of these octets."""
+        """The value `(sig-val ..)` of a signature of these octets: by RSA and P-256 with SHA-256, by P-384 with SHA-384."""
         from cryptography.hazmat.primitives.asymmetric import ec, ed25519, padding, utils
         from cryptography.hazmat.primitives.hashes import SHA256, SHA384
         if isinstance(self.private, ed25519.Ed25519PrivateKey):
