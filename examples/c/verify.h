@@ -72,7 +72,8 @@ static inline const unsigned char *verify_string(const unsigned char *at, const 
     return at + length;
 }
 
-/* Whether a canonical text has a form, in which `%` is any string. Sets `strings[0]` and so on to these. Without the form some may be set too. */
+/* Whether a canonical text has at most VERIFY_MOST_OCTETS, and a form in which `%` is any string. Sets `strings[0]` and so on to these. Without the
+ * form some may be set too. */
 static inline bool verify_has_form(struct spki_text text, const char *form, struct spki_text *strings)
 {
     const unsigned char *at = text.octets, *end = at + text.length;
@@ -153,8 +154,8 @@ static inline bool verify_is_ed25519(struct spki_text q, struct spki_text r, str
            && verify_is_below_half((struct spki_text){s_number, VERIFY_HALF}, order);
 }
 
-/* Whether q can be a key of ECDSA, and r and s a signature, by a curve's prime p and order. The coordinates are below p, and r and s, which have no
- * octets 00 in front, are from 1 to below the order. A library tests that q is on the curve. */
+/* Whether q can be a key of ECDSA, and r and s a signature, by a curve's prime p and order. An octet 04 and two coordinates are q. These are
+ * below p, and r and s, which have no octets 00 in front, are from 1 to below the order. A library tests that q is on the curve. */
 static inline bool verify_is_ecdsa(struct spki_text q, struct spki_text r, struct spki_text s, struct spki_text p, struct spki_text order)
 {
     const unsigned char *octets = q.octets;
