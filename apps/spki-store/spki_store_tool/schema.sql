@@ -3,9 +3,9 @@
 CREATE SCHEMA @SCHEMA@;
 
 -- What an entry is found by: the digest of its subject's hash, or the SHA-256 digest of its subject's key. The text must be one list in canonical
--- form that begins with `entry` and a subject, and nothing follows it: another text is an error. `spki-store check` says whether the library reads it
--- as an entry. It calls the functions of the system, and none of the same name that an account has made. Octets are compared by their numbers in
--- ASCII: 40 is `(`, 41 `)`, 91 `[`, 93 `]`, 58 `:`, and 48 to 57 are the digits.
+-- form that begins with `entry` and a subject, and nothing follows it. A text whose beginning, parentheses or lengths are wrong is an error.
+-- `spki-store check` says whether the library reads it as an entry. This function calls those of the system, and none of the same name that an
+-- account has made. Octets are compared by their numbers in ASCII: 40 is `(`, 41 `)`, 91 `[`, 93 `]`, 58 `:`, and 48 to 57 are the digits.
 CREATE FUNCTION @SCHEMA@.principal_of(text bytea) RETURNS bytea LANGUAGE plpgsql IMMUTABLE STRICT PARALLEL SAFE
 SET search_path = pg_catalog, pg_temp AS $$
 DECLARE
@@ -105,8 +105,8 @@ CREATE TABLE @SCHEMA@.changes (
     text bytea
 );
 
--- The number of the last change. A change updates this row first, and so waits for the end of each transaction that has changed something: no
--- change with a lower number appears after one with a higher number.
+-- The number of the last change. A change gets its number by an update of this row, and so waits for the end of each transaction that has changed
+-- something: no change with a lower number appears after one with a higher number.
 CREATE TABLE @SCHEMA@.state (one boolean PRIMARY KEY DEFAULT true CHECK (one), version integer NOT NULL, changes bigint NOT NULL)
     WITH (fillfactor = 10);
 INSERT INTO @SCHEMA@.state (version, changes) VALUES (2, 0);
