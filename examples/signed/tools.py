@@ -16,7 +16,7 @@ if importlib.util.find_spec("cryptography") is None:
 
 
 def spki(command, text):
-    """The exit status of a command of `spki` on a text, and its answer. After SECONDS it is ended, and an exception raised."""
+    """The exit status of a command of `spki` on a text, and its answer. After SECONDS it is ended, and TimeoutExpired raised."""
     octets = text.encode() if isinstance(text, str) else text
     done = subprocess.run([SPKI, command], input=octets, stdout=subprocess.PIPE, stderr=subprocess.DEVNULL, timeout=SECONDS)
     return done.returncode, done.stdout

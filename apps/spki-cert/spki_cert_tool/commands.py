@@ -46,8 +46,8 @@ def key(given: argparse.Namespace) -> int:
 
 
 def new_key(given: argparse.Namespace) -> int:
-    """Makes a key pair as two files, and writes over none: `given.file` is the private key, and `given.file`.pub the public one. If the public one
-    cannot be written, the private one stays."""
+    """Makes a key pair as two files, and writes over none: `given.file` is the private key, and `given.file`.pub the public one. Without
+    --no-passphrase it asks for a passphrase, and once more unless that is empty. If the public one cannot be written, the private one stays."""
     path = given.file
     if path.endswith(".pub"):
         raise Refused(f"{path}: a private key is not called .pub; give {path[:-4]}, and the public key is {path}")

@@ -144,7 +144,7 @@ def refusal_to_read(path: str, why: OSError) -> Refused:
 
 def text_at(path: str, read_as: str = "") -> tuple[bytes, Node]:
     """The octets of a file, and its value. `read_as` is empty, or the beginning of a refusal such as `refused acl`, whose second word says as what it
-    is read. Raises Refused with the place if a service would refuse it."""
+    is read. Raises Refused if the file cannot be read, or with the place if a service would refuse it."""
     octets = octets_of(path)
     diagnosis, node = read_text(octets, read_as)
     if diagnosis[0] is not None:

@@ -134,7 +134,7 @@ def suggestion(word: bytes | None, allowed: Iterable[bytes]) -> str:
 
 
 def excerpt(octets: bytes) -> str:
-    """The first 40 octets for people to read, with `..` behind them if there are more."""
+    """The first 40 octets for people to read, with escapes as Python has them, and `..` behind them if there are more."""
     return repr(octets[:40])[2:-1] + (".." if len(octets) > 40 else "")
 
 

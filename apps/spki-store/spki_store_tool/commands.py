@@ -70,7 +70,8 @@ def import_(store: Store, given: argparse.Namespace) -> int:
 
 
 def export(store: Store, given: argparse.Namespace) -> int:
-    """Writes all entries as a list into a new file. A signal ends that with the status FAILED, and leaves no part of the file."""
+    """Writes all entries as a list into a new file, and says how many. SIGHUP, SIGINT or SIGTERM, if it is not ignored, ends that with the status
+    FAILED, and leaves no part of the file."""
     for number in (signal.SIGHUP, signal.SIGINT, signal.SIGTERM):
         if signal.getsignal(number) is not signal.SIG_IGN:
             signal.signal(number, end_by_signal)

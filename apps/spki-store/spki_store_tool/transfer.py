@@ -34,6 +34,7 @@ class Progress:
         if self.is_shown and (now - self.shown_at > PAUSE or done == self.octets):
             # (`max`, since neither the time nor the length may be 0 in a division)
             self.shown_at, rate = now, (entries - self.entries_before) / max(now - self.begun, 0.001)
+            # (the whole bar is 30 letters wide)
             bar = "#" * (30 * done // max(self.octets, 1))
             sys.stderr.write(f"\r[{bar:<30}] {100 * done // max(self.octets, 1):>3} %  {entries:,} entries, {rate:,.0f} a second ")
             sys.stderr.write("\n" if done == self.octets else "")
