@@ -14,7 +14,7 @@ from .sexp import canonical
 from .structures import (Members, Reader, but_is, read_certificate, read_date, read_entry, read_hash, read_item, read_key, read_request, read_row,
                          read_signature, read_tag, read_version)
 
-# How many octets are shown on each side of a place.
+# How many octets are shown on each side of a place, at most.
 WIDTH = 60
 # The heads of the parts of a case, in their order.
 PARTS = (b"acl", b"accepted", b"sequence", b"key", b"request", b"at")
