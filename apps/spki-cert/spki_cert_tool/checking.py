@@ -15,6 +15,7 @@ from .showing import FAULTS, what_is
 from .structures import read_tag
 from .tag_words import MOST_PRODUCTS, contains, is_everything, remarks
 
+# The suffixes of the files in a folder that are always looked at.
 S_EXPRESSIONS, OTHER_KEYS = (".sexp", ".csexp", ".tsexp"), (".pub", ".pem", ".key")
 # The heads of all kinds of texts, which a misspelled head is compared with.
 HEADS = (*BY_HEAD, *ALONE, b"tag", b"request", b"private-key")

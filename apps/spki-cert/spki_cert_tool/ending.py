@@ -19,6 +19,7 @@ from .keys import digest_of
 # The most octets of the file, since `spki-authd` reads no more, and the most letters of a reason.
 MOST_ENDED, MOST_REASON = 1 << 24, 200
 HEAD = b"# SHA-256 of certificates that no longer count. Only `spki-cert end` may change this file."
+# A digest as --digest takes it, and a line of the file that has one.
 DIGITS = re.compile(r"[0-9A-Fa-f]{64}")
 ENDED = re.compile(rb"([0-9a-f]{64})(?: # ([^\n]*))?")
 # (a number of thousands of digits would be no number to `int`)

@@ -18,6 +18,7 @@ MOST_OCTETS, MOST_LISTS, MOST_NODES = 1_048_576, 64, 1024
 # A longer word is compared with no other.
 MOST_MEANT = 60
 SPACES = re.compile(rb"[ \t\n\v\f\r]*")
+# A word as people write it, perhaps with letters outside ASCII.
 LETTERS = re.compile(rb"[\w\-./:*+=\x80-\xff]+")
 TOKEN = re.compile(rb"[A-Za-z\-./_:*+=][A-Za-z0-9\-./_:*+=]*")
 LENGTH = re.compile(rb"0|[1-9][0-9]*")

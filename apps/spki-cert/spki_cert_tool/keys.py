@@ -31,6 +31,7 @@ HALF = 32
 # So many octets are read of a number of a private RSA key. A key that is used has at most 513. One of up to 4098 is refused with its number of bits,
 # and computing with more would take long.
 MOST_OCTETS = 4098
+# How an S-expression of a private key begins.
 PRIVATE = (b"(private-key", b"(11:private-key")
 PEM = re.compile(rb"-----BEGIN ([A-Z0-9 ]+)-----")
 # A line of a public key of OpenSSH: the key, and its comment. At most two fields are before it, as the options in authorized_keys, or a marker and

@@ -21,6 +21,7 @@ PARTS = (b"acl", b"accepted", b"sequence", b"key", b"request", b"at")
 # What is wrong with a text, or None; the text in which the fault has its place, which is the canonical text in the braces or else the text itself;
 # and, if there are braces, the offset in the whole text of each octet in them.
 Diagnosis = tuple[Optional[Wrong], bytes, Optional[list[int]]]
+# A block of PEM behind its first words, to its last line, or to the end of the text if that is missing.
 PEM_END = rb"-----.*?(?:-----END [A-Z0-9 ]+-----|\Z)"
 USED = "only Ed25519, RSA of 2048 bits or more and ECDSA with the curve P-256 or P-384 are used; `spki-cert key new FILE` makes a key"
 # What is neither a key that is used nor an S-expression, and what can be done with it.
@@ -50,6 +51,7 @@ PASTED = [(pattern, f"this is {called}, and no S-expression; {wanted}") for patt
     (rb"-----BEGIN [A-Z0-9 ]*PRIVATE KEY" + PEM_END, "a private key, which belongs into no list",
      "keep it secret, and replace it if somebody saw it; `spki-cert key FILE` writes the public one"),
     (rb"-----BEGIN [A-Z0-9 ]+" + PEM_END, "a key in PEM", "`spki-cert key FILE` writes it as one")]]
+# What is added for one of FOREIGN or PASTED inside `(public-key ..)`; and what is said of an empty file, or one that is refused at its first octet.
 INSIDE = "; replace the whole `(public-key ..)` by that S-expression"
 EMPTY = {"acl": "an access list begins as `(acl)`, and `spki-cert entry --acl FILE` adds an entry",
          "sequence": "`spki-cert sign` writes a certificate with its signature", "key": "`spki-cert key FILE` writes a key"}

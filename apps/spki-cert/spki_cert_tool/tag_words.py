@@ -13,6 +13,7 @@ from .forms import Node, Place
 from .sexp import Value, in_short, on_one_line
 from .structures import MOMENT, STARS
 
+# The form of a time of day, those that orderings require, and the comparisons by the words of limits. `alpha` requires no form.
 TIME = re.compile(rb"([01]\d|2[0-3]):[0-5]\d:([0-5]\d|60)")
 FORMS = {b"time": TIME, b"date": MOMENT}
 COMPARED = {b"g": operator.gt, b"ge": operator.ge, b"l": operator.lt, b"le": operator.le}
