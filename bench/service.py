@@ -122,7 +122,8 @@ def case_without_certificates(entries, subject_of):
 
 
 def case_with_three(entries, subject_of=by_key):
-    """A case of so many entries and three certificates. The last entry is that of the first issuer."""
+    """A case of so many entries and three certificates. The last entry is that of the first issuer, and the subject of the last certificate asks.
+    `subject_of` makes the subject of an entry for a key."""
     keys = keys_of(3)
     links = [(certificate(issuer, subject), issuer) for issuer, subject in zip(keys, keys[1:])]
     return case([*other_entries(entries - 1, subject_of), entry(subject_of(keys[0]))], links, asks=keys[-1])
@@ -372,9 +373,9 @@ def lists_in_lists(entries, depth):
 
 
 def equal_strings(entries, *prefixes):
-    """A case of entries for the first issuer. In a reduction each has a far longer line than an answer may have: `prefixes` are how often the set of
-    each certificate has the empty prefix, and the last certificate has a string of 44,000 octets, which the intersection of all has as often as the
-    product of these numbers. The string is no token, but printable, so that a printer looks at all of it to find its form."""
+    """A case of so many equal entries for the first issuer. In a reduction each has a far longer line than an answer may have: `prefixes` are how
+    often the set of each certificate has the empty prefix, and the last certificate has a string of 44,000 octets, which the intersection of all has
+    as often as the product of these numbers. The string is no token, but printable, so that a printer looks at all of it to find its form."""
     sets = [group(string("*"), string("set"), *[group(string("*"), string("prefix"), string(""))] * members) for members in prefixes]
     tags = [*sets, group(string("*"), string("set"), string("a" + " " * 43_999))]
     keys = keys_of(len(tags))
@@ -539,6 +540,7 @@ def main():
         driver = Driver(folder, library)
         parts = (by_instructions, through_python, opening_of_widest, by_default, widest, threads)
         values = [pair for part in parts for pair in part(driver)]
+    # (a list, so that each value is printed)
     if not all([print_and_check(*pair) for pair in values]):
         sys.exit(1)
 

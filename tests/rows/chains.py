@@ -123,9 +123,9 @@ def windows_and_tags():
 
 
 def sizes():
-    """Yields (name, text, what `check` answers): products of nodes from both sides of 1,000,000, and an entry before and behind a larger one. A set
-    of N strings has N + 1 nodes, so 999 and 1,000 strings make 1,000 * 1,001. Equal strings are all kept: 99 and 99 leave 9,801, so 9,802 nodes.
-    Times the 102 nodes of 101 strings that is 999,804, and times 103 it is 1,009,606."""
+    """Yields (name, text, what `check` answers): products of the nodes of tags up to 1,000,000 and over it, and an entry before and behind a larger
+    one. A set of N strings has N + 1 nodes, so 999 and 1,000 strings make 1,000 * 1,001. Equal strings are all kept: 99 and 99 leave 9,801, so 9,802
+    nodes. Times the 102 nodes of 101 strings that is 999,804, and times 103 it is 1,009,606."""
     shown = rows_and_items((cert(key("a"), key("d"), f"(tag (* set {numbered(1000)}))"), key("a")))
     large, small = entry("a", f"(propagate) (tag (* set {numbered(999)}))"), entry("a", "(propagate) (tag n0)")
     yield "too large", case(large + small, *shown, request="n0"), refused("TooLarge")

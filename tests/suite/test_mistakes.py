@@ -513,7 +513,7 @@ class Child:
 
 
 def writing_to(path, encoding="utf-8"):
-    """A function that opens the file of a path for writing: it can be the `stdout` of a `Child`."""
+    """Returns a function that opens the file of a path for writing. It can be the `stdout` of a `Child`."""
     return lambda: open(path, "w", encoding=encoding)
 
 

@@ -239,8 +239,8 @@ class Schema(OfStore):
             self.store.rows(text, *values)
 
     def test_rows(self) -> None:
-        """The database makes the principal of a row of its text: the SHA-256 digest of a key, or the digest of a hash. It accepts no text that is not
-        one entry with a principal."""
+        """The database computes the principal of a row from its text: the SHA-256 digest of a key, or the digest of a hash. It refuses a text that is
+        not one list in canonical form that begins with `entry` and a principal."""
         key = b"(10:public-key(4:test1:a))"
         hinted = b"(5:entry(4:hash6:sha256[1:x]32:" + b"h" * 32 + b")(3:tag(1:*)))"
         for text, wanted in {A: hashlib.sha256(key).digest(), ZEROS: bytes(32), hinted: b"h" * 32,
