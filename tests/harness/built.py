@@ -8,7 +8,6 @@ both. It sets all but ONE_CALL and LIBRARY, with which a person tests others:
     SPKI_TEST_ALONE     the program alone is tested: there is no library
     SPKI_TEST_CASES     how many generated cases are compared with the model
     SPKI_TEST_LONG      the long tests too, which `.ci/deep` runs
-    SPKI_TEST_ANEW      tests run also if they passed on the same sources before
 """
 import os
 import unittest
@@ -18,7 +17,7 @@ from harness.support import ARM, LIBRARY, PROGRAM, TOP
 BY_RATTLE = os.path.join(TOP, "crates", "spki", "out", "spki.by-rattle")
 ONE_CALL = os.environ.get("SPKI_TEST_ONE_CALL", os.path.join(TOP, "crates", "test_one_call", "out", "test_one_call"))
 ONE_CALL_BY_RATTLE = os.path.join(TOP, "crates", "test_one_call", "out", "test_one_call.by-rattle")
-IS_LONG, IS_ALONE, IS_ANEW = (bool(os.environ.get(f"SPKI_TEST_{word}")) for word in ("LONG", "ALONE", "ANEW"))
+IS_LONG, IS_ALONE = (bool(os.environ.get(f"SPKI_TEST_{word}")) for word in ("LONG", "ALONE"))
 CASES = int(os.environ.get("SPKI_TEST_CASES", "2000"))
 
 

@@ -9,21 +9,18 @@ to the next command are what it should write. The commands of a page run unchang
 apps/locate as `locate` and apps/spki-cert/spki-cert as `spki-cert`, which has the built library. They run once in `sh`, and once in `bash`.
 
 An indented block below a paragraph that begins with `**C.**`, `**Rust.**`, `**Python.**` or `**Go.**` is a snippet: snippets.py compiles it and runs
-it. The indented command `rt try` of README.md runs in this repository, where it takes about a minute. It is not run again while the crates below the
-program, the toolchain and what it reads are the same.
+it.
 
 tests/harness/page_commands.py says which test runs the other commands and pages, and which commands no test runs."""
 import itertools
 import os
 import re
 import shlex
-import subprocess
 import tempfile
 import textwrap
-import unittest
 from collections.abc import Callable, Iterable
 
-from harness import building, built, needs, snippets
+from harness import built, needs, snippets
 from harness.support import TOP, output_of, text_of
 
 BLOCK = re.compile(r"^```(\w+)(?: (\S+))?\n(.*?)^```$", re.MULTILINE | re.DOTALL)
@@ -33,9 +30,6 @@ END = "---- end of command ----"  # (behind what each command writes: other test
 PROGRAMS = ("examples/c", "bindings/rust/examples", "bindings/python/examples")
 FENCED = re.compile(r"^```.*?^```$", re.MULTILINE | re.DOTALL)
 SNIPPET_BELOW = re.compile(r"\*\*(C|Rust|Python|Go)\.\*\*")
-# The commands of the toolchain, and what each prints.
-OF_TOOLCHAIN = {"(cd crates/spki && rt try -- check < ../../examples/delegation.sexp)": "yes entry 1\n"}
-SECONDS_OF_TOOLCHAIN = 1200
 PAGES = ("README.md", "docs/GUIDE.md", "docs/spki.1")
 SHELLS = ("sh", "bash")
 
@@ -137,21 +131,9 @@ def snippets_of(page):
     return [(language[1], block) for above, block in indented(page) if (language := SNIPPET_BELOW.match(above))]
 
 
-def commands_of(page):
-    """The indented commands of the text of a page, without those of the first certificate, which tests/suite/test_cert.py runs."""
-    blocks = [block for above, block in indented(page) if not SNIPPET_BELOW.match(above) and "spki-cert" not in block]
-    return [line for block in blocks for line in block.splitlines()]
-
-
 def lines_of_first_certificate(page: str) -> list[str]:
     """The indented commands of the text of a page that make the first certificate."""
     return [line for _, block in indented(page) if "spki-cert" in block for line in block.splitlines()]
-
-
-def checksum_of_command() -> str:
-    """The checksum of the toolchain and all that `rt try` reads for the command of README.md, and behind it that command."""
-    of_crates = building.checksum([*building.sources("spki", ("src", "specs")), os.path.join("examples", "delegation.sexp")])
-    return f"{of_crates} {sorted(OF_TOOLCHAIN.items())}"
 
 
 # ---- the pages
@@ -202,20 +184,6 @@ def add_pages() -> None:
 
 
 add_pages()
-
-
-class Indented(unittest.TestCase):
-    """The indented command of the toolchain in README.md."""
-
-    def test_toolchain(self) -> None:
-        """`rt try` prints what the page says. It is not run again on the same sources, unless built.IS_ANEW says so."""
-        if building.recorded_checksums().get("README.md's rt try") == checksum_of_command() and not built.IS_ANEW:
-            return
-        for line in OF_TOOLCHAIN:
-            self.assertIn(line, commands_of(text_of("README.md")))
-            done = subprocess.run(["sh", "-c", line], cwd=TOP, text=True, capture_output=True, timeout=SECONDS_OF_TOOLCHAIN)
-            self.assertEqual(done.stdout, OF_TOOLCHAIN[line], f"$ {line}\n{done.stderr[-1000:]}")
-        building.record("README.md's rt try", checksum_of_command())
 
 
 @needs.needs(*needs.LIBRARY)
