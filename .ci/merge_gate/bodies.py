@@ -73,7 +73,7 @@ def path_of_edit(crate: Any, name: str) -> str:
 
 
 def paths_of(crate: Any) -> list[str]:
-    """The paths of the files of all wrong bodies in wrong/ of a crate."""
+    """The paths of the files of all wrong bodies of a crate."""
     return sorted(glob.glob(os.path.join(crate.folder, "wrong", "*.edit")))
 
 

@@ -1,6 +1,5 @@
 """Tests before anything is proved what else would fail late: that each source file is laid out as `rt fmt` lays it out, that each wrong
-body can be applied, that CONTRIBUTING.md lists those of must-fail/, that the others were tried against the present promises, that no file is a
-link, and that CONTRIBUTING.md's line on the last run of `.ci/deep` names a commit of the history, no failure, and the seed of 1,000,000 texts
+body can be applied and was tried against the present promises, that no file is a link, and that CONTRIBUTING.md's line on the last run of `.ci/deep` names a commit of the history, no failure, and the seed of 1,000,000 texts
 or that only wrong bodies were tried."""
 import glob
 import os
@@ -17,8 +16,6 @@ from merge_gate import bodies, records, toolchain
 
 # The beginning of each line of an edit that the toolchain reads.
 READ = re.compile(r"(file: |old: |new:|$)")
-# A row of CONTRIBUTING.md: a crate, and its wrong bodies in must-fail/.
-LISTED = re.compile(r"^\| `(\w+)` \| (`[\w-]+`(?:, `[\w-]+`)*) \|$", re.MULTILINE)
 # The line on the last run: of all, with its seed in the same paragraph, or of the wrong bodies of crates that the command named.
 LINE = re.compile(r"Last run of `\.ci/deep`: commit ([0-9a-f]{12,40}), \d+ passed, 0 failed, "
                   r"(?:wrong bodies only, |(?:.|\n(?!\n))*\b1,000,000 (?:.|\n(?!\n))*\bseed [0-9a-f]{8}\b)")
@@ -33,21 +30,14 @@ def files_laid_out_wrongly(crate: str) -> str:
 
 
 def faults_of_wrong_bodies() -> Iterator[str]:
-    """A line for each wrong body, an edit of a function that its contract must refuse, that cannot be applied, that has a line which the toolchain
-    does not read, or that only one of must-fail/ and the list of CONTRIBUTING.md has."""
-    tried = set()
-    for crate in sorted(os.listdir(os.path.join(ROOT, "crates"))):
-        folder = os.path.join(ROOT, "crates", crate)
-        for path in sorted(glob.glob(os.path.join(folder, "wrong", "*.edit")) + glob.glob(os.path.join(folder, "must-fail", "*.edit"))):
-            why = toolchain.applied(path, folder)[1]
+    """A line for each wrong body, an edit of a function that its contract must refuse, that cannot be applied, or that has a line which the toolchain
+    does not read."""
+    for crate in toolchain.crates().values():
+        for path in bodies.paths_of(crate):
+            why = toolchain.applied(path, crate.folder)[1]
             unread = [line for line in text_of(path).split("\n") if not READ.match(line)]
             if why or unread:
                 yield f"{os.path.relpath(path, ROOT)}: {why or f'this line is not read: {unread[0]}'}"
-            if os.path.basename(os.path.dirname(path)) == "must-fail":
-                tried.add((crate, os.path.basename(path).removesuffix(".edit")))
-    listed = {(crate, name) for crate, names in LISTED.findall(text_of("CONTRIBUTING.md")) for name in re.findall(r"[\w-]+", names)}
-    for crate, name in sorted(tried ^ listed):
-        yield f"{crate}/{name}.edit: " + ("CONTRIBUTING.md does not list it" if (crate, name) in tried else "CONTRIBUTING.md lists it")
 
 
 def git(*words):
