@@ -16,7 +16,7 @@ use base64::engine::general_purpose::STANDARD;
 use std::alloc::{AllocError, Global};
 
 /// Octets that were decoded from base64, and the offset after the mark that ended the base64, such as a closing brace.
-#[derive(Debug, Drop)]
+#[derive(Drop)]
 pub struct Unpacked {
     /// The decoded octets.
     pub octets: Vec<u8>,

@@ -16,7 +16,7 @@ use std::marker::Model;
 pub struct NodeId(pub usize);
 
 /// A canonical text (RFC 9804, section 6.2) with a table of its nodes. In a contract a document is its value.
-#[derive(Debug, Drop)]
+#[derive(Drop)]
 pub struct Doc<'a> {
     /// The canonical text.
     text: &'a [u8],

@@ -11,7 +11,7 @@ use std::marker::Model;
 
 /// A node of a document, a string or a list: a reference to the document, and the number of the node in it, from 0. In a
 /// contract a node is its value.
-#[derive(Debug, Drop)]
+#[derive(Drop)]
 pub struct Node<'d, 'a> {
     document: &'d Doc<'a>,
     number: usize,
@@ -34,7 +34,7 @@ impl<'d, 'a> Model for Node<'d, 'a> {
 }
 
 /// What a node is: a string, with its display hint if it has one, or a list.
-#[derive(Debug, Drop)]
+#[derive(Drop)]
 pub enum NodeKind<'d, 'a> {
     /// A string: its display hint, if it has one, and its octets, as they are in the text of the document.
     String {

@@ -10,7 +10,7 @@ use std::marker::Model;
 /// The members of a list that are still to be read: their nodes have the numbers from `from` to before `to`. The number
 /// of a member plus its size, which is the number of all nodes in it and itself, is the number of the next member. In a
 /// contract a `Members` is the list of the members' values.
-#[derive(Debug, Drop)]
+#[derive(Drop)]
 pub struct Members<'d, 'a> {
     document: &'d Doc<'a>,
     from: usize,

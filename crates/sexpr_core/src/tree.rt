@@ -6,7 +6,7 @@ ghost use Rattle.sexpr_core.specs.Value.{plain, group, sexp_value};
 use std::alloc::{AllocError, Global};
 
 /// An S-expression (RFC 9804, sections 4 and 5): an octet string or a list.
-#[derive(Debug, Drop)]
+#[derive(Drop)]
 pub enum Sexp {
     /// An octet string.
     Atom(Atom),
@@ -15,7 +15,7 @@ pub enum Sexp {
 }
 
 /// An octet string, with or without a display hint (RFC 9804, sections 4 and 4.6).
-#[derive(Debug, Drop)]
+#[derive(Drop)]
 pub struct Atom {
     /// The display hint: octets that say how to show the string, such as a media type. None if the string has no hint.
     /// An empty hint is a hint.

@@ -10,7 +10,7 @@ use sha2::{Digest, Sha256, Sha512};
 use std::marker::Model;
 
 /// Digests of a key's canonical octets, as far as they were made. None: not made yet.
-#[derive(Clone, Copy, Debug)]
+#[derive(Clone, Copy)]
 struct Digests {
     sha1: Option<[u8; 20]>,
     sha256: Option<[u8; 32]>,
@@ -19,7 +19,7 @@ struct Digests {
 
 /// A public key, as its canonical octets (RFC 2693, section 2.5). Two keys are the same if these octets are. A key carries the digests that
 /// `digested` has made of it, so that they are not made at each comparison with a hash.
-#[derive(Debug, Drop)]
+#[derive(Drop)]
 pub struct Key<'a> {
     /// The canonical octets, borrowed from the text that was read.
     canonical: Octets<'a>,

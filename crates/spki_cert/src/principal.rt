@@ -16,7 +16,7 @@ pub enum Policy {
 }
 
 /// A key, or the hash of one.
-#[derive(Debug, Drop)]
+#[derive(Drop)]
 pub enum Principal<'a> {
     /// The key itself.
     Key(Key<'a>),

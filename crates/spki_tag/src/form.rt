@@ -9,7 +9,7 @@ use crate::shared_tags::tags_in;
 use crate::tag::{Node, Tag};
 
 /// A limit of a range, as callers see it.
-#[derive(Clone, Copy, Debug)]
+#[derive(Clone, Copy)]
 pub struct TagLimit<'a> {
     /// Whether the range excludes the string itself.
     pub strict: bool,
@@ -18,7 +18,7 @@ pub struct TagLimit<'a> {
 }
 
 /// What `Tag::form` returns: a tag without members, or the members of a tag (RFC 2693, section 6.3.1).
-#[derive(Clone, Copy, Debug)]
+#[derive(Clone, Copy)]
 pub enum TagForm<'a> {
     /// `(*)`.
     Everything,

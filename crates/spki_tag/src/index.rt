@@ -83,7 +83,7 @@ fn places_at<'m>(map: &'m PlacesByString<'_>, string: &[u8]) -> &'m [usize]
 }
 
 /// The places of tags, counted from 1, in increasing order, by what the tags can contain.
-#[derive(Debug, Drop)]
+#[derive(Drop)]
 struct PlacesByKind<'a> {
     /// Those of strings, by string.
     strings: PlacesByString<'a>,
@@ -153,7 +153,7 @@ impl<'a> PlacesByKind<'a> {
 
 /// An index of the members of a set by kind and string (RFC 2693, section 6.3.1). Each member has a place, counted from 1.
 /// In a contract an index is the list of the members.
-#[derive(Debug, Drop)]
+#[derive(Drop)]
 pub struct Index<'a> {
     /// The members that are indexed, in order.
     members: &'a [Tag],

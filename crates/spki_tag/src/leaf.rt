@@ -29,7 +29,7 @@ pub enum RangeOrdering {
 }
 
 /// A limit of a range. The range excludes the limit's own string if the limit is strict.
-#[derive(Debug, Drop)]
+#[derive(Drop)]
 pub(crate) struct Limit {
     /// Whether the range excludes the string itself.
     pub(crate) strict: bool,
@@ -38,7 +38,7 @@ pub(crate) struct Limit {
 }
 
 /// A tag without members.
-#[derive(Debug, Drop)]
+#[derive(Drop)]
 pub(crate) enum Leaf {
     /// `(*)`.
     Star,

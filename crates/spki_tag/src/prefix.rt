@@ -11,7 +11,7 @@ use std::sync::ArcSlice;
 
 /// A prefix, with the least string above all that start with it. Ranges that are made of the prefix share both. In a contract a prefix is
 /// its octets.
-#[derive(Debug, Drop)]
+#[derive(Drop)]
 pub(crate) struct Prefix {
     /// The prefix itself.
     octets: SharedOctets,

@@ -9,7 +9,7 @@ use std::alloc::AllocError;
 
 /// A range: an ordering and at most two limits. Limits exclude each other if the lower one is above the upper one, or if their strings are
 /// equal and one of them is strict.
-#[derive(Debug, Drop)]
+#[derive(Drop)]
 pub(crate) struct Range {
     /// Which strings the range may contain at all.
     pub(crate) ordering: RangeOrdering,

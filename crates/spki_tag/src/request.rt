@@ -18,7 +18,7 @@ use std::marker::Model;
 /// hints (RFC 2693, section 6.3.1). It is ground: unlike a tag, it has no patterns. In a contract it is the `Request` of
 /// `specs/Request.antt`.
 #[cycle(ground)]
-#[derive(Debug, Drop)]
+#[derive(Drop)]
 pub struct Ground {
     /// The form of the request, with what it contains.
     pub(crate) node: GroundNode,
@@ -26,7 +26,7 @@ pub struct Ground {
 
 /// The form of a request: a string or a list.
 #[cycle(ground)]
-#[derive(Debug, Drop)]
+#[derive(Drop)]
 pub(crate) enum GroundNode {
     /// A string.
     String(Vec<u8>),

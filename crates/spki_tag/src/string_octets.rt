@@ -9,14 +9,14 @@ use std::sync::ArcSlice;
 
 /// The octets of a tag that is a string. Copies share them. No octet and a single one lie in the tag itself, since a block of memory
 /// for them would take many times their octets. In a contract they are a list.
-#[derive(Debug, Drop)]
+#[derive(Drop)]
 pub(crate) struct StringOctets {
     /// The octets, or where they are shared.
     held: Held,
 }
 
 /// The octets of a string, by their number.
-#[derive(Debug, Drop)]
+#[derive(Drop)]
 enum Held {
     /// No octet.
     Nothing,

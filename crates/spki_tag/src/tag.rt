@@ -14,7 +14,7 @@ use std::marker::Model;
 /// member that is a set or `(*)`, or only one member, and no list has a member `(* set)`. In a contract it is the `Tag` of
 /// `specs/Tag.antt`.
 #[cycle(tag)]
-#[derive(Debug, Drop)]
+#[derive(Drop)]
 pub struct Tag {
     /// The form of the tag, with what it contains.
     pub(crate) node: Node,
@@ -22,7 +22,7 @@ pub struct Tag {
 
 /// The form of a tag. The number of nodes of a list or a set is kept, so that `Tag::nodes` does not count them.
 #[cycle(tag)]
-#[derive(Debug, Drop)]
+#[derive(Drop)]
 pub(crate) enum Node {
     /// A tag without members.
     Leaf(Leaf),
