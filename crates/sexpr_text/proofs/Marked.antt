@@ -1,7 +1,7 @@
 -- Strings between marks and pieces of quoted strings: a text begins with at most one of each. What is read of a hexadecimal
 -- body.
 use Rattle.std.proofs.Common.{◌≡◌, ◌≢◌, ℕ, zero, suc, ◌+◌, ◌-◌, ◌<◌, ◌≤◌, ◌==◌, ◌&&◌, ◌||◌, false, Some, None, List, [], ◌∷◌, ◌++◌, length, refl, sym, ap, subst, ◌∙◌, append_assoc, length-append, arith, inl, inr, ◌⊎◌, rules, Bool, true, Ok, drop, append-nil, Err}
-use Rattle.std.proofs.lemmas.{Bool.{cases_Bool, Decides.{nat_tests}}, List.Elements.{All-head, All-tail}}
+use Rattle.std.proofs.lemmas.{Bool.{cases_Bool, Decides.{nat_tests}}, List.Elements.{All-head, All-tail}, Option.{none-some}}
 use Rattle.std.specs.{Prelude.{nat_le, if◌then◌else◌}, List.{AllPass}}
 use Rattle.hex.specs.{Hex.{hex_digit_value, is_hex_digit, decode_of}, declared.error.FromHexError.{FromHexError, TheVariants.{OutOfMemory}}}
 use Rattle.hex.proofs.HexLemmas.{decode_of-ok}
@@ -41,10 +41,10 @@ octal_sorted (suc (suc (suc zero))) h = refl
 octal_sorted (suc (suc (suc (suc a)))) h = absurd (omega arith)
 
 no_octal : (a c : ℕ) → a < 4 → escape_value (48 + a) ≡ Some c → ⊥
-no_octal zero c h e = cc
-no_octal (suc zero) c h e = cc
-no_octal (suc (suc zero)) c h e = cc
-no_octal (suc (suc (suc zero))) c h e = cc
+no_octal zero c h e = none-some c e
+no_octal (suc zero) c h e = none-some c e
+no_octal (suc (suc zero)) c h e = none-some c e
+no_octal (suc (suc (suc zero))) c h e = none-some c e
 no_octal (suc (suc (suc (suc a)))) c h e = absurd (omega arith)
 
 no_escape : (e c k : ℕ) → escape_value e ≡ Some c → escape_value k ≡ escape_value 0 → e ≡ k → ⊥

@@ -34,6 +34,9 @@ packed_read text at to octets opens r = record {
 pub packed_marked : (text : List ℕ) (at to : ℕ) (octets : List ℕ) → Reads IsPacked text at octets to → Reads IsMarked text at octets to
 packed_marked text at to octets r = record { spelling = r.spelling; spelled = r.spelled; meant = inr (inr r.meant); forward = r.forward; within = r.within }
 
+pub quoted_marked : (text : List ℕ) (at to : ℕ) (octets : List ℕ) → Reads IsQuoted text at octets to → Reads IsMarked text at octets to
+quoted_marked text at to octets r = record { spelling = r.spelling; spelled = r.spelled; meant = inl r.meant; forward = r.forward; within = r.within }
+
 -- ---- lengths
 
 pub count_first : (text : List ℕ) (at c : ℕ) → StandsAt text at c → 48 ≤ c → c < 58 → ReadsCount text at (c - 48) (at + 1)

@@ -94,10 +94,10 @@ given-else word R xs a given e = absurd (let f = given.1 in cc)
 -- what is read after the head of a limit
 pub first-limit : (v : Value) → is_headed (codes "not-before") v ≡ true → IsLimitField v → Reads (Sole DateOf) (behind_head v)
 first-limit v h (word, rest, date, inl is, e, read) = (date, rw (behind-group v (plain word) rest e) read)
-first-limit v h (word, rest, date, inr is, e, read) = absurd (let same = head-same v word (codes "not-before") rest e h in cc)
+first-limit v h (word, rest, date, inr is, e, read) = absurd (other-head (codes "not-before") v _ (e ∙ ap (λ w. group (plain w ∷ rest)) is) h refl)
 
 pub last-limit : (v : Value) → is_headed (codes "not-after") v ≡ true → IsLimitField v → Reads (Sole DateOf) (behind_head v)
-last-limit v h (word, rest, date, inl is, e, read) = absurd (let same = head-same v word (codes "not-after") rest e h in cc)
+last-limit v h (word, rest, date, inl is, e, read) = absurd (other-head (codes "not-after") v _ (e ∙ ap (λ w. group (plain w ∷ rest)) is) h refl)
 last-limit v h (word, rest, date, inr is, e, read) = (date, rw (behind-group v (plain word) rest e) read)
 
 pub limit-not_valid : (v : Value) → IsLimitField v → is_headed (codes "valid") v ≡ false

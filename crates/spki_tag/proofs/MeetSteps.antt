@@ -1,5 +1,5 @@
 -- The steps of the intersection: what they require and what they return, and the rules that the intersection follows.
-use Rattle.std.proofs.Common.{◌≡◌, ℕ, zero, suc, ◌+◌, ◌*◌, ◌<◌, ◌≤◌, min, Bool, true, false, ◌||◌, List, [], ◌∷◌, ◌++◌, length, take, drop, get_or, refl, sym, ap, ◌∙◌, true≢false, append_assoc, arith, le_trans, rules, not, map, nat_eq, length-take, append-nil}
+use Rattle.std.proofs.Common.{◌≡◌, ℕ, zero, suc, ◌+◌, ◌*◌, ◌<◌, ◌≤◌, min, Bool, true, false, ◌||◌, List, [], ◌∷◌, ◌++◌, length, take, drop, get_or, refl, sym, ap, ◌∙◌, true≢false, append_assoc, arith, le_trans, rules, not, map, nat_eq, length-take, append-nil, drop_of_length-le}
 use Rattle.std.proofs.lemmas.{Nat.{mul-le}, List.{drop_more, take_all, Elements.{filter-append}}}
 use Rattle.std.proofs.lemmas.Bool.{and_parts, or_parts, or_from, or_right, cond_both, cond-true, cond-false}
 use Rattle.std.specs.{Prelude.{if◌then◌else◌}, List.{filter, flat_map, starts_with}, Str.{bytes_eq}}
@@ -93,6 +93,10 @@ pub record ListsMeet (head other : List ℕ) (ts us : List Tag) : Type 0 where
   pub one : each_normal is_nothing (tags ts) ≡ true
   pub second : each_normal is_nothing (tags us) ≡ true
   pub met : IsNormalTag (meet (list head (tags ts)) (list other (tags us)))
+
+-- past the end of a list nothing is added to what was met
+pub all_met : {A : Type 0} (F : List A → List Tag) (xs : List A) (met all : List Tag) (i : ℕ) → F [] ≡ [] → length xs ≤ i → met ++ F (drop i xs) ≡ all → met ≡ all
+all_met F xs met all i nothing done e = sym (append-nil met) ∙ sym (ap (λ ts. met ++ ts) (ap F (drop_of_length-le xs done) ∙ nothing)) ∙ e
 
 pub lists_meet : (head other : List ℕ) (ts us : List Tag) → IsNormalTag (list head (tags ts)) → IsNormalTag (list other (tags us))
     → nodes (list head (tags ts)) * nodes (list other (tags us)) ≤ most_nodes → ListsMeet head other ts us

@@ -1,11 +1,11 @@
-use Rattle.std.proofs.Common.{◌≡◌, ℕ, ◌+◌, ◌*◌, ◌<◌, ◌≤◌, length, drop, List, ◌++◌, sym, ap, ◌∙◌, subst, arith, le_trans, length-drop, ◌-◌, rules}
-use Rattle.std.proofs.lemmas.{Nat.{mul-le}, List.{take_all}, Grind.{common_steps}}
+use Rattle.std.proofs.Common.{◌≡◌, refl, ℕ, ◌+◌, ◌*◌, ◌<◌, ◌≤◌, length, drop, List, ◌++◌, sym, ap, ◌∙◌, subst, arith, le_trans, length-drop, ◌-◌, rules}
+use Rattle.std.proofs.lemmas.{Nat.{mul-le}, Result.{IfOk-weaker}, List.{take_all}, Grind.{common_steps}}
 use Rattle.std.specs.{Prelude.{All}, Arc.{arc_slice_items}}
-use Rattle.spki_tag.specs.{Tag.{Tag, tags, nodes, nodes_all, list, most_nodes}, Meet.{meet, each_meet, pairs, row, may_share, places_where, tags_at}}
+use Rattle.spki_tag.specs.{Tag.{Tag, IsNormalTag, tags, nodes, nodes_all, list, most_nodes}, Meet.{meet, each_meet, pairs, row, gather, may_share, places_where, tags_at}}
 use Rattle.spki_tag.specs.{Nodes.{node_tag, shared_items}}
 use Rattle.spki_tag.proofs.{Places.{places_where-within, row_at_places}, Members.{nodes_le-of_read}}
 use Rattle.spki_tag.proofs.MeetCosts.{each-step, rest-nodes, place-step, row-step, members-met, lists-met, meet_cost-some}
-use Rattle.spki_tag.proofs.MeetSteps.{tags-members, members_meet, pairs-step, each_meet-last, meet_steps}
+use Rattle.spki_tag.proofs.MeetSteps.{all_met, tags-members, members_meet, pairs-step, each_meet-last, meet_steps}
 use Rattle.spki_tag.proofs.intersection.+meet.Goals as goal
 
 pub meet_members-push_row-pushed-requires : goal.meet_members-push_row-pushed-requires
@@ -184,3 +184,21 @@ push_row-returns-in_err-push_kept-clause-cost g t c =
 pub meet_tags-returns-then-is_everything-clause-cost : goal.meet_tags-returns-then-is_everything-clause-cost
 meet_tags-returns-then-is_everything-clause-cost g t c =
     omega (arith, c.tick.ensures, meet_cost-some c.args.one.now c.args.other.now)
+
+pub meet_members-gathered-requires : goal.meet_members-gathered-requires
+meet_members-gathered-requires g t c =
+    let others = c.args.others.now in
+    subst (λ ts. IsNormalTag (gather ts))
+    (sym (all_met (λ ts. pairs (tags ts) (tags others)) c.args.ones.now c.loop-one.met.items _ c.loop-one.one-index refl (omega (arith, c.loop-one-test.false)) c.loop-one.invariant.0))
+    c.requires.met
+
+pub meet_members-returns-clause-value : goal.meet_members-returns-clause-value
+meet_members-returns-clause-value g t c =
+    let others = c.args.others.now in
+    let all = all_met (λ ts. pairs (tags ts) (tags others)) c.args.ones.now c.loop-one.met.items _ c.loop-one.one-index refl (omega (arith, c.loop-one-test.false)) c.loop-one.invariant.0 in
+    IfOk-weaker c.gathered.result _ _ (λ r h. h ∙ ap gather all) c.gathered.ensures
+
+pub push_row-returns-clause-value : goal.push_row-returns-clause-value
+push_row-returns-clause-value g t c =
+    all_met (λ ps. row (meet c.args.one.now) (tags (tags_at c.args.others.now ps))) c.args.places.now c.loop-place.met.items _ c.loop-place.place-index refl
+    (omega (arith, c.loop-place-test.false)) c.loop-place.invariant.0
