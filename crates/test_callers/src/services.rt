@@ -45,7 +45,10 @@ fn answer<V: Verifier>(
         Ok(asked) => asked,
         Err(fault) => return Err(ServiceFault::Question(fault)),
     };
-    match asked.decide(alloc, verifier) {
+    let decided = asked.decide(alloc, verifier);
+    drop(asked);
+    drop(texts);
+    match decided {
         Ok(decision) => Ok(decision),
         Err(_) => Err(ServiceFault::Memory),
     }
