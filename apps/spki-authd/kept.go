@@ -55,11 +55,10 @@ type folderChains struct {
 	writing sync.Mutex
 	// Guards what follows.
 	mutex sync.Mutex
-	// The sequences by the digest of their key, in the order of their ends, and how many octets all of them have.
+	// The sequences by the digest of their key, in the order of their ends, and how many octets all of them have. One that has ended stays, and is
+	// not used, until another one needs its room: so a clock that is ahead for a while loses none.
 	byKey  map[string][]keptChain
 	octets int
-	// The files of sequences that have ended and are not in byKey any more. The next `add` removes them, or the next start.
-	ended []keptFile
 }
 
 // A keptFile is the file of a sequence: the key whose folder it is in, and its name there.
@@ -85,6 +84,21 @@ var partName = regexp.MustCompile(`^[0-9a-f]{64}\.new$`)
 type keptChain struct {
 	text, name string
 	until      time.Time
+}
+
+// hasEnded says whether the sequence does not count any more at `now`.
+func (k keptChain) hasEnded(now time.Time) bool {
+	return !now.Before(k.until)
+}
+
+// notEnded returns those of some sequences that have not ended, in their order.
+func notEnded(all []keptChain, now time.Time) (current []keptChain) {
+	for _, each := range all {
+		if !each.hasEnded(now) {
+			current = append(current, each)
+		}
+	}
+	return current
 }
 
 // check sets the settings that were left out, and returns an error if one is wrong. isSigned says whether requests can be signed, without which
@@ -133,9 +147,9 @@ func openChains(c *config, now time.Time, mayRemove bool) (chainKeeper, error) {
 	return newStoredChains(c.Chains, reader), nil
 }
 
-// openFolderChains reads the sequences of a folder. If mayRemove, it removes the files of those that have ended at `now`, and files that were not
-// written whole. mayRemove is false for -test, which changes no file. A file that the daemon has not written is left out. It fails if the folder is
-// none or cannot be read, or if others than its owner may write it.
+// openFolderChains reads the sequences of a folder. If mayRemove, it removes the files that `read` returns. mayRemove is false for -test, which
+// changes no file. A file that the daemon has not written is left out. It fails if the folder is none or cannot be read, or if others than its owner
+// may write it.
 func openFolderChains(c *chains, now time.Time, mayRemove bool) (*folderChains, error) {
 	opened := &folderChains{chains: *c, byKey: map[string][]keptChain{}}
 	about, err := os.Stat(c.Folder)
@@ -153,50 +167,83 @@ func openFolderChains(c *chains, now time.Time, mayRemove bool) (*folderChains, 
 		// (what is no folder, or cannot be read, is not the daemon's)
 		files, _ := os.ReadDir(filepath.Join(c.Folder, folder.Name()))
 		for _, file := range files {
-			if isOver := opened.read(folder.Name(), file.Name(), now); isOver && mayRemove {
-				opened.remove(keptFile{folder.Name(), file.Name()})
+			if over := opened.read(folder.Name(), file.Name(), now); mayRemove {
+				opened.remove(over...)
 			}
 		}
 	}
 	return opened, nil
 }
 
-// read reads the file of a sequence into memory, and says whether it can be removed: the sequence has ended, or was not written whole and is older
-// than mostPart. `key` is the name of the file's folder. Without room for it, or if the daemon has not written it, the file is left out and stays.
-func (f *folderChains) read(key, name string, now time.Time) (isOver bool) {
-	path := filepath.Join(f.Folder, key, name)
+// read reads the file of a sequence into memory, and returns the files that can be removed. That is this file, if it was not written whole and is
+// older than mostPart, or if its sequence has ended and has no room, or ended over f.Days days ago: a clock that is ahead by less loses none. Or it
+// is the files that put returns. `key` is the name of the file's folder. Without room for a sequence that has not ended, or if the daemon has not
+// written it, the file is left out and stays.
+func (f *folderChains) read(key, name string, now time.Time) (over []keptFile) {
+	path, own := filepath.Join(f.Folder, key, name), []keptFile{{key, name}}
 	about, err := os.Stat(path)
 	if err != nil {
-		return false
+		return nil
 	}
 	if partName.MatchString(name) {
-		return now.Sub(about.ModTime()) > mostPart
+		if now.Sub(about.ModTime()) > mostPart {
+			return own
+		}
+		return nil
 	}
 	octets, err := readFile(path, mostShownOctets)
 	if err != nil || name != hexDigest(octets) {
-		return false
+		return nil
 	}
 	chain := f.chainOf(string(octets), about.ModTime())
-	if !now.Before(chain.until) {
-		return true
+	ended, hasRoom := f.roomFor(key, len(octets), now)
+	// (no other one gives way to one that has ended)
+	isFree := hasRoom && len(ended) == 0
+	if chain.hasEnded(now) && !isFree || chain.hasEnded(now.AddDate(0, 0, -f.Days)) {
+		return own
 	}
-	if f.hasRoom(key, len(octets)) {
-		f.put(key, chain)
+	if hasRoom {
+		return f.put(key, chain, now)
 	}
-	return false
+	return nil
 }
 
-// put keeps a sequence in memory, behind those of the key that end before it. The mutex is held, or no other goroutine has `f` yet.
-func (f *folderChains) put(key string, chain keptChain) {
-	// (a copy: goroutines that have called `of` still read the old slice)
-	all := append(append([]keptChain(nil), f.byKey[key]...), chain)
+// put keeps a sequence in memory, in place of the same one if the key has that. Where room is needed, it takes sequences that have ended out of
+// memory, and returns their files, which the caller removes. `writing` is held, or no other goroutine has `f` yet.
+func (f *folderChains) put(key string, chain keptChain, now time.Time) []keptFile {
+	f.mutex.Lock()
+	defer f.mutex.Unlock()
+	// (first, so that it is not among those that are returned: its file is now that of the new one)
+	f.forget(keptFile{key, chain.name})
+	ended, _ := f.roomFor(key, len(chain.text), now)
+	for _, each := range ended {
+		f.forget(each)
+	}
+	all := append(f.byKey[key], chain)
 	sort.SliceStable(all, func(first, second int) bool { return all[first].until.Before(all[second].until) })
 	f.byKey[key] = all
 	f.octets += len(chain.text)
+	return ended
 }
 
-// remove removes files of sequences, and the folders of their keys that are empty then. Errors do not matter: the next start removes what has ended.
-// `writing` is held, or no other goroutine has `f` yet.
+// forget takes the sequence of a file out of memory, if it is there. The mutex is held.
+func (f *folderChains) forget(file keptFile) {
+	var others []keptChain
+	for _, each := range f.byKey[file.key] {
+		if each.name == file.name {
+			f.octets -= len(each.text)
+		} else {
+			others = append(others, each)
+		}
+	}
+	f.byKey[file.key] = others
+	if len(others) == 0 {
+		delete(f.byKey, file.key)
+	}
+}
+
+// remove removes files of sequences, and the folders of their keys that are empty then. Errors do not matter: the next start reads what is still
+// there. `writing` is held, or no other goroutine has `f` yet.
 func (f *folderChains) remove(files ...keptFile) {
 	for _, file := range files {
 		os.Remove(filepath.Join(f.Folder, file.key, file.name))
@@ -204,10 +251,37 @@ func (f *folderChains) remove(files ...keptFile) {
 	}
 }
 
-// hasRoom says whether the limits let a key have one more sequence, of so many octets. The mutex is held, or no other goroutine has `f` yet.
-func (f *folderChains) hasRoom(key string, octets int) bool {
-	_, isKnown := f.byKey[key]
-	return len(f.byKey[key]) < f.Each && (isKnown || len(f.byKey) < f.Keys) && f.octets+octets <= mostLeft
+// roomFor says whether a key can have one more sequence, of so many octets, and returns the files of those that have ended and must be removed for
+// it: none if there is room, and otherwise those of this key, and then of others, until there is. The mutex is held, or no other goroutine has `f`
+// yet.
+func (f *folderChains) roomFor(key string, octets int, now time.Time) (ended []keptFile, hasRoom bool) {
+	own, keys, total := len(f.byKey[key]), len(f.byKey), f.octets+octets
+	isRoom := func() bool { return own < f.Each && (own > 0 || keys < f.Keys) && total <= mostLeft }
+	leaveOut := func(name string, chains []keptChain) {
+		for place := 0; place < len(chains) && chains[place].hasEnded(now) && !isRoom(); place++ {
+			ended = append(ended, keptFile{name, chains[place].name})
+			total -= len(chains[place].text)
+			if name == key {
+				own--
+			}
+			if place == len(chains)-1 {
+				keys--
+			}
+		}
+	}
+	leaveOut(key, f.byKey[key])
+	// (first those keys of which all have ended: only they make room for another key)
+	for _, isWhole := range []bool{true, false} {
+		for name, chains := range f.byKey {
+			if isRoom() || own >= f.Each {
+				break
+			}
+			if name != key && chains[len(chains)-1].hasEnded(now) == isWhole {
+				leaveOut(name, chains)
+			}
+		}
+	}
+	return ended, isRoom()
 }
 
 // whyNotBeside returns `known` if a sequence in transport form is among the others of its key, `full` if these are as many as may be, and otherwise an
@@ -252,84 +326,41 @@ func endOf(text string) (end time.Time, hasEnd bool) {
 	return end, hasEnd
 }
 
-// of returns the sequences of a key that have not ended, and forgets the others. It never fails.
+// of returns the sequences of a key that have not ended. It never fails.
 func (f *folderChains) of(key string, now time.Time) ([]keptChain, error) {
 	f.mutex.Lock()
 	defer f.mutex.Unlock()
-	return f.current(key, now), nil
+	return notEnded(f.byKey[key], now), nil
 }
 
-// current is `of` where the mutex is held. It changes only what is kept for this key, and notes the files of what has ended in f.ended.
-func (f *folderChains) current(key string, now time.Time) []keptChain {
-	var current []keptChain
-	for _, each := range f.byKey[key] {
-		if now.Before(each.until) {
-			current = append(current, each)
-		} else {
-			f.ended = append(f.ended, keptFile{key, each.name})
-			f.octets -= len(each.text)
-		}
-	}
-	f.byKey[key] = current
-	if len(current) == 0 {
-		delete(f.byKey, key)
-	}
-	return current
-}
-
-// whyNotAdded returns the answer to a sequence that add would not keep, or an empty one if add would keep it. It never fails.
+// whyNotAdded returns the answer to a sequence that add would not keep, or an empty one if add would keep it. It never fails. It removes nothing,
+// since the sequence is not verified yet.
 func (f *folderChains) whyNotAdded(key string, chain keptChain, now time.Time) (answer, error) {
 	f.mutex.Lock()
 	defer f.mutex.Unlock()
-	return f.whyNotAddedLocked(key, chain, now), nil
-}
-
-// whyNotAddedLocked is whyNotAdded where the mutex is held. If there is no room, the sequences of other keys that have ended make room: their keys may never
-// ask again.
-func (f *folderChains) whyNotAddedLocked(key string, chain keptChain, now time.Time) answer {
-	if refusal := f.whyNotBeside(f.current(key, now), chain.text); refusal != "" {
-		return refusal
+	if refusal := f.whyNotBeside(notEnded(f.byKey[key], now), chain.text); refusal != "" {
+		return refusal, nil
 	}
-	if !f.hasRoom(key, len(chain.text)) {
-		for other := range f.byKey {
-			f.current(other, now)
-		}
+	if _, hasRoom := f.roomFor(key, len(chain.text), now); !hasRoom {
+		return answerFull, nil
 	}
-	if !f.hasRoom(key, len(chain.text)) {
-		return answerFull
-	}
-	return ""
+	return "", nil
 }
 
 // add keeps a sequence for a key in a file and in memory, if there is room, and returns the answer to the client: `kept`, `known` or `full`, or
-// `failed` with an error if the file cannot be written. It also removes the files of sequences that have ended.
+// `failed` with an error if the file cannot be written. Where room was needed, it removes sequences that have ended, once the new file is written.
 func (f *folderChains) add(key string, chain keptChain, now time.Time) (answer, error) {
 	f.writing.Lock()
 	defer f.writing.Unlock()
-	refusal, ended := f.begin(key, chain, now)
-	// (before the file is written: it may have the name of one that has ended)
-	f.remove(ended...)
-	if refusal != "" {
-		return refusal, nil
+	if refusal, err := f.whyNotAdded(key, chain, now); refusal != "" {
+		return refusal, err
 	}
 	if err := f.write(key, chain); err != nil {
 		f.remove(keptFile{key, chain.name + partSuffix})
 		return answerFailed, err
 	}
-	f.mutex.Lock()
-	defer f.mutex.Unlock()
-	f.put(key, chain)
+	f.remove(f.put(key, chain, now)...)
 	return answerKept, nil
-}
-
-// begin returns the answer to a sequence that add does not keep, or an empty one, and the files that add removes, which it takes out of f.ended.
-func (f *folderChains) begin(key string, chain keptChain, now time.Time) (answer, []keptFile) {
-	f.mutex.Lock()
-	defer f.mutex.Unlock()
-	refusal := f.whyNotAddedLocked(key, chain, now)
-	ended := f.ended
-	f.ended = nil
-	return refusal, ended
 }
 
 // write writes the file of a sequence, whole or not at all: under a name with partSuffix at its end, from which it is renamed. It calls fsync, so

@@ -8,6 +8,8 @@ import (
 	"net/http/httptest"
 	"os"
 	"path/filepath"
+	"reflect"
+	"sort"
 	"strings"
 	"syscall"
 	"testing"
@@ -254,6 +256,164 @@ func TestStrangersLeave(t *testing.T) {
 	}
 }
 
+// newKept returns what keeps sequences in a new folder for nine days: so many of each key, of so many keys.
+func newKept(t *testing.T, each, keys int) *folderChains {
+	t.Helper()
+	kept, err := openFolderChains(&chains{Folder: t.TempDir(), Each: each, Keys: keys, Days: 9}, time.Now(), true)
+	if err != nil {
+		t.Fatal(err)
+	}
+	return kept
+}
+
+// adds keeps a text for a key at a moment, and reports an error unless the answer is the one that is wanted.
+func adds(t *testing.T, kept *folderChains, key, text string, now time.Time, wanted answer) {
+	t.Helper()
+	if reply, err := kept.add(key, kept.chainOf(text, now), now); reply != wanted || err != nil {
+		t.Errorf("%s %s: %s, %v", key, text, reply, err)
+	}
+}
+
+// heldBy returns the texts of all files, in their order, with spaces between them. It reports an error unless memory has the same, and unless the
+// count of octets is right and no limit is exceeded.
+func heldBy(t *testing.T, kept *folderChains) string {
+	t.Helper()
+	var inMemory, inFiles []string
+	octets := 0
+	for key, all := range kept.byKey {
+		for _, each := range all {
+			inMemory = append(inMemory, filepath.Join(kept.Folder, key, each.name)+" "+each.text)
+			octets += len(each.text)
+		}
+		if len(all) == 0 || len(all) > kept.Each {
+			t.Errorf("%s has %d sequences", key, len(all))
+		}
+	}
+	paths, _ := filepath.Glob(filepath.Join(kept.Folder, "*", "*"))
+	var texts []string
+	for _, path := range paths {
+		text, _ := os.ReadFile(path)
+		inFiles, texts = append(inFiles, path+" "+string(text)), append(texts, string(text))
+	}
+	sort.Strings(inMemory)
+	sort.Strings(texts)
+	if !reflect.DeepEqual(inMemory, inFiles) || octets != kept.octets || len(kept.byKey) > kept.Keys {
+		t.Errorf("%d octets, counted as %d: %q, %q", octets, kept.octets, inMemory, inFiles)
+	}
+	return strings.Join(texts, " ")
+}
+
+// TestClockAhead has the clock ahead for a while. Meanwhile the sequence of a key does not count, and afterwards it does again. A start keeps it too,
+// unless it says that the sequence ended over nine days ago.
+func TestClockAhead(t *testing.T) {
+	kept, now := newKept(t, 1, 2), time.Now()
+	count := func(at time.Time) int {
+		current, _ := kept.of("a", at)
+		return len(current)
+	}
+	adds(t, kept, "a", "a1", now, answerKept)
+	ahead := now.AddDate(1, 0, 0)
+	if count(ahead) != 0 {
+		t.Error("it counts after its end")
+	}
+	adds(t, kept, "b", "b1", ahead, answerKept)
+	if count(now) != 1 || heldBy(t, kept) != "a1 b1" {
+		t.Error("it is lost: ", heldBy(t, kept))
+	}
+	for _, row := range []struct {
+		days, count int
+		held        string
+	}{{17, 1, "a1 b1"}, {19, 0, ""}} {
+		started, err := openFolderChains(&kept.chains, now.AddDate(0, 0, row.days), true)
+		if err != nil {
+			t.Fatal(err)
+		}
+		if kept = started; count(now.AddDate(0, 0, row.days)) != 0 || count(now) != row.count || heldBy(t, kept) != row.held {
+			t.Errorf("a start %d days later: %d, %q", row.days, count(now), heldBy(t, kept))
+		}
+	}
+}
+
+// TestEndedGiveWay has room for two sequences of each of two keys. Ended ones are removed where another one needs their room, and no others.
+func TestEndedGiveWay(t *testing.T) {
+	kept, begun := newKept(t, 2, 2), time.Now()
+	for _, row := range []struct {
+		hours     int
+		key, text string
+		wanted    answer
+		held      string
+	}{
+		{0, "a", "a1", answerKept, "a1"},
+		{24, "b", "b1", answerKept, "a1 b1"},
+		{120, "a", "a2", answerKept, "a1 a2 b1"},
+		{215, "a", "a3", answerFull, "a1 a2 b1"},
+		{215, "c", "c1", answerFull, "a1 a2 b1"},
+		// (a1 ends after nine days, which are 216 hours. It alone makes no room for another key)
+		{217, "c", "c1", answerFull, "a1 a2 b1"},
+		{217, "a", "a2", answerKnown, "a1 a2 b1"},
+		{217, "a", "a3", answerKept, "a2 a3 b1"},
+		{241, "c", "c1", answerKept, "a2 a3 c1"},
+		{337, "a", "a2", answerKept, "a2 a3 c1"},
+		{337, "a", "a4", answerFull, "a2 a3 c1"},
+		// (all but a2 have ended)
+		{500, "b", "b2", answerKept, "a2 a3 b2"},
+		{500, "a", "a4", answerKept, "a2 a4 b2"},
+	} {
+		now := begun.Add(time.Duration(row.hours) * time.Hour)
+		refusal, _ := kept.whyNotAdded(row.key, kept.chainOf(row.text, now), now)
+		if (refusal == "") != (row.wanted == answerKept) {
+			t.Errorf("%+v: %q before it is verified", row, refusal)
+		}
+		adds(t, kept, row.key, row.text, now, row.wanted)
+		if held := heldBy(t, kept); held != row.held {
+			t.Errorf("%+v: %s", row, held)
+		}
+	}
+}
+
+// TestEndedOctets has two sequences of four octets each, and room for two octets more. Once they have ended, the first makes room for five others.
+func TestEndedOctets(t *testing.T) {
+	kept, now := newKept(t, 2, 2), time.Now()
+	kept.octets = mostLeft - 10
+	adds(t, kept, "a", "1234", now, answerKept)
+	adds(t, kept, "a", "5678", now.Add(time.Hour), answerKept)
+	adds(t, kept, "b", "12345", now, answerFull)
+	now = now.AddDate(0, 0, 10)
+	adds(t, kept, "b", "12345678901", now, answerFull)
+	adds(t, kept, "b", "12345", now, answerKept)
+	if texts := kept.byKey["a"]; len(texts) != 1 || texts[0].text != "5678" || kept.octets != mostLeft-1 {
+		t.Error(texts, kept.octets)
+	}
+}
+
+// TestEndedAtStart starts with room for one of two keys. The sequence of `b` is kept, and that of the other one, which has ended, is removed,
+// whichever is read first. With mayRemove false its file stays.
+func TestEndedAtStart(t *testing.T) {
+	for _, ended := range []string{"a", "c"} {
+		kept, now := newKept(t, 1, 2), time.Now()
+		adds(t, kept, ended, "ended", now, answerKept)
+		adds(t, kept, "b", "current", now, answerKept)
+		tenDaysAgo := now.AddDate(0, 0, -10)
+		if err := os.Chtimes(filepath.Join(kept.Folder, ended, hexDigest([]byte("ended"))), tenDaysAgo, tenDaysAgo); err != nil {
+			t.Fatal(err)
+		}
+		kept.Keys = 1
+		for _, mayRemove := range []bool{false, true} {
+			started, err := openFolderChains(&kept.chains, now, mayRemove)
+			if err != nil {
+				t.Fatal(err)
+			}
+			files, _ := filepath.Glob(filepath.Join(kept.Folder, "*", "*"))
+			if current, _ := started.of("b", now); len(current) != 1 || (len(files) == 1) != mayRemove {
+				t.Errorf("%s: %v, %v", ended, current, files)
+			}
+			if mayRemove && heldBy(t, started) != "current" {
+				t.Error(ended, heldBy(t, started))
+			}
+		}
+	}
+}
+
 // TestEndedMakeRoom keeps the sequence of one key for nine days where there is room for no other one. Once it has ended, another key's is kept in its
 // place. A row has the key, the days since the row before, and the answer.
 func TestEndedMakeRoom(t *testing.T) {
@@ -403,19 +563,28 @@ func TestKeptChainsEnd(t *testing.T) {
 	if files := s.filesOfChains(); len(files) != 2 {
 		t.Error(files)
 	}
-	if _, err := openFolderChains(s.config.Chains, begun.AddDate(0, 0, 11), true); err != nil || len(s.filesOfChains()) != 1 {
-		t.Error(err, s.filesOfChains())
+	// (days, and how many files a start leaves then: each stays for ninety days after its end)
+	for _, row := range [][2]int{{99, 2}, {101, 1}} {
+		if _, err := openFolderChains(s.config.Chains, begun.AddDate(0, 0, row[0]), true); err != nil || len(s.filesOfChains()) != row[1] {
+			t.Error(row, err, s.filesOfChains())
+		}
 	}
-	// (`of` forgets what has ended, and touches no file. `add` removes that file first, as a new sequence may have the same name)
-	kept, bobs, carols := s.chains.(*folderChains), hexDigest([]byte(s.bob.key)), hexDigest([]byte(s.carol.key))
+}
+
+// TestEndedFiles keeps one sequence, the same a year later, when it has ended, and the same for another key, which takes the only room. `of` touches
+// no file, and after each `add` there is one file, that of the key.
+func TestEndedFiles(t *testing.T) {
+	s := newKeeping(t)
+	begun, kept, bobs, carols := time.Now(), s.chains.(*folderChains), hexDigest([]byte(s.bob.key)), hexDigest([]byte(s.carol.key))
+	long := sequence(s.alice.sign(s.alice.certificate(s.bob, prefix("read", "/web/docs/"), "")))
+	adds(t, kept, bobs, long, begun, answerKept)
+	kept.Keys = 1
 	for place, key := range []string{bobs, carols} {
 		now := begun.AddDate(place+1, 0, 0)
 		if current, _ := kept.of(bobs, now); current != nil || len(s.filesOfChains()) != 1 {
 			t.Error(current, s.filesOfChains())
 		}
-		if reply, err := kept.add(key, kept.chainOf(long, now), now); reply != answerKept || err != nil {
-			t.Error(reply, err)
-		}
+		adds(t, kept, key, long, now, answerKept)
 		current, _ := kept.of(key, now)
 		if files := s.filesOfChains(); len(current) != 1 || len(files) != 1 || filepath.Base(filepath.Dir(files[0])) != key {
 			t.Error(current, files)

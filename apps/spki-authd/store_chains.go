@@ -34,21 +34,17 @@ func newStoredChains(c *chains, reader reader) *storedChains {
 
 // of returns the sequences of a key that have not ended, by their ends. What the store has returned is used again for cachedFor, unless the clock
 // goes back. It fails if the store does not answer.
-func (s *storedChains) of(key string, now time.Time) (current []keptChain, err error) {
+func (s *storedChains) of(key string, now time.Time) ([]keptChain, error) {
 	cached, isCached := s.cache.get(key)
 	if age := now.Sub(cached.at); !isCached || age < 0 || age > cachedFor {
+		var err error
 		if cached.chains, err = s.reader.chains(digestIn(key)); err != nil {
 			return nil, fmt.Errorf("kept certificates: %w", err)
 		}
 		cached.at = now
 		s.cache.add(key, cached)
 	}
-	for _, each := range cached.chains {
-		if now.Before(each.until) {
-			current = append(current, each)
-		}
-	}
-	return current, nil
+	return notEnded(cached.chains, now), nil
 }
 
 // whyNotAdded returns the answer to a sequence that add would not keep beside those of its key, or an empty one. Only the store knows whether there is
