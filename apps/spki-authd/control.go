@@ -39,7 +39,10 @@ type order struct {
 	done chan error
 }
 
-var errOrder = errors.New("this is no order")
+var (
+	errOrder    = errors.New("this is no order")
+	errMainBusy = errors.New("the daemon is busy")
+)
 
 // checkControl returns an error unless `control` is unix:/PATH for a path that a socket can have, and differs from `listen`.
 func (c *config) checkControl() error {
@@ -67,22 +70,24 @@ func (d *daemon) serveControl(listener net.Listener) {
 			time.Sleep(timeToRetry)
 			continue
 		}
-		go d.answerOrder(connection)
+		go d.answerOrder(connection, timeForOrder)
 	}
 }
 
 // answerOrder reads an order from a connection, does it, writes the answer, and closes the connection. A line of over mostOrder octets, or one that
-// does not end, gets no answer, and neither does an order that takes longer than timeForOrder.
-func (d *daemon) answerOrder(connection net.Conn) {
+// does not end, gets no answer, and neither does an order that takes longer than `limit`.
+func (d *daemon) answerOrder(connection net.Conn, limit time.Duration) {
 	defer connection.Close()
-	if connection.SetDeadline(time.Now().Add(timeForOrder)) != nil {
+	end := time.Now().Add(limit)
+	if connection.SetDeadline(end) != nil {
 		return
 	}
 	line, err := bufio.NewReader(io.LimitReader(connection, mostOrder)).ReadString('\n')
 	if err != nil {
 		return
 	}
-	text, err := d.doOrder(strings.TrimSuffix(line, "\n"))
+	// (half of the time that is left: an answer that says that the daemon is busy must still be written)
+	text, err := d.doOrder(strings.TrimSuffix(line, "\n"), time.Until(end)/2)
 	first := orderDone
 	if err != nil {
 		first = orderFailed + strings.ReplaceAll(err.Error(), "\n", ", ")
@@ -91,8 +96,8 @@ func (d *daemon) answerOrder(connection net.Conn) {
 }
 
 // doOrder does an order, and returns the text of its answer, for some orders also with an error. It fails with errOrder for what is none of the
-// orders above.
-func (d *daemon) doOrder(order string) (string, error) {
+// orders above, and as inMain does, with this patience.
+func (d *daemon) doOrder(order string, patience time.Duration) (string, error) {
 	switch order {
 	case orderHealth:
 		return d.health()
@@ -101,23 +106,23 @@ func (d *daemon) doOrder(order string) (string, error) {
 	case orderState:
 		return d.state(), nil
 	case orderReload, orderReloadFewer:
-		err := d.inMain(func(d *daemon) error { return d.reload(order == orderReloadFewer) })
+		err := d.inMain(func(d *daemon) error { return d.reload(order == orderReloadFewer) }, patience)
 		return d.state(), err
 	case orderReopen:
-		return "", d.inMain((*daemon).reopen)
+		return "", d.inMain((*daemon).reopen, patience)
 	}
 	return "", errOrder
 }
 
-// inMain has the main loop call a function, and returns the function's error. If the main loop is busy for timeForOrder, it fails, and the function is not
-// called.
-func (d *daemon) inMain(call func(*daemon) error) error {
+// inMain has the main loop call a function, and returns the function's error. If the main loop is busy for longer than `patience`, it fails with
+// errMainBusy, and the function is not called.
+func (d *daemon) inMain(call func(*daemon) error, patience time.Duration) error {
 	sent := order{call, make(chan error, 1)}
 	select {
 	case d.orders <- sent:
 		return <-sent.done
-	case <-time.After(timeForOrder):
-		return errors.New("the daemon is busy")
+	case <-time.After(patience):
+		return errMainBusy
 	}
 }
 

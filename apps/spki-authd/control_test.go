@@ -11,6 +11,7 @@ import (
 	"strconv"
 	"strings"
 	"testing"
+	"time"
 )
 
 // runProgram runs spki-authd with these words and a configuration with the socket and the log of a site, and returns its status and what it writes.
@@ -121,6 +122,26 @@ func TestControlSocket(t *testing.T) {
 	}
 }
 
+// TestBusyMainLoop sends orders to a daemon whose main loop takes none. Each is answered by errMainBusy before its connection ends, and not done.
+func TestBusyMainLoop(t *testing.T) {
+	busy := &daemon{decider: newSite(t, "").decider, orders: make(chan order)}
+	reloads := busy.keeper.all.Load()
+	for _, order := range []string{orderReload, orderReopen} {
+		operator, connection := net.Pipe()
+		go busy.answerOrder(connection, 2*time.Second)
+		if _, err := operator.Write([]byte(order + "\n")); err != nil {
+			t.Fatal(err)
+		}
+		octets, err := io.ReadAll(operator)
+		if err != nil || !strings.HasPrefix(string(octets), orderFailed+errMainBusy.Error()+"\n") {
+			t.Errorf("%s: %q, %v", order, octets, err)
+		}
+	}
+	if busy.keeper.all.Load() != reloads {
+		t.Error("a reload was done")
+	}
+}
+
 // TestReopenedByOrder renames the log of grants under a daemon that goes on, which then opens it anew by -reopen, and by a signal. Each time the line of
 // /web/x is in the renamed file, and that of /web/y in the new one, which the second turn renames. Without a folder, opening it is an error.
 func TestReopenedByOrder(t *testing.T) {
@@ -150,7 +171,7 @@ func TestReopenedByOrder(t *testing.T) {
 		t.Fatal(err)
 	}
 	defer os.Rename(filepath.Dir(s.config.Log)+".gone", filepath.Dir(s.config.Log))
-	if err := s.daemon.inMain((*daemon).reopen); err == nil {
+	if err := s.daemon.inMain((*daemon).reopen, timeForOrder); err == nil {
 		t.Error("there is no folder")
 	}
 }
