@@ -208,8 +208,8 @@ func (s *store) read(keyDigest digest, key []byte) (*list, error) {
 }
 
 // listOf returns the list of entries that were read, and how many octets these have together. It fails with errHostile if a row is not exactly one
-// entry or the library cannot open the list, with errMany if they are too many or too long, and with errBusy if too many questions are decided at
-// once.
+// entry or the library refuses the list, with errMany if they are too many or too long, with guard.ErrMemory, and with errBusy if too many questions
+// are decided at once.
 func (s *store) listOf(rows entryRows) (*list, int, error) {
 	size := 0
 	for _, text := range rows.texts {
@@ -230,8 +230,11 @@ func (s *store) listOf(rows entryRows) (*list, int, error) {
 	}
 	defer library.leave()
 	opened, err := s.open(joined)
+	if errors.Is(err, guard.ErrRefused) && !errors.Is(err, guard.ErrMemory) {
+		err = fmt.Errorf("%w: %v", errHostile, err)
+	}
 	if err != nil {
-		return nil, 0, fmt.Errorf("%w: %v", errHostile, err)
+		return nil, 0, err
 	}
 	if opened.Entries() != len(rows.numbers) {
 		opened.Close()

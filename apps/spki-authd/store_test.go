@@ -353,6 +353,31 @@ func TestHostileRows(t *testing.T) {
 	}
 }
 
+// A refusedMemory is an error as guard.Open returns it where an allocation fails.
+type refusedMemory struct{}
+
+// Error returns the library's line.
+func (refusedMemory) Error() string { return guard.ErrMemory.Error() }
+
+// Is says that the error is a refusal, and for want of memory.
+func (refusedMemory) Is(target error) bool {
+	return target == guard.ErrRefused || target == guard.ErrMemory
+}
+
+// TestStoreWithoutMemory has no memory for the list of right rows: the answer is `failed`, and the log names memory and no row. With memory Alice is
+// granted her request again.
+func TestStoreWithoutMemory(t *testing.T) {
+	s := newStored(t)
+	open := s.store.open
+	s.store.open = func([]byte) (*guard.Guard, error) { return nil, refusedMemory{} }
+	s.expect(t, "without memory", 503)
+	if line := s.lastLine(t); line.Answer != answerFailed || line.Reason != "store: refused Memory" || s.store.countsNow().failures != 1 {
+		t.Errorf("%+v, %+v", line, s.store.countsNow())
+	}
+	s.store.open = open
+	s.expect(t, "with memory", 200)
+}
+
 // TestStoreConfigs reads configurations of stores: two right ones, whose settings for the driver are compared, and wrong ones, each of which is refused.
 func TestStoreConfigs(t *testing.T) {
 	withStore := func(fields string) string {
