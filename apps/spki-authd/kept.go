@@ -356,7 +356,6 @@ func (f *folderChains) add(key string, chain keptChain, now time.Time) (answer, 
 		return refusal, err
 	}
 	if err := f.write(key, chain); err != nil {
-		f.remove(keptFile{key, chain.name + partSuffix})
 		return answerFailed, err
 	}
 	f.remove(f.put(key, chain, now)...)
@@ -364,24 +363,29 @@ func (f *folderChains) add(key string, chain keptChain, now time.Time) (answer, 
 }
 
 // write writes the file of a sequence, whole or not at all: under a name with partSuffix at its end, from which it is renamed. It calls fsync, so
-// that what a client was told is kept is not lost if the machine stops. After an error the file with that suffix may be left, or the whole file if
-// only the fsync of a folder failed.
+// that what a client was told is kept is not lost if the machine stops. After an error, also of fsync, it removes what it has written, if it can: the
+// client is told that this is not kept, so the next start must not keep it.
 func (f *folderChains) write(key string, chain keptChain) error {
 	folder := filepath.Join(f.Folder, key)
 	if err := os.MkdirAll(folder, 0o700); err != nil {
 		return err
 	}
 	path := filepath.Join(folder, chain.name)
-	if err := writeSynced(path+partSuffix, chain.text); err != nil {
+	err := writeSynced(path+partSuffix, chain.text)
+	if err == nil {
+		err = os.Rename(path+partSuffix, path)
+	}
+	if err != nil {
+		f.remove(keptFile{key, chain.name + partSuffix})
 		return err
 	}
-	if err := os.Rename(path+partSuffix, path); err != nil {
-		return err
+	if err = syncFolder(folder); err == nil {
+		err = syncFolder(f.Folder)
 	}
-	if err := syncFolder(folder); err != nil {
-		return err
+	if err != nil {
+		f.remove(keptFile{key, chain.name})
 	}
-	return syncFolder(f.Folder)
+	return err
 }
 
 // judgeAll sets the answer of a record by the certificates that its request shows. Where it shows none and the list alone grants nothing, each

@@ -619,6 +619,27 @@ func TestKeptNowhere(t *testing.T) {
 	}
 }
 
+// TestFolderWithoutSync keeps a sequence where the fsync of the folder fails: the answer is `failed`, and no file and no folder is left that the next
+// start would read. The folder has an empty path, so files are made below the working directory, and the folder cannot be opened.
+func TestFolderWithoutSync(t *testing.T) {
+	before, err := os.Getwd()
+	if err != nil {
+		t.Fatal(err)
+	}
+	folder, now := t.TempDir(), time.Now()
+	if err := os.Chdir(folder); err != nil {
+		t.Fatal(err)
+	}
+	defer os.Chdir(before)
+	kept := &folderChains{chains: chains{Each: 1, Keys: 1, Days: 9}, byKey: map[string][]keptChain{}}
+	if reply, err := kept.add("a", kept.chainOf("a1", now), now); reply != answerFailed || err == nil || len(kept.byKey) != 0 {
+		t.Errorf("%s, %v, %v", reply, err, kept.byKey)
+	}
+	if paths, err := os.ReadDir(folder); err != nil || len(paths) != 0 {
+		t.Error(paths, err)
+	}
+}
+
 // TestKeptFiles reads a folder with files that the daemon has not written, such as half a file or one of another name: they are left out. It also
 // checks settings of `chains`, and a folder that others may write.
 func TestKeptFiles(t *testing.T) {
