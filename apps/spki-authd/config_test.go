@@ -50,6 +50,27 @@ func TestWrongConfigs(t *testing.T) {
 	}
 }
 
+// TestReasonsOfConfigs reads wrong configurations, whose errors say which field is wrong and what it may be.
+func TestReasonsOfConfigs(t *testing.T) {
+	ofList := func(list string) string { return strings.Replace(least, `"list": "/acl"`, list, 1) }
+	for text, wanted := range map[string]string{
+		// (with 0664 others may read, and not write)
+		with(`"socket_mode": "0664"`):                            "mode is 0664, which gives others than its owner and group a right",
+		with(`"socket_mode": "0666"`):                            `or set "secret_file"`,
+		ofList(`"list": null`):                                   `"list" and "lists" are missing or empty, and one of them must name an access list`,
+		ofList(`"list": ""`):                                     `"list" and "lists" are missing or empty`,
+		ofList(`"cache": 1`):                                     `"list" and "lists" are missing or empty`,
+		ofList(`"list": 1`):                                      `a list is the path of a file, or {"postgres": {..}}`,
+		ofList(`"list": "/a", "lists": [{"list": "/b"}]`):        `"list" and "lists" both name access lists`,
+		ofList(`"lists": [{"list": "/a"}, {"list": null}]`):      `"lists", place 2: "list" is missing or empty`,
+		ofList(`"lists": [{"host": "A.example", "list": "/a"}]`): `"lists", place 1: "host" is "A.example", and must be a host in small letters`,
+	} {
+		if _, err := parseConfig([]byte(text)); err == nil || !strings.Contains(err.Error(), wanted) {
+			t.Errorf("%s: %v", text, err)
+		}
+	}
+}
+
 // TestSecrets reads files of the secret: a right one, wrong ones, and the right one while everyone may read it.
 func TestSecrets(t *testing.T) {
 	const secret = "0123456789abcdef0123456789abcdef"

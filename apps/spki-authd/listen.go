@@ -56,10 +56,12 @@ func (c *config) checkSocket(path string) error {
 	return c.checkMode(mode)
 }
 
-// checkMode returns an error if a socket of this mode gives everyone any right and there is no secret. Who may write to a socket can connect to it.
+// checkMode returns an error if a socket of this mode gives others than its owner and group any right and there is no secret. Who may write to a
+// socket can connect to it.
 func (c *config) checkMode(mode fs.FileMode) error {
 	if mode&0o007 != 0 && c.SecretFile == "" {
-		return errors.New("everyone may write to the socket by its mode, and there is no secret_file")
+		return fmt.Errorf(`the socket's mode is %04o, which gives others than its owner and group a right: write one such as 0660 ("socket_mode", `+
+			`or SocketMode in its systemd unit), or set "secret_file"`, mode)
 	}
 	return nil
 }

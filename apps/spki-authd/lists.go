@@ -33,13 +33,19 @@ type list struct {
 	isPassing bool
 }
 
-var errLists = errors.New(`either "list" is the file of the access list, or "lists" has the files of several`)
+var (
+	errListMissing = errors.New(`"list" and "lists" are missing or empty, and one of them must name an access list`)
+	errListTwice   = errors.New(`"list" and "lists" both name access lists, and only one of them may`)
+)
 
 // checkLists returns an error if there is no access list, or one by `list` and others by `lists`, or a wrong scope. It sets the prefixes that were left
 // out, and needsHost. nameLists is called before it.
 func (c *config) checkLists() error {
-	if (c.List == "") == (len(c.Lists) == 0) {
-		return errLists
+	if c.List == "" && len(c.Lists) == 0 {
+		return errListMissing
+	}
+	if c.List != "" && len(c.Lists) > 0 {
+		return errListTwice
 	}
 	for number := range c.Lists {
 		scope := &c.Lists[number]
@@ -58,8 +64,11 @@ func (c *config) checkLists() error {
 // check returns an error if a scope has no list, or a wrong host or prefix, or if one of the scopes before it fits all its requests, so that it is never
 // reached.
 func (s *scope) check(before []scope) error {
-	if s.List == "" || s.Host != "" && !isHost(s.Host) {
-		return errors.New("a place has a list, and a host in small letters or none")
+	if s.List == "" {
+		return errors.New(`"list" is missing or empty, and must name an access list`)
+	}
+	if s.Host != "" && !isHost(s.Host) {
+		return fmt.Errorf(`"host" is %q, and must be a host in small letters without a port, or left out`, s.Host)
 	}
 	if err := checkPrefix(s.Prefix); err != nil {
 		return err
