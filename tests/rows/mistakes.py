@@ -191,6 +191,8 @@ OF_WORDS = [OfWords(*row) for row in [
     ("a pattern of a shell", (*READS, "(packages read /web/*)"), 4, "`(* prefix /web/)`"),
     ("a tag with its field", (*READS, "(tag (packages read))"), 4, "give `(packages read)` alone"),
     ("a tag in braces", (*READS, "{packages}"), 2, "no canonical form in base64 (a list is in parentheses)"),
+    ("a wrong star in braces", (*READS, "{KDE6KjM6c2l0NDpyZWFkKQ==}"), 2, "octet 4 of the canonical form in the braces (octet 6 of the text): the"),
+    ("a prefix in braces", (*READS, "{KDE6KjY6cHJlZml4NDovd2ViKQ==}"), 4, "octet 0 of the canonical form in the braces (octet 1 of the text): `/"),
     ("a tag in brackets", (*READS, "[packages read]"), 2, "a list is in parentheses"),
     ("a star as a tag", (*READS, "*"), 4, "what contains every string is `(*)`"),
     ("a tag with a comma", (*READS, "(packages read, write)"), 2, "there are no commas"),

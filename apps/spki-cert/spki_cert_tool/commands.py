@@ -16,8 +16,8 @@ from typing import NoReturn
 from .arguments import NEW_KEY, completion, parser_of_commands
 from .certificates import headed, members, terms_of
 from .ending import end
-from .files import (DONE, FAILED, NO, READ, REFUSED, TERMINAL, UNCONFIRMED, Refused, key_at, locked, node_of, now, octets_of, passphrase_for, put,
-                    remark_on_mode, say, signer_at, target_of, tell, text_at, value_headed, value_of, write)
+from .files import (DONE, FAILED, NO, READ, REFUSED, TERMINAL, UNCONFIRMED, Refused, key_at, locked, now, octets_of, passphrase_for, put,
+                    remark_on_mode, say, signer_at, target_of, tell, text_at, value_headed, value_of, value_of_word, write)
 from .forms import Wrong
 from .keys import BadKey, file_of, hash_of, kind_of, new_private, openssh_line, principal_of
 from .making import (certificate_of, fields_of, list_with, list_without, signed_sequence, text_of, warnings_of, warnings_of_certificate,
@@ -172,7 +172,7 @@ def fields_given(given: argparse.Namespace) -> list[Value]:
     for a tag that cannot be read."""
     if given.tag is None and given.name is None:
         raise Refused("a right needs --tag")
-    tag = node_of(os.fsencode(given.tag), "--tag", read_tag).value if given.tag is not None else None
+    tag = value_of_word(os.fsencode(given.tag), "--tag", read_tag) if given.tag is not None else None
     return fields_of(tag, given.begins, now(given.days) if given.days is not None else given.until, given.propagate, given.comment or "")
 
 
@@ -185,7 +185,7 @@ def subject_of(given: argparse.Namespace, naming: Callable[[Value], Value] = pri
         return [b"name", *map(os.fsencode, given.named)]
     # (--to is an S-expression itself, or the name of a file with a key)
     is_itself = given.to.lstrip().startswith(("(", "{"))
-    to = node_of(os.fsencode(given.to), "--to", read_subject).value if is_itself else naming(key_at(given.to, given.number))
+    to = value_of_word(os.fsencode(given.to), "--to", read_subject) if is_itself else naming(key_at(given.to, given.number))
     if headed(to, b"name") and given.named:
         raise Refused("--to is a name already, so --named is one too many")
     subject: Value = [b"name", to, *map(os.fsencode, given.named)] if given.named else to

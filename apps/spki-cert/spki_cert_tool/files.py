@@ -19,7 +19,7 @@ from .agent import AgentSigner
 from .certificates import DATE_FORMAT, is_in_calendar
 from .forms import MOST_OCTETS, Node, Wrong, suggestion
 from .keys import BadKey, FileSigner, is_key_file, is_private, read_private, read_public
-from .places import lines_of_fault, may_be_secret, name_foreign, read_text, value_in
+from .places import lines_of_fault, may_be_secret, name_foreign, read_form, read_text
 from .sexp import Value
 from .structures import MOMENT, Reader
 
@@ -169,21 +169,24 @@ def value_headed(path: str, heads: tuple[bytes, ...], wanted: str) -> Value:
     return node.value
 
 
-def node_of(octets: bytes, what: str, read: Reader) -> Node:
-    """The value of a word of the command line, which `read` must accept, as the node with its places. Raises Refused, where the word is called
-    `what`."""
+def value_of_word(octets: bytes, what: str, read: Reader) -> Value:
+    """The value of a word of the command line, which `read` must accept. Raises Refused with the place, where the word is called `what`."""
+    (wrong, text, places), node = read_form(octets)
     try:
-        node = value_in(octets)
-        read(node)
-        return node
-    except Wrong as wrong:
-        name_foreign(octets, wrong)
-        if wrong.kind == "Trailing":
-            whole = octets.decode(errors="surrogateescape")
-            # (several lists are probably meant as a set of tags, and several strings as one list)
-            front = "* set " if whole.lstrip().startswith("(") else ""
-            wrong.why = f"these are several values; a list is in parentheses, as '({front}{whole})'"
-        raise Refused(*lines_of_fault(what, (wrong, octets, None))) from None
+        if wrong is None:
+            read(node)
+            return node.value
+    except Wrong as why:
+        wrong = why
+        # (what is in braces was not written by hand)
+        if places is None:
+            name_foreign(octets, wrong)
+    if wrong.kind == "Trailing":
+        whole = octets.decode(errors="surrogateescape")
+        # (several lists are probably meant as a set of tags, and several strings as one list)
+        front = "* set " if whole.lstrip().startswith("(") else ""
+        wrong.why = f"these are several values; a list is in parentheses, as '({front}{whole})'"
+    raise Refused(*lines_of_fault(what, (wrong, text, places)))
 
 
 def passphrase_for(path: str) -> bytes:

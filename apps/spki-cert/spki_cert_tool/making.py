@@ -10,7 +10,7 @@ from collections.abc import Iterator
 from .certificates import Keys, Terms, certificates_in, entries_of, headed, members, remarks_on_window, terms_of
 from .files import Refused, Signer, now
 from .keys import hash_of, principal_of, verifies
-from .places import lines_of_fault, place_shown, read_text, value_in
+from .places import lines_of_fault, place_shown, read_form, read_text, value_in
 from .sexp import Value, canonical, laid_out, on_one_line
 from .tag_words import MOST_PRODUCTS, contains, is_everything, lacks, remarks
 
@@ -133,8 +133,9 @@ def warnings_of(terms: Terms, tag_text: str, tries: list[Value]) -> Iterator[str
                "`(packages read (* prefix /web/))`, and that of a file is given by \"$(cat FILE)\"")
     if re.search(r"[^\s(] +\)", tag_text):
         yield "--tag has a blank before a `)`: is a variable of the shell empty there?"
-    for at, why in remarks(value_in(os.fsencode(tag_text))):
-        where, around = place_shown(os.fsencode(tag_text), None, at)
+    (_, text, places), node = read_form(os.fsencode(tag_text))
+    for at, why in remarks(node):
+        where, around = place_shown(text, places, at)
         yield f"--tag, {where}: {why}\n{around}"
     yield from tries_lacked(terms.tag, tries)
 

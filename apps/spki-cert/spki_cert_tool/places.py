@@ -279,15 +279,23 @@ def read_text(text: bytes, given: str = "") -> tuple[Diagnosis, Node]:
     return (None, inner, places), node
 
 
+def read_form(text: bytes) -> tuple[Diagnosis, Node]:
+    """What is wrong with the form of a text, and its value, as `read_text` returns both. Nothing else of the value is tested. The fault is named
+    without the word `form`, as `Bad`."""
+    # (as if a fault of the form were to be explained)
+    diagnosis, node = read_text(text, "refused form Trailing")
+    if (wrong := diagnosis[0]) is not None:
+        wrong.kind = wrong.kind.split()[-1]
+    return diagnosis, node
+
+
 def value_in(text: bytes) -> Node:
-    """The value of a text in any of the three forms, with its places. Raises Wrong with a place in the text."""
-    # (as if a fault of the form were to be explained, so only the form is read)
-    (wrong, _, places), node = read_text(text, "refused form Trailing")
-    if wrong is None:
-        return node
-    # (only `Bad` of `form Bad`, and the place in the whole text instead of that in the braces)
-    wrong.kind, wrong.at = wrong.kind.split()[-1], places[min(wrong.at, len(places) - 1)] if places else wrong.at
-    raise wrong
+    """The value of a text in any of the three forms. Its places, as that of the fault, are in the text, or for braces in the canonical text inside.
+    Raises Wrong."""
+    (wrong, _, _), node = read_form(text)
+    if wrong is not None:
+        raise wrong
+    return node
 
 
 def refusal(wrong: Wrong, places: list[int] | None) -> str:
