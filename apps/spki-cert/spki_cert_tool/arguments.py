@@ -159,7 +159,7 @@ OPTIONS: dict[str, dict[str, Any]] = {
     "--comment": {"metavar": "TEXT", "type": plain, "help": "a comment, which grants nothing"},
     f"{NEW_KEY} --comment": {"metavar": "TEXT", "type": plain, "help": "what the key is called; the name of the file if it is not given"},
     "--yes": {**FLAG, "help": "make it although it is probably a mistake"},
-    "end --yes": {**FLAG, "help": "adopt it although it has no digests, or fewer than it says"},
+    "end --yes": {**FLAG, "help": "with --adopt: take also a file that has no digests, or another number of them than its last line says"},
     "--chain": {**FILE, "help": "the sequence by which the issuer has the right: it is verified, and written in front"},
     "--anyway": {**FLAG, "help": "make it although by --chain its issuer cannot give it"},
     "--acl": {**FILE, "help": "the access list to put it in, which is made if it is not there"},
