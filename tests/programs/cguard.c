@@ -446,7 +446,7 @@ static void threads(size_t count)
     pthread_t each[MOST_THREADS];
     pthread_attr_t small;
     shared.asked = open_question(shared.guard, &question);
-    expect(count <= MOST_THREADS && !pthread_attr_init(&small) && !pthread_attr_setstacksize(&small, STACK), "no threads of this kind");
+    expect(!pthread_attr_init(&small) && !pthread_attr_setstacksize(&small, STACK), "no threads of this kind");
     for (size_t i = 0; i < count; i++)
         expect(!pthread_create(&each[i], &small, ask_at_once, &shared), "no thread");
     for (size_t i = 0; i < count; i++)
@@ -515,7 +515,7 @@ static void kept_decisions(void)
 
 int main(int count, char **words)
 {
-    expect(count == 6, "usage: cguard THREADS REFUSALS LIST SEQUENCE KEY");
+    expect(count == 6 && strtoul(words[1], NULL, 10) <= MOST_THREADS, "usage: cguard THREADS REFUSALS LIST SEQUENCE KEY, with at most 64 threads");
     expect(!strcmp(spki_version(), SPKI_VERSION), "another version");
     delegation(words[3], words[4], words[5]);
     wrong_places(words[3], words[4], words[5]);

@@ -365,6 +365,11 @@ class SharedUnderValgrind(OfC):
 class Guards(OfC):
     """`cguard.c` and `misuse.c`, with each library, by itself and under AddressSanitizer, valgrind and helgrind: `add_ways` adds the tests."""
 
+    def test_too_many_threads(self):
+        """`cguard.c` makes none of 65 threads: it has room for 64."""
+        status, output = output_of(self.compile("cguard.c", "static"), "65", "0", *parts_of_example())
+        self.assertEqual((status, output[:7]), (99, "usage: "), output)
+
 
 class Head(OfC):
     """The sample at the head of spki.h, with a list and a question of 40 certificates, more than the usual limits take."""
