@@ -4,6 +4,7 @@
 #include "spki.c"
 
 #include <stdio.h>
+#include <stdlib.h>
 
 static struct spki_limits limits_seen;
 static struct parts parts_seen;
@@ -52,13 +53,7 @@ uint32_t spki_c_string(struct spki_text t, const size_t *p, size_t d, size_t *a,
     return (void)t, (void)p, (void)d, (void)a, (void)l, 0;
 }
 
-#define CHECK(what) \
-    do { \
-        if (!(what)) { \
-            printf("line %d: %s\n", __LINE__, #what); \
-            return 1; \
-        } \
-    } while (0)
+#define CHECK(what) ((what) ? (void)0 : (printf("line %d: %s\n", __LINE__, #what), exit(1)))
 
 /* The structures without a size never change. */
 _Static_assert(sizeof(struct spki_text) == 2 * sizeof(size_t) && sizeof(struct spki_signed) == 4 * sizeof(struct spki_text)
