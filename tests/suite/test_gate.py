@@ -11,7 +11,7 @@ import tempfile
 import unittest
 from unittest import mock
 
-from harness.support import TESTS, TOP, text_of, waits_for
+from harness.support import TESTS, TOP, loaded, text_of, waits_for
 from merge_gate import bodies, deep, landing, plan, records
 from merge_gate.report import Counts
 from merge_gate.run import run
@@ -133,12 +133,19 @@ class Script(unittest.TestCase):
 
 
 class NothingToTry(unittest.TestCase):
-    """Command lines by which nothing would be tried: such a run must not pass."""
+    """Command lines by which nothing would be tried, or less: such a run must not pass."""
 
     def test_tests(self) -> None:
         """A run fails if no test has the given name, or if it may use no process (`--jobs 0`)."""
         for name, *words in ("run", "--pages", "-k", "no such test"), ("run", "--as-built", "--jobs", "0"), ("differential.py", "--jobs", "0"):
             self.assertNotEqual(subprocess.run([os.path.join(TESTS, name), *words, "--cases", "9"], capture_output=True).returncode, 0, words)
+
+    def test_alone(self) -> None:
+        """The command that `tests/run` prints of a failed test, to run it alone, has the number of generated cases if it is not the usual one."""
+        script = loaded(os.path.join(TESTS, "run"))
+        for words in ("tests/run", "tests/run --quick --cases 9"):
+            with mock.patch.dict(os.environ), mock.patch.object(sys, "argv", words.split()):
+                self.assertEqual(script.settings(script.arguments()), words)
 
     def test_wrong_bodies(self) -> None:
         """No wrong body is tried without a name, nor where `rt ci` fails: in a crate that is not proved each would be refused."""
