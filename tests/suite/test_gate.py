@@ -168,10 +168,11 @@ class Logs(unittest.TestCase):
         return counts.passed, counts.failed, counts.left_out
 
     def test_counts(self) -> None:
-        """The counts are those of the last line. Without such a line, or with a status other than 0 and no failure, one has failed. A command that
-        never writes counts is one test."""
+        """The counts are those of the last line. Without such a line, or with a status other than 0 and no failure, one has failed. So has each wrong
+        body that `rt ci` cannot read. A command that never writes counts is one test."""
         for output, status, wanted in [
                 ("a\n3 passed, 0 failed\n", 0, (3, 0)), ("3 passed, 2 failed", 1, (3, 2)), ("3 passed, 0 failed (ok)\n", 0, (3, 0)),
+                ("rt: must-fail low/x.edit: BAD EDIT: it did not reach the prover; ..\nrt: ok\n3 passed, 0 failed\n", 0, (3, 1)),
                 ("3 passed, 0 failed\n", 1, (3, 1)), ("3 passed, 0 failed\nand more\n", 0, (0, 1)), ("", 0, (0, 1)), ("", -9, (0, 1))]:
             self.assertEqual(self.counts(output, status)[:2], wanted, output)
         self.assertEqual([self.counts("none", status, False)[:2] for status in (0, 1)], [(1, 0), (0, 1)])
