@@ -86,6 +86,14 @@ pub(crate) fn line_of(answer: &[u8]) -> &str {
         .trim_end_matches('\n')
 }
 
+/// The text of an answer as `line_of` returns it, in the memory of the answer.
+pub(crate) fn lines_of(answer: Vec<u8>) -> String {
+    let length = line_of(&answer).len();
+    let mut lines = String::from_utf8(answer).expect("lines are ASCII");
+    lines.truncate(length);
+    lines
+}
+
 /// Makes a call that writes one line, which needs no allocation. `call` gets a buffer, its room, and where the length goes. `result_of` gets what
 /// `call` returns, and the line, which is empty if the call writes none. Returns what `result_of` returns.
 pub(crate) fn with_line<A, T>(
@@ -112,7 +120,16 @@ pub(crate) fn with_answer(
     if status != sys::TOO_SMALL {
         // SAFETY: the answer has so many octets, and the call has written them to the front of the buffer.
         unsafe { buffer.set_len(needed) };
-        buffer.shrink_to_fit();
     }
-    (status, buffer)
+    (status, copied_or_kept(buffer))
+}
+
+/// The same octets in memory of their length, or in the memory that they have if there is no more: `shrink_to_fit` would end the process then.
+fn copied_or_kept(octets: Vec<u8>) -> Vec<u8> {
+    let mut copy = Vec::new();
+    if copy.try_reserve_exact(octets.len()).is_err() {
+        return octets;
+    }
+    copy.extend_from_slice(&octets);
+    copy
 }

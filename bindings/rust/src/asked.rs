@@ -1,6 +1,6 @@
 //! A question that was read, which is decided by the marks that it carries.
 
-use crate::answer::{line_of, with_answer, with_line, Refusal};
+use crate::answer::{line_of, lines_of, with_answer, with_line, Refusal};
 use crate::decision::{Denied, Grant, Verdict};
 use crate::explanation::Explanation;
 use crate::signature::Signature;
@@ -214,7 +214,7 @@ impl Asked {
             self.call(call, (buffer, room, needed)).status
         });
         match status {
-            sys::DONE => Ok(line_of(&lines).to_owned()),
+            sys::DONE => Ok(lines_of(lines)),
             _ => Err(Refusal::of(status, &lines)),
         }
     }

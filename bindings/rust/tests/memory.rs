@@ -1,0 +1,96 @@
+//! Where memory is short, a call refuses or keeps more memory than its answer needs. It does not end the process.
+
+use spki::{Fault, Guard, Limits, Moment, Policy, ProvenKey, Question, Refusal, Request};
+use std::alloc::{GlobalAlloc, Layout, System};
+use std::cell::Cell;
+use std::ptr;
+
+/// Requests for memory of fewer octets are always granted, such as those for the line of a refusal.
+const LARGE: usize = 100;
+
+thread_local! {
+    /// How many more requests for memory of `LARGE` octets or more are granted in this thread.
+    static GRANTS: Cell<usize> = const { Cell::new(usize::MAX) };
+}
+
+/// Whether a request for memory is refused. Counts it if it is large.
+fn refuses(octets: usize) -> bool {
+    let left = GRANTS.get();
+    if octets >= LARGE {
+        GRANTS.set(left.saturating_sub(1));
+    }
+    octets >= LARGE && left == 0
+}
+
+/// The memory of the system, with large requests refused behind the last of `GRANTS`.
+struct Short;
+
+// SAFETY: each call is passed on as it is, or answered by null, which says that there is no memory.
+unsafe impl GlobalAlloc for Short {
+    unsafe fn alloc(&self, layout: Layout) -> *mut u8 {
+        if refuses(layout.size()) {
+            return ptr::null_mut();
+        }
+        // SAFETY: as the caller says.
+        unsafe { System.alloc(layout) }
+    }
+
+    unsafe fn dealloc(&self, block: *mut u8, layout: Layout) {
+        // SAFETY: as the caller says.
+        unsafe { System.dealloc(block, layout) }
+    }
+
+    unsafe fn realloc(&self, block: *mut u8, layout: Layout, octets: usize) -> *mut u8 {
+        if refuses(octets) {
+            return ptr::null_mut();
+        }
+        // SAFETY: as the caller says.
+        unsafe { System.realloc(block, layout, octets) }
+    }
+}
+
+#[global_allocator]
+static MEMORY: Short = Short;
+
+/// Makes a call with so many large requests for memory granted, and then with all, for each number from 0 to 3. Without any it must be refused, and
+/// with one, for the buffer of its answer, it must answer as with all.
+fn check<T: PartialEq + std::fmt::Debug>(call: impl Fn() -> Result<T, Refusal>) {
+    let wanted = call().expect("an answer");
+    for grants in 0..4 {
+        GRANTS.set(grants);
+        let answer = call();
+        GRANTS.set(usize::MAX);
+        match answer {
+            Ok(answer) => assert!(grants > 0 && answer == wanted),
+            Err(refusal) => assert_eq!((grants, refusal.fault()), (0, Fault::Memory)),
+        }
+    }
+}
+
+#[test]
+fn texts() {
+    let text = [b"(a ", &[b'b'; 2 * LARGE][..], b")"].concat();
+    check(|| spki::canonical(&text));
+    check(|| spki::advanced(&text));
+    check(|| spki::transport(&text));
+}
+
+#[test]
+fn lines() {
+    // (each entry has a line)
+    let list = format!(
+        "(acl {})",
+        "(entry (public-key (test a)) (tag (*)))".repeat(LARGE)
+    );
+    let guard = Guard::read(list.as_bytes(), Policy::Strict, Limits::default()).expect("a list");
+    let key = ProvenKey::assume(&b"(public-key (test a))"[..]);
+    let question = Question::new(
+        b"(sequence)",
+        &key,
+        Request::Words(&[b"x"]),
+        Moment::Seconds(0),
+    );
+    let asked = guard.ask(&question).expect("a question");
+    check(|| asked.explain());
+    check(|| asked.reduce());
+}
