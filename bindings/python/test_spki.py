@@ -4,6 +4,7 @@
 SPKI_LIBRARY=../../crates/spki_c/out/libspki_c.so python3 -m unittest
 """
 import asyncio
+import contextlib
 import copy
 import ctypes
 import dataclasses
@@ -327,6 +328,25 @@ class Opened(unittest.TestCase):
             self.assertEqual(({id(signature.key) for signature in listed}, len(listed)), ({id(listed[0].key)}, 40))
         opened.verify(lambda signature: kept.append(signature.key) is None)
         self.assertEqual(({id(key) for key in kept}, len(kept)), ({id(kept[0])}, 40))
+
+    def test_each_call_holds_the_lock(self):
+        """Each call of the library on an opened question is made while its lock is held, so none is made while another thread marks a signature. The
+        GIL alone would not ensure that in a free-threaded Python."""
+        opened, is_held = self.guard.ask(new_question()), {}
+        with contextlib.ExitStack() as patches:
+            for name in ("signature", "mark", "possible", "decide", "explain", "reduce"):
+
+                # (the defaults are the values of this round of the loop)
+                def call(*arguments, name=name, real=getattr(_library, name)):
+                    is_held.setdefault(name, set()).add(opened._lock.locked())
+                    return real(*arguments)
+
+                patches.enter_context(mock.patch.object(_library, name, call))
+            opened.signatures()
+            opened.verify(accept_all)
+            opened.mark(0)
+            self.assertTrue(opened.is_possible and opened.decide() and opened.explain().text and opened.reduce().text)
+        self.assertEqual((len(is_held), set().union(*is_held.values())), (6, {True}))
 
     # The signatures behind the first, or behind the first wrong one, are never copied from the library.
     def test_signatures_are_listed_one_by_one(self):

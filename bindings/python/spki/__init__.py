@@ -133,8 +133,8 @@ class Asked(_Closable, NoDecision):
         an explanation or a reduction. Raises what `Guard.ask` raises."""
         self._handle, self._answer_octets = _AskedHandle(_open_question(guard, question)), answer_octets
         self._count = _library.count(self._handle)
-        # (while a signature is marked, the library permits no other call on the question. Calls that keep the GIL, `_library.signature`
-        # for one, do without the lock: `_library.mark` keeps it too)
+        # (while a signature is marked, the library permits no other call on the question. The GIL, which the short calls keep, does not
+        # ensure that: a free-threaded Python has none)
         self._lock = threading.Lock()
 
     def __len__(self) -> int:
@@ -146,7 +146,9 @@ class Asked(_Closable, NoDecision):
         keys are one object."""
         handle, keys = self._open_handle(), dict[bytes, bytes]()
         for place in range(self._count):
-            yield _signature(handle, place, keys)
+            with self._lock:
+                signature = _signature(handle, place, keys)
+            yield signature
 
     def __repr__(self) -> str:
         return f"<spki.Asked of {self._count} signatures{', closed' * (self._handle is None)}>"
@@ -169,8 +171,12 @@ class Asked(_Closable, NoDecision):
         """Marks each signature for which `verify(signature)` returns `True`, in order, up to the first `False`. Raises
         `TypeError` if it returns anything else, such as a coroutine. Then, or if `verify` raises an exception, nothing
         is marked. To explain a denial, verify also where `is_possible` is false."""
-        handle = self._open_handle()
-        for place in range(_count_valid(handle, self._count, verify)):
+        handle, valid = self._open_handle(), 0
+        for signature in self:
+            if not answer_of(verify(signature)):
+                break
+            valid += 1
+        for place in range(valid):
             with self._lock:
                 _mark(handle, place)
 
@@ -449,8 +455,8 @@ def _signature(handle: c_void_p, place: int, keys: dict[bytes, bytes]) -> Signat
 
 
 def _count_valid(handle: c_void_p, count: int, verify: Verify) -> int:
-    """How many of the `count` signatures of an opened question are valid before the first that is not. It marks none.
-    Raises `TypeError` if `verify` returns neither `True` nor `False`."""
+    """How many of the `count` signatures of an opened question are valid before the first that is not. It marks none, and no
+    other thread may do so meanwhile. Raises `TypeError` if `verify` returns neither `True` nor `False`."""
     memory, call_memory, last_key = _library.memory, _take_call_memory(), b""
     try:
         for place in range(count):
