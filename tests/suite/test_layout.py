@@ -1,6 +1,6 @@
-"""Tests before anything is proved what else would fail late: that each source file is laid out as `rt fmt` lays it out, that each wrong
-body can be applied and was tried against the present promises, that no file is a link, and that CONTRIBUTING.md's line on the last run of `.ci/deep` names a commit of the history, no failure, and the seed of 1,000,000 texts
-or that only wrong bodies were tried."""
+"""Tests before anything is proved what else would fail late: that each source file is laid out as `rt fmt` lays it out, that each wrong body can be
+applied and was tried against the present promises, that no file is a link, and that CONTRIBUTING.md's line on the last run of `.ci/deep` names a
+commit of the history, no failure, and the seed of 1,000,000 texts or that only wrong bodies were tried."""
 import glob
 import os
 import re
