@@ -6,7 +6,7 @@ import sys
 import textwrap
 
 from harness import golang
-from harness.support import EXAMPLES, TOP, on_one_line, read, run
+from harness.support import CARGO, EXAMPLES, TOP, on_one_line, read, run
 
 SECONDS = 600
 CRATE, RUST, PYTHON = (os.path.join(TOP, *words) for words in (["crates", "spki_c"], ["bindings", "rust"], ["bindings", "python"]))
@@ -156,7 +156,7 @@ def build(language, source, room, library):
             file.write(MANIFEST.format(crate=RUST))
         program = os.path.join(folder, "target", "debug", "snippet")
         words = ["cargo", "build", "--quiet", "--offline"]
-    settings = {**os.environ, "SPKI_LIB_DIR": os.path.dirname(library), "CARGO_TARGET_DIR": os.path.join(folder, "target"),
+    settings = {**os.environ, **CARGO, "SPKI_LIB_DIR": os.path.dirname(library), "CARGO_TARGET_DIR": os.path.join(folder, "target"),
                 "RUSTFLAGS": "-D warnings"}
     return [program] if subprocess.run(words, cwd=folder, env=settings, timeout=SECONDS).returncode == 0 else None
 

@@ -29,7 +29,7 @@ from datetime import datetime, timezone
 from typing import NamedTuple
 
 from harness import built, needs
-from harness.support import EXAMPLES, TESTS, TOP, canonical, on_one_line, output_of, read, run, string, tables_here, text_of
+from harness.support import CARGO, EXAMPLES, TESTS, TOP, canonical, on_one_line, output_of, read, run, string, tables_here, text_of
 from model import answers as model
 from rows import Row, chains, rows_of
 
@@ -195,7 +195,7 @@ def strings_in(octets):
 
 def cargo(folder, words, octets=None):
     """Runs cargo in the crate, offline, with the libraries of a folder and these octets as its input. Returns the `CompletedProcess`."""
-    settings = {**os.environ, "SPKI_LIB_DIR": folder, "RUSTDOCFLAGS": "-D warnings", "CARGO_NET_OFFLINE": "true"}
+    settings = {**os.environ, **CARGO, "SPKI_LIB_DIR": folder, "RUSTDOCFLAGS": "-D warnings"}
     return subprocess.run(["cargo", *words], cwd=RUST, input=octets, capture_output=True, env=settings, timeout=SECONDS)
 
 
@@ -471,7 +471,7 @@ class InRust(Binding):
             crates = shutil.copytree(RUST, os.path.join(room, "rust"), ignore=shutil.ignore_patterns("out", ".cargo"))
             pathlib.Path(room, "config.toml").write_text(
                 'net.offline = true\n[source]\ncrates-io.replace-with = "debian"\ndebian.directory = "/usr/share/cargo/registry"\n')
-            settings = {**os.environ, "CARGO_HOME": room, "CARGO_INCREMENTAL": "0", "CARGO_PROFILE_DEV_DEBUG": "0", "SPKI_LIB_DIR": self.folder}
+            settings = {**os.environ, **CARGO, "CARGO_HOME": room, "SPKI_LIB_DIR": self.folder}
             status, output = output_of("cargo", "test", "--quiet", cwd=os.path.join(crates, "spki-serde"), env=settings, seconds=SECONDS)
             self.assertEqual(status, 0, output)
 
@@ -492,7 +492,7 @@ class InRust(Binding):
         `settings`. Returns the status, and what cargo writes."""
         others = {name: value for name, value in os.environ.items() if not name.startswith(("SPKI_", "PKG_CONFIG"))}
         return output_of("cargo", "build", "--quiet", "-p", "spki-sys", cwd=RUST, seconds=SECONDS,
-                         env={**others, "CARGO_TARGET_DIR": room, "CARGO_NET_OFFLINE": "true", **settings})
+                         env={**others, **CARGO, "CARGO_TARGET_DIR": room, **settings})
 
     def test_folders_without_a_library(self):
         """If a folder is relative or lacks the library, or pkg-config is missing or lacks it, a message ends the build. Others are taken."""

@@ -7,7 +7,7 @@ import subprocess
 import sys
 
 from harness import golang, needs
-from harness.support import TESTS, canonical, output_of, room_for, text_of
+from harness.support import CARGO, TESTS, canonical, output_of, room_for, text_of
 from suite import test_bindings
 from suite.test_bindings import CRATE, PYTHON, SECONDS, Asked
 
@@ -89,7 +89,7 @@ class Counted(test_bindings.Binding):
     @needs.needs("cargo")
     def test_in_rust(self):
         octets, target = b"".join(map(test_bindings.framed, self.asked)), os.path.join(TESTS, "out", "counted")
-        settings = {**self.settings, "SPKI_LIB_DIR": self.room, "CARGO_TARGET_DIR": target, "CARGO_NET_OFFLINE": "true"}
+        settings = {**self.settings, **CARGO, "SPKI_LIB_DIR": self.room, "CARGO_TARGET_DIR": target}
         done = subprocess.run(["cargo", "run", "--quiet", "--example", "asked"], cwd=test_bindings.RUST, input=octets, stdout=subprocess.PIPE,
                               env=settings, check=True, timeout=SECONDS)
         self.check_counts(self.asked, [answer + b"\n" for answer in test_bindings.strings_in(done.stdout)])

@@ -16,7 +16,7 @@ from collections.abc import Iterator
 from typing import Any
 
 from harness import built, golang, needs
-from harness.support import EXAMPLES, TOP, is_compiled, output_of, room_for, text_of
+from harness.support import CARGO, EXAMPLES, TOP, is_compiled, output_of, room_for, text_of
 
 needs.required("import cryptography")
 # (examples/signed/ has a module of this file's name)
@@ -208,7 +208,7 @@ class InOtherLanguages(Service):
 
     @needs.needs("cargo", "openssl")
     def test_rust(self) -> None:
-        settings = {**os.environ, "SPKI_LIB_DIR": os.path.dirname(self.library), "CARGO_NET_OFFLINE": "true"}
+        settings = {**os.environ, **CARGO, "SPKI_LIB_DIR": os.path.dirname(self.library)}
         status, output = output_of("cargo", "build", "--quiet", "--example", "service", cwd=RUST, env=settings, seconds=SECONDS)
         self.assertEqual(status, 0, output)
         self.check_service(os.path.join(RUST, "out", "debug", "examples", "service"))

@@ -10,7 +10,7 @@ from collections import defaultdict
 
 from harness import built, golang, needs
 from harness.snippets import GO_MODULE
-from harness.support import EXAMPLES, TOP, room_for, text_of
+from harness.support import CARGO, EXAMPLES, TOP, room_for, text_of
 from rows import wrong_uses
 from rows.wrong_uses import Row
 
@@ -106,7 +106,7 @@ class WrongUses(built.OfLibrary):
     def test_rust(self) -> None:
         """The rows are compiled one by one: the compiler finds faults of one kind before it looks for those of the next."""
         shared, wrong, others = self.split("rust")
-        self.environment.update(SPKI_LIB_DIR=os.path.dirname(self.library), CARGO_NET_OFFLINE="true")
+        self.environment.update(CARGO, SPKI_LIB_DIR=os.path.dirname(self.library))
         self.output("cargo", "build", "--quiet", "--lib", folder=RUST, status=0)
         folder = os.path.join(RUST, "out", "debug")
         library, dependencies = os.path.join(folder, "libspki.rlib"), os.path.join(folder, "deps")
