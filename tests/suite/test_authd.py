@@ -303,7 +303,7 @@ class Started(OfDaemon):
     def test_another_socket(self) -> None:
         """The daemon refuses to start if the socket that is handed over is not the one that its configuration names, or if everyone may write to it.
         A shell hands it over as systemd does: as the open file 3, which LISTEN_PID and LISTEN_FDS announce."""
-        for is_other, reason in ((False, "everyone may write"), (True, "hands over")):
+        for is_other, reason in ((False, "mode is 0666"), (True, "hands over")):
             with managed(self.daemon_program, self.access_list) as manager:
                 if is_other:
                     text = text_of(manager.daemon.config).replace(manager.daemon.socket, f"{manager.daemon.socket}2")
