@@ -186,6 +186,7 @@ OF_WORDS = [OfWords(*row) for row in [
     ("a tag with an umlaut", (*READS, "(packages f\u00fcr)"), 2, "line 1, column 12, octet 11: a string with"),
     ("a tag with quotes of a word processor", (*READS, "(packages \u201cread\u201d)"), 2, "a quotation mark of a word processor"),
     ("no tag", (*READS, ""), 2, "--tag: this is empty"),
+    ("a tag of spaces", (*READS, "  "), 2, "this has only spaces"),
     ("two tags", (*READS, "(packages read) (a)"), 2, "as '(* set (packages read) (a))'"),
     ("a tag that is cut off", (*READS, "(packages (read)"), 2, "a `)` is missing"),
     ("a pattern of a shell", (*READS, "(packages read /web/*)"), 4, "`(* prefix /web/)`"),

@@ -186,6 +186,8 @@ def value_of_word(octets: bytes, what: str, read: Reader) -> Value:
         # (several lists are probably meant as a set of tags, and several strings as one list)
         front = "* set " if whole.lstrip().startswith("(") else ""
         wrong.why = f"these are several values; a list is in parentheses, as '({front}{whole})'"
+    if not octets.strip():
+        wrong.why = "this has only spaces"
     raise Refused(*lines_of_fault(what, (wrong, text, places)))
 
 
