@@ -510,9 +510,10 @@ def opening_of_widest(driver):
     yield "opening a question of 1 MiB, ms", max(*times, time_of_sets)
 
 
-def threads(driver):
-    """Yields (name of a limit, value): the ratio of the decisions of 8 threads to those of one, as on four free cores, and how often a thread waits.
-    Each is the best of some turns, since other programs that run in one of them make the threads wait for a processor."""
+def scaling_of_threads(driver):
+    """Yields (name of a limit, value): how many times as many decisions THREADS threads make as one, and how often a thread waits in 1,000 decisions,
+    for a lock for example. Each is the best of some turns, since other programs may disturb one. The first is scaled to CORES free cores: `counting`
+    is how many times as far THREADS threads count as one, so about how many cores are free."""
     results = []
     for _ in range(TURNS):
         one, many, counting, waits = driver.run("threads", THREADS, driver.question("three", case_with_three(1)))
@@ -538,7 +539,7 @@ def main():
     library = os.path.abspath(sys.argv[1] if len(sys.argv) > 1 else LIBRARY)
     with tempfile.TemporaryDirectory() as folder:
         driver = Driver(folder, library)
-        parts = (by_instructions, through_python, opening_of_widest, by_default, widest, threads)
+        parts = (by_instructions, through_python, opening_of_widest, by_default, widest, scaling_of_threads)
         values = [pair for part in parts for pair in part(driver)]
     # (a list, so that each value is printed)
     if not all([print_and_check(*pair) for pair in values]):

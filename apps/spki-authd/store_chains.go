@@ -47,8 +47,8 @@ func (s *storedChains) of(key string, now time.Time) ([]keptChain, error) {
 	return notEnded(cached.chains, now), nil
 }
 
-// whyNotAdded returns the answer to a sequence that add would not keep beside those of its key, or an empty one. Only the store knows whether there is
-// room for one more key. It fails if the store does not answer.
+// whyNotAdded returns `known` or `full` for a sequence that has no place beside those that `of` returns for its key, and otherwise an empty answer: add
+// may then still refuse it. What `of` returns may be cached, and only the store knows whether there is room for one more key. It fails as `of` does.
 func (s *storedChains) whyNotAdded(key string, chain keptChain, now time.Time) (answer, error) {
 	others, err := s.of(key, now)
 	return s.whyNotBeside(others, chain.text), err

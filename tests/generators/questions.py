@@ -101,7 +101,8 @@ def case_question(rng: random.Random) -> Question:
 
 
 def value(rng: random.Random, depth: int = 3) -> Value:
-    """Any value, of up to `depth` lists inside one another, or in place of any one of LISTS. A whole value, of depth 3, is a tag by chance."""
+    """A value by chance: a string, or a list of at most four values, with at most `depth` lists inside one another. Any part may be one of LISTS
+    instead, whose own lists are not counted. The whole value, for which `depth` is 3, may be a tag instead."""
     if depth == 3 and rng.random() < 0.1:
         return tags.tag(rng, 3)
     kind = rng.random()

@@ -307,7 +307,7 @@ def changed_certificates() -> None:
 
 
 def changed_fields() -> None:
-    """Chains and covered fields that are changed."""
+    """Adds rows of chains and covered fields that are changed, put in, doubled or taken away."""
     row("another chain", "invalid-signature", replace(CHAINED, fields=[("X-Spki-Sequence", "{KDE6YSk=}")]), signed(CHAINED))
     row("a chain taken away", "absent-field", replace(CHAINED, fields=[]), signed(CHAINED))
     row("a chain put in", "uncovered-field", replace(CHAINED, components=PLAIN))

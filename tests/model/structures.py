@@ -195,6 +195,7 @@ def read_algorithm(value: Value, place: str) -> bytes:
 def read_hash(value: Value) -> Hash:
     """Reads `(hash alg digest (uri x*)?)`."""
     members = Members(value, b"hash")
+    # (a fault of the algorithm comes before that of a digest that is not there, and PLACES counts both)
     has_digest = len(members.left) > 1
     algorithm = read_algorithm(members.next(), "a hash" if has_digest else "a hash without a digest")
     digest = members.next()
@@ -410,7 +411,7 @@ def read_access_list(value: Value) -> list[Entry]:
 
 
 def numbered(number: int, read: Callable[[Value], Any], value: Value) -> Any:
-    """What a reader returns for an item. Raises ItemFault with the item's number."""
+    """What a reader returns for an item. Raises ItemFault, with the item's number, where the reader raises StructureFault."""
     try:
         return read(value)
     except StructureFault as fault:

@@ -29,6 +29,7 @@ def hash_of(text):
 
 MISTAKES = [
     # what a service refuses
+    ("a string among the limits", "c.sexp", certificate("(tag read) (valid x)"), (2, 20), True, "as `(not-before ..)`"),
     ("a date without its time", "c.sexp", certificate('(tag read) (not-after "2099")'), (2, 24), True, "YYYY-MM-DD_HH:MM:SS"),
     ("a date without quotes", "c.sexp", certificate("(tag read) (not-after 2099-02-01_00:00:00)"), (2, 24), True, "put quotes around"),
     ("a misspelled field", "acl.sexp", entry('(tag read) (not-afer "2099-01-01_00:00:00")'), (3, 14), True, "is `not-after` meant?"),

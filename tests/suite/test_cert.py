@@ -496,7 +496,7 @@ class OfMistakes(Case):
         os.mkdir(self.at("folder"))
         self.write("folder/acl.sexp", "(acl)")
         self.write("folder/notes.txt", "(acl")
-        self.write("folder/private.pem", self.private())
+        self.write("folder/private.pem", self.new_pem())
         os.chmod(self.at("folder/private.pem"), 0o644)
         output = self.cert("check", "folder", wanted=1)
         self.assertIn("folder/private.pem:1:1: a private key that others have access to: its mode is 644", output)
@@ -507,8 +507,8 @@ class OfMistakes(Case):
         self.assertIn("folder/acl.sexp:1:5: refused: form Short", self.cert("check", "folder", wanted=2))
         self.assertTrue(json.loads(self.cert("check", "--json", "folder/acl.sexp", wanted=2))["remarks"][0]["refused"])
 
-    def private(self):
-        """A private key in PEM without a passphrase."""
+    def new_pem(self):
+        """A new private key for Ed25519 as the octets of a PEM file without a passphrase."""
         from cryptography.hazmat.primitives.serialization import Encoding, NoEncryption, PrivateFormat
         return keys.new_private("ed25519").private_bytes(Encoding.PEM, PrivateFormat.PKCS8, NoEncryption())
 

@@ -106,7 +106,8 @@ def below_crates(part: str) -> list[str]:
 
 
 def missing_definitions() -> Iterator[str]:
-    """Yields `FILES: NAME` for each definition that a row of docs/DEFINITIONS.md names and that is in none of the row's files."""
+    """Yields `FILES: NAME` for each definition that a row of docs/DEFINITIONS.md names and that is in none of the row's files. The head of a section
+    names its crates, and each file may be in any of them."""
     for head, rows in claims.SECTION.findall(text_of("docs/DEFINITIONS.md")):
         for files, names in DEFINED.findall(rows):
             paths = [f"crates/{crate}/specs/{file}.antt" for crate in re.findall(r"`(\w+)`", head) for file in files.split(", ")]

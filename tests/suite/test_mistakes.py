@@ -361,8 +361,8 @@ class OfChains(Room):
         private, to = (keys.read_private(self.pairs[issuer][0], lambda: b""), keys.read_public(self.pairs[subject][1], lambda: b""))
         signer = keys.FileSigner(private)
         certificate = [b"cert", [b"issuer", signer.key], [b"subject", to], [b"propagate"], [b"tag", [b"packages"]], [b"comment", b"%d" % number]]
-        value = [b"signature", keys.hash_of(certificate), signer.key, signer.sign(sexp.canonical(certificate))]
-        return [b"sequence", certificate, value]
+        signature = [b"signature", keys.hash_of(certificate), signer.key, signer.sign(sexp.canonical(certificate))]
+        return [b"sequence", certificate, signature]
 
     def test_the_search_is_bounded(self):
         """The search ignores what a key issues for itself, so it soon finds the only chain: `to-bob`, without a comment, and bob's certificate for

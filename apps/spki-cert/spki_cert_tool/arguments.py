@@ -47,7 +47,7 @@ class CommandParser(argparse.ArgumentParser):
     option too."""
 
     def __init__(self, **settings: Any) -> None:
-        """Makes `Once` the action of each option that names none, or `store`. `settings` are those of ArgumentParser."""
+        """Makes `Once` the action of each option or word that names none, or `store`. `settings` are those of ArgumentParser."""
         super().__init__(formatter_class=argparse.RawDescriptionHelpFormatter, allow_abbrev=False, **settings)
         for name in (None, "store"):
             self.register("action", name, Once)

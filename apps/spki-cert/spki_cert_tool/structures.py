@@ -175,12 +175,13 @@ FIELDS: dict[bytes, Reader] = {
     b"propagate": list_of(None, "a field"), b"valid": lambda node: read_fields(node, node.rest, LIMITS)}
 
 
-def remark_on_no_field(node: Node, allowed: tuple[bytes, ...]) -> str:
-    """The remark on a value that is no field where only the fields with the heads `allowed` may be."""
+def why_no_field(node: Node, allowed: tuple[bytes, ...]) -> str:
+    """Why a value is no field where only the fields with the heads `allowed` may be."""
     if node.head is not None:
         return f"`{excerpt(node.head)}` is no field here{suggestion(node.head, allowed)}"
-    word = excerpt(node.body or b"") if node.body in allowed else "tag"
-    return f"a field is in parentheses and begins with a word, as `({word} ..)`"
+    # (a string that is the head of a field lacks its parentheses)
+    word = node.body if node.body in allowed else b"tag" if b"tag" in allowed else allowed[0]
+    return f"a field is in parentheses and begins with a word, as `({excerpt(word or b'')} ..)`"
 
 
 def read_fields(owner: Node, nodes: list[Node], allowed: tuple[bytes, ...]) -> FieldsRead:
@@ -192,7 +193,7 @@ def read_fields(owner: Node, nodes: list[Node], allowed: tuple[bytes, ...]) -> F
         if head == b"online":
             raise Wrong("Online", node.begin, "an online test is not supported; give a short validity by `(not-after ..)`")
         if head is None or head not in allowed:
-            raise shape_fault(node, remark_on_no_field(node, allowed))
+            raise shape_fault(node, why_no_field(node, allowed))
         if head in fields:
             both = f"one `(tag (* set A B))` contains both, or write a second `({excerpt(owner.head or b'')} ..)`"
             advice = both if head == b"tag" else "remove one of them"
