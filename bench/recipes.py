@@ -171,7 +171,7 @@ class Recipe:
         return replace(self, links=(*self.links[:at], grown, *self.links[at + 1:]))
 
     def is_read(self, certificates: int) -> bool:
-        """Whether all tags have few enough nodes, and there are few enough certificates."""
+        """Whether all tags have few enough nodes and are not too deep, and there are few enough certificates."""
         tags = [self.entries.tag, *(link.tag for link in self.links)]
         return (all(tag.nodes <= MOST_NODES and tag.depth <= MOST_DEPTH for tag in tags)
                 and sum(link.repeats for link in self.links) <= certificates)
@@ -190,8 +190,8 @@ def greatest(fits: Callable[[int], bool], most: int = 1 << 20) -> int:
     return low
 
 
-def fitted(recipe: Recipe, list_octets: int, question_octets: int, certificates: int, entries: int) -> Recipe | None:
-    """The recipe with its growing numbers as great as can be: the list has at most `list_octets` octets and `entries` entries, the question at most
+def fitted(recipe: Recipe, list_octets: int, question_octets: int, certificates: int, most_entries: int) -> Recipe | None:
+    """The recipe with its growing numbers as great as can be: the list has at most `list_octets` octets and `most_entries` entries, the question at most
     `question_octets` octets and `certificates` certificates. None if even the number 1 makes more, or tags of too many nodes or too deep ones."""
     def question_fits(number: int) -> bool:
         """Whether the question is read and small enough with this as its growing number."""
@@ -204,9 +204,9 @@ def fitted(recipe: Recipe, list_octets: int, question_octets: int, certificates:
     with_question = recipe.with_links(number)
 
     def list_fits(number: int) -> bool:
-        """Whether the list is read and small enough with this as the growing number of its entries."""
+        """Whether the recipe is read, and its list is small enough, with this as the growing number of its entries."""
         larger = with_question.with_list(number)
-        return larger.is_read(certificates) and larger.entries.count <= entries and len(larger.list_text()) <= list_octets
+        return larger.is_read(certificates) and larger.entries.count <= most_entries and len(larger.list_text()) <= list_octets
 
     number = greatest(list_fits)
     return with_question.with_list(number) if number else None

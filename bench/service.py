@@ -162,15 +162,15 @@ def from_text(driver):
 
 
 def beside_macaroons(driver):
-    """Yields (name of a limit, ratio): a decision by three certificates to the verification of a macaroon, of a question that is open already, and
-    with the opening. Yields nothing if libmacaroons is not there."""
+    """Yields (name of a limit, ratio of instructions): a decision by three certificates to the verification of a macaroon. First the question is open
+    already, then it is opened too. The times in µs are only printed. Yields nothing if libmacaroons is not there."""
     words = build(driver.folder, driver.library)
     if words is None:
         print("libmacaroons is not there (Debian: libmacaroons-dev): the decision beside a macaroon is left out")
         return
-    _, decide_only, verification, open_and_decide = measure(words)
-    print(f"three certificates through a guard {decide_only:.1f} µs, with the question opened {open_and_decide:.1f} µs, "
-          f"a macaroon with three caveats {verification:.1f} µs")
+    _, decide_time, macaroon_time, whole_time = measure(words)
+    print(f"three certificates through a guard {decide_time:.1f} µs, with the question opened {whole_time:.1f} µs, "
+          f"a macaroon with three caveats {macaroon_time:.1f} µs")
     decide_only, open_and_decide, verification = (
         of_one_call(choose_counter(), [*words, way]) for way in (DECIDE_ONLY, OPEN_AND_DECIDE, MACAROON))
     print(f"in instructions {decide_only:,.0f}, {open_and_decide:,.0f} and {verification:,.0f}", flush=True)

@@ -110,15 +110,15 @@ def tries_of_captured_list(home):
     """Yields what is tried with the list of hosts that lsh wrote into lsh/captured: a remark, the actual and the expected output."""
     with open(os.path.join(HERE, "lsh", "captured"), "rb") as file:
         text = file.read()
-    # (a remark is in front of the list, which is in transport form)
+    # (a comment of lsh is in front of the list, which is in transport form)
     braces = text[text.index(b"{"):]
     yield "list: a remark in front is refused", spki("canonical", text), b"refused form Bad 1\n"
     yield "list: behind it, read as sexp-conv reads it", spki("canonical", braces), home.run(["sexp-conv", "-s", "canonical"], braces)
     _, (_, (_, key), tag) = read(spki("canonical", braces))
     request = canonical(tag[1])
     yield "list: a subject in a list of its own is refused", check(spki("canonical", braces), canonical(key), request), "refused acl 1 Shape"
-    without = canonical([b"acl", [b"entry", key, tag]])
-    yield "list: without that it grants", check(without, canonical(key), request), "yes entry 1"
+    without_subject = canonical([b"acl", [b"entry", key, tag]])
+    yield "list: without that it grants", check(without_subject, canonical(key), request), "yes entry 1"
 
 
 def main():

@@ -29,7 +29,7 @@ const (
 // The bits of an IPv6 address that a provider gives to one client, who has all addresses behind them.
 const bitsOfClient = 64
 
-// newRateLimiter returns a limiter to so many requests a second. With 0 it allows each request.
+// newRateLimiter returns a limiter to so many requests a second of each caller. With 0 it allows each request.
 func newRateLimiter(perSecond int) *rateLimiter {
 	return &rateLimiter{perSecond: float64(perSecond), buckets: newRecentMap[string, *bucket](mostBuckets)}
 }

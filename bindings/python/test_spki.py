@@ -511,7 +511,8 @@ class Parts(unittest.TestCase):
         self.assertTrue(guard.decide(new_question(b"(sequence)", text=b"ftp"), accept_all))
         self.assertFalse(guard.decide(new_question(b"(sequence)", text=b"(ftp)"), accept_all))
 
-    # The tag is a list of 40 strings. It contains each request that begins with them.
+    # The tag is a list of 40 strings. It contains each request that begins with them. The usual limits would refuse 1,000 strings. The moment is
+    # given in both ways, since it is passed beside the array of strings. Few strings come last, after many.
     def test_many_strings(self):
         guard = spki.Guard(b"(acl (entry (public-key (test b)) (tag (" + 40 * b"w " + b"))))", limits=HIGHEST)
         for count in (39, 40, 41, 1000, 3):

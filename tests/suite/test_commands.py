@@ -95,8 +95,8 @@ class InACopy(built.OfLibrary):
     def output(self, folder: str, script: str) -> str:
         """Runs a script in a folder, with an empty home. Returns what it writes."""
         home = tempfile.mkdtemp(dir=self.room)
-        commands = [os.path.dirname(sys.executable), os.path.join(self.room, "clone", "apps", "spki-cert"), "/usr/bin", "/bin"]
-        return output_of("sh", text=script, cwd=folder, env={"HOME": home, "PATH": ":".join(commands)}, seconds=SECONDS)[1]
+        folders = [os.path.dirname(sys.executable), os.path.join(self.room, "clone", "apps", "spki-cert"), "/usr/bin", "/bin"]
+        return output_of("sh", text=script, cwd=folder, env={"HOME": home, "PATH": ":".join(folders)}, seconds=SECONDS)[1]
 
     def check_lines(self, folder: str, page: str, lines: list[str]) -> None:
         """Commands of a page must end with status 0, or that of STATUSES, and write what their remarks say. They run in a folder, after those that

@@ -70,11 +70,11 @@ class InGo(OfGo):
         self.go(golang.MODULE, "test", "-race", "./...", GODEBUG="cgocheck=2")
 
     def test_questions(self) -> None:
-        """A program in Go answers all questions of the tables as `spki` does. It reads them as `test_bindings.framed` writes them, and writes its
-        answers as strings in canonical form."""
+        """A program in Go gives the answers that `test_bindings.all_questions` expects. It reads questions as `test_bindings.framed` writes them, and
+        writes its answers as strings in canonical form, without their last line feeds."""
         asked = test_bindings.all_questions(self.program)
-        lines = self.go(golang.MODULE, "run", "./examples/asked", octets=b"".join(map(test_bindings.framed, asked)))
-        fault = test_bindings.faults_of_answers(asked, [line + b"\n" for line in test_bindings.strings_in(lines)])
+        written = self.go(golang.MODULE, "run", "./examples/asked", octets=b"".join(map(test_bindings.framed, asked)))
+        fault = test_bindings.faults_of_answers(asked, [answer + b"\n" for answer in test_bindings.strings_in(written)])
         self.assertEqual(fault, "", fault)
 
     def test_example(self) -> None:

@@ -18,8 +18,8 @@ class Needs(unittest.TestCase):
 
     def test_skips(self) -> None:
         """A test may be skipped only for a need that is on the list and that this machine lacks."""
-        gone = needs.Need("no-such-command", "no-such-package", "nothing")
-        self.assertFalse(needs.is_by_missing_needs(gone.reason))
+        unlisted = needs.Need("no-such-command", "no-such-package", "nothing")
+        self.assertFalse(needs.is_by_missing_needs(unlisted.reason))
         self.assertTrue(all(needs.is_by_missing_needs(need.reason) != need.is_there for need in needs.NEEDS))
 
     def test_skipped_module(self) -> None:

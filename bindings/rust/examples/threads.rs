@@ -10,7 +10,7 @@ const LIST: &[u8] = b"(acl (entry (public-key (test b)) (tag (ftp))))";
 const THREADS: usize = 4;
 const TURNS: usize = 50;
 
-/// A question of a key that the list grants.
+/// A question of a key. The list grants it if the key is `b`.
 fn question<'q>(key: &'q ProvenKey) -> Question<'q> {
     Question::new(
         b"(sequence)",
