@@ -139,8 +139,8 @@ def entries_and_names(entries, certificates, members):
 
 
 def entries_and_two_words(entries, certificates, members):
-    """A case of equal entries for a name of two words, `friends friend` of the first key. The chain of definitions resolves the first word, and nothing
-    defines the second."""
+    """A case of equal entries for a name of two words, `friends friend` of the first key. The chain of definitions resolves the first word, and
+    nothing defines the second."""
     text = through_names(certificates, entries=0, asks=OTHER)
     listed = [entry(name(key("k00000"), "friends", "friend"))] * entries
     return text.replace(group(string("acl")), group(string("acl"), *listed), 1)

@@ -155,8 +155,8 @@ class Relayed:
         return call
 
     def pipes(self) -> tuple[BinaryIO, BinaryIO]:
-        """The pipe to the program on the other machine, and the one from it. Each process here starts such a program at its first call: a forked process
-        must not use the pipes of its parent."""
+        """The pipe to the program on the other machine, and the one from it. Each process here starts such a program at its first call: a forked
+        process must not use the pipes of its parent."""
         if self.process is None or self.owner != os.getpid():
             self.process, self.owner = subprocess.Popen(self.words, stdin=subprocess.PIPE, stdout=subprocess.PIPE), os.getpid()
         return cast(BinaryIO, self.process.stdin), cast(BinaryIO, self.process.stdout)

@@ -110,8 +110,8 @@ def entry_of(text: bytes) -> bytes:
 
 
 def fault_of(texts: list[bytes]) -> tuple[int, str] | None:
-    """The place, from 0, of the first text that is no entry in canonical form, and why. None if all are. Each text must be one list in canonical form,
-    as `entries_in` cuts it: then they can be read as one access list if they fit into MOST octets, which takes less time than one by one."""
+    """The place, from 0, of the first text that is no entry in canonical form, and why. None if all are. Each text must be one list in canonical
+    form, as `entries_in` cuts it. So they are read as one access list if they fit into MOST octets, which takes less time than one by one."""
     import spki
     whole = BEGIN + b"".join(texts) + END
     with contextlib.suppress(spki.Refused):
