@@ -73,17 +73,19 @@ def print_reductions():
     print(f"{fit} such entries fit into {MOST_OCTETS} octets: {fit * line_octets} octets to be written")
 
 
-def most_of_long_keys():
-    """The most MiB of `reduce` of entries whose certificate is for a key of half the text. The key has one string, or very many. Prints a line for
-    each of the two. Raises CalledProcessError if `reduce` fails."""
+def most_memory_with_long_keys():
+    """The most memory in MiB that `reduce` takes for two texts of 1 MiB. Each has a certificate for a key of half the text, which has one string or
+    very many, and as many entries as fit, so that the key is in each line that is written. Prints a line for each text. Raises CalledProcessError if
+    `reduce` refuses one."""
     most = 0.0
     issuer, other = keys_of(1)
-    # (an empty string has two octets, so 250,000 of them are about half the text too)
+    # (about half the text: 100 octets are for what is around the string, and an empty string has two octets)
     for parts in ([string(b"\x01" * (MOST_OCTETS // 2 - 100))], [string("")] * 250_000):
         links = [(certificate(issuer, group(string("public-key"), group(string("rsa"), *parts))), issuer)]
         one = len(case([entry(issuer)], links, asks=other)) - len(case([], links, asks=other))
         entries = (MOST_OCTETS - len(case([], links, asks=other))) // one
         text = case([entry(issuer)] * entries, links, asks=other)
+        # (`used` measures a refusal too)
         subprocess.run([PROGRAM, "reduce"], input=text, stdout=subprocess.DEVNULL, check=True)
         seconds, memory = used(PROGRAM, "reduce", text)
         print(f"{entries:,} entries and a certificate for a key of {len(parts):,} strings: {seconds:.2f} s, {memory:.0f} MiB", flush=True)
@@ -99,7 +101,7 @@ def main():
     together = measure_many_entries(count)
     print(f"largest ratio of many entries to as many of one: {together:.2f} (at most {LIMIT_SUM})")
     print_reductions()
-    of_keys = most_of_long_keys()
+    of_keys = most_memory_with_long_keys()
     print(f"most memory where a long key stands in each line: {of_keys:.1f} MiB (at most {LIMIT_OF_KEYS})")
     if worst > LIMIT_RATIO or most > LIMIT_MEMORY or together > LIMIT_SUM or of_keys > LIMIT_OF_KEYS:
         sys.exit(1)

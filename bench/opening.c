@@ -11,7 +11,7 @@
 #include <time.h>
 
 /* The ms of the processor that this process has used. */
-static double used(void)
+static double processor_ms(void)
 {
     struct timespec time;
     clock_gettime(CLOCK_PROCESS_CPUTIME_ID, &time);
@@ -26,9 +26,9 @@ int main(int count, char **words)
     const struct spki_question *question = &held.question;
     size_t octets = question->sequence.length + question->key.text.length + question->request.length + question->moment.length;
     begin_counting();
-    double begun = used();
+    double begun = processor_ms();
     enum spki_status status = list_signed(&held);
-    double took = used() - begun;
+    double took = processor_ms() - begun;
     printf("%zu %zu %zu %.2f\n", octets, most_taken(), taken, took);
     return status == SPKI_DONE && decided(&held) != SPKI_MISUSED ? 0 : 4;
 }

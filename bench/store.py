@@ -147,13 +147,13 @@ def ask_by_people(server, library, count, program, number, rate, share=0.0):
     with removing_added_entries(server), contextlib.ExitStack() as running:
         daemons, sockets, folder = [], [], running.enter_context(tempfile.TemporaryDirectory())
         for place in range(number):
-            group = running.enter_context(shares.Share(share)) if share else None
+            cgroup = running.enter_context(shares.Share(share)) if share else None
             process, socket = start_daemon(program, server, folder, place)
             running.enter_context(databases.killed_at_end(process))
             daemons.append(process.pid)
             sockets.append(socket)
-            if group:
-                group.take(process.pid)
+            if cgroup:
+                cgroup.take(process.pid)
         lines = figures(server, "served", count, library, SPKI_STORE_SOCKETS=",".join(sockets), SPKI_STORE_DAEMONS=",".join(map(str, daemons)),
                         SPKI_STORE_RATE=str(rate), SPKI_STORE_SERVER=str(server.process.pid), SPKI_STORE_SECONDS=str(SECONDS))
         return lines["served"], resident(daemons[0]), sum(map(resident, processes_of(server.process.pid)))

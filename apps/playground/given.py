@@ -18,8 +18,8 @@ def text(sent, name):
 
 
 def members(sent, name, kind, wanted):
-    """The members of the list that is the field `name` of the object that the page sent, as a tuple. It is empty if there is no such field.
-    Raises `Refused` for what is no list, or if a member is not of the type `kind`. Its text says what is `wanted`, as "a list of strings"."""
+    """The members of the list that is the field `name` of the object that the page sent, as a tuple. It is empty if the field is not there, or
+    null. Raises `Refused` for what is no list, or if a member is not of the type `kind`. Its text says what is `wanted`, as "a list of strings"."""
     value = sent.get(name)
     if value is None:
         value = []

@@ -74,7 +74,7 @@ func (d *daemon) listenAndServe() error {
 	return d.serve(listener)
 }
 
-// flush writes the other answers and the events that wait, if that does not last longer than the patience of their writers.
+// flush writes the answers that are no grants, and the events, that wait, if that does not last longer than the patience of their writers.
 func (d *daemon) flush() {
 	d.other.flush()
 	d.messages.flush()

@@ -92,11 +92,13 @@ def words_of(request):
 
 
 def seconds_of(moment):
-    """The seconds since 1970 of a moment, such as b"2024-01-01_00:00:00". None if it is earlier, if no calendar has it, or if it is no date."""
+    """The seconds since 1970 of a moment, such as b"2024-01-01_00:00:00". None if it is earlier, if no calendar has it, if its second is 60, or if it
+    is no date."""
     try:
         date = datetime.strptime(moment.decode(), "%Y-%m-%d_%H:%M:%S")
         seconds = int(date.replace(tzinfo=timezone.utc).timestamp())
         return seconds if seconds >= 0 else None
+    # (a moment that is a list cannot be decoded)
     except (AttributeError, UnicodeDecodeError, ValueError):
         return None
 

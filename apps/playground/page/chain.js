@@ -95,8 +95,8 @@ function measure(text, kind) {
   return measuring.measureText(text).width;
 }
 
-/** A text as an array of at most `most` lines of `width` pixels. `kind` is a font of FONTS. A line breaks at a space or behind a slash, else
- * anywhere. What is too long ends in dots. */
+/** A text as an array of at most `most` lines of `width` pixels. `kind` is a font of FONTS. A line breaks at a space or behind a slash, if
+ * one is in the second half of what fits, else anywhere. What is too long ends in dots. */
 function wrap(text, width, kind, most) {
   const lines = [];
   let rest = text.slice(0, MOST_LETTERS);

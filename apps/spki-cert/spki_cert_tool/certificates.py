@@ -201,7 +201,7 @@ class Keys:
 
 def fault_of_signature(signed: Signed, keys: Keys) -> str | None:
     """The word of `explain` for the first test that a certificate's signature does not pass, one of FAULTS in `showing`. None if it is valid.
-    `keys` are those that a hash may name, by SHA-1 too, as under the open policy."""
+    `keys` are those that a hash may name. A hash by SHA-1 counts too, as with `--open`: of it a strict service says KeyNotShown."""
     issuer, certificate = signed.terms.issuer or b"", canonical(signed.terms.value)
     if keys.named(issuer) is None:
         return "KeyNotShown"
@@ -211,6 +211,7 @@ def fault_of_signature(signed: Signed, keys: Keys) -> str | None:
         return "DigestDiffers"
     if not keys.are_one(signer, issuer):
         return "SignerDiffers"
+    # (here, because it takes a tenth of a second)
     from spki_verify import verify_texts
     return None if verify_texts(key=keys.text_of(issuer)[0], message=certificate, value=canonical(value)) else "NotAccepted"
 

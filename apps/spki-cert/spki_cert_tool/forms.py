@@ -279,7 +279,8 @@ class Parser:
         begins at `begin`: with its length, if one is given, which must be right."""
         mark = self.octet(at)
         body = match_at(BODIES[mark], self.text, at + 1)
-        octets: bytes | None = self.quoted_octets(begin, at + 1) if mark == b'"' else b""
+        # (before the closing mark is looked for, since the first fault is shown: a wrong escape is in front of a mark that is missing)
+        octets: bytes | None = self.quoted_octets(begin, at + 1) if mark == b'"' else None
         if self.octet(body.end(), begin) != mark:
             raise Wrong("Bad", body.end(), f"this octet is not allowed between two `{mark.decode()}`", [(begin, "the string begins here")])
         if mark == b"#":

@@ -142,7 +142,8 @@ func argumentsOf(question *Question) arguments {
 	return result
 }
 
-// ask opens a question, and counts its signatures. The caller closes it. The error is a *Refusal, also if an allocation failed, or ErrMisused.
+// ask opens a question, and counts its signatures. The caller closes it. The error is a *Refusal, also if an allocation failed, ErrMisused, or that the
+// library is of another version.
 func ask(guard guardHandle, question *Question) (asked askedHandle, count int, err error) {
 	args := argumentsOf(question)
 	result := C.library_ask(guard, args.parts, args.sequence, args.joined, args.lengths)

@@ -1,6 +1,6 @@
-//! `test_one_call` does calls of the libraries. Each line of standard input is a row: the name of a call and its texts, as hexadecimal
-//! digits, with one space between them. For each row it writes a line: the answer, as hexadecimal digits. `tests/rows/call_rows.py` says
-//! which texts a call takes.
+//! `test_one_call` does calls of the libraries. Each line of standard input is a row: the name of a call and its texts, each as hexadecimal
+//! digits, and one space between each of these and the next. For each row it writes a line: the answer, as hexadecimal digits.
+//! `tests/rows/call_rows.py` says which texts a call takes.
 //!
 //! The crate `test_calls` contains the calls of the libraries up to `spki_service`, and this crate the others. This crate is proved last,
 //! when nothing else is left to prove. The head of `test_calls` says why values are moved to `answer` or dropped by a call.
@@ -38,7 +38,8 @@ fn said(alloc: Global, name: &str, texts: &[Vec<u8>]) -> Reply {
     }
 }
 
-/// Decodes texts that are written as hexadecimal digits, with a space between each two. Err if the digits are malformed, or memory ran out.
+/// Decodes texts, each written as hexadecimal digits. There is one space between a text and the next. Err if the digits are malformed, or memory
+/// ran out.
 fn texts_of(alloc: Global, digits: &str) -> Result<Vec<Vec<u8>>, Failure> {
     let mut texts = Vec::new(alloc);
     for word in digits.split(' ') {

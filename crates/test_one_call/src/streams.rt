@@ -191,16 +191,16 @@ fn written(alloc: Global, counts: &[u8], taken: &[u8]) -> Reply {
 }
 
 /// Reads once through a meter, into a buffer of three octets. The first text is what the stream gives; the others are for `TestStream::new`. The
-/// answer is that of `passed_on`.
+/// answer is that of `metered_reply`.
 fn read_once(alloc: Global, texts: &[Vec<u8>]) -> Reply {
     let mut meter = Metered::new(TestStream::new(alloc, at(texts, 0), behind(texts, 1)));
     let mut buffer = [0; 3];
     let count = count_of(meter.read(&mut buffer))?;
     let (asks, faults) = (meter.asks(), meter.faults());
-    passed_on(alloc, count, &buffer, asks, faults, &meter.into_inner())
+    metered_reply(alloc, count, &buffer, asks, faults, &meter.into_inner())
 }
 
-/// Writes octets, the first text, once through a meter, and flushes. The other texts are for `TestStream::new`. The answer is that of `passed_on`,
+/// Writes octets, the first text, once through a meter, and flushes. The other texts are for `TestStream::new`. The answer is that of `metered_reply`,
 /// for the octets that were written.
 fn write_once(alloc: Global, texts: &[Vec<u8>]) -> Reply {
     let mut meter = Metered::new(TestStream::new(alloc, b"", behind(texts, 1)));
@@ -208,7 +208,7 @@ fn write_once(alloc: Global, texts: &[Vec<u8>]) -> Reply {
     drop(meter.flush());
     let (asks, faults) = (meter.asks(), meter.faults());
     let end = meter.into_inner();
-    passed_on(alloc, count, &end.taken, asks, faults, &end)
+    metered_reply(alloc, count, &end.taken, asks, faults, &end)
 }
 
 /// How many octets a call passed on: 0 if it failed as a `TestStream` fails. Err at any other error, such as no memory.
@@ -222,9 +222,10 @@ fn count_of(answer: io::Result<usize>) -> Result<usize, Failure> {
     }
 }
 
-/// The answer, which shows that a meter passes each call on once, with the same buffer. It is how many octets were passed on, and which;
-/// the meter's counts of calls, `asks`, and of faults; and the calls, the last buffer's length and the flushes of `stream`.
-fn passed_on(
+/// The answer of a row that tests a meter. It is how many octets the call passed on, 0 if it failed; `octets`, the whole buffer of a read or what
+/// was written; the meter's counts of calls, `asks`, and of faults; and the calls, the last buffer's length and the flushes of `stream`. So it
+/// shows that the meter passes each call on once, with the same buffer.
+fn metered_reply(
     alloc: Global,
     count: usize,
     octets: &[u8],
