@@ -132,8 +132,8 @@ def faults_of(site, options):
 
 
 def main():
-    """Measures all. Returns the exit status: 1 if a limit is passed, an answer is wrong or threads race. Without nginx, wrk or Go it measures
-    nothing, says so, and returns 0."""
+    """Measures all. Returns the exit status: 1 if a limit is exceeded, an answer is wrong, threads race, or the daemon that looks for races does not
+    end with status 0. Without nginx, wrk or Go it measures nothing, says so, and returns 0."""
     options = arguments()
     if not all(map(shutil.which, ("nginx", "wrk", "go"))):
         # (`.ci/deep` reads both lines: what is left out is listed, and nothing has passed)

@@ -14,7 +14,7 @@ def counted_by_perf(command, text):
     """The instructions that a command takes on an open text, counted by perf. None if perf cannot count them here. Raises OSError if there is no
     perf."""
     done = subprocess.run(["perf", "stat", "-x", ",", "-e", "instructions:u"] + command, stdin=text, capture_output=True)
-    # (the last line is the number and further fields, or begins with `<not` where perf cannot count)
+    # (the last line is the number and further fields, or something else where perf cannot count)
     line = re.match(rb"(\d+),", done.stderr.splitlines()[-1]) if done.stderr else None
     return int(line[1]) if line else None
 

@@ -192,7 +192,8 @@ def greatest(fits: Callable[[int], bool], most: int = 1 << 20) -> int:
 
 def fitted(recipe: Recipe, list_octets: int, question_octets: int, certificates: int, most_entries: int) -> Recipe | None:
     """The recipe with its growing numbers as great as can be: the list has at most `list_octets` octets and `most_entries` entries, the question at
-    most `question_octets` octets and `certificates` certificates. None if even the number 1 makes more, or tags of too many nodes or too deep ones."""
+    most `question_octets` octets and `certificates` certificates. None if even the number 1 makes more, or tags of too many nodes or too deep
+    ones."""
     def question_fits(number: int) -> bool:
         """Whether the question is read and small enough with this as its growing number."""
         larger = recipe.with_links(number)

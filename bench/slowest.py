@@ -337,7 +337,8 @@ def faults_of(measure: Measure, call: Call, steps: int, seed: int) -> Iterator[s
 
 
 def main() -> None:
-    """Measures the calls that the command line names. Ends with status 1 if a limit is exceeded, 2 if a word is the beginning of no call's name."""
+    """Measures the calls that the command line names, or all. Ends with status 1 if a limit is exceeded, 2 if a word is the beginning of no call's
+    name."""
     parser = argparse.ArgumentParser(description="Searches for the slowest texts of each call.")
     parser.add_argument("--named", action="store_true", help="measure the named texts alone")
     parser.add_argument("--steps", type=int, default=STEPS, help="of the search for one call")

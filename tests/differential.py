@@ -104,18 +104,18 @@ class Library:
     def fault_of_string(self, asked: StringQuestion) -> str | None:
         """What is wrong with the string that `spki_string` finds by a path inside a value, None if nothing is."""
         wanted = string_at(asked.text, asked.path)
-        text, path = ctypes.create_string_buffer(asked.text, len(asked.text) + 1), (ctypes.c_size_t * len(asked.path))(*asked.path)
+        text, path = ctypes.create_string_buffer(asked.text, len(asked.text)), (ctypes.c_size_t * len(asked.path))(*asked.path)
         octets, length = ctypes.c_void_p(), ctypes.c_size_t()
         status = self.string(text, len(asked.text), path, len(path), octets, length)
-        # (the string is a part of the text that was given; without one, the pointer is null and the length 0)
-        at = (octets.value or 0) - ctypes.addressof(text)
-        if status != DONE:
-            is_inside, string = octets.value is None and not length.value, b""
+        # (a string must be a part of the text that was given; without one, the pointer must be null and the length 0)
+        if status == DONE:
+            at = (octets.value or 0) - ctypes.addressof(text)
+            string, is_right_place = asked.text[at:at + length.value], 0 <= at <= at + length.value <= len(asked.text)
         else:
-            is_inside, string = 0 <= at <= at + length.value <= len(asked.text), asked.text[at:at + length.value]
-        if (status, string) == wanted and is_inside:
+            string, is_right_place = b"", octets.value is None and length.value == 0
+        if (status, string) == wanted and is_right_place:
             return None
-        return f"the library finds {in_short((status, string))}, inside the text: {is_inside}, the model {in_short(wanted)}"
+        return f"the library finds {in_short((status, string))}, at the right place: {is_right_place}, the model {in_short(wanted)}"
 
     def fault_of_answer(self, asked: Question, wanted: Answer) -> str | None:
         """What is wrong with the answer to a text, None if nothing is. `wanted` is what the model answers, with the status of the program."""

@@ -12,7 +12,8 @@ type stream struct {
 	isCut bool
 }
 
-// write writes lines, behind a line feed if isCut. After an error it sets isCut if any octet was written: a line may be cut then.
+// write writes lines, behind a line feed if isCut. After an error it sets isCut if any octet was written, since a line may be cut then, and else leaves
+// it. Without an error it clears it.
 func (s *stream) write(lines []byte) error {
 	if s.isCut {
 		lines = append([]byte{'\n'}, lines...)

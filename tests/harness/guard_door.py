@@ -184,7 +184,8 @@ class GuardDoor:
                 self.mark(asked, place)
 
     def open_guard(self, question: GuardQuestion, handle: c_void_p, room: int) -> Answer:
-        """What `spki_guard_open` answers to the list, with a buffer of `room` octets for the line. `handle` gets the guard."""
+        """What `spki_guard_open` answers to the list, if the buffer for the line has `room` octets. One more, behind them, must stay zero. `handle`
+        gets the guard. The question's oddity is made here if it is one of this call."""
         line, needed, odd = ctypes.create_string_buffer(room + 1), c_size_t(), question.oddity
         text, length = (None, 1) if odd == "a list that is null with a length" else (question.acl, len(question.acl))
         size = ctypes.sizeof(Limits) - (odd == "limits of another size")

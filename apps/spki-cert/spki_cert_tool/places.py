@@ -290,8 +290,8 @@ def read_form(text: bytes) -> tuple[Diagnosis, Node]:
 
 
 def value_in(text: bytes) -> Node:
-    """The value of a text in any of the three forms. Its places are offsets in the text, or for a text in braces in the canonical text inside. Raises
-    Wrong if the form cannot be read: `read_form` says in which of the two texts the place of that fault is."""
+    """The value of a text in any of the three forms. Its places are offsets in the text. If the text is in braces, they are offsets in the canonical
+    text inside. Raises Wrong if the form cannot be read. Its place is in one of these two texts: the Diagnosis of `read_form` has the right one."""
     (wrong, _, _), node = read_form(text)
     if wrong is not None:
         raise wrong

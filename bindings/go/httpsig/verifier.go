@@ -227,8 +227,9 @@ func startBy(now, start time.Time) int64 {
 	return now.Add(-now.Sub(start)).Unix()
 }
 
-// checkMessage tests the method, the target, the authority, and that all is covered that must be. It returns the signed text and the digest of the
-// body, which is the zero digest if none is covered. The error is a Refusal. The body itself is not compared.
+// checkMessage tests the method, the target and the authority, that the fields are covered which must be if they are sent, and that a body has a
+// digest. (What each request must cover, inputOf has tested.) It returns the signed text and the digest of the body, which is the zero digest if none
+// is covered. The error is a Refusal. The body itself is not compared.
 func (v *Verifier) checkMessage(message Message, input *input) (text []byte, digest digest, err error) {
 	if !isToken(message.Method) {
 		return nil, digest, BadMethod
