@@ -303,8 +303,9 @@ def seconds_of(text):
     return min(times)
 
 
-def print_and_time(what, text):
-    """Prints the seconds of a text, which `what` describes. Returns them: infinity if a run was ended."""
+def time_and_print(what, text):
+    """Times a text, and prints its length, its seconds and `what`, which describes it. Returns the seconds: infinity if a run took over
+    MOST_SECONDS."""
     seconds = seconds_of(text)
     print(f"{len(text):>9,}  " + (f"{seconds:>8.3f} s" if seconds is not None else f"over {MOST_SECONDS} s") + f"  {what}", flush=True)
     return float("inf") if seconds is None else seconds
@@ -320,7 +321,7 @@ def faults_of(shape, count):
         """The largest ratio of a number to the one before it."""
         return max(after / before for before, after in zip(numbers, numbers[1:]))
 
-    times = [print_and_time(*shape.text(size)) for size in SIZES]
+    times = [time_and_print(*shape.text(size)) for size in SIZES]
     counts = [instructions(shape.text(size)[1]) for size in SIZES]
     many, ratio = counts[-1], min(ratio_of(times), ratio_of(counts))
     print(f"{'':<9}  {ratio:>8.2f}    times for 4 times the octets", flush=True)
@@ -341,7 +342,7 @@ def main():
     print(f"{'octets':>9}  {'time':>10}  text")
     count = choose_counter()
     over = [fault for shape in SHAPES for fault in faults_of(shape, count)]
-    print_and_time(LARGE_TAG_AND_SET.what.format(0, BEHIND_LARGE), large_tag_and_set(1, BEHIND_LARGE, MEMBERS))
+    time_and_print(LARGE_TAG_AND_SET.what.format(0, BEHIND_LARGE), large_tag_and_set(1, BEHIND_LARGE, MEMBERS))
     print("over the limits:", *over or ["none"], sep="\n")
     if over:
         sys.exit(1)

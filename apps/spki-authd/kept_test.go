@@ -509,9 +509,9 @@ func TestPutAttacks(t *testing.T) {
 	}
 }
 
-// TestPutOnce leaves certificates that are too long, and to a path with a query, which is refused. Then it leaves them rightly, with headers of another
-// request and client, which are not read, and once more by the same request, which is refused.
-func TestPutOnce(t *testing.T) {
+// TestPutRefusals sends by PUT a sequence of one octet too many, and one to a path with a query: both are refused. One with the headers of another
+// request and client is kept, since these are not read. The same request again is refused.
+func TestPutRefusals(t *testing.T) {
 	s := newKeeping(t)
 	bobs, _ := s.sequencesShown()
 	const target = usualPath
@@ -519,6 +519,7 @@ func TestPutOnce(t *testing.T) {
 	if response := s.respond(s.bob.put(t, target, long)); response.StatusCode != 400 || !strings.Contains(s.lastLine(t).Reason, "8192") {
 		t.Error("too long: ", response.StatusCode, s.lastLine(t))
 	}
+	// (a query that looks like a request that Bob may do)
 	if response := s.respond(s.bob.put(t, target+"?GET=/web/docs/b", bobs)); response.StatusCode != 400 || s.keeps(t, s.bob) {
 		t.Error("a query: ", response.StatusCode, s.lastLine(t))
 	}

@@ -243,8 +243,8 @@ func (s *store) listOf(rows entryRows) (*list, int, error) {
 	return &list{guard: opened, numbers: rows.numbers, digest: fmt.Sprintf("change %d", rows.changes)}, size, nil
 }
 
-// digestsOf returns the digests of a key, in canonical form, by SHA-1, SHA-256 and SHA-512, in this order. The database has one of them as the
-// principal of each entry.
+// digestsOf returns three digests of a key, which is in canonical form: by SHA-1, SHA-256 and SHA-512, in this order. In the database the principal
+// of an entry for this key is one of them.
 func digestsOf(key []byte) [][]byte {
 	first, second, third := sha1.Sum(key), sha256.Sum256(key), sha512.Sum512(key)
 	return [][]byte{first[:], second[:], third[:]}

@@ -326,8 +326,9 @@ def changed_fields() -> None:
 
 
 def changed_inputs() -> None:
-    """`Signature-Input` and `Signature` that are changed, or that are not those of the profile."""
-    (_, text), (_, octets) = both = signed(GET)
+    """`Signature-Input` and `Signature` that are changed, or that are not those of the profile, and beside them one that is valid."""
+    both = signed(GET)
+    text, octets = (value for _, value in both)
     bare = text.removeprefix("spki=")
 
     def sent(name: str, gives: str, changed: str, signature: str = octets) -> None:
@@ -356,6 +357,7 @@ def changed_inputs() -> None:
         "a line feed in Signature-Input": text.replace('" "', '"\n"', 1), "an octet over ASCII in a parameter": text.replace("sFzj", "s\xe9zj"),
         "a list that does not end": text.partition(")")[0], "a string that does not end": text[:-1],
         "a name of a parameter in capitals": text.replace(";alg", ";Alg"),
+        # (the others are those of PLAIN)
         "33 components": text.replace('("', "(" + "".join(f'"x-{it}" ' for it in range(28)) + '"'),
         "a Signature-Input of over 8,192 octets": text.replace('";alg', "A" * 8192 + '";alg'),
     }.items():

@@ -92,10 +92,11 @@ def first_run() -> bytes:
 
 
 def cut_short() -> Iterator[CallRow]:
-    """Calls of each reader of a form on each proper beginning of a text in that form: it is refused as `Short`."""
+    """Calls of readers on each proper beginning of a text in canonical, advanced and transport form: it is refused as `Short`."""
     for calls, text in ((("decode", "Doc::open"), first_run()), (("read_advanced", "read_any"), ADVANCED), (("read_any",), BRACES)):
         for length in range(len(text)):
             for call in calls:
+                # (two octets say which of the two texts of `read_any` a row has)
                 yield CallRow(f"calls/cut:{call}:{text[:2].decode()}:{length}", call, (text[:length],), SHORT)
 
 

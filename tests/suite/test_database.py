@@ -229,8 +229,8 @@ class Stores(built.OfLibrary):
     def test_strict(self):
         self.assertTrue(agrees_with_whole_list(self.connect(), seed=0, policy=spki.Policy.STRICT))
 
-    def test_open(self):
-        """Under `ALLOW_SHA1` hashes by SHA-1 name keys too."""
+    def test_sha1_allowed(self):
+        """The same under `ALLOW_SHA1`: hashes by SHA-1 name keys too."""
         self.assertTrue(agrees_with_whole_list(self.connect(), seed=1, policy=spki.Policy.ALLOW_SHA1))
 
     def test_several_clients(self):

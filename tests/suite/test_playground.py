@@ -131,7 +131,8 @@ class Answers(OfPage):
     """What the server answers to the page where the program decides."""
 
     def test_examples_have_the_answers_of_the_program(self) -> None:
-        """The answer has the line of `check` and those of `explain`. `wanted` of an example is the first reason there, `no entries`, or a refusal."""
+        """A refused example has the line `wanted`. Any other has the line of `check`, and as reasons the lines of `explain`, in the page's own order:
+        `wanted` is the first of them, or `no entries`."""
         for example in EXAMPLES:
             with self.subTest(example["name"]):
                 answer = self.page.ask("question", **example["question"])
@@ -139,9 +140,9 @@ class Answers(OfPage):
                     self.assertEqual(answer["line"], example["wanted"])
                     continue
                 self.assertEqual([answer["line"]], lines_of("check", answer["case"]))
-                explained = lines_of("explain", answer["case"])
-                self.assertEqual(sorted(map(line_of_reason, answer["reasons"])) or ["no entries"], sorted(explained))
-                self.assertEqual(([*map(line_of_reason, answer["reasons"]), "no entries"])[0], example["wanted"])
+                reasons = [*map(line_of_reason, answer["reasons"])] or ["no entries"]
+                self.assertEqual(sorted(reasons), sorted(lines_of("explain", answer["case"])))
+                self.assertEqual(reasons[0], example["wanted"])
 
     def test_each_cause_of_a_no_is_an_example(self) -> None:
         words = ("KeyNotShown", "DigestDiffers", "SignerDiffers", "NotAccepted", "NotTheKey", "TagLacks", "WindowLacks", "NotIssuer", "NotTheName",

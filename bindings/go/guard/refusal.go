@@ -45,8 +45,8 @@ func (r *Refusal) Part() string {
 	return words[1]
 }
 
-// Fault returns the name of the fault, such as `Shape`, `Bad`, `EmptyList`, `TooLarge` or `Memory`: the last word of the line that begins with a
-// capital letter. A number may follow it, as in `refused form Bad 3`.
+// Fault returns the name of the fault, such as `Shape`, `Bad`, `EmptyList`, `TooLarge` or `Memory`: the last word in the line with a capital letter at
+// its beginning. A number may follow it, as in `refused form Bad 3`. Empty if there is no such word.
 func (r *Refusal) Fault() string {
 	words := strings.Fields(r.line)
 	for place := len(words) - 1; place >= 0; place-- {
