@@ -602,7 +602,7 @@ class Heartbeat(OfStore):
             self.assertLess(time.monotonic() - promoted, 5)
 
     def test_primary_that_is_gone(self) -> None:
-        """A host that accepts connections and answers nothing does not delay the beat to the other one by the 3 seconds that a connection may take."""
+        """A host that accepts connections and answers nothing does not delay the beat to the other one by the 3 seconds of a connection."""
         silent = socket.socket(socket.AF_UNIX)
         self.addCleanup(silent.close)
         silent.bind(os.path.join(self.room, ".s.PGSQL.5432"))
