@@ -5,8 +5,8 @@ proofs, goals and lemmas, for which the prover took the most steps: how many mil
 
 The toolchain writes a file for each part of a proof once it is done. So a part takes the time from the file before it to its own. The states
 of a function are in `Lts`: they grow with what it owns at each place where it may return. Its goals are in `Proof`. What is in files of
-`proofs/` that are no function's is one row, `chapters`. Measure on a quiet machine: beside other work the seconds are others', and only the steps are
-the same.
+`proofs/` that are no function's is one row, `chapters`. Measure on a quiet machine: beside other work the seconds grow, and the steps
+stay the same.
 
 Usage: bench/proofs.py CRATE [ROWS]        20 rows unless another number is given
 """

@@ -321,6 +321,13 @@ class Opened(unittest.TestCase):
                     mock.patch.object(spki._CallMemory, "line", return_value=b"yes entry 7\n"):
                 self.assertEqual(opened.decide(), spki.Grant(7, wanted))
 
+    # Marks are by place, so `verify` reads the signatures by place too, however a subclass iterates.
+    def test_verify_reads_by_place(self):
+        opened = self.guard.ask(new_question())
+        with mock.patch.object(spki.Asked, "__iter__", lambda asked: iter(())):
+            opened.verify(accept_all)
+        self.assertTrue(opened.decide())
+
     # Equal keys are one object of `bytes`, so that a service which keeps 40 of them needs the memory of one.
     def test_equal_keys_are_one_object(self):
         opened, kept = spki.Guard(LIST, limits=HIGHEST).ask(new_question(b"(sequence " + PAIR * 40 + b")")), []

@@ -144,7 +144,11 @@ class Asked(_Closable, NoDecision):
     def __iter__(self) -> Iterator[Signature]:
         """The signatures on which the answers depend, one by one, in order. Each is copied when it is reached. Equal
         keys are one object."""
-        handle, keys = self._open_handle(), dict[bytes, bytes]()
+        yield from self._each_signature(self._open_handle())
+
+    def _each_signature(self, handle: c_void_p) -> Iterator[Signature]:
+        """Yields the signature at each place, in order. Equal keys are one object."""
+        keys = dict[bytes, bytes]()
         for place in range(self._count):
             with self._lock:
                 signature = _signature(handle, place, keys)
@@ -172,7 +176,8 @@ class Asked(_Closable, NoDecision):
         `TypeError` if it returns anything else, such as a coroutine. Then, or if `verify` raises an exception, nothing
         is marked. To explain a denial, verify also where `is_possible` is false."""
         handle, valid = self._open_handle(), 0
-        for signature in self:
+        # (not `in self`: a subclass may iterate otherwise, and the marks are by place)
+        for signature in self._each_signature(handle):
             if not answer_of(verify(signature)):
                 break
             valid += 1
