@@ -13,7 +13,8 @@ ghost use Rattle.spki_decision.specs.declared.fault.GuardFault.TheVariants as gu
 ghost use Rattle.spki_guard.specs.declared.refusals.Refusal.TheVariants as refusals;
 ghost use Rattle.spki_guard.specs.declared.intersection.IntersectFault.TheVariants as intersect;
 
-/// A command has at most one answer to a text, unless memory ran out: one output with its verdict, or one refusal, and not both.
+/// A command has at most one answer to a text, unless memory ran out: one output (of one line or several) with its verdict, or one refusal, and
+/// not both.
 pub fn one_line()
     ensures same { (command : Command) (text : List ℕ) (x y : Verdict) (output line : List ℕ)
         → AnswersRead command text x output → AnswersRead command text y line → (x ≡ y) × (output ≡ line) }

@@ -122,8 +122,8 @@ impl Guard {
         texts_of(alloc, question, self.limits.octets)
     }
 
-    /// Reads the parts of a question, each by itself, in the order sequence, key, request, moment, and examines the certificates: does those
-    /// tests of `Stop` that need no verifier. In the result no signature is marked as valid. `texts` are what `Guard::texts` returned.
+    /// Reads the parts of a question, each by itself, in the order sequence, key, request, moment, and examines the certificates: does the
+    /// first three tests of `Stop`, which need no verifier. In the result no signature is marked as valid. `texts` is what `Guard::texts` returned.
     ///
     /// # Errors
     ///
@@ -157,6 +157,7 @@ impl Guard {
         if self.limits.octets < texts.octets {
             return Err(AskFault::TooLong);
         }
+        // (the keys of the question get these digests once, for all comparisons with the hashes of the access list)
         let algorithms = self.index.algorithms(self.policy);
         let case = case_of(alloc, texts, self.policy, self.limits, algorithms)?;
         check_counts(alloc, &case, texts, self.limits)?;

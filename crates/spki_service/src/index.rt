@@ -38,8 +38,8 @@ pub(crate) struct EntryIndex {
 }
 
 impl EntryIndex {
-    /// Makes the index of all entries of an access list. `owners` are the principals of their subjects, in order. For n entries this takes
-    /// comparisons in proportion to n log n.
+    /// Makes the index of all entries of an access list. `owners` has one principal for each entry, that of its subject, in the order of the
+    /// entries. For n entries this takes comparisons in proportion to n log n.
     ///
     /// # Errors
     ///
@@ -185,8 +185,8 @@ fn is_by(principal: &Principal, alg: Option<HashAlg>) -> bool
 }
 
 /// Returns the rows of the entries whose principal is a hash by the algorithm or, if `alg` is None, a key. They are in the order of
-/// `compare`, and those of equal principals in the order of the entries. `owners` are the principals of all entries, and `principals` must
-/// have their octets.
+/// `compare`, and those of equal principals in the order of the entries. `owners` has the principal of each entry's subject, and `principals`
+/// must have the octets of each, as `principals_of` returns them.
 ///
 /// # Errors
 ///
@@ -209,7 +209,7 @@ fn sorted_rows(
 }
 
 /// Returns the rows of the entries whose principal is a hash by the algorithm or, if `alg` is None, a key. They are in the order of
-/// the entries. `owners` are the principals of all entries. Err if memory ran out.
+/// the entries. `owners` has the principal of each entry's subject. Err if memory ran out.
 fn rows_of(
     alloc: Global,
     owners: &[Principal],

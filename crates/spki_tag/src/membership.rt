@@ -14,15 +14,17 @@ use std::sync::ledger::{Blank, Ledger};
 impl Tag {
     /// Whether the tag contains a request (RFC 2693, section 6.3.1). A list contains the lists with the same head and at
     /// least as many members, if each of its members contains the one at the same place. Further members of the request
-    /// may be anything. `Brand` and `Blank` make a count of work, which exists only in contracts.
+    /// may be anything.
     pub fn holds(&self, request: &Ground) -> bool
         ensures { result ≡ contains self.now request.now }
     {
+        // `Brand` and `Blank` are for a count of ticks, which exists only in contracts: see `Ticks`.
         self.holds_with_new_count::<Brand>(request, Blank::new(1))
     }
 
-    /// Does what `holds` does. It makes the count of ticks that `holds_counted` needs, and is generic since only a call of a generic
-    /// function can pick the type `L` of a count. The count, which exists only in contracts, is in the ledger `blank`, a new one of `L`.
+    /// Does what `holds` does: calls `holds_counted` with a new count of ticks (operations that contracts count). The count exists only in
+    /// contracts, and is dropped afterwards. `blank` is a new ledger of the toolchain, to keep the count in; it must be that of `L`. This is a
+    /// function of its own, since only the call of a generic function can pick the type `L` of a count.
     fn holds_with_new_count<L: Ledger>(&self, request: &Ground, blank: Blank) -> bool
         requires name { blank.name ≡ L.name }
         requires parts { blank.parts ≡ L.parts }
@@ -34,8 +36,8 @@ impl Tag {
     }
 
     /// Returns what `holds` returns, and adds its work to `ticks`, a count that exists only in contracts: one for each tag that is tested.
-    /// A string, prefix or range that is tested on a string also adds one for each of its octets, and a list that is tested on a list one
-    /// for each octet of its head, compared or not. So it adds at most the weight of the tag, whatever the request is. The weight is the
+    /// A string, prefix or range that is tested on a string also adds one for each of its own octets, and a list that is tested on a list one
+    /// for each octet of its own head, compared or not. So it adds at most the weight of the tag, whatever the request is. The weight is the
     /// number of tags in the tag, itself included, plus the octets of their strings, limits and heads. For a tag that was read it is at
     /// most the number of octets of the canonical text that was read (law `read_weight`).
     #[cycle(holds)]
