@@ -14,7 +14,7 @@ func verifies(c *cache, signature guard.Signature, verify guard.Verify) (isValid
 	return c.verifies(signature, sha256.Sum256(signature.Message), verify)
 }
 
-// numbered returns a signature that is another one for each number.
+// numbered returns a made-up signature, another one for each number, which is its message.
 func numbered(number int) guard.Signature {
 	return guard.Signature{Key: []byte("key"), Message: []byte(fmt.Sprint(number)), Value: []byte("value")}
 }
@@ -49,7 +49,7 @@ func TestCacheTellsPartsApart(t *testing.T) {
 		{Key: []byte("c"), Message: []byte("ab"), Value: []byte("d")},
 	} {
 		if _, wasKnown := verifies(cache, other, valid); wasKnown {
-			t.Errorf("%q is taken for another one", other)
+			t.Errorf("%q is known", other)
 		}
 	}
 }

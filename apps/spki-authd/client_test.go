@@ -10,8 +10,8 @@ import (
 	"testing"
 )
 
-// TestForms reads the key of Alice's certificate in the form of each web server.
-func TestForms(t *testing.T) {
+// TestCertificateForms reads the key of Alice's certificate in the form of each web server.
+func TestCertificateForms(t *testing.T) {
 	alice, bob := newPerson(t), newPerson(t)
 	encoded := base64.StdEncoding.EncodeToString(alice.der)
 	for name, row := range map[string]struct{ form, text string }{
@@ -27,8 +27,8 @@ func TestForms(t *testing.T) {
 	}
 }
 
-// TestWrongForms reads what is not one certificate in the form of a web server: each is refused.
-func TestWrongForms(t *testing.T) {
+// TestWrongCertificateForms reads texts that are not one certificate in the form of a web server: each is refused.
+func TestWrongCertificateForms(t *testing.T) {
 	alice, bob := newPerson(t), newPerson(t)
 	encoded, quote := base64.StdEncoding.EncodeToString(alice.der), `"`
 	element := `Cert="` + alice.escaped() + `"`

@@ -6,13 +6,13 @@ import (
 	"testing"
 )
 
-// The least configuration.
-const least = `{"listen": "unix:/run/x/s", "server": "nginx", "list": "/acl", "log": "/log",
+// leastConfig is a configuration with only the fields that are required.
+const leastConfig = `{"listen": "unix:/run/x/s", "server": "nginx", "list": "/acl", "log": "/log",
  "requests": [{"prefix": "/", "methods": {"GET": "read"}, "request": ["files", "{method}", "{path}"]}]}`
 
 // TestLeastConfig reads the least configuration: each field that was left out has its usual value.
 func TestLeastConfig(t *testing.T) {
-	config, err := parseConfig([]byte(least))
+	config, err := parseConfig([]byte(leastConfig))
 	if err != nil {
 		t.Fatal(err)
 	}
@@ -26,23 +26,25 @@ func TestLeastConfig(t *testing.T) {
 	}
 }
 
-// with returns the least configuration with more fields in front, such as `"cache": 0`.
-func with(fields string) string {
-	return strings.Replace(least, "{", "{"+fields+", ", 1)
+// leastWith returns the least configuration with more fields in front, such as `"cache": 0`.
+func leastWith(fields string) string {
+	return strings.Replace(leastConfig, "{", "{"+fields+", ", 1)
 }
 
 // TestWrongConfigs reads what is no configuration, and the least one with one thing wrong: each is refused.
 func TestWrongConfigs(t *testing.T) {
 	for _, text := range []string{
-		"", "{}", "[]", "null", least[:40], least + "x", least + "{}", with(`"unknown": 1`), with(`"limits": {"octet": 1}`),
-		strings.Replace(least, "nginx", "lighttpd", 1), strings.Replace(least, `"/acl"`, `""`, 1), strings.Replace(least, "unix:/run/x/s", "unix:s", 1),
-		strings.Replace(least, "unix:/run/x/s", "0.0.0.0:80", 1), strings.Replace(least, "unix:/run/x/s", ":80", 1),
-		strings.Replace(least, "unix:/run/x/s", "192.0.2.1:80", 1), strings.Replace(least, "unix:/run/x/s", "localhost:80", 1),
-		strings.Replace(least, "unix:/run/x/s", "127.0.0.1:80", 1), with(`"socket_mode": "0666"`), with(`"socket_mode": "0777"`), with(`"socket_mode": "x"`),
-		with(`"policy": "open"`), with(`"refused_status": 200`), with(`"refused_status": 404`), with(`"cache": -1`), with(`"limits": {"seconds": -1}`),
-		with(`"certificate_form": "pem"`), with(`"headers": {"method": "authorization"}`), with(`"headers": {"method": "a", "uri": "A"}`),
-		with(`"headers": {"method": "a b"}`), strings.Replace(least, `{"GET": "read"}`, `{}`, 1), with(`"cache": "1"`),
-		with(`"path_prefix": "/auth"`), with(`"limits": {"seconds": 86401}`), with(`"limits": {"seconds": 9300000000}`),
+		"", "{}", "[]", "null", leastConfig[:40], leastConfig + "x", leastConfig + "{}", leastWith(`"unknown": 1`), leastWith(`"limits": {"octet": 1}`),
+		strings.Replace(leastConfig, "nginx", "lighttpd", 1), strings.Replace(leastConfig, `"/acl"`, `""`, 1),
+		strings.Replace(leastConfig, "unix:/run/x/s", "unix:s", 1), strings.Replace(leastConfig, "unix:/run/x/s", "0.0.0.0:80", 1),
+		strings.Replace(leastConfig, "unix:/run/x/s", ":80", 1),
+		strings.Replace(leastConfig, "unix:/run/x/s", "192.0.2.1:80", 1), strings.Replace(leastConfig, "unix:/run/x/s", "localhost:80", 1),
+		strings.Replace(leastConfig, "unix:/run/x/s", "127.0.0.1:80", 1), leastWith(`"socket_mode": "0666"`), leastWith(`"socket_mode": "0777"`),
+		leastWith(`"socket_mode": "x"`), leastWith(`"policy": "open"`), leastWith(`"refused_status": 200`), leastWith(`"refused_status": 404`),
+		leastWith(`"cache": -1`), leastWith(`"limits": {"seconds": -1}`),
+		leastWith(`"certificate_form": "pem"`), leastWith(`"headers": {"method": "authorization"}`), leastWith(`"headers": {"method": "a", "uri": "A"}`),
+		leastWith(`"headers": {"method": "a b"}`), strings.Replace(leastConfig, `{"GET": "read"}`, `{}`, 1), leastWith(`"cache": "1"`),
+		leastWith(`"path_prefix": "/auth"`), leastWith(`"limits": {"seconds": 86401}`), leastWith(`"limits": {"seconds": 9300000000}`),
 	} {
 		if _, err := parseConfig([]byte(text)); err == nil {
 			t.Errorf("accepted: %s", text)
@@ -52,11 +54,11 @@ func TestWrongConfigs(t *testing.T) {
 
 // TestReasonsOfConfigs reads wrong configurations, whose errors say which field is wrong and what it may be.
 func TestReasonsOfConfigs(t *testing.T) {
-	ofList := func(list string) string { return strings.Replace(least, `"list": "/acl"`, list, 1) }
+	ofList := func(list string) string { return strings.Replace(leastConfig, `"list": "/acl"`, list, 1) }
 	for text, wanted := range map[string]string{
 		// (with 0664 others may read, and not write)
-		with(`"socket_mode": "0664"`):                            "mode is 0664, which gives others than its owner and group a right",
-		with(`"socket_mode": "0666"`):                            `or set "secret_file"`,
+		leastWith(`"socket_mode": "0664"`):                       "mode is 0664, which gives others than its owner and group a right",
+		leastWith(`"socket_mode": "0666"`):                       `or set "secret_file"`,
 		ofList(`"list": null`):                                   `"list" and "lists" are missing or empty, and one of them must name an access list`,
 		ofList(`"list": ""`):                                     `"list" and "lists" are missing or empty`,
 		ofList(`"cache": 1`):                                     `"list" and "lists" are missing or empty`,

@@ -14,10 +14,11 @@ import (
 	"time"
 )
 
-// runProgram runs spki-authd with these words and a configuration with the socket and the log of a site, and returns its status and what it writes.
+// runProgram runs spki-authd with these words and a configuration with the socket and the log of a site. It returns the exit status, and what is written to
+// standard output and to standard error.
 func (s *servedSite) runProgram(t *testing.T, words ...string) (status int, out, messages string) {
 	t.Helper()
-	text := strings.Replace(strings.Replace(least, "/run/x/s", s.socket, 1), `"/log"`, `"`+s.config.Log+`"`, 1)
+	text := strings.Replace(strings.Replace(leastConfig, "/run/x/s", s.socket, 1), `"/log"`, `"`+s.config.Log+`"`, 1)
 	var stdout, stderr bytes.Buffer
 	status = run(append(words, "-config", writeFile(t, "config", text)), &stdout, &stderr)
 	return status, stdout.String(), stderr.String()
@@ -36,7 +37,7 @@ func TestReloadsThatAreRefused(t *testing.T) {
 		list, ended string
 		words       []string
 		status      int
-		said        string
+		message     string
 		isWell      bool
 	}{
 		{string(list), withLastLine(oneDigest + "\n"), []string{"-reload"}, 0, "", true},
@@ -52,11 +53,11 @@ func TestReloadsThatAreRefused(t *testing.T) {
 				t.Fatal(err)
 			}
 		}
-		if status, _, messages := s.runProgram(t, row.words...); status != row.status || !strings.Contains(messages, row.said) {
+		if status, _, messages := s.runProgram(t, row.words...); status != row.status || !strings.Contains(messages, row.message) {
 			t.Errorf("%+v: %d, %s", row, status, messages)
 		}
 		status, out, messages := s.runProgram(t, "-health")
-		if (status == 0) != row.isWell || !strings.Contains(messages, row.said) || !strings.Contains(out, "list: "+hexDigest(list)+"\n") {
+		if (status == 0) != row.isWell || !strings.Contains(messages, row.message) || !strings.Contains(out, "list: "+hexDigest(list)+"\n") {
 			t.Errorf("%+v: %d, %s, %s", row, status, out, messages)
 		}
 		if status := s.get(t, "/web/x"); status != 200 {
@@ -68,6 +69,7 @@ func TestReloadsThatAreRefused(t *testing.T) {
 // TestHealth runs -health where the daemon is well, where the disk of its log is full, so that it grants nothing, and where there is no daemon.
 func TestHealth(t *testing.T) {
 	s := serveHere(t, "")
+	// (serveHere has put the site's own log in this place)
 	s.logGrant = s.daemon.granted.write
 	status, out, messages := s.runProgram(t, "-health")
 	for _, wanted := range []string{
@@ -88,7 +90,7 @@ func TestHealth(t *testing.T) {
 	if status, out, messages := s.runProgram(t, "-health"); status != 1 || !strings.Contains(messages, "takes no lines") || !strings.Contains(out, "failures 1") {
 		t.Errorf("%d, %q, %q", status, out, messages)
 	}
-	withoutDaemon := writeFile(t, "config", strings.Replace(least, "/run/x/s", s.socket+"2", 1))
+	withoutDaemon := writeFile(t, "config", strings.Replace(leastConfig, "/run/x/s", s.socket+"2", 1))
 	var stdout, stderr bytes.Buffer
 	if status := run([]string{"-health", "-config", withoutDaemon}, &stdout, &stderr); status != statusRefused {
 		t.Errorf("nobody is there: %d, %q", status, stdout.String())
@@ -128,6 +130,7 @@ func TestBusyMainLoop(t *testing.T) {
 	reloads := busy.keeper.all.Load()
 	for _, order := range []string{orderReload, orderReopen} {
 		operator, connection := net.Pipe()
+		// (it waits for the main loop for a second, half of this time)
 		go busy.answerOrder(connection, 2*time.Second)
 		if _, err := operator.Write([]byte(order + "\n")); err != nil {
 			t.Fatal(err)
@@ -146,18 +149,19 @@ func TestBusyMainLoop(t *testing.T) {
 // /web/x is in the renamed file, and that of /web/y in the new one, which the second turn renames. Without a folder, opening it is an error.
 func TestReopenedByOrder(t *testing.T) {
 	s := serveHere(t, "")
+	// (serveHere has put the site's own log in this place)
 	s.logGrant = s.daemon.granted.write
-	for turn, wanted := range []string{"-reopen", "signal"} {
+	for turn, how := range []string{"-reopen", "signal"} {
 		s.get(t, "/web/x")
 		old := s.config.Log + strconv.Itoa(turn)
 		if err := os.Rename(s.config.Log, old); err != nil {
 			t.Fatal(err)
 		}
-		if wanted == "signal" {
+		if how == "signal" {
 			s.daemon.signals.reopen <- os.Interrupt
 			// (the main loop does this after what the signal asks for: when it is answered, both are done)
 			s.runProgram(t, "-reload")
-		} else if status, _, messages := s.runProgram(t, wanted); status != 0 {
+		} else if status, _, messages := s.runProgram(t, how); status != 0 {
 			t.Error(messages)
 		}
 		s.get(t, "/web/y")
@@ -180,21 +184,21 @@ func TestReopenedByOrder(t *testing.T) {
 // that is an error.
 func TestStates(t *testing.T) {
 	one, two := serveHere(t, ""), serveHere(t, "")
-	compared := func() (int, string) {
+	compare := func() (status int, printed string) {
 		var stdout, stderr bytes.Buffer
 		return run([]string{"-state", "-of", one.config.Control, "-of", two.config.controlPath()}, &stdout, &stderr), stdout.String()
 	}
-	if status, out := compared(); status != 1 || strings.Count(out, "\n") != 2 {
+	if status, out := compare(); status != 1 || strings.Count(out, "\n") != 2 {
 		t.Errorf("%d, %q", status, out)
 	}
 	two.config.List = one.config.List
 	two.runProgram(t, "-reload")
-	if status, out := compared(); status != 0 {
+	if status, out := compare(); status != 0 {
 		t.Errorf("%d, %q", status, out)
 	}
 	two.config.Ended = writeFile(t, "ended", withLastLine(oneDigest+"\n"))
 	two.runProgram(t, "-reload")
-	if status, out := compared(); status != 1 || !strings.Contains(out, "ended 1 "+ofOneLine) {
+	if status, out := compare(); status != 1 || !strings.Contains(out, "ended 1 "+ofOneLine) {
 		t.Errorf("%d, %q", status, out)
 	}
 	var stdout, stderr bytes.Buffer
@@ -210,15 +214,16 @@ var metric = regexp.MustCompile(`^(# (HELP|TYPE) [a-z_]+ .+|[a-z_]+(\{[a-z]+="[^
 // is known in the next three. The two of Carol's sequence are spared, since Mallory would get nothing by them. `//` is refused before a rule is looked for.
 func TestMetrics(t *testing.T) {
 	s := serveHere(t, "")
+	// (serveHere has put the site's own log in this place)
 	s.logGrant = s.daemon.granted.write
 	bobs, _ := s.sequencesShown()
-	s.by(s.bob, "GET", "/web/docs/b", bobs)
-	s.by(s.bob, "GET", "/web/docs/b", bobs)
-	s.by(s.bob, "GET", "/web/x", bobs)
-	s.by(s.mallory, "GET", "/web/docs/b", bobs)
+	s.askAs(s.bob, "GET", "/web/docs/b", bobs)
+	s.askAs(s.bob, "GET", "/web/docs/b", bobs)
+	s.askAs(s.bob, "GET", "/web/x", bobs)
+	s.askAs(s.mallory, "GET", "/web/docs/b", bobs)
 	_, carols := s.sequencesShown()
-	s.by(s.mallory, "GET", "/web/docs/b", carols)
-	s.by(s.mallory, "GET", "//", "")
+	s.askAs(s.mallory, "GET", "/web/docs/b", carols)
+	s.askAs(s.mallory, "GET", "//", "")
 	status, out, messages := s.runProgram(t, "-metrics")
 	if status != 0 {
 		t.Fatal(messages)

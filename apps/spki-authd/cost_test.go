@@ -7,8 +7,8 @@ import (
 	"conguraki/spki/verify"
 )
 
-// TestCostToStrangers counts the signatures that are verified. Who would get nothing by valid signatures costs none. A row has the status, how many
-// signatures are verified (`calls`), and how many the log has as not verified. A signature by another key than the issuer's is neither.
+// TestCostToStrangers counts the signatures that are verified. A client that would get nothing by valid signatures costs none. A row has the status, how
+// many signatures are verified (`calls`), and how many the log has as not verified. A signature by another key than the issuer's is neither.
 func TestCostToStrangers(t *testing.T) {
 	s := newSite(t, "")
 	calls := 0
@@ -36,11 +36,12 @@ func TestCostToStrangers(t *testing.T) {
 		{"Bob", bobs, "/web/docs/b", s.bob, 200, 1, 0}, {"Bob again", bobs, "/web/docs/b", s.bob, 200, 0, 0}, {"Carol", carols, "/web/docs/a/b", s.carol, 200, 1, 0},
 	} {
 		calls = 0
-		response, line := s.by(row.who, "GET", row.path, row.shown), s.lastLine(t)
+		response, line := s.askAs(row.who, "GET", row.path, row.shown), s.lastLine(t)
 		if response.StatusCode != row.status || calls != row.calls || line.Unverified != row.unverified {
 			t.Errorf("%s: %d, %d calls, %+v", row.name, response.StatusCode, calls, line)
 		}
 	}
+	// (the sums of the rows, and as known the signature of Bob's certificate in each of the last two)
 	if known, verified, spared := s.counts.known.Load(), s.counts.verified.Load(), s.counts.spared.Load(); verified != 3 || spared != 20 || known != 2 {
 		t.Errorf("%d known, %d verified, %d spared", known, verified, spared)
 	}
@@ -54,7 +55,7 @@ func TestFalseSignatureIsVerifiedEachTime(t *testing.T) {
 	s.verify = func(guard.Signature) bool { calls++; return false }
 	_, carols := s.sequencesShown()
 	for turn := 1; turn <= 2; turn++ {
-		if response := s.by(s.carol, "GET", "/web/docs/a/b", carols); response.StatusCode != 403 || calls != turn {
+		if response := s.askAs(s.carol, "GET", "/web/docs/a/b", carols); response.StatusCode != 403 || calls != turn {
 			t.Errorf("%d, %d calls", response.StatusCode, calls)
 		}
 		if line := s.lastLine(t); line.Reason != "certificate "+digestOfText(s.toBob)+" has no valid signature" || len(line.Certificates) != 1 {

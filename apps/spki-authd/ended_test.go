@@ -7,15 +7,16 @@ import (
 )
 
 const (
+	// Two digests of certificates that do not exist.
 	oneDigest   = "0a0a0a0a0a0a0a0a0a0a0a0a0a0a0a0a0a0a0a0a0a0a0a0a0a0a0a0a0a0a0a0a"
 	otherDigest = "ffffffffffffffffffffffffffffffffffffffffffffffffffffffffffffffff"
-	// The digest of no octets, and that of the line of oneDigest, as sha256sum prints them.
+	// The SHA-256 digest of no octets, and that of a line with oneDigest and its line feed, as sha256sum prints them.
 	ofNothing = "e3b0c44298fc1c149afbf4c8996fb92427ae41e4649b934ca495991b7852b855"
 	ofOneLine = "71e6362df11a023066db92cd17270d94cea7a9664d1757bd041464d2d3a03002"
 )
 
-// TestEnded reads right files of ended certificates, and compares the number of their lines with a digest.
-func TestEnded(t *testing.T) {
+// TestRightEnded reads right files of ended certificates, and compares how many lines of each have a digest.
+func TestRightEnded(t *testing.T) {
 	for text, wanted := range map[string]int{
 		"end 0 " + ofNothing + "\n": 0, oneDigest + "\nend 1 " + ofOneLine + "\n": 1, withLastLine("# ended early\n\n" + oneDigest + "\n" + otherDigest + " # Carol's, stolen\n" + oneDigest + "\n"): 3,
 		withLastLine(oneDigest + " # # see sha256 of the release\n"): 1, withLastLine("#\n"): 0, withLastLine("\n\n"): 0,
@@ -48,7 +49,7 @@ func TestWrongEnded(t *testing.T) {
 }
 
 // TestFewerEnded reads files of ended certificates one after the other: what has ended stays so, unless allowFewerEnded is true. `isRight` says that
-// the file is accepted, and `isStill` that Bob's certificate has ended after that.
+// the file is accepted, and `isBobsEnded` that Bob's certificate has ended after that.
 func TestFewerEnded(t *testing.T) {
 	s := newSite(t, "")
 	s.config.Ended = writeFile(t, "ended", withLastLine(digestOfText(s.toBob)+"\n"))
@@ -56,7 +57,7 @@ func TestFewerEnded(t *testing.T) {
 		lines           string
 		allowFewerEnded bool
 		isRight         bool
-		isStill         bool
+		isBobsEnded     bool
 		name            string
 	}{
 		{digestOfText(s.toBob) + "\n", false, true, true, "the same"}, {"", false, false, true, "none"},
@@ -72,7 +73,7 @@ func TestFewerEnded(t *testing.T) {
 			t.Errorf("%s: %v", row.name, err)
 		}
 		bobs, _ := s.sequencesShown()
-		if status := s.by(s.bob, "GET", "/web/docs/b", bobs).StatusCode; (status == 403) != row.isStill {
+		if status := s.askAs(s.bob, "GET", "/web/docs/b", bobs).StatusCode; (status == 403) != row.isBobsEnded {
 			t.Errorf("%s: %d", row.name, status)
 		}
 	}

@@ -5,19 +5,21 @@ import (
 	"testing"
 )
 
-// TestFieldsThatAreThereTwice reads objects with a field that is there twice, of which encoding/json takes the last one: they are refused. It takes the long
-// s (017f) for s and the sign of kelvin (212a) for k. A name that is a value too is there once.
+// TestFieldsThatAreThereTwice reads objects with a field that is there twice, of which encoding/json uses the last one: they are refused. To encoding/json
+// the long s (017f) is the same as s, and the sign of kelvin (212a) as k. A field whose name is also a value is there once, and accepted.
 func TestFieldsThatAreThereTwice(t *testing.T) {
 	for _, text := range []string{
-		with(`"li\u017ft": "/other"`), with(`"tls": {"key": "/k", "\u212aey": "/l"}`), with(`"limits": {"seconds": 1, "seconds": 2}`), with(`"policy": "allow-sha1", "policy": "strict"`),
-		with(`"limits": {}, "headers": {}, "Limits": {}`), strings.Replace(least, `"GET": "read"`, `"GET": "read", "GET": "write"`, 1),
-		strings.Replace(least, `"prefix": "/"`, `"prefix": "/", "prefix": "/x/"`, 1), with(`"liſt": "/other"`), with(`"listen": "", "Key": 1, "key": 2`),
+		leastWith(`"li\u017ft": "/other"`), leastWith(`"tls": {"key": "/k", "\u212aey": "/l"}`), leastWith(`"limits": {"seconds": 1, "seconds": 2}`),
+		leastWith(`"policy": "allow-sha1", "policy": "strict"`),
+		leastWith(`"limits": {}, "headers": {}, "Limits": {}`), strings.Replace(leastConfig, `"GET": "read"`, `"GET": "read", "GET": "write"`, 1),
+		strings.Replace(leastConfig, `"prefix": "/"`, `"prefix": "/", "prefix": "/x/"`, 1), leastWith(`"liſt": "/other"`),
+		leastWith(`"listen": "", "Key": 1, "key": 2`),
 	} {
 		if _, err := parseConfig([]byte(text)); err == nil || !strings.Contains(err.Error(), "twice") {
 			t.Errorf("%s: %v", text, err)
 		}
 	}
-	for _, text := range []string{least, with(`"limits": {"seconds": 1}, "headers": {"host": "seconds"}`)} {
+	for _, text := range []string{leastConfig, leastWith(`"limits": {"seconds": 1}, "headers": {"host": "seconds"}`)} {
 		if _, err := parseConfig([]byte(text)); err != nil {
 			t.Errorf("%s: %v", text, err)
 		}

@@ -10,8 +10,9 @@ import (
 	"conguraki/spki/guard"
 )
 
-// TestNoFiles reads FIFOs, devices and folders as files, lists and configurations: each fails with errNoFile. So no read waits for the FIFO's writer.
-func TestNoFiles(t *testing.T) {
+// TestSpecialFiles reads a FIFO, devices and a folder by readFile, and the FIFO as ended certificates, as a list and as a configuration: each fails with
+// errNoFile. So no read waits for the FIFO's writer.
+func TestSpecialFiles(t *testing.T) {
 	fifo := filepath.Join(t.TempDir(), "fifo")
 	if err := syscall.Mkfifo(fifo, 0o600); err != nil {
 		t.Fatal(err)

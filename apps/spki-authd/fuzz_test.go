@@ -12,7 +12,7 @@ import (
 	"conguraki/spki/guard"
 )
 
-// FuzzHeaders asks with headers that no web server sends. Each status must be one that the daemon uses, and 200 only for what mustBeGranted allows.
+// FuzzHeaders asks with headers that no web server sends. Each status must be one that the daemon uses, and 200 only for what checkGrant allows.
 func FuzzHeaders(f *testing.F) {
 	s := newSite(f, "")
 	bobs, carols := s.sequencesShown()
@@ -35,7 +35,7 @@ func FuzzHeaders(f *testing.F) {
 		status, line := s.ask(pairs...).StatusCode, s.lastLine(t)
 		switch status {
 		case 200:
-			s.mustBeGranted(t, method, line)
+			s.checkGrant(t, method, line)
 		case 400, 401, 403:
 		default:
 			t.Errorf("%d: %+v", status, line)
@@ -46,7 +46,7 @@ func FuzzHeaders(f *testing.F) {
 	})
 }
 
-// FuzzSequence shows octets as certificates, in transport form in a right header, so that they reach the guard. 200 is only for what mustBeGranted allows.
+// FuzzSequence shows octets as certificates, in transport form in a right header, so that they reach the guard. 200 is only for what checkGrant allows.
 func FuzzSequence(f *testing.F) {
 	s := newSite(f, "")
 	people := []person{s.alice, s.bob, s.carol, s.mallory}
@@ -57,20 +57,20 @@ func FuzzSequence(f *testing.F) {
 	f.Fuzz(func(t *testing.T, who uint8, target string, octets []byte) {
 		defer s.log.Reset()
 		shown := "{" + base64.StdEncoding.EncodeToString(octets) + "}"
-		status, line := s.by(people[int(who)%len(people)], "GET", target, shown).StatusCode, s.lastLine(t)
+		status, line := s.askAs(people[int(who)%len(people)], "GET", target, shown).StatusCode, s.lastLine(t)
 		if status == 200 {
-			s.mustBeGranted(t, "GET", line)
+			s.checkGrant(t, "GET", line)
 		} else if status != 400 && status != 403 || line.Answer == answerYes {
 			t.Errorf("%d: %+v", status, line)
 		}
 	})
 }
 
-// FuzzLeft leaves octets as certificates, by Bob's key. What is kept has this key in it, or its hash, and no more is granted by it than mustBeGranted allows.
+// FuzzLeft leaves octets as certificates, by Bob's key. What is kept has this key in it, or its hash, and no more is granted by it than checkGrant allows.
 func FuzzLeft(f *testing.F) {
-	s := newSite(f, `, "chains": {"folder": "`+f.TempDir()+`"}`+ofSite)
-	bobs, hashed := s.alice.sign(s.toBob), s.alice.gives(s.bob.hashOfKey(), prefix("read", "/web/docs/"), "(7:comment[1:x]1:y)")
-	for _, shown := range []string{"", bobs, hashed, s.bob.key + bobs, bobs + s.bob.sign(s.toCarol), s.alice.defines("builders", s.bob.key)} {
+	s := newSite(f, `, "chains": {"folder": "`+f.TempDir()+`"}`+withSignatures)
+	bobs, hashed := s.alice.sign(s.toBob), s.alice.signedCertificate(s.bob.hashOfKey(), prefix("read", "/web/docs/"), "(7:comment[1:x]1:y)")
+	for _, shown := range []string{"", bobs, hashed, s.bob.key + bobs, bobs + s.bob.sign(s.toCarol), s.alice.signedNameCertificate("builders", s.bob.key)} {
 		f.Add([]byte("(8:sequence" + shown + ")"))
 	}
 	f.Fuzz(func(t *testing.T, octets []byte) {
@@ -87,7 +87,7 @@ func FuzzLeft(f *testing.F) {
 			t.Errorf("kept: %q", octets)
 		}
 		if s.statusFor(s.bob, "/web/docs/b", "") == 200 {
-			s.mustBeGranted(t, "GET", s.lastLine(t))
+			s.checkGrant(t, "GET", s.lastLine(t))
 		}
 	})
 }
@@ -116,7 +116,7 @@ func (p *scriptedConnection) SetDeadline(time.Time) error { return nil }
 func (p *scriptedConnection) SetReadDeadline(time.Time) error { return nil }
 
 // FuzzConnection sends octets that may be requests on a connection. Each answer has one line in the log with the same answer, and 200 is only for what
-// mustBeGranted allows.
+// checkGrant allows.
 func FuzzConnection(f *testing.F) {
 	s := newSite(f, "")
 	server := newConnectionServer(s.decider)
@@ -152,15 +152,15 @@ func FuzzConnection(f *testing.F) {
 				t.Errorf("%q, %+v", answer, line)
 			}
 			if line.Answer == answerYes {
-				s.mustBeGranted(t, "GET", line)
+				s.checkGrant(t, "GET", line)
 			}
 		}
 	})
 }
 
-// mustBeGranted reports an error unless a line of the log may be a grant, by what newSite gives Alice, Bob and Carol. It does not use the daemon for that.
-// `method` is that of the request.
-func (s *site) mustBeGranted(t *testing.T, method string, line record) {
+// checkGrant reports an error unless the request in a line of the log may be granted: Alice, Bob and Carol may read below one folder each, by what newSite
+// gives them. It does not use the daemon for that. `method` is that of the request.
+func (s *site) checkGrant(t *testing.T, method string, line record) {
 	t.Helper()
 	folders := map[string]string{s.alice.key: "/web/", s.bob.key: "/web/docs/", s.carol.key: "/web/docs/a/"}
 	for key, folder := range folders {

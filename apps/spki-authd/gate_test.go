@@ -36,26 +36,27 @@ func TestGateOfLibrary(t *testing.T) {
 		mutex.Unlock()
 		return true
 	}
-	asks := func() map[int]int {
+	// (asks four times at once, and returns how often each status was the answer)
+	askFour := func() map[int]int {
 		statuses, count := make(chan int), map[int]int{}
 		for routine := 0; routine < 4; routine++ {
-			go func() { statuses <- s.by(s.bob, "GET", "/web/docs/b", bobs).StatusCode }()
+			go func() { statuses <- s.askAs(s.bob, "GET", "/web/docs/b", bobs).StatusCode }()
 		}
 		for routine := 0; routine < 4; routine++ {
 			count[<-statuses]++
 		}
 		return count
 	}
-	if count := asks(); count[200] != 4 {
+	if count := askFour(); count[200] != 4 {
 		t.Error(count)
 	}
 	panics.Store(true)
-	if count := asks(); count[503] != 4 {
+	if count := askFour(); count[503] != 4 {
 		t.Error(count)
 	}
 	panics.Store(false)
 	takes = 2 * timeAtGate
-	if count := asks(); count[200] != 2 || count[503] != 2 {
+	if count := askFour(); count[200] != 2 || count[503] != 2 {
 		t.Error(count)
 	}
 	if most != 2 || len(library) != 0 {

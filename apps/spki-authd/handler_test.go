@@ -69,8 +69,8 @@ func (s *site) respond(request *http.Request) *http.Response {
 	return response
 }
 
-// by returns the response to a request of a person, with the person's TLS certificate. `sequence` is what the person shows, or empty for none.
-func (s *site) by(who person, method, target, sequence string) *http.Response {
+// askAs returns the response to a request of a person, with the person's TLS certificate. `sequence` is what the person shows, or empty for none.
+func (s *site) askAs(who person, method, target, sequence string) *http.Response {
 	pairs := []string{"X-Original-Method", method, "X-Original-URI", target, "X-Client-Cert", who.escaped()}
 	if sequence != "" {
 		pairs = append(pairs, "Authorization", "SPKI "+sequence)
@@ -89,7 +89,8 @@ func (s *site) lastLine(t testing.TB) record {
 	return line
 }
 
-// TestAnswers asks as each person, showing certificates of several people, and compares the status. newSite says who has which right.
+// TestAnswers asks as each person, showing certificates of several people, and compares the status. Alice may read below /web/, Bob below /web/docs/ by
+// his certificate, and Carol below /web/docs/a/ by his and hers.
 func TestAnswers(t *testing.T) {
 	s := newSite(t, "")
 	bobs, carols := s.sequencesShown()
@@ -99,7 +100,7 @@ func TestAnswers(t *testing.T) {
 		wanted                   int
 	}{
 		"Alice reads":              {s.alice, "GET", "/web/x", "", 200},
-		"Alice, an empty sequence": {s.alice, "GET", "/web/x?y=z", "{KDg6c2VxdWVuY2Up}", 200},
+		"Alice, an empty sequence": {s.alice, "GET", "/web/x?y=z", sequence(), 200},
 		"Alice writes":             {s.alice, "PUT", "/web/x", "", 401},
 		"Alice reads elsewhere":    {s.alice, "GET", "/etc/passwd", "", 401},
 		"Alice reads above":        {s.alice, "GET", "/web/../etc/passwd", "", 400},
@@ -112,10 +113,10 @@ func TestAnswers(t *testing.T) {
 		"Carol shows Bob's":        {s.carol, "GET", "/web/docs/a/b", bobs, 403},
 		"Mallory shows Carol's":    {s.mallory, "GET", "/web/docs/a/b", carols, 403},
 		"no rule":                  {s.alice, "DELETE", "/web/x", "", 403},
-		"a value of another kind":  {s.alice, "GET", "/web/x", "{KDE6YSk=}", 400},
+		"a value of another kind":  {s.alice, "GET", "/web/x", noSequence, 400},
 		"cut off":                  {s.carol, "GET", "/web/docs/a/b", carols[:len(carols)-9], 400},
 	} {
-		if response := s.by(row.who, row.method, row.target, row.sequence); response.StatusCode != row.wanted {
+		if response := s.askAs(row.who, row.method, row.target, row.sequence); response.StatusCode != row.wanted {
 			t.Errorf("%s: %d, wanted %d: %+v", name, response.StatusCode, row.wanted, s.lastLine(t))
 		}
 	}
@@ -125,8 +126,9 @@ func TestAnswers(t *testing.T) {
 func TestHeadersAndLog(t *testing.T) {
 	s := newSite(t, "")
 	bobs, _ := s.sequencesShown()
+	// (the second time the signature is known)
 	for turn, cached := range []int{0, 1} {
-		header, line := s.by(s.bob, "GET", "/web/docs/b", bobs).Header, s.lastLine(t)
+		header, line := s.askAs(s.bob, "GET", "/web/docs/b", bobs).Header, s.lastLine(t)
 		key := hexDigest([]byte(s.bob.key))
 		if header.Get("X-Spki-Answer") != "yes" || header.Get("X-Spki-Entry") != "1" || header.Get("X-Spki-Key") != key || header.Get("Cache-Control") != "no-store" {
 			t.Errorf("turn %d: %v", turn, header)
@@ -136,15 +138,15 @@ func TestHeadersAndLog(t *testing.T) {
 			t.Errorf("turn %d: %+v", turn, line)
 		}
 	}
-	denied := s.by(s.bob, "GET", "/web/x", bobs)
+	denied := s.askAs(s.bob, "GET", "/web/x", bobs)
 	if denied.Header.Get("X-Spki-Answer") != "no" || denied.Header.Get("X-Spki-Entry") != "" {
 		t.Errorf("%v", denied.Header)
 	}
-	refused := s.by(s.bob, "GET", "/web/x", "{KDE6YSk=}")
+	refused := s.askAs(s.bob, "GET", "/web/x", noSequence)
 	if refused.Header.Get("X-Spki-Reason") != "refused sequence 0 Shape" || s.lastLine(t).Reason != "refused sequence 0 Shape" {
 		t.Errorf("%v, %+v", refused.Header, s.lastLine(t))
 	}
-	if unknown := s.by(s.bob, "GET", "/web/x", ""); unknown.Header.Get("WWW-Authenticate") != "SPKI" {
+	if unknown := s.askAs(s.bob, "GET", "/web/x", ""); unknown.Header.Get("WWW-Authenticate") != "SPKI" {
 		t.Errorf("%v", unknown.Header)
 	}
 	if log := s.log.String(); strings.Contains(log, bobs) || strings.Contains(log, "BEGIN") || strings.Contains(log, "public-key") {
@@ -158,17 +160,17 @@ func TestForgedSignatures(t *testing.T) {
 	forged := s.mallory.sign(s.alice.certificate(s.mallory, prefix("read", "/web/"), propagates))
 	own := s.mallory.sign(s.mallory.certificate(s.mallory, prefix("read", "/web/"), propagates))
 	asAlice := s.mallory.signAs(s.alice, s.alice.certificate(s.mallory, prefix("read", "/web/"), propagates))
-	for name, shown := range map[string]string{"by Mallory's key": forged, "from Mallory": own, "by Alice's key": asAlice} {
+	for name, shown := range map[string]string{"by Mallory's key": forged, "from Mallory": own, "as if by Alice's key": asAlice} {
 		for turn := 0; turn < 2; turn++ {
-			if response := s.by(s.mallory, "GET", "/web/x", sequence(shown)); response.StatusCode != 403 {
+			if response := s.askAs(s.mallory, "GET", "/web/x", sequence(shown)); response.StatusCode != 403 {
 				t.Errorf("%s: %d", name, response.StatusCode)
 			}
 		}
 	}
 }
 
-// TestWrongHeaders asks with headers that are absent, there twice or wrong, and compares the status.
-func TestWrongHeaders(t *testing.T) {
+// TestHeadersOfRequests asks with right headers, and with some that are absent, there twice or wrong, and compares the status.
+func TestHeadersOfRequests(t *testing.T) {
 	s := newSite(t, "")
 	bobs, _ := s.sequencesShown()
 	whole := []string{"X-Original-Method", "GET", "X-Original-URI", "/web/docs/b", "X-Client-Cert", s.bob.escaped(), "Authorization", "SPKI " + bobs}
@@ -197,7 +199,7 @@ func TestWrongHeaders(t *testing.T) {
 	}
 }
 
-// TestManyCertificates shows the same certificate as often as may be, which is denied, since it does not join itself, and once more, which is refused.
+// TestManyCertificates shows the same certificate 16 times, as often as may be, which is denied, since it does not join itself. Once more is refused.
 func TestManyCertificates(t *testing.T) {
 	s := newSite(t, "")
 	signed := s.alice.sign(s.toBob)
@@ -206,7 +208,7 @@ func TestManyCertificates(t *testing.T) {
 		many[place] = signed
 	}
 	for count, wanted := range map[int]int{16: 403, 17: 400} {
-		if response := s.by(s.bob, "GET", "/web/docs/b", sequence(many[:count]...)); response.StatusCode != wanted {
+		if response := s.askAs(s.bob, "GET", "/web/docs/b", sequence(many[:count]...)); response.StatusCode != wanted {
 			t.Errorf("%d certificates: %d: %+v", count, response.StatusCode, s.lastLine(t))
 		}
 	}
@@ -218,9 +220,9 @@ func TestSecretOfServer(t *testing.T) {
 	s.config.secret = []byte("0123456789abcdef0123456789abcdef")
 	whole := []string{"X-Original-Method", "GET", "X-Original-URI", "/web/b", "X-Client-Cert", s.alice.escaped()}
 	for secret, wanted := range map[string]int{"": 403, "x": 403, string(s.config.secret): 200, string(s.config.secret) + "x": 403} {
-		pairs := whole
+		pairs := append([]string(nil), whole...)
 		if secret != "" {
-			pairs = append(pairs[:len(pairs):len(pairs)], "X-Spki-Secret", secret)
+			pairs = append(pairs, "X-Spki-Secret", secret)
 		}
 		if response := s.ask(pairs...); response.StatusCode != wanted {
 			t.Errorf("%q: %d", secret, response.StatusCode)
@@ -231,7 +233,7 @@ func TestSecretOfServer(t *testing.T) {
 // TestRefusedStatus asks for a path that is not clear where refused_status is 403: the status is that, and the answer is still `refused`.
 func TestRefusedStatus(t *testing.T) {
 	s := newSite(t, `, "refused_status": 403`)
-	if response := s.by(s.alice, "GET", "/web/../x", ""); response.StatusCode != 403 || response.Header.Get("X-Spki-Answer") != "refused" {
+	if response := s.askAs(s.alice, "GET", "/web/../x", ""); response.StatusCode != 403 || response.Header.Get("X-Spki-Answer") != "refused" {
 		t.Errorf("%d, %v", response.StatusCode, response.Header)
 	}
 }
@@ -240,17 +242,17 @@ func TestRefusedStatus(t *testing.T) {
 func TestEndedCertificates(t *testing.T) {
 	s := newSite(t, "")
 	bobs, carols := s.sequencesShown()
-	if response := s.by(s.carol, "GET", "/web/docs/a/b", carols); response.StatusCode != 200 {
+	if response := s.askAs(s.carol, "GET", "/web/docs/a/b", carols); response.StatusCode != 200 {
 		t.Fatal(response.StatusCode)
 	}
 	s.config.Ended = writeFile(t, "ended", withLastLine(digestOfText(s.toCarol)+" # stolen\n"))
 	if err := s.keeper.reload(s.config, false, s.now()); err != nil {
 		t.Fatal(err)
 	}
-	if response := s.by(s.carol, "GET", "/web/docs/a/b", carols); response.StatusCode != 403 || !strings.Contains(s.lastLine(t).Reason, digestOfText(s.toCarol)) {
+	if response := s.askAs(s.carol, "GET", "/web/docs/a/b", carols); response.StatusCode != 403 || !strings.Contains(s.lastLine(t).Reason, digestOfText(s.toCarol)) {
 		t.Errorf("an ended certificate counts, although its signature is kept: %d, %+v", response.StatusCode, s.lastLine(t))
 	}
-	if response := s.by(s.bob, "GET", "/web/docs/b", bobs); response.StatusCode != 200 {
+	if response := s.askAs(s.bob, "GET", "/web/docs/b", bobs); response.StatusCode != 200 {
 		t.Error(response.StatusCode)
 	}
 }
@@ -264,7 +266,7 @@ func TestReloads(t *testing.T) {
 	if err := s.keeper.reload(s.config, false, s.now()); err == nil || !strings.Contains(err.Error(), "refused acl 1 Shape") {
 		t.Error(err)
 	}
-	if response := s.by(s.alice, "GET", "/web/x", ""); response.StatusCode != 200 {
+	if response := s.askAs(s.alice, "GET", "/web/x", ""); response.StatusCode != 200 {
 		t.Errorf("a refused list has replaced the old one: %d", response.StatusCode)
 	}
 	if err := os.WriteFile(s.config.List, []byte("(acl)"), 0o600); err != nil {
@@ -273,7 +275,7 @@ func TestReloads(t *testing.T) {
 	if err := s.keeper.reload(s.config, false, s.now()); err != nil {
 		t.Error(err)
 	}
-	if response := s.by(s.alice, "GET", "/web/x", ""); response.StatusCode != 401 {
+	if response := s.askAs(s.alice, "GET", "/web/x", ""); response.StatusCode != 401 {
 		t.Errorf("the old list is asked: %d", response.StatusCode)
 	}
 }
@@ -282,18 +284,18 @@ func TestReloads(t *testing.T) {
 func TestExplanations(t *testing.T) {
 	s := newSite(t, `, "explain": true`)
 	bobs, _ := s.sequencesShown()
-	s.by(s.bob, "GET", "/web/x", bobs)
+	s.askAs(s.bob, "GET", "/web/x", bobs)
 	if reasons := s.lastLine(t).Reasons; reasons != "entry 1 TagLacks" {
 		t.Error(reasons)
 	}
-	s.by(s.mallory, "GET", "/web/x", "")
+	s.askAs(s.mallory, "GET", "/web/x", "")
 	if reasons := s.lastLine(t).Reasons; reasons != "no entry is for this key or for the first issuer" {
 		t.Error(reasons)
 	}
 }
 
-// TestExplanationsAreBounded asks with sets whose intersections are more than the library explains, and is denied more often than is explained: at once
-// explain_rate times savedSeconds, which is six times. A second later the next denial is explained.
+// TestExplanationsAreBounded has eight requests denied at one moment. Six of the denials are explained: explain_rate times savedSeconds. A second later the
+// next one is explained too. The tags are sets with more intersections than the library explains, so each explanation is `refused TooLarge`.
 func TestExplanationsAreBounded(t *testing.T) {
 	s := newSite(t, `, "explain": true, "limits": {"explain_rate": 3}`)
 	moment := time.Now()
@@ -306,31 +308,31 @@ func TestExplanationsAreBounded(t *testing.T) {
 	if err := s.keeper.reload(s.config, false, s.now()); err != nil {
 		t.Fatal(err)
 	}
-	shows := sequence(s.alice.sign(s.alice.certificate(s.bob, set, "")))
+	shown := sequence(s.alice.sign(s.alice.certificate(s.bob, set, "")))
 	for place := 0; place < 8; place++ {
 		wanted := "refused TooLarge"
 		if place >= savedSeconds*3 {
 			wanted = notExplained
 		}
-		response := s.by(s.bob, "GET", "/web/x", shows)
+		response := s.askAs(s.bob, "GET", "/web/x", shown)
 		if line := s.lastLine(t); response.StatusCode != 403 || line.Answer != answerNo || line.Reasons != wanted {
 			t.Errorf("%d: %d, %+v", place, response.StatusCode, line)
 		}
 	}
 	moment = moment.Add(time.Second)
-	s.by(s.bob, "GET", "/web/x", shows)
+	s.askAs(s.bob, "GET", "/web/x", shown)
 	if reasons := s.lastLine(t).Reasons; reasons != "refused TooLarge" {
 		t.Error(reasons)
 	}
 }
 
-// TestTime asks before the end of a certificate, which is granted, and after it, which is denied.
-func TestTime(t *testing.T) {
+// TestEndOfCertificate asks before the end of a certificate, which is granted, and after it, which is denied.
+func TestEndOfCertificate(t *testing.T) {
 	s := newSite(t, "")
 	until := s.alice.certificateUntil(s.bob, prefix("read", "/web/"), "2026-01-01_00:00:00")
 	for year, wanted := range map[int]int{2025: 200, 2027: 403} {
 		s.now = func() time.Time { return time.Date(year, 1, 1, 0, 0, 0, 0, time.UTC) }
-		if response := s.by(s.bob, "GET", "/web/x", sequence(s.alice.sign(until))); response.StatusCode != wanted {
+		if response := s.askAs(s.bob, "GET", "/web/x", sequence(s.alice.sign(until))); response.StatusCode != wanted {
 			t.Errorf("%d: %d, %+v", year, response.StatusCode, s.lastLine(t))
 		}
 	}
@@ -341,7 +343,7 @@ func TestPanicIsAFailure(t *testing.T) {
 	s := newSite(t, "")
 	s.cache = nil
 	bobs, _ := s.sequencesShown()
-	if response := s.by(s.bob, "GET", "/web/docs/b", bobs); response.StatusCode != 503 || s.lastLine(t).Answer != answerFailed {
+	if response := s.askAs(s.bob, "GET", "/web/docs/b", bobs); response.StatusCode != 503 || s.lastLine(t).Answer != answerFailed {
 		t.Errorf("%d, %+v", response.StatusCode, s.lastLine(t))
 	}
 }
@@ -349,7 +351,7 @@ func TestPanicIsAFailure(t *testing.T) {
 // TestEnvoy asks as Envoy does, whose requests have the client's target behind path_prefix.
 func TestEnvoy(t *testing.T) {
 	s := newSite(t, "")
-	text := strings.Replace(strings.Replace(least, "nginx", "envoy", 1), "{", `{"path_prefix": "/auth", `, 1)
+	text := strings.Replace(strings.Replace(leastConfig, "nginx", "envoy", 1), "{", `{"path_prefix": "/auth", `, 1)
 	config, err := parseConfig([]byte(text))
 	if err != nil {
 		t.Fatal(err)

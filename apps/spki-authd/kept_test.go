@@ -18,10 +18,10 @@ import (
 	"conguraki/spki/httpsig"
 )
 
-// newKeeping returns a site at which clients can leave certificates, at most two sequences for each key, with a folder for them.
-func newKeeping(t *testing.T) *site {
+// newSiteWithChains returns a site at which clients can leave certificates, at most two sequences for each key, with a folder for them.
+func newSiteWithChains(t *testing.T) *site {
 	t.Helper()
-	s := newSite(t, `, "chains": {"folder": "`+t.TempDir()+`", "each": 2}`+ofSite)
+	s := newSite(t, `, "chains": {"folder": "`+t.TempDir()+`", "each": 2}`+withSignatures)
 	s.reopenChains(t)
 	return s
 }
@@ -45,8 +45,9 @@ func (s *site) statusFor(who person, target, sequence string) int {
 	return s.ask(pairs...).StatusCode
 }
 
-// put returns a request to files.example.org by which a person leaves certificates, with its signature. `sequence` is its body.
-func (p person) put(t testing.TB, target, sequence string) *http.Request {
+// putRequest returns a PUT request to files.example.org, with a person's signature, by which the person leaves certificates. `target` is its path, and
+// `sequence` its body.
+func (p person) putRequest(t testing.TB, target, sequence string) *http.Request {
 	t.Helper()
 	request := httptest.NewRequest(http.MethodPut, target, strings.NewReader(sequence))
 	request.Host = "files.example.org"
@@ -64,7 +65,7 @@ func (p person) put(t testing.TB, target, sequence string) *http.Request {
 // leaves sends the site a request by which a person leaves certificates, and returns the status and the answer.
 func (s *site) leaves(t testing.TB, who person, sequence string) (int, answer) {
 	t.Helper()
-	response := s.respond(who.put(t, usualPath, sequence))
+	response := s.respond(who.putRequest(t, usualPath, sequence))
 	return response.StatusCode, answer(response.Header.Get("X-Spki-Answer"))
 }
 
@@ -79,9 +80,9 @@ func (s *site) keeps(t testing.TB, who person) bool {
 }
 
 // TestKeptChains leaves certificates and asks, with and without showing some, one after the other, and once more after a start of the daemon. A row
-// whose target is `put` leaves its sequence, and any other row asks for its target.
+// whose target is `put` leaves its sequence, and any other row asks for its target and shows its sequence, if that is not empty.
 func TestKeptChains(t *testing.T) {
-	s := newKeeping(t)
+	s := newSiteWithChains(t)
 	bobs, carols := s.sequencesShown()
 	other := sequence(s.alice.sign(s.alice.certificate(s.bob, prefix("read", "/web/other/"), "")))
 	third := sequence(s.alice.sign(s.alice.certificate(s.bob, prefix("read", "/web/third/"), "")))
@@ -142,24 +143,25 @@ func (p person) hashOfKey() string {
 	return "(4:hash6:sha256" + str(string(digest[:])) + ")"
 }
 
-// gives returns a signed certificate for a subject, such as a hash. All three are in canonical form. `more` has further fields, or is empty.
-func (p person) gives(subject, tag, more string) string {
+// signedCertificate returns a signed certificate for a subject, such as a key or its hash, and a tag. `more` has further fields, or is empty. All are in
+// canonical form.
+func (p person) signedCertificate(subject, tag, more string) string {
 	return p.sign("(4:cert(6:issuer" + p.key + ")" + more + "(7:subject" + subject + ")(3:tag" + tag + "))")
 }
 
-// defines returns a signed certificate by which a name of a person means a subject, which is in canonical form.
-func (p person) defines(name, subject string) string {
+// signedNameCertificate returns a signed certificate that defines a name of a person as a subject, which is in canonical form.
+func (p person) signedNameCertificate(name, subject string) string {
 	return p.sign("(4:cert(6:issuer(4:name" + p.key + str(name) + "))(7:subject" + subject + "))")
 }
 
-// TestWhatIsKept leaves chains of each kind. Each certificate must be signed, and the subject of the last one be the key that signs the request. A
-// row without a reason is kept, and any other one is refused with this reason.
-func TestWhatIsKept(t *testing.T) {
-	s := newKeeping(t)
+// TestWhichChainsAreKept leaves chains of each kind. Each certificate must be signed, and the subject of the last one must be the key that signs the
+// request: Bob's. A chain without a reason in its row is kept, and any other one is refused with that reason.
+func TestWhichChainsAreKept(t *testing.T) {
+	s := newSiteWithChains(t)
 	tag := prefix("read", "/web/")
 	name := "(4:name" + s.alice.key + "8:builders)"
-	toBob, toName := s.alice.sign(s.toBob), s.alice.gives(name, tag, "")
-	isBob := s.alice.defines("builders", s.bob.key)
+	toBob, toName := s.alice.sign(s.toBob), s.alice.signedCertificate(name, tag, "")
+	isBob := s.alice.signedNameCertificate("builders", s.bob.key)
 	forged := s.mallory.sign(s.alice.certificate(s.bob, tag, ""))
 	asAlice := s.mallory.signAs(s.alice, s.alice.certificate(s.bob, tag, ""))
 	digest := sha512.Sum512([]byte(s.bob.key))
@@ -168,14 +170,15 @@ func TestWhatIsKept(t *testing.T) {
 		shown        []string
 	}{
 		{"a key", "", []string{toBob}},
-		{"the hash of a key", "", []string{s.alice.gives(s.bob.hashOfKey(), tag, "")}},
-		{"its hash by SHA-512", "", []string{s.alice.gives("(4:hash6:sha512"+str(string(digest[:]))+")", tag, "")}},
-		{"its hash and an address", "", []string{s.alice.gives(strings.TrimSuffix(s.bob.hashOfKey(), ")")+"(3:uri1:x))", tag, "")}},
-		{"a key behind fields that look so", "", []string{s.alice.gives(s.bob.key, tag, "(7:comment(7:subject"+s.mallory.key+")[1:x]1:y)")}},
+		{"the hash of a key", "", []string{s.alice.signedCertificate(s.bob.hashOfKey(), tag, "")}},
+		{"its hash by SHA-512", "", []string{s.alice.signedCertificate("(4:hash6:sha512"+str(string(digest[:]))+")", tag, "")}},
+		{"its hash and an address", "", []string{s.alice.signedCertificate(strings.TrimSuffix(s.bob.hashOfKey(), ")")+"(3:uri1:x))", tag, "")}},
+		{"a key behind fields that look so", "", []string{s.alice.signedCertificate(s.bob.key, tag, "(7:comment(7:subject"+s.mallory.key+")[1:x]1:y)")}},
 		{"a name that is defined", "", []string{toName, isBob}},
 		{"a definition alone", "", []string{isBob}},
 		{"a definition of a name of a name", "", []string{
-			s.alice.gives("(4:name"+s.alice.key+"4:team8:builders)", tag, ""), s.alice.defines("team", s.carol.key), s.carol.defines("builders", s.bob.key)}},
+			s.alice.signedCertificate("(4:name"+s.alice.key+"4:team8:builders)", tag, ""), s.alice.signedNameCertificate("team", s.carol.key),
+			s.carol.signedNameCertificate("builders", s.bob.key)}},
 		{"keys beside certificates", "", []string{s.alice.key, toBob, s.carol.key}},
 		{"certificates that do not join", "", []string{s.mallory.sign(s.mallory.certificate(s.carol, tag, "")), toBob}},
 		{"a stranger's own", "", []string{s.mallory.sign(s.mallory.certificate(s.bob, tag, ""))}},
@@ -183,11 +186,11 @@ func TestWhatIsKept(t *testing.T) {
 			")(5:valid(10:not-before19:9000-01-01_00:00:00)))")}},
 		{"another key", "is not the key", []string{s.alice.sign(s.alice.certificate(s.carol, tag, ""))}},
 		{"another key behind it", "is not the key", []string{toBob, s.bob.sign(s.toCarol)}},
-		{"the hash of another key", "is not the key", []string{s.alice.gives(s.carol.hashOfKey(), tag, "")}},
-		{"a key in a comment", "is not the key", []string{s.alice.gives(s.carol.key, tag, "(7:comment(7:subject"+s.bob.key+"))")}},
+		{"the hash of another key", "is not the key", []string{s.alice.signedCertificate(s.carol.hashOfKey(), tag, "")}},
+		{"a key in a comment", "is not the key", []string{s.alice.signedCertificate(s.carol.key, tag, "(7:comment(7:subject"+s.bob.key+"))")}},
 		{"a name", "is not the key", []string{toName}},
-		{"a name of the issuer", "is not the key", []string{s.alice.gives("(4:name8:builders)", tag, "")}},
-		{"a name of the key", "is not the key", []string{s.alice.gives("(4:name"+s.bob.key+"1:x)", tag, "")}},
+		{"a name of the issuer", "is not the key", []string{s.alice.signedCertificate("(4:name8:builders)", tag, "")}},
+		{"a name of the key", "is not the key", []string{s.alice.signedCertificate("(4:name"+s.bob.key+"1:x)", tag, "")}},
 		{"a definition before its name", "is not the key", []string{isBob, toName}},
 		{"a wrong signature", "has no valid signature", []string{asAlice}},
 		{"a wrong one before the last", "has no valid signature", []string{asAlice, toBob}},
@@ -214,7 +217,7 @@ func TestWhatIsKept(t *testing.T) {
 
 // TestEndedIsNotKept leaves a certificate that has ended early: it is refused with that reason, and not kept.
 func TestEndedIsNotKept(t *testing.T) {
-	s := newKeeping(t)
+	s := newSiteWithChains(t)
 	bobs, _ := s.sequencesShown()
 	s.config.Ended = writeFile(t, "ended", withLastLine(digestOfText(s.toBob)+" # stolen\n"))
 	if err := s.keeper.reload(s.config, false, s.now()); err != nil {
@@ -229,7 +232,7 @@ func TestEndedIsNotKept(t *testing.T) {
 // TestStrangersLeave leaves certificates of keys that a stranger has made. Once there is no room for another key, or for more octets, they are answered by
 // `full`, and no signature is verified. None of them grants anything, and what a request shows itself counts as before.
 func TestStrangersLeave(t *testing.T) {
-	s := newKeeping(t)
+	s := newSiteWithChains(t)
 	s.config.Chains.Keys = 2
 	s.reopenChains(t)
 	verified := s.counts.verified.Load()
@@ -256,8 +259,8 @@ func TestStrangersLeave(t *testing.T) {
 	}
 }
 
-// newKept returns what keeps sequences in a new folder for nine days: so many of each key, of so many keys.
-func newKept(t *testing.T, each, keys int) *folderChains {
+// newFolderChains returns the chainKeeper of a new folder. It keeps each sequence for nine days: at most `each` of a key, and those of at most `keys` keys.
+func newFolderChains(t *testing.T, each, keys int) *folderChains {
 	t.Helper()
 	kept, err := openFolderChains(&chains{Folder: t.TempDir(), Each: each, Keys: keys, Days: 9}, time.Now(), true)
 	if err != nil {
@@ -266,16 +269,16 @@ func newKept(t *testing.T, each, keys int) *folderChains {
 	return kept
 }
 
-// adds keeps a text for a key at a moment, and reports an error unless the answer is the one that is wanted.
-func adds(t *testing.T, kept *folderChains, key, text string, now time.Time, wanted answer) {
+// mustAdd has a text kept for a key at a moment, and reports an error unless the answer is `wanted`.
+func mustAdd(t *testing.T, kept *folderChains, key, text string, now time.Time, wanted answer) {
 	t.Helper()
 	if reply, err := kept.add(key, kept.chainOf(text, now), now); reply != wanted || err != nil {
 		t.Errorf("%s %s: %s, %v", key, text, reply, err)
 	}
 }
 
-// heldBy returns the texts of all files, in their order, with spaces between them. It reports an error unless memory has the same, and unless the
-// count of octets is right and no limit is exceeded.
+// heldBy returns the texts of all files in the folder, sorted, with spaces between them. It reports an error unless memory has the same texts, the count
+// of octets is right, and no limit is exceeded.
 func heldBy(t *testing.T, kept *folderChains) string {
 	t.Helper()
 	var inMemory, inFiles []string
@@ -303,23 +306,24 @@ func heldBy(t *testing.T, kept *folderChains) string {
 	return strings.Join(texts, " ")
 }
 
-// TestClockAhead has the clock ahead for a while. Meanwhile the sequence of a key does not count, and afterwards it does again. A start keeps it too,
-// unless it says that the sequence ended over nine days ago.
+// TestClockAhead has the clock ahead for a while. Meanwhile the sequence of a key does not count, and afterwards it does again. A start with the clock
+// ahead keeps it too, unless by that clock the sequence ended over nine days ago.
 func TestClockAhead(t *testing.T) {
-	kept, now := newKept(t, 1, 2), time.Now()
+	kept, now := newFolderChains(t, 1, 2), time.Now()
 	count := func(at time.Time) int {
 		current, _ := kept.of("a", at)
 		return len(current)
 	}
-	adds(t, kept, "a", "a1", now, answerKept)
+	mustAdd(t, kept, "a", "a1", now, answerKept)
 	ahead := now.AddDate(1, 0, 0)
 	if count(ahead) != 0 {
 		t.Error("it counts after its end")
 	}
-	adds(t, kept, "b", "b1", ahead, answerKept)
+	mustAdd(t, kept, "b", "b1", ahead, answerKept)
 	if count(now) != 1 || heldBy(t, kept) != "a1 b1" {
 		t.Error("it is lost: ", heldBy(t, kept))
 	}
+	// (the sequences end after nine days: 8 and 10 days before these starts)
 	for _, row := range []struct {
 		days, count int
 		held        string
@@ -336,7 +340,7 @@ func TestClockAhead(t *testing.T) {
 
 // TestEndedGiveWay has room for two sequences of each of two keys. Ended ones are removed where another one needs their room, and no others.
 func TestEndedGiveWay(t *testing.T) {
-	kept, begun := newKept(t, 2, 2), time.Now()
+	kept, begun := newFolderChains(t, 2, 2), time.Now()
 	for _, row := range []struct {
 		hours     int
 		key, text string
@@ -364,23 +368,23 @@ func TestEndedGiveWay(t *testing.T) {
 		if (refusal == "") != (row.wanted == answerKept) {
 			t.Errorf("%+v: %q before it is verified", row, refusal)
 		}
-		adds(t, kept, row.key, row.text, now, row.wanted)
+		mustAdd(t, kept, row.key, row.text, now, row.wanted)
 		if held := heldBy(t, kept); held != row.held {
 			t.Errorf("%+v: %s", row, held)
 		}
 	}
 }
 
-// TestEndedOctets has two sequences of four octets each, and room for two octets more. Once they have ended, the first makes room for five others.
+// TestEndedOctets has two sequences of four octets each, and room for two octets more. Once they have ended, the first makes room for one of five octets.
 func TestEndedOctets(t *testing.T) {
-	kept, now := newKept(t, 2, 2), time.Now()
+	kept, now := newFolderChains(t, 2, 2), time.Now()
 	kept.octets = mostLeft - 10
-	adds(t, kept, "a", "1234", now, answerKept)
-	adds(t, kept, "a", "5678", now.Add(time.Hour), answerKept)
-	adds(t, kept, "b", "12345", now, answerFull)
+	mustAdd(t, kept, "a", "1234", now, answerKept)
+	mustAdd(t, kept, "a", "5678", now.Add(time.Hour), answerKept)
+	mustAdd(t, kept, "b", "12345", now, answerFull)
 	now = now.AddDate(0, 0, 10)
-	adds(t, kept, "b", "12345678901", now, answerFull)
-	adds(t, kept, "b", "12345", now, answerKept)
+	mustAdd(t, kept, "b", "12345678901", now, answerFull)
+	mustAdd(t, kept, "b", "12345", now, answerKept)
 	if texts := kept.byKey["a"]; len(texts) != 1 || texts[0].text != "5678" || kept.octets != mostLeft-1 {
 		t.Error(texts, kept.octets)
 	}
@@ -390,9 +394,9 @@ func TestEndedOctets(t *testing.T) {
 // whichever is read first. With mayRemove false its file stays.
 func TestEndedAtStart(t *testing.T) {
 	for _, ended := range []string{"a", "c"} {
-		kept, now := newKept(t, 1, 2), time.Now()
-		adds(t, kept, ended, "ended", now, answerKept)
-		adds(t, kept, "b", "current", now, answerKept)
+		kept, now := newFolderChains(t, 1, 2), time.Now()
+		mustAdd(t, kept, ended, "ended", now, answerKept)
+		mustAdd(t, kept, "b", "current", now, answerKept)
 		tenDaysAgo := now.AddDate(0, 0, -10)
 		if err := os.Chtimes(filepath.Join(kept.Folder, ended, hexDigest([]byte("ended"))), tenDaysAgo, tenDaysAgo); err != nil {
 			t.Fatal(err)
@@ -445,7 +449,7 @@ func TestNoncesOfLeaving(t *testing.T) {
 			t.Errorf("%d: %s, %+v", place, reply, s.lastLine(t))
 		}
 	}
-	if response := s.ask(s.alice.signs(t, "GET", "files.example.org", "/web/x", "", nil)...); response.StatusCode != 200 {
+	if response := s.ask(s.alice.signedHeaders(t, "GET", "files.example.org", "/web/x", "", nil)...); response.StatusCode != 200 {
 		t.Error(response.StatusCode, s.lastLine(t))
 	}
 }
@@ -463,13 +467,13 @@ func (s *site) putAttacks(bobs, other string) map[string]func(*http.Request) {
 	}
 	return map[string]func(*http.Request){
 		"another body":   body(other),
-		"a body less":    body(""),
+		"an empty body":  body(""),
 		"half a body":    func(request *http.Request) { body(bobs[:99])(request); request.ContentLength = int64(len(bobs)) },
 		"a longer body":  body(bobs + " "),
 		"no length":      func(request *http.Request) { request.ContentLength = -1 },
 		"another digest": set("Content-Digest", httpsig.ContentDigest([]byte(other))),
 		"no digest":      func(request *http.Request) { request.Header.Del("Content-Digest") },
-		"a digest of each": func(request *http.Request) {
+		"another body and its digest": func(request *http.Request) {
 			body(other)(request)
 			set("Content-Digest", httpsig.ContentDigest([]byte(other)))(request)
 		},
@@ -495,13 +499,13 @@ func (s *site) putAttacks(bobs, other string) map[string]func(*http.Request) {
 	}
 }
 
-// TestPutAttacks leaves certificates in wrong ways: they are kept only if they are signed as they came.
+// TestPutAttacks changes a signed request that leaves certificates, in each of the ways of putAttacks: it is refused, and nothing is kept.
 func TestPutAttacks(t *testing.T) {
-	s := newKeeping(t)
+	s := newSiteWithChains(t)
 	bobs, _ := s.sequencesShown()
 	other := sequence(s.alice.sign(s.alice.certificate(s.bob, prefix("read", "/web/docs/"), "")))
 	for name, change := range s.putAttacks(bobs, other) {
-		request := s.bob.put(t, usualPath, bobs)
+		request := s.bob.putRequest(t, usualPath, bobs)
 		change(request)
 		if response := s.respond(request); response.StatusCode < 400 || s.keeps(t, s.bob) {
 			t.Errorf("%s: %d, %+v", name, response.StatusCode, s.lastLine(t))
@@ -512,18 +516,18 @@ func TestPutAttacks(t *testing.T) {
 // TestPutRefusals sends by PUT a sequence of one octet too many, and one to a path with a query: both are refused. One with the headers of another
 // request and client is kept, since these are not read. The same request again is refused.
 func TestPutRefusals(t *testing.T) {
-	s := newKeeping(t)
+	s := newSiteWithChains(t)
 	bobs, _ := s.sequencesShown()
 	const target = usualPath
 	long := strings.Repeat(" ", mostShownOctets+1-len(bobs)) + bobs
-	if response := s.respond(s.bob.put(t, target, long)); response.StatusCode != 400 || !strings.Contains(s.lastLine(t).Reason, "8192") {
+	if response := s.respond(s.bob.putRequest(t, target, long)); response.StatusCode != 400 || !strings.Contains(s.lastLine(t).Reason, "8192") {
 		t.Error("too long: ", response.StatusCode, s.lastLine(t))
 	}
 	// (a query that looks like a request that Bob may do)
-	if response := s.respond(s.bob.put(t, target+"?GET=/web/docs/b", bobs)); response.StatusCode != 400 || s.keeps(t, s.bob) {
+	if response := s.respond(s.bob.putRequest(t, target+"?GET=/web/docs/b", bobs)); response.StatusCode != 400 || s.keeps(t, s.bob) {
 		t.Error("a query: ", response.StatusCode, s.lastLine(t))
 	}
-	once := s.bob.put(t, target, bobs)
+	once := s.bob.putRequest(t, target, bobs)
 	for name, value := range map[string]string{"X-Original-Method": "GET", "X-Original-Uri": "/web/x", "X-Original-Host": "evil.example",
 		"X-Client-Cert": s.mallory.escaped()} {
 		once.Header.Set(name, value)
@@ -539,7 +543,7 @@ func TestPutRefusals(t *testing.T) {
 
 // TestKeptChainsEnd leaves a certificate that ends in ten days and one without an end, and counts after some days what is still kept.
 func TestKeptChainsEnd(t *testing.T) {
-	s := newKeeping(t)
+	s := newSiteWithChains(t)
 	begun := time.Now()
 	end := begun.AddDate(0, 0, 10).UTC().Format("2006-01-02_15:04:05")
 	short := sequence(s.alice.sign(s.alice.certificateUntil(s.bob, prefix("read", "/web/docs/"), end)))
@@ -575,17 +579,18 @@ func TestKeptChainsEnd(t *testing.T) {
 // TestEndedFiles keeps one sequence, the same a year later, when it has ended, and the same for another key, which takes the only room. `of` touches
 // no file, and after each `add` there is one file, that of the key.
 func TestEndedFiles(t *testing.T) {
-	s := newKeeping(t)
-	begun, kept, bobs, carols := time.Now(), s.chains.(*folderChains), hexDigest([]byte(s.bob.key)), hexDigest([]byte(s.carol.key))
+	s := newSiteWithChains(t)
+	begun, kept := time.Now(), s.chains.(*folderChains)
+	bobsKey, carolsKey := hexDigest([]byte(s.bob.key)), hexDigest([]byte(s.carol.key))
 	long := sequence(s.alice.sign(s.alice.certificate(s.bob, prefix("read", "/web/docs/"), "")))
-	adds(t, kept, bobs, long, begun, answerKept)
+	mustAdd(t, kept, bobsKey, long, begun, answerKept)
 	kept.Keys = 1
-	for place, key := range []string{bobs, carols} {
+	for place, key := range []string{bobsKey, carolsKey} {
 		now := begun.AddDate(place+1, 0, 0)
-		if current, _ := kept.of(bobs, now); current != nil || len(s.filesOfChains()) != 1 {
+		if current, _ := kept.of(bobsKey, now); current != nil || len(s.filesOfChains()) != 1 {
 			t.Error(current, s.filesOfChains())
 		}
-		adds(t, kept, key, long, now, answerKept)
+		mustAdd(t, kept, key, long, now, answerKept)
 		current, _ := kept.of(key, now)
 		if files := s.filesOfChains(); len(current) != 1 || len(files) != 1 || filepath.Base(filepath.Dir(files[0])) != key {
 			t.Error(current, files)
@@ -604,7 +609,7 @@ func (s *site) filesOfChains() []string {
 
 // TestKeptNowhere leaves certificates where a file has taken the place of the folder: 503, and the log says why.
 func TestKeptNowhere(t *testing.T) {
-	s := newKeeping(t)
+	s := newSiteWithChains(t)
 	bobs, _ := s.sequencesShown()
 	if err := os.Remove(s.config.Chains.Folder); err != nil {
 		t.Fatal(err)
@@ -641,10 +646,10 @@ func TestFolderWithoutSync(t *testing.T) {
 	}
 }
 
-// TestKeptFiles reads a folder with files that the daemon has not written, such as half a file or one of another name: they are left out. It also
-// checks settings of `chains`, and a folder that others may write.
-func TestKeptFiles(t *testing.T) {
-	s := newKeeping(t)
+// TestForeignFiles reads a folder with files that no daemon has written as a whole: one of another name, half a file, one that may still be written, and
+// one that is too long. They are left out. A folder that others may write is an error.
+func TestForeignFiles(t *testing.T) {
+	s := newSiteWithChains(t)
 	bobs, _ := s.sequencesShown()
 	folder := filepath.Join(s.config.Chains.Folder, hexDigest([]byte(s.bob.key)))
 	if err := os.Mkdir(folder, 0o700); err != nil {
@@ -671,6 +676,16 @@ func TestKeptFiles(t *testing.T) {
 	if s.reopenChains(t); len(s.filesOfChains()) != 3 {
 		t.Error(s.filesOfChains())
 	}
+	if err := os.Chmod(s.config.Chains.Folder, 0o777); err != nil {
+		t.Fatal(err)
+	}
+	if _, err := openFolderChains(s.config.Chains, s.now(), false); err == nil {
+		t.Error("others may write the folder")
+	}
+}
+
+// TestChainSettings checks settings of `chains`, each with one thing wrong, and right ones, which need signed requests.
+func TestChainSettings(t *testing.T) {
 	ofStore := &storeOf{Host: "/run", Database: "d", User: "u"}
 	for _, wrong := range []chains{{Folder: "x"}, {Folder: "/x", Days: -1}, {}, {Folder: "/x", Path: "x"}, {Folder: "/x", Path: "/a%2fb"},
 		{Folder: "/x", Postgres: ofStore}, {Postgres: &storeOf{}}} {
@@ -681,12 +696,6 @@ func TestKeptFiles(t *testing.T) {
 	if (&chains{Folder: "/x"}).check(false) == nil || (&chains{Folder: "/x"}).check(true) != nil {
 		t.Error("chains need signatures, and no more than a folder")
 	}
-	if err := os.Chmod(s.config.Chains.Folder, 0o777); err != nil {
-		t.Fatal(err)
-	}
-	if _, err := openFolderChains(s.config.Chains, s.now(), false); err == nil {
-		t.Error("others may write the folder")
-	}
 }
 
 // TestDiskThatHangs leaves a sequence where the disk does not answer: its file is a FIFO that nobody reads. Meanwhile `of` returns what is kept for another
@@ -696,7 +705,7 @@ func TestDiskThatHangs(t *testing.T) {
 	if err != nil {
 		t.Fatal(err)
 	}
-	chain := kept.chainOf("{KDg6c2VxdWVuY2Up}", time.Now())
+	chain := kept.chainOf(sequence(), time.Now())
 	path := filepath.Join(kept.Folder, "a", chain.name+partSuffix)
 	if err := os.Mkdir(filepath.Dir(path), 0o700); err != nil {
 		t.Fatal(err)

@@ -16,7 +16,7 @@ type failingFile struct {
 	*os.File
 	room int
 	// Whether Truncate fails, and whether Sync does.
-	isUncut, isNotWritten bool
+	truncateFails, syncFails bool
 }
 
 // Write writes what there is room for, and fails with errFull if that is not all.
@@ -31,17 +31,17 @@ func (f *failingFile) Write(octets []byte) (int, error) {
 	return count, err
 }
 
-// Truncate cuts the file, or fails with errFull if isUncut.
+// Truncate cuts the file, or fails with errFull if truncateFails.
 func (f *failingFile) Truncate(size int64) error {
-	if f.isUncut {
+	if f.truncateFails {
 		return errFull
 	}
 	return f.File.Truncate(size)
 }
 
-// Sync writes the file to its disk, or fails with errFull if isNotWritten.
+// Sync writes the file to its disk, or fails with errFull if syncFails.
 func (f *failingFile) Sync() error {
-	if f.isNotWritten {
+	if f.syncFails {
 		return errFull
 	}
 	return f.File.Sync()
@@ -76,12 +76,12 @@ func (l *ledger) mustHave(t *testing.T, wanted string) {
 // TestFullDisk writes three lines, of which a full disk cuts the second: what is written of it is removed. Where that fails too, the third begins behind a
 // line feed.
 func TestFullDisk(t *testing.T) {
-	for isUncut, wanted := range map[bool]string{false: "one\nthree\n", true: "one\ntw\nthree\n"} {
+	for truncateFails, wanted := range map[bool]string{false: "one\nthree\n", true: "one\ntw\nthree\n"} {
 		ledger, disk := openFailing(t, syncNever, "")
 		if err := ledger.write([]byte("one\n")); err != nil {
 			t.Fatal(err)
 		}
-		disk.room, disk.isUncut = 2, isUncut
+		disk.room, disk.truncateFails = 2, truncateFails
 		if ledger.write([]byte("two\n")) == nil {
 			t.Error("a cut line is written")
 		}
@@ -96,6 +96,7 @@ func TestFullDisk(t *testing.T) {
 // A fullFile writes half of the octets, and fails, at each third write.
 type fullFile struct {
 	*os.File
+	// How often Write was called.
 	writes int
 }
 
@@ -170,7 +171,7 @@ func TestSyncs(t *testing.T) {
 		syncNever: {true, true, true}, syncSeconds: {true, false, false}, syncEach: {false, false, true},
 	} {
 		ledger, disk := openFailing(t, syncs, "")
-		disk.isNotWritten = true
+		disk.syncFails = true
 		if err := ledger.write([]byte("one\n")); (err == nil) != row.first {
 			t.Errorf("%s: %v", syncs, err)
 		}
@@ -178,7 +179,7 @@ func TestSyncs(t *testing.T) {
 		if err := ledger.write([]byte("two\n")); (err == nil) != row.second {
 			t.Errorf("%s: %v", syncs, err)
 		}
-		disk.isNotWritten = false
+		disk.syncFails = false
 		// (the system has said once that lines are lost: that must be reported)
 		if err := ledger.write([]byte("three\n")); (err == nil) != row.third {
 			t.Errorf("%s: %v", syncs, err)
@@ -197,9 +198,9 @@ func TestLostLinesAreReported(t *testing.T) {
 	if err := ledger.write([]byte("one\n")); err != nil {
 		t.Fatal(err)
 	}
-	disk.isNotWritten = true
+	disk.syncFails = true
 	ledger.beat()
-	disk.isNotWritten = false
+	disk.syncFails = false
 	ledger.beat()
 	if ledger.write([]byte("two\n")) == nil {
 		t.Error("nobody is told that lines may be lost")
@@ -251,8 +252,8 @@ func TestReopened(t *testing.T) {
 	write("six\n")
 }
 
-// TestLastSync reopens and closes a ledger after fsync has failed. That is an error unless the ledger has syncNever. With isOver fsync works again: then
-// syncSeconds must still report the `beat` that has failed, and syncEach has nothing to report. The new file is open in each case.
+// TestLastSync reopens and closes a ledger after fsync has failed. That is an error unless the ledger has syncNever. With isOver fsync works again before
+// that: then syncSeconds must still report the `beat` that has failed, and syncEach has nothing to report. The new file is open in each case.
 func TestLastSync(t *testing.T) {
 	for _, syncs := range []string{syncNever, syncSeconds, syncEach} {
 		for _, isOver := range []bool{false, true} {
@@ -268,9 +269,9 @@ func TestLastSync(t *testing.T) {
 				if err := ledger.write([]byte(line)); err != nil {
 					t.Error(err)
 				}
-				disk.isNotWritten = true
+				disk.syncFails = true
 				ledger.beat()
-				disk.isNotWritten = !isOver
+				disk.syncFails = !isOver
 			}
 			writeUnsynced("one\n")
 			if err := os.Rename(ledger.path, ledger.path+".1"); err != nil {
@@ -286,16 +287,17 @@ func TestLastSync(t *testing.T) {
 	}
 }
 
-// TestNoLedgers opens what is no ordinary file, a file that another daemon writes, and one in a folder that does not exist: each is an error that says so.
-func TestNoLedgers(t *testing.T) {
+// TestWrongLedgerPaths opens what is no ordinary file, a file that another daemon writes, and one in a folder that does not exist: each is an error that
+// says so.
+func TestWrongLedgerPaths(t *testing.T) {
 	ledger, _ := openFailing(t, syncNever, "")
-	room := t.TempDir()
-	fifo := filepath.Join(room, "fifo")
+	folder := t.TempDir()
+	fifo := filepath.Join(folder, "fifo")
 	if err := syscall.Mkfifo(fifo, 0o600); err != nil {
 		t.Fatal(err)
 	}
 	for path, wanted := range map[string]string{
-		ledger.path: "another daemon", fifo: "no ordinary file", room: "no ordinary file", "/dev/null": "no ordinary file", "/none/log": "no such file",
+		ledger.path: "another daemon", fifo: "no ordinary file", folder: "no ordinary file", "/dev/null": "no ordinary file", "/none/log": "no such file",
 	} {
 		if _, err := openLedger(path, syncNever); err == nil || !strings.Contains(err.Error(), wanted) {
 			t.Errorf("%s: %v", path, err)

@@ -46,16 +46,16 @@ func twoSites(t *testing.T) *site {
 }
 
 // TestListsOfHosts asks each host with each right, twice, since a valid sequence is kept then. No right on one of them counts on the other.
-// `isInTheLists` says that a list decides, which the log names then.
+// `hasList` says whether a list decides, which the log then names.
 func TestListsOfHosts(t *testing.T) {
 	s := twoSites(t)
 	toMallory := s.alice.sign(s.alice.certificate(s.mallory, prefix("read", "/web/"), ""))
 	for name, row := range map[string]struct {
-		host         string
-		who          person
-		path, shown  string
-		wanted       int
-		isInTheLists bool
+		host        string
+		who         person
+		path, shown string
+		wanted      int
+		hasList     bool
 	}{
 		"Alice on a": {"a.example", s.alice, "/web/x", "", 200, true}, "Alice on b": {"b.example", s.alice, "/web/x", "", 401, true},
 		"Bob on a": {"a.example", s.bob, "/web/x", "", 401, true}, "Bob on b": {"B.example:443", s.bob, "/web/x", "", 200, true},
@@ -72,7 +72,7 @@ func TestListsOfHosts(t *testing.T) {
 				pairs = append(pairs, "X-Original-Host", row.host)
 			}
 			response, line := s.ask(pairs...), s.lastLine(t)
-			if response.StatusCode != row.wanted || (line.List != "") != row.isInTheLists {
+			if response.StatusCode != row.wanted || (line.List != "") != row.hasList {
 				t.Errorf("%s, turn %d: %d, wanted %d: %+v", name, turn, response.StatusCode, row.wanted, line)
 			}
 			if host, err := hostOf(row.host); err == nil && line.Host != host {
@@ -111,9 +111,11 @@ func TestHostsThatNothingDependsOn(t *testing.T) {
 
 // TestWrongLists reads configurations in which the scope of a list is wrong, each of which is refused, and a right one.
 func TestWrongLists(t *testing.T) {
-	lists := func(text string) string { return strings.Replace(least, `"list": "/acl"`, `"lists": [`+text+`]`, 1) }
+	lists := func(text string) string {
+		return strings.Replace(leastConfig, `"list": "/acl"`, `"lists": [`+text+`]`, 1)
+	}
 	for name, text := range map[string]string{
-		"none": lists(""), "both": with(`"lists": [{"list": "/acl"}]`), "no file": lists(`{"host": "a.example"}`),
+		"none": lists(""), "both": leastWith(`"lists": [{"list": "/acl"}]`), "no file": lists(`{"host": "a.example"}`),
 		"a port": lists(`{"host": "a.example:443", "list": "/acl"}`), "a large letter": lists(`{"host": "A.example", "list": "/acl"}`),
 		"no prefix": lists(`{"prefix": "x", "list": "/acl"}`), "twice": lists(`{"host": "a.example", "list": "/a"}, {"host": "a.example", "list": "/b"}`),
 		"behind all": lists(`{"list": "/a"}, {"host": "a.example", "list": "/b"}`), "a pattern": lists(`{"host": "*", "list": "/a"}`),

@@ -6,8 +6,8 @@ import (
 	"testing"
 )
 
-// TestLines compares the lines of records with those that encoding/json writes of them.
-func TestLines(t *testing.T) {
+// TestLinesOfRecords compares the lines of records with those that encoding/json writes of them.
+func TestLinesOfRecords(t *testing.T) {
 	texts := []string{"", "a", "files read /a b", `"`, `\`, "<&>", "\x00\n\r\t\x1f\x7f", "\xff\xc0\x80", "é\u2028", "%5c", "{}[]:,"}
 	numbers := []int{0, 1, -1, 65_536}
 	for _, text := range texts {
@@ -29,22 +29,22 @@ func TestLines(t *testing.T) {
 // TestLogThatCannotBeWritten asks where no grant can be logged: what would be granted fails. A denial stays what it is.
 func TestLogThatCannotBeWritten(t *testing.T) {
 	s := newSite(t, "")
-	if response := s.by(s.alice, "GET", "/web/x", ""); response.StatusCode != 200 {
+	if response := s.askAs(s.alice, "GET", "/web/x", ""); response.StatusCode != 200 {
 		t.Fatal(response.StatusCode)
 	}
 	s.log.fail(errFull)
-	response := s.by(s.alice, "GET", "/web/x", "")
+	response := s.askAs(s.alice, "GET", "/web/x", "")
 	if response.StatusCode != 503 || response.Header.Get("X-Spki-Answer") != "failed" || response.Header.Get("X-Spki-Entry") != "" {
 		t.Errorf("%d, %v", response.StatusCode, response.Header)
 	}
 	if line := s.lastLine(t); line.Answer != answerFailed || line.Status != 503 || !strings.Contains(line.Reason, errFull.Error()) {
 		t.Errorf("%+v", line)
 	}
-	if response := s.by(s.mallory, "GET", "/web/x", ""); response.StatusCode != 401 {
+	if response := s.askAs(s.mallory, "GET", "/web/x", ""); response.StatusCode != 401 {
 		t.Errorf("a denial: %d", response.StatusCode)
 	}
 	s.log.fail(nil)
-	if response := s.by(s.alice, "GET", "/web/x", ""); response.StatusCode != 200 {
+	if response := s.askAs(s.alice, "GET", "/web/x", ""); response.StatusCode != 200 {
 		t.Errorf("afterwards: %d", response.StatusCode)
 	}
 }
@@ -53,9 +53,9 @@ func TestLogThatCannotBeWritten(t *testing.T) {
 // waits for a twentieth of the time of a request, so that the test is short.
 func TestLogThatHangs(t *testing.T) {
 	s := serveHere(t, "")
-	goes := make(chan struct{})
-	defer close(goes)
-	s.logGrant = newWriter(&hangingSink{goes: goes}, s.config.Limits.time()/20, nil).write
+	released := make(chan struct{})
+	defer close(released)
+	s.logGrant = newWriter(&hangingSink{released: released}, s.config.Limits.time()/20, nil).write
 	for turn := 0; turn < 2; turn++ {
 		if status := s.get(t, "/web/x"); status != 503 {
 			t.Errorf("%d", status)

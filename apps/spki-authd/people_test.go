@@ -105,9 +105,12 @@ func sequence(signed ...string) string {
 	return "{" + base64.StdEncoding.EncodeToString([]byte("(8:sequence"+strings.Join(signed, "")+")")) + "}"
 }
 
-// digestOfText returns the digest of a certificate, or of lines, as the file of ended certificates has it.
-func digestOfText(certificate string) string {
-	digest := sha256.Sum256([]byte(certificate))
+// noSequence is the list `(a)` in transport form, which is no sequence of certificates.
+const noSequence = "{KDE6YSk=}"
+
+// digestOfText returns the SHA-256 digest, in hexadecimal digits, of a certificate in canonical form or of lines, as a file of ended certificates has both.
+func digestOfText(text string) string {
+	digest := sha256.Sum256([]byte(text))
 	return hex.EncodeToString(digest[:])
 }
 

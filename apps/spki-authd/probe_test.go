@@ -14,7 +14,7 @@ import (
 
 // probeHandler runs -probe on a site that a handler answers, and returns the exit status, what was printed, and the paths that were asked for.
 // `words` are more words of the command line.
-func probeHandler(t *testing.T, handler func(http.ResponseWriter, *http.Request), words ...string) (status int, said string, paths []string) {
+func probeHandler(t *testing.T, handler func(http.ResponseWriter, *http.Request), words ...string) (status int, printed string, paths []string) {
 	t.Helper()
 	var mutex sync.Mutex
 	server := httptest.NewUnstartedServer(http.HandlerFunc(func(answer http.ResponseWriter, request *http.Request) {
@@ -35,7 +35,7 @@ func probeHandler(t *testing.T, handler func(http.ResponseWriter, *http.Request)
 	return status, out.String() + messages.String(), paths
 }
 
-// denies returns a handler that answers 401, except where a hole is: there it answers another status.
+// denies returns a handler that answers 401, except to the requests for which isHole is true: these get `status`.
 func denies(isHole func(*http.Request) bool, status int) func(http.ResponseWriter, *http.Request) {
 	return func(answer http.ResponseWriter, request *http.Request) {
 		if isHole(request) {
@@ -60,8 +60,8 @@ func isMethod(method string) func(*http.Request) bool {
 // hasKey is a hole for denies: it is true for requests with a certificate for TLS.
 func hasKey(request *http.Request) bool { return len(request.TLS.PeerCertificates) > 0 }
 
-// isAnswered is a hole for denies: it is true for requests in which a client has sent the daemon's own header of a grant.
-func isAnswered(request *http.Request) bool { return request.Header.Get("X-Spki-Answer") == "yes" }
+// hasAnswer is a hole for denies: it is true for requests with the header by which the daemon grants, as a client may send it.
+func hasAnswer(request *http.Request) bool { return request.Header.Get("X-Spki-Answer") == "yes" }
 
 // hasPassword is a hole for denies: it is true for requests with a password.
 func hasPassword(request *http.Request) bool { return request.Header.Get("Authorization") != "" }
@@ -80,7 +80,7 @@ func TestProbe(t *testing.T) {
 	for name, each := range map[string]struct {
 		isHole         func(*http.Request) bool
 		answer, status int
-		words, said    string
+		words, printed string
 	}{
 		"all is denied":             {never, 200, statusDone, "", "nothing was granted"},
 		"denied, none was stopped":  {never, 200, statusRefused, "-stopped", "nothing is shown"},
@@ -104,15 +104,15 @@ func TestProbe(t *testing.T) {
 		"a folder":                  {hasSuffix("/"), 200, statusRefused, "", "/ is 200"},
 		"HTTP/2 alone":              {isHTTP2, 200, statusRefused, "", "HTTP/2, no key"},
 		"any key":                   {hasKey, 404, statusRefused, "", "HTTP/1.1, a strange key"},
-		"the daemon's own header":   {isAnswered, 404, statusRefused, "", "granted"},
+		"the daemon's own header":   {hasAnswer, 404, statusRefused, "", "granted"},
 		"a password":                {hasPassword, 200, statusRefused, "", "granted"},
 		"too many for ever":         {isMethod("PUT"), 429, statusRefused, "", "each answer to PUT is 429"},
 		"too many for any key":      {hasKey, 429, statusRefused, "", "each answer to GET is 429"},
 	} {
 		t.Run(name, func(t *testing.T) {
-			status, said, paths := probeHandler(t, denies(each.isHole, each.answer), strings.Fields(each.words)...)
-			if status != each.status || !strings.Contains(said, each.said) {
-				t.Errorf("status %d, and must be %d with %q: %s", status, each.status, each.said, said)
+			status, printed, paths := probeHandler(t, denies(each.isHole, each.answer), strings.Fields(each.words)...)
+			if status != each.status || !strings.Contains(printed, each.printed) {
+				t.Errorf("status %d, and must be %d with %q: %s", status, each.status, each.printed, printed)
 			}
 			if len(paths) == 0 {
 				t.Error("nothing was asked")
@@ -132,6 +132,7 @@ func TestProbePaths(t *testing.T) {
 	})
 	seen := map[string]bool{}
 	for _, path := range paths {
+		// (a few names begin with a dot)
 		if seen[path] || !strings.HasPrefix(strings.Replace(path, "/.", "/", 1), "/files/spki-probe-") {
 			t.Errorf("%s is asked for", path)
 		}
@@ -151,7 +152,7 @@ func TestProbePaths(t *testing.T) {
 // TestProbeAgain answers two of three requests by 429, and each third by 401: they are sent again, and the probe finds that all are denied.
 func TestProbeAgain(t *testing.T) {
 	count := 0
-	status, said, _ := probeHandler(t, func(answer http.ResponseWriter, _ *http.Request) {
+	status, printed, _ := probeHandler(t, func(answer http.ResponseWriter, _ *http.Request) {
 		if count++; count%3 != 0 {
 			answer.WriteHeader(http.StatusTooManyRequests)
 			return
@@ -159,19 +160,19 @@ func TestProbeAgain(t *testing.T) {
 		answer.WriteHeader(http.StatusUnauthorized)
 	})
 	if status != statusDone {
-		t.Error(said)
+		t.Error(printed)
 	}
 }
 
-// TestProbeEnds stops the daemon after some requests: then the answers are 5xx, or there are none. That shows nothing if most requests of an asker
-// are like this. In the row with 0 requests, only one method fails.
-func TestProbeEnds(t *testing.T) {
+// TestProbeOfDaemonThatStops stops the daemon after `decided` requests: then the answers are 5xx, or there are none. The probe shows nothing if most
+// requests of an asker are like this. In the row with 0 the daemon does not stop, and only PATCH fails.
+func TestProbeOfDaemonThatStops(t *testing.T) {
 	failsBy502 := func(answer http.ResponseWriter) { answer.WriteHeader(http.StatusBadGateway) }
 	for name, each := range map[string]struct {
 		decided int
 		fail    func(http.ResponseWriter)
 		status  int
-		said    string
+		printed string
 	}{
 		"5xx from the second on":   {1, failsBy502, statusRefused, "requests have 5xx or no answer"},
 		"silent from the third on": {2, func(http.ResponseWriter) { panic(http.ErrAbortHandler) }, statusRefused, "requests have 5xx or no answer"},
@@ -180,7 +181,7 @@ func TestProbeEnds(t *testing.T) {
 		t.Run(name, func(t *testing.T) {
 			var mutex sync.Mutex
 			count := 0
-			status, said, _ := probeHandler(t, func(answer http.ResponseWriter, request *http.Request) {
+			status, printed, _ := probeHandler(t, func(answer http.ResponseWriter, request *http.Request) {
 				mutex.Lock()
 				count++
 				isFailed := each.decided > 0 && count > each.decided || each.decided == 0 && request.Method == http.MethodPatch
@@ -191,8 +192,8 @@ func TestProbeEnds(t *testing.T) {
 				}
 				answer.WriteHeader(http.StatusUnauthorized)
 			})
-			if status != each.status || !strings.Contains(said, each.said) {
-				t.Errorf("status %d: %s", status, said)
+			if status != each.status || !strings.Contains(printed, each.printed) {
+				t.Errorf("status %d: %s", status, printed)
 			}
 		})
 	}

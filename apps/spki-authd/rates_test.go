@@ -149,7 +149,7 @@ func TestSlowRequests(t *testing.T) {
 		s.clock.note(s.now())
 		return nil
 	}
-	s.by(s.alice, "GET", "/web/x", "")
+	s.askAs(s.alice, "GET", "/web/x", "")
 	if backs := s.clock.times.Load(); backs != 0 {
 		t.Errorf("the clock went back %d times", backs)
 	}

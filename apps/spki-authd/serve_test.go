@@ -31,9 +31,9 @@ type servedSite struct {
 // have written the events of its start and its end. `fields` are more fields of its configuration, each after a comma, or empty.
 func serveHere(t *testing.T, fields string) *servedSite {
 	t.Helper()
-	room := t.TempDir()
-	here := &servedSite{site: newSite(t, fields), socket: filepath.Join(room, "socket")}
-	here.config.Listen, here.config.SocketMode, here.config.Log = unixScheme+here.socket, "0600", filepath.Join(room, "log")
+	folder := t.TempDir()
+	here := &servedSite{site: newSite(t, fields), socket: filepath.Join(folder, "socket")}
+	here.config.Listen, here.config.SocketMode, here.config.Log = unixScheme+here.socket, "0600", filepath.Join(folder, "log")
 	here.config.Control = here.config.Listen + controlSuffix
 	signals := signals{make(chan os.Signal, 1), make(chan os.Signal, 1), make(chan os.Signal, 1)}
 	here.daemon = &daemon{decider: here.decider, signals: signals, orders: make(chan order), begun: time.Now()}
@@ -65,18 +65,18 @@ func serveHere(t *testing.T, fields string) *servedSite {
 // TestEndsWithoutDisk ends a daemon whose disk does not take the last grants: the error and the message say so.
 func TestEndsWithoutDisk(t *testing.T) {
 	daemon := &daemon{decider: newSite(t, "").decider, begun: time.Now()}
-	room := t.TempDir()
-	daemon.config.Log = filepath.Join(room, "log")
+	folder := t.TempDir()
+	daemon.config.Log = filepath.Join(folder, "log")
 	var messages journal
 	if err := daemon.open(io.Discard, messages.writer()); err != nil {
 		t.Fatal(err)
 	}
-	listener, err := net.Listen("unix", filepath.Join(room, "socket"))
+	listener, err := net.Listen("unix", filepath.Join(folder, "socket"))
 	if err != nil {
 		t.Fatal(err)
 	}
 	daemon.granted.do(func() {
-		daemon.ledger.file = &failingFile{File: daemon.ledger.file.(*os.File), room: -1, isNotWritten: true}
+		daemon.ledger.file = &failingFile{File: daemon.ledger.file.(*os.File), room: -1, syncFails: true}
 	})
 	// (the listener is closed by `end`, which waits until this has noticed it)
 	connections := newConnectionServer(daemon.decider)
@@ -176,7 +176,7 @@ func TestConnectionsAreBounded(t *testing.T) {
 	}
 }
 
-// TestOtherRequests sends what no web server sends. Each gets one line in the log, and an answer of the decider or none.
+// TestOtherRequests sends texts that no web server sends. Each gets one line in the log, and an answer of the decider, which is not 200, or none.
 func TestOtherRequests(t *testing.T) {
 	s := serveHere(t, `, "limits": {"seconds": 1}`)
 	for name, text := range map[string]string{
@@ -288,13 +288,14 @@ func TestWaitingConnections(t *testing.T) {
 	}
 }
 
-// TestManyKeptConnections keeps more connections open than may be, as the workers of a web server do. Each that asks is answered, if need be on a new
-// connection, as web servers do it.
+// TestManyKeptConnections has 40 clients keep their connections open, where 8 may be, as the workers of a web server do. Each request is answered, if need
+// be on a new connection, which a web server then opens.
 func TestManyKeptConnections(t *testing.T) {
 	s := serveHere(t, `, "limits": {"connections": 8, "seconds": 60}`)
 	connections := make([]net.Conn, 40)
 	request := []byte(s.request("GET", "/web/x", ""))
-	asks := func(place int) bool {
+	// (sends a request on the connection at a place, if there is one, and waits for the answer)
+	isAnswered := func(place int) bool {
 		if connections[place] == nil {
 			return false
 		}
@@ -306,7 +307,7 @@ func TestManyKeptConnections(t *testing.T) {
 	}
 	for turn := 0; turn < 3; turn++ {
 		for place := range connections {
-			if asks(place) {
+			if isAnswered(place) {
 				continue
 			}
 			connection, err := net.Dial("unix", s.socket)
@@ -314,7 +315,7 @@ func TestManyKeptConnections(t *testing.T) {
 				t.Fatal(err)
 			}
 			defer connection.Close()
-			if connections[place] = connection; !asks(place) {
+			if connections[place] = connection; !isAnswered(place) {
 				t.Fatalf("turn %d, connection %d: no answer", turn, place)
 			}
 		}
@@ -363,10 +364,12 @@ func TestDeadlines(t *testing.T) {
 	} {
 		server, connection := newConnectionServer(newSite(t, "").decider), &recordedDeadline{}
 		state := server.add(connection)
-		if err := server.setStage(state, isIdle); err != nil || !connection.until.IsZero() {
+		err := server.setStage(state, isIdle)
+		// (its time is not over: this ends nothing)
+		server.endLate(time.Now())
+		if err != nil || !connection.until.IsZero() {
 			t.Errorf("%s: %v, %v", name, err, connection.until)
 		}
-		server.endLate(time.Now())
 		if ends(server); connection.until.IsZero() {
 			t.Errorf("%s: it stays", name)
 		}
@@ -435,7 +438,7 @@ func TestBusySocket(t *testing.T) {
 		defer connection.Close()
 	}
 	if err := removeStale(path); err == nil {
-		t.Error("the socket of a busy daemon is taken for stale")
+		t.Error("the socket of a busy daemon counts as stale")
 	}
 	if _, err := os.Lstat(path); err != nil {
 		t.Error(err)
@@ -461,10 +464,10 @@ func TestManagerThatIsGone(t *testing.T) {
 	}
 }
 
-// TestWords runs the program with several command lines, and compares the status and what is printed. Where `out` is full, the status is 1.
-func TestWords(t *testing.T) {
+// TestCommandLines runs the program with several command lines, and compares the status and what is printed. Where `out` is full, the status is 1.
+func TestCommandLines(t *testing.T) {
 	list, bad := writeFile(t, "acl", "(acl (entry (public-key (test a)) (tag (*))))"), writeFile(t, "bad", "(acl (entry))")
-	config := writeFile(t, "config", strings.Replace(strings.Replace(least, "/acl", list, 1), `"/log"`, `"`+filepath.Join(t.TempDir(), "log")+`"`, 1))
+	config := writeFile(t, "config", strings.Replace(strings.Replace(leastConfig, "/acl", list, 1), `"/log"`, `"`+filepath.Join(t.TempDir(), "log")+`"`, 1))
 	for line, wanted := range map[string]struct {
 		status       int
 		out, message string

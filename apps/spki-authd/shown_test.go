@@ -11,17 +11,17 @@ import (
 	"conguraki/spki/guard"
 )
 
-// kept returns the number of sequences that are kept since they were shown and valid.
-func (s *site) kept() int {
+// countKept returns the number of sequences that are kept since they were shown and valid.
+func (s *site) countKept() int {
 	return len(s.sequences.kept.old) + len(s.sequences.kept.young)
 }
 
-// mustBe asks three times to read a target by a sequence, and reports an error, which begins with `name`, unless each status is the one that is
+// mustAnswer asks three times to read a target by a sequence, and reports an error, which begins with `name`, unless each status is the one that is
 // wanted. A valid sequence is kept after the first question, and put into canonical form at the second. The last line of the log is returned.
-func (s *site) mustBe(t *testing.T, name string, who person, target, shown string, wanted int) record {
+func (s *site) mustAnswer(t *testing.T, name string, who person, target, shown string, wanted int) record {
 	t.Helper()
 	for turn := 1; turn <= 3; turn++ {
-		if response := s.by(who, "GET", target, shown); response.StatusCode != wanted {
+		if response := s.askAs(who, "GET", target, shown); response.StatusCode != wanted {
 			t.Errorf("%s, turn %d: %d, wanted %d: %+v", name, turn, response.StatusCode, wanted, s.lastLine(t))
 		}
 	}
@@ -40,12 +40,12 @@ func TestKeptSequencesGrantNothingByThemselves(t *testing.T) {
 		"Carol": {s.carol, "/web/docs/a/b", 200}, "another path": {s.carol, "/web/docs/b", 403}, "a path beside it": {s.carol, "/web/docs/a", 403},
 		"another key": {s.mallory, "/web/docs/a/b", 403}, "the issuer's key": {s.bob, "/web/docs/a/b", 403}, "Carol again": {s.carol, "/web/docs/a/c", 200},
 	} {
-		s.mustBe(t, name, row.who, row.target, carols, row.wanted)
+		s.mustAnswer(t, name, row.who, row.target, carols, row.wanted)
 	}
-	if s.kept() != 1 {
-		t.Errorf("%d sequences are kept", s.kept())
+	if s.countKept() != 1 {
+		t.Errorf("%d sequences are kept", s.countKept())
 	}
-	if response := s.by(s.carol, "PUT", "/web/docs/a/b", carols); response.StatusCode != 403 {
+	if response := s.askAs(s.carol, "PUT", "/web/docs/a/b", carols); response.StatusCode != 403 {
 		t.Errorf("another method: %d", response.StatusCode)
 	}
 }
@@ -55,7 +55,7 @@ func TestSequenceIsCanonicalFromTheSecondTimeOn(t *testing.T) {
 	s := newSite(t, "")
 	_, carols := s.sequencesShown()
 	for _, begin := range []string{"{", "(8:sequence"} {
-		if response := s.by(s.carol, "GET", "/web/docs/a/b", carols); response.StatusCode != 200 {
+		if response := s.askAs(s.carol, "GET", "/web/docs/a/b", carols); response.StatusCode != 200 {
 			t.Errorf("%s: %d", begin, response.StatusCode)
 		}
 		if kept := s.sequences.of(carols); kept == nil || !strings.HasPrefix(string(kept.text), begin) {
@@ -68,7 +68,7 @@ func TestSequenceIsCanonicalFromTheSecondTimeOn(t *testing.T) {
 func TestKeptSequencesAndTheList(t *testing.T) {
 	s := newSite(t, "")
 	_, carols := s.sequencesShown()
-	s.mustBe(t, "before", s.carol, "/web/docs/a/b", carols, 200)
+	s.mustAnswer(t, "before", s.carol, "/web/docs/a/b", carols, 200)
 	list, err := os.ReadFile(s.config.List)
 	if err != nil {
 		t.Fatal(err)
@@ -83,7 +83,7 @@ func TestKeptSequencesAndTheList(t *testing.T) {
 		if err := s.keeper.reload(s.config, true, s.now()); err != nil {
 			t.Fatal(err)
 		}
-		s.mustBe(t, "another list", s.carol, "/web/docs/a/b", carols, row.wanted)
+		s.mustAnswer(t, "another list", s.carol, "/web/docs/a/b", carols, row.wanted)
 	}
 }
 
@@ -92,25 +92,25 @@ func TestKeptSequencesAndTheList(t *testing.T) {
 func TestKeptSequencesAndEndedCertificates(t *testing.T) {
 	s := newSite(t, "")
 	bobs, carols := s.sequencesShown()
-	s.mustBe(t, "before", s.carol, "/web/docs/a/b", carols, 200)
-	s.mustBe(t, "before", s.bob, "/web/docs/b", bobs, 200)
+	s.mustAnswer(t, "before", s.carol, "/web/docs/a/b", carols, 200)
+	s.mustAnswer(t, "before", s.bob, "/web/docs/b", bobs, 200)
 	for place, certificate := range []string{s.toBob, s.toCarol} {
 		s.config.Ended = writeFile(t, "ended", withLastLine(digestOfText(certificate)+"\n"))
 		if err := s.keeper.reload(s.config, true, s.now()); err != nil {
 			t.Fatal(err)
 		}
-		line := s.mustBe(t, "ended", s.carol, "/web/docs/a/b", carols, 403)
+		line := s.mustAnswer(t, "ended", s.carol, "/web/docs/a/b", carols, 403)
 		if !strings.Contains(line.Reason, digestOfText(certificate)) || len(line.Certificates) != place+1 || line.Cached != place {
 			t.Errorf("%+v", line)
 		}
 		// (Bob shows only his own, which is the first)
-		s.mustBe(t, "Bob's", s.bob, "/web/docs/b", bobs, []int{403, 200}[place])
+		s.mustAnswer(t, "Bob's", s.bob, "/web/docs/b", bobs, []int{403, 200}[place])
 	}
 	s.config.Ended = ""
 	if err := s.keeper.reload(s.config, true, s.now()); err != nil {
 		t.Fatal(err)
 	}
-	if line := s.mustBe(t, "no longer ended", s.carol, "/web/docs/a/b", carols, 200); line.Cached != 2 || len(line.Certificates) != 2 || line.List == "" {
+	if line := s.mustAnswer(t, "no longer ended", s.carol, "/web/docs/a/b", carols, 200); line.Cached != 2 || len(line.Certificates) != 2 || line.List == "" {
 		t.Errorf("%+v", line)
 	}
 }
@@ -121,20 +121,20 @@ func TestKeptSequencesAndTime(t *testing.T) {
 	s.now = func() time.Time { return time.Date(2026, 1, 1, 0, 0, 0, 0, time.UTC) }
 	until := s.alice.certificateUntil(s.bob, prefix("read", "/web/"), "2026-01-01_00:00:00")
 	shown := sequence(s.alice.sign(until))
-	s.mustBe(t, "in its last second", s.bob, "/web/x", shown, 200)
+	s.mustAnswer(t, "in its last second", s.bob, "/web/x", shown, 200)
 	s.now = func() time.Time { return time.Date(2026, 1, 1, 0, 0, 1, 0, time.UTC) }
-	s.mustBe(t, "a second later", s.bob, "/web/x", shown, 403)
+	s.mustAnswer(t, "a second later", s.bob, "/web/x", shown, 403)
 }
 
 // TestOnlyValidSequencesAreKept shows forged, unreadable and ended certificates, and right ones where `cache` is 0: no sequence is kept.
 func TestOnlyValidSequencesAreKept(t *testing.T) {
 	s := newSite(t, "")
 	asAlice := s.mallory.signAs(s.alice, s.alice.certificate(s.mallory, prefix("read", "/web/"), propagates))
-	s.mustBe(t, "a forged one", s.mallory, "/web/x", sequence(asAlice), 403)
-	s.mustBe(t, "a right one and a forged one", s.mallory, "/web/x", sequence(s.alice.sign(s.toBob), asAlice), 403)
-	s.mustBe(t, "no text", s.mallory, "/web/x", "{AAAA}", 400)
-	if s.kept() != 0 {
-		t.Errorf("%d sequences are kept", s.kept())
+	s.mustAnswer(t, "a forged one", s.mallory, "/web/x", sequence(asAlice), 403)
+	s.mustAnswer(t, "a right one and a forged one", s.mallory, "/web/x", sequence(s.alice.sign(s.toBob), asAlice), 403)
+	s.mustAnswer(t, "no S-expression", s.mallory, "/web/x", "{AAAA}", 400)
+	if s.countKept() != 0 {
+		t.Errorf("%d sequences are kept", s.countKept())
 	}
 	ended := newSite(t, "")
 	ended.config.Ended = writeFile(t, "ended", withLastLine(digestOfText(ended.toBob)+"\n"))
@@ -142,13 +142,13 @@ func TestOnlyValidSequencesAreKept(t *testing.T) {
 		t.Fatal(err)
 	}
 	bobs, _ := ended.sequencesShown()
-	if ended.mustBe(t, "an ended one", ended.bob, "/web/docs/b", bobs, 403); ended.kept() != 0 {
-		t.Errorf("%d sequences are kept", ended.kept())
+	if ended.mustAnswer(t, "an ended one", ended.bob, "/web/docs/b", bobs, 403); ended.countKept() != 0 {
+		t.Errorf("%d sequences are kept", ended.countKept())
 	}
 	uncached := newSite(t, `, "cache": 0`)
 	_, carols := uncached.sequencesShown()
-	if line := uncached.mustBe(t, "no cache", uncached.carol, "/web/docs/a/b", carols, 200); uncached.kept() != 0 || line.Cached != 0 {
-		t.Errorf("%d sequences are kept, %+v", uncached.kept(), line)
+	if line := uncached.mustAnswer(t, "no cache", uncached.carol, "/web/docs/a/b", carols, 200); uncached.countKept() != 0 || line.Cached != 0 {
+		t.Errorf("%d sequences are kept, %+v", uncached.countKept(), line)
 	}
 }
 
@@ -158,8 +158,8 @@ func TestKeptSequencesAreBounded(t *testing.T) {
 	for number := 0; number < 2*mostShown; number++ {
 		s.sequences.add(sequence(str(fmt.Sprint(number))), &shownSequence{})
 	}
-	if s.kept() > mostShown || s.kept() < mostShown/2 {
-		t.Errorf("%d sequences are kept", s.kept())
+	if s.countKept() > mostShown || s.countKept() < mostShown/2 {
+		t.Errorf("%d sequences are kept", s.countKept())
 	}
 	for _, octets := range []int{5000, 7000} {
 		text := sequence(str(strings.Repeat("x", octets)))
@@ -173,8 +173,8 @@ func TestKeptSequencesAreBounded(t *testing.T) {
 func TestKeptSequencesAreExplained(t *testing.T) {
 	s := newSite(t, `, "explain": true`)
 	bobs, _ := s.sequencesShown()
-	s.mustBe(t, "granted", s.bob, "/web/docs/b", bobs, 200)
-	if line := s.mustBe(t, "denied", s.bob, "/web/x", bobs, 403); line.Reasons != "entry 1 TagLacks" {
+	s.mustAnswer(t, "granted", s.bob, "/web/docs/b", bobs, 200)
+	if line := s.mustAnswer(t, "denied", s.bob, "/web/x", bobs, 403); line.Reasons != "entry 1 TagLacks" {
 		t.Errorf("%+v", line)
 	}
 }
@@ -197,6 +197,6 @@ func TestSignaturesThatAreNotRead(t *testing.T) {
 	}
 	opened.Close()
 	if _, err := signaturesIn(opened); err == nil {
-		t.Error("a closed question has no signatures")
+		t.Error("a closed question is read as one without signatures")
 	}
 }

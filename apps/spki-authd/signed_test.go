@@ -10,12 +10,12 @@ import (
 	"conguraki/spki/httpsig"
 )
 
-// ofSite are fields for newSite, by which requests may be signed for two names of the site.
-const ofSite = `, "signatures": {"names": ["files.example.org", "files.example.net:8443"]}`
+// withSignatures are fields for newSite, by which requests may be signed for two names of the site.
+const withSignatures = `, "signatures": {"names": ["files.example.org", "files.example.net:8443"]}`
 
-// signs returns the headers of a request that a person has signed, in pairs of name and value, as nginx passes them on. `sequence` and `body` may be
+// signedHeaders returns the headers of a request that a person has signed, in pairs of name and value, as nginx passes them on. `sequence` and `body` may be
 // empty.
-func (p person) signs(t testing.TB, method, authority, target, sequence string, body []byte) []string {
+func (p person) signedHeaders(t testing.TB, method, authority, target, sequence string, body []byte) []string {
 	t.Helper()
 	signer, err := httpsig.NewSigner(p.private)
 	if err != nil {
@@ -56,14 +56,14 @@ func without(pairs []string, name string) []string {
 	return remaining
 }
 
-// TestSigned asks with signed requests, right ones and changed ones, and compares the status and the reason.
-func TestSigned(t *testing.T) {
-	s := newSite(t, ofSite)
+// TestSignedRequests asks with signed requests, right ones and changed ones, and compares the status and the reason.
+func TestSignedRequests(t *testing.T) {
+	s := newSite(t, withSignatures)
 	bobs, _ := s.sequencesShown()
 	alices := func(method, target string, body string) []string {
-		return s.alice.signs(t, method, "files.example.org", target, "", []byte(body))
+		return s.alice.signedHeaders(t, method, "files.example.org", target, "", []byte(body))
 	}
-	reads, bob := alices("GET", "/web/x?y=z", ""), s.bob.signs(t, "GET", "files.example.net:8443", "/web/docs/b", bobs, nil)
+	reads, bob := alices("GET", "/web/x?y=z", ""), s.bob.signedHeaders(t, "GET", "files.example.net:8443", "/web/docs/b", bobs, nil)
 	for _, row := range []struct {
 		name   string
 		pairs  []string
@@ -108,14 +108,14 @@ func TestSigned(t *testing.T) {
 // second one is refused.
 func TestNoncesOfDenials(t *testing.T) {
 	s := newSite(t, `, "signatures": {"names": ["files.example.org"], "nonces": 1}`)
-	denied := s.mallory.signs(t, "GET", "files.example.org", "/web/x", "", nil)
+	denied := s.mallory.signedHeaders(t, "GET", "files.example.org", "/web/x", "", nil)
 	for turn := 0; turn < 3; turn++ {
 		if response := s.ask(denied...); response.StatusCode != http.StatusUnauthorized {
 			t.Error(response.StatusCode, s.lastLine(t))
 		}
 	}
 	for _, wanted := range []string{"", string(httpsig.StoreFull)} {
-		s.ask(s.alice.signs(t, "GET", "files.example.org", "/web/x", "", nil)...)
+		s.ask(s.alice.signedHeaders(t, "GET", "files.example.org", "/web/x", "", nil)...)
 		if line := s.lastLine(t); !strings.HasSuffix(line.Reason, wanted) || (line.Answer == answerYes) != (wanted == "") || line.Proof != bySignature {
 			t.Errorf("%+v", line)
 		}
@@ -126,7 +126,7 @@ func TestNoncesOfDenials(t *testing.T) {
 // signatures.
 func TestSignatureSettings(t *testing.T) {
 	s := newSite(t, "")
-	if response := s.ask(s.alice.signs(t, "GET", "files.example.org", "/web/x", "", nil)...); response.StatusCode != http.StatusUnauthorized {
+	if response := s.ask(s.alice.signedHeaders(t, "GET", "files.example.org", "/web/x", "", nil)...); response.StatusCode != http.StatusUnauthorized {
 		t.Error(response.StatusCode)
 	}
 	for _, wrong := range []string{
@@ -149,11 +149,11 @@ func (forgetfulNonces) Take([]byte, string, int64, int64) error { return nil }
 
 // BenchmarkSigned measures a signed request without certificates: the proof and the decision.
 func BenchmarkSigned(b *testing.B) {
-	s := newSite(b, ofSite)
+	s := newSite(b, withSignatures)
 	s.logGrant = func([]byte) error { return nil }
 	s.requests.Nonces = forgetfulNonces{}
 	request := httptest.NewRequest(http.MethodGet, "/auth", nil)
-	pairs := s.alice.signs(b, "GET", "files.example.org", "/web/x", "", nil)
+	pairs := s.alice.signedHeaders(b, "GET", "files.example.org", "/web/x", "", nil)
 	for place := 0; place < len(pairs); place += 2 {
 		request.Header.Set(pairs[place], pairs[place+1])
 	}

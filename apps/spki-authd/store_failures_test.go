@@ -41,8 +41,8 @@ type version struct {
 type timeline struct {
 	*rig
 	writers []*pool
-	// The writer that is asked, and the last number of an entry.
-	at, number int
+	// The place of the writer that is asked, and the last number of an entry.
+	writerAt, number int
 	// How many changes failed, so that it was not certain whether they were done.
 	uncertain int
 	// Closed when the test ends.
@@ -75,10 +75,10 @@ func newTimeline(t *testing.T) *timeline {
 // transact runs statements, in which @ is the schema, in one transaction, and returns the rows of all. `values` are those of the last statement. After
 // an error it is not known whether the transaction was committed. Its connection is closed then, and another server is asked the next time.
 func (l *timeline) transact(texts []string, values ...driver.Value) (rows [][]driver.Value, err error) {
-	writer := l.writers[l.at]
+	writer := l.writers[l.writerAt]
 	taken, err := writer.take()
 	if err != nil {
-		l.at = (l.at + 1) % len(l.writers)
+		l.writerAt = (l.writerAt + 1) % len(l.writers)
 		return nil, err
 	}
 	for place, text := range append(append([]string{"BEGIN READ WRITE"}, texts...), "COMMIT") {
@@ -94,7 +94,7 @@ func (l *timeline) transact(texts []string, values ...driver.Value) (rows [][]dr
 		if err != nil {
 			taken.Close()
 			taken = nil
-			l.at = (l.at + 1) % len(l.writers)
+			l.writerAt = (l.writerAt + 1) % len(l.writers)
 			break
 		}
 	}
@@ -102,7 +102,7 @@ func (l *timeline) transact(texts []string, values ...driver.Value) (rows [][]dr
 	return rows, err
 }
 
-// copyOf returns a copy of a row, whose octets are valid until the next row alone.
+// copyOf returns a copy of a row, also of its octets, which are valid only until the next row.
 func copyOf(row []driver.Value) []driver.Value {
 	copied := append([]driver.Value(nil), row...)
 	for place, value := range copied {
@@ -209,7 +209,7 @@ func (l *timeline) changeUntilEnd() {
 }
 
 // TestQuestionsUnderFailures asks a store while its entries change and tests/suite/test_store_failures.py has something fail. Each answer must be a
-// failure, or that of the guard of the whole list as of a moment that is at most `failingStale` seconds ago. It ends when as many questions are
+// failure, or that of the guard of the whole list as of a moment at most `failingStale` seconds before the question. It ends when as many questions are
 // answered as the environment says, and the file of envEnd is there. `counts` counts failures, and other answers by their first two letters: yes, no,
 // refused. At least a twentieth of `wanted` must be yes, as many no, and one a failure.
 func TestQuestionsUnderFailures(t *testing.T) {

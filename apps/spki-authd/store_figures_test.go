@@ -26,7 +26,7 @@ const (
 	envWhat = "SPKI_STORE_WHAT"
 )
 
-// figures has a store of many entries and what is asked of it.
+// figures has a store, and for how many keys it has entries.
 type figures struct {
 	*testing.T
 	store *store
@@ -152,7 +152,7 @@ func min(one, other int) int {
 	return other
 }
 
-// measureLoad has several goroutines ask at once, nine of ten times for a key whose list is kept. The store keeps 1 MiB alone, so that the lists of
+// measureLoad has several goroutines ask at once, nine of ten times for a key whose list is kept. The store keeps only 1 MiB of lists, so those of
 // other keys are seldom kept. It prints the questions a second, the part that was answered from kept lists, and the figure `load`, for
 // bench/store.py.
 func (f *figures) measureLoad() {

@@ -29,7 +29,7 @@ const (
 	envRoot      = "SPKI_STORE_ROOT"
 )
 
-// What the answer of a store that has none begins with.
+// What rig.answer begins with where the store gives no list, and does not refuse the question.
 const failed = "failed: "
 
 // A rig is a store in PostgreSQL, what changes it, and all lists that it had.
@@ -81,8 +81,8 @@ func newRig(t *testing.T, patience time.Duration) *rig {
 	return opened
 }
 
-// forget closes the statement with a number, if it is prepared, so that the next ask prepares the text that it is given: ask keeps the statement that
-// it prepared under a number, and would run the text before again.
+// forget closes the statement with a number, if it is prepared, so that the next ask prepares the text that it is given. Else ask would run again the
+// statement that it has prepared under this number.
 func (l *link) forget(number int) error {
 	prepared := l.statements[number]
 	if prepared == nil {
@@ -195,7 +195,7 @@ func (r *rig) question(random *rand.Rand) guard.Question {
 	return guard.Question{Sequence: []byte(text + ")"), Key: spki.AssumeKey([]byte(chain[len(chain)-1].key)), Words: []string{"files", "read", "/web/a/x"}, Time: time.Now()}
 }
 
-// wholeAnswer returns what answerBy does for a guard that has all these entries, which are by their numbers.
+// wholeAnswer returns the answer of a guard with all these entries, which are by their numbers. answerBy says what an answer is.
 func (r *rig) wholeAnswer(entries map[int]string, question guard.Question) string {
 	text := ""
 	numbers := numbersOf(entries)
@@ -223,8 +223,8 @@ func answerBy(opened *guard.Guard, numbers []int, question guard.Question) strin
 	return "no"
 }
 
-// answer returns what answerBy does for the list that the store returns, or the error: behind `failed` if the question was not refused. If the list was
-// closed meanwhile, it asks again.
+// answer returns the answer by the list that the store returns for a question: answerBy says what that is. If the store returns none, it is the library's
+// refusal of the question, or `failed` with any other error behind it. If the list was closed meanwhile, it asks again.
 func (r *rig) answer(question guard.Question) string {
 	for {
 		list, err := r.store.list(&question)
@@ -303,7 +303,7 @@ func (r *rig) wasRightSince(first int64, question guard.Question, answer string)
 	}
 }
 
-// isRightSoon waits until the change with a number is noted, and says whether an answer is that of the list then.
+// isRightSoon waits until the change with a number is noted, and says whether an answer is that of the list then. It is false if that takes over a minute.
 func (r *rig) isRightSoon(at int64, question guard.Question, answer string) bool {
 	for end := time.Now().Add(time.Minute); time.Now().Before(end); time.Sleep(time.Millisecond) {
 		if entries := r.after(at); entries != nil {

@@ -38,7 +38,7 @@ const (
 )
 
 // A load asks daemons over HTTP, nine of ten times for somebody whose rows they keep. Each connection begins a request every `every`, or at once if
-// that is 0, for `seconds`. `times` has what its answers took.
+// that is 0, for `seconds`. `requests` has the text of each person's request, and `times` what the answers took, by the connection.
 type load struct {
 	*testing.T
 	requests []string
@@ -111,11 +111,11 @@ func (l *load) populate() {
 // warm has each daemon read the rows of those who ask often.
 func (l *load) warm() {
 	for _, socket := range l.sockets {
-		asker := l.visitor(socket, 0, nil)
+		visitor := l.newVisitor(socket, 0, nil)
 		for number := 0; number < hotPeople; number++ {
-			asker.askFor(number)
+			visitor.askFor(number)
 		}
-		asker.connection.Close()
+		visitor.connection.Close()
 	}
 }
 
@@ -140,7 +140,7 @@ func (l *load) askUntilEnd() {
 				}
 				visitor.askFor(number)
 			}
-		}(place, l.visitor(l.sockets[at], int64(place), &l.times[place]), &cold[at])
+		}(place, l.newVisitor(l.sockets[at], int64(place), &l.times[place]), &cold[at])
 	}
 	group.Wait()
 }
@@ -154,8 +154,9 @@ type visitor struct {
 	times      *[]time.Duration
 }
 
-// visitor connects to a daemon's socket. `seed` is that of its random numbers. What answers take is appended to `times`, if that is not nil.
-func (l *load) visitor(socket string, seed int64, times *[]time.Duration) *visitor {
+// newVisitor returns a visitor that is connected to a daemon's socket. `seed` is that of its random numbers. What answers take is appended to `times`, if
+// that is not nil.
+func (l *load) newVisitor(socket string, seed int64, times *[]time.Duration) *visitor {
 	connection, err := net.Dial("unix", socket)
 	if err != nil {
 		l.Fatal(err)

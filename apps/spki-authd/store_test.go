@@ -26,9 +26,9 @@ type table struct {
 	meanwhile func()
 	// How often rows or sequences were read.
 	reads int
-	// The sequences by the digests of their keys, and the answer to one more: `kept` if it is empty.
-	kept   map[digest][]keptChain
-	became answer
+	// The sequences by the digests of their keys, and what `keep` answers, or empty for `kept`.
+	kept       map[digest][]keptChain
+	keepAnswer answer
 }
 
 // A change is the digest of the key whose entry has changed, or an ended certificate, with the time of the change.
@@ -40,6 +40,7 @@ type change struct {
 
 // put puts an entry for a key into the table, or takes it out if `text` is empty.
 func (t *table) put(number int, key, text string) {
+	// (the second digest is that by SHA-256)
 	keyDigest := string(digestsOf([]byte(key))[1])
 	t.texts[number], t.keyDigests[number] = text, keyDigest
 	if text == "" {
@@ -56,7 +57,8 @@ func (t *table) note(next change) {
 	t.news = append(t.news, next)
 }
 
-// rows returns the entries, by numbers below 100, whose key has one of these digests. After that it calls `meanwhile` once, if it is set.
+// rows returns the entries whose key has one of these digests, in the order of their numbers, which are below 100. Before it returns, it calls `meanwhile`
+// once, if that is set.
 func (t *table) rows(digests [][]byte) (rows entryRows, err error) {
 	t.reads++
 	rows.storeState = t.state
@@ -74,7 +76,7 @@ func (t *table) rows(digests [][]byte) (rows entryRows, err error) {
 	return rows, t.fault
 }
 
-// since returns the changes after that with a number, and the time of that one, or 0 if there is no such change.
+// since returns the changes after the one with a number, and the time of that one, or 0 if there is no such change.
 func (t *table) since(number int64) (pollResult, error) {
 	result := pollResult{storeState: t.state}
 	if number > 0 && number <= t.state.changes {
@@ -101,13 +103,13 @@ func (t *table) chains(key digest) ([]keptChain, error) {
 	return t.kept[key], t.fault
 }
 
-// keep keeps each sequence, whatever the limits are and whatever it answers, unless the table fails.
+// keep keeps each sequence, whatever the limits are, unless the table has a fault. It returns keepAnswer or `kept`.
 func (t *table) keep(key digest, chain keptChain, limits *chains) (answer, error) {
 	if t.fault == nil {
 		t.kept[key] = append(t.kept[key], chain)
 	}
-	if t.became != "" {
-		return t.became, t.fault
+	if t.keepAnswer != "" {
+		return t.keepAnswer, t.fault
 	}
 	return answerKept, t.fault
 }
@@ -152,7 +154,7 @@ func (s *storedSite) entryOf(who person) string {
 	return "(5:entry" + who.key + propagates + "(3:tag" + prefix("read", "/web/") + "))"
 }
 
-// beat adds a beat to the table at the time of its clock, and polls.
+// beat adds a beat to the table at the time of the store's clock, and has the store poll.
 func (s *storedSite) beat() {
 	s.table.state.beat++
 	s.table.state.beaten = s.time.UnixMicro()
@@ -162,7 +164,7 @@ func (s *storedSite) beat() {
 // expect asks whether Alice may read /web/x, and reports an error, which begins with `name`, unless the status is the one that is wanted.
 func (s *storedSite) expect(t *testing.T, name string, wanted int) {
 	t.Helper()
-	if response := s.by(s.alice, "GET", "/web/x", ""); response.StatusCode != wanted {
+	if response := s.askAs(s.alice, "GET", "/web/x", ""); response.StatusCode != wanted {
 		t.Errorf("%s: %d, and not %d: %s", name, response.StatusCode, wanted, s.lastLine(t).Reason)
 	}
 }
@@ -182,9 +184,9 @@ func TestStoreDecides(t *testing.T) {
 		wanted int
 	}{
 		"Bob": {s.bob, bobs, 200}, "Carol": {s.carol, carols, 403}, "Mallory": {s.mallory, "", 401}, "Mallory with Bob's": {s.mallory, bobs, 403},
-		"a value of another kind": {s.alice, "{KDE6YSk=}", 400},
+		"a value of another kind": {s.alice, noSequence, 400},
 	} {
-		if response := s.by(row.who, "GET", "/web/docs/b", row.shown); response.StatusCode != row.wanted {
+		if response := s.askAs(row.who, "GET", "/web/docs/b", row.shown); response.StatusCode != row.wanted {
 			t.Errorf("%s: %d", name, response.StatusCode)
 		}
 	}
@@ -202,7 +204,7 @@ func TestStoreDecides(t *testing.T) {
 	ends := *(*digest)(hexOf(t, digestOfText(s.toBob)))
 	s.table.note(change{ended: &ends})
 	s.beat()
-	if response := s.by(s.bob, "GET", "/web/docs/b", bobs); response.StatusCode != 403 {
+	if response := s.askAs(s.bob, "GET", "/web/docs/b", bobs); response.StatusCode != 403 {
 		t.Errorf("an ended certificate: %d", response.StatusCode)
 	}
 	s.table.put(9, s.alice.key, "")
@@ -258,7 +260,7 @@ func TestListBesideStaleStore(t *testing.T) {
 			s.beat()
 		}
 		s.expect(t, "Alice, without certificates", 200)
-		if response := s.by(s.bob, "GET", "/web/docs/b", bobs); response.StatusCode != wanted {
+		if response := s.askAs(s.bob, "GET", "/web/docs/b", bobs); response.StatusCode != wanted {
 			t.Errorf("Bob: %d, and not %d", response.StatusCode, wanted)
 		}
 	}
@@ -290,7 +292,7 @@ func TestStoreThatGoesBack(t *testing.T) {
 // TestStoredChains leaves certificates in a store, where another daemon finds them. What was read is used again for cachedFor. Where the store does not
 // answer, the answer is 503 and neither yes nor no.
 func TestStoredChains(t *testing.T) {
-	s := newStored(t, `, "chains": {"postgres": {"host": "/run", "database": "d", "user": "u"}}`+ofSite)
+	s := newStored(t, `, "chains": {"postgres": {"host": "/run", "database": "d", "user": "u"}}`+withSignatures)
 	s.table.kept = map[digest][]keptChain{}
 	limits := s.config.Chains
 	s.chains = newStoredChains(limits, s.table)
@@ -327,8 +329,8 @@ func TestStoredChains(t *testing.T) {
 	s.chains = newStoredChains(limits, s.table)
 	asks("neither yes nor no", 503, "")
 	leaves("shown, and not kept", answerFailed)
-	s.table.fault, s.table.became, s.table.kept = nil, answerYes, map[digest][]keptChain{}
-	leaves("an answer that is none", answerFailed)
+	s.table.fault, s.table.keepAnswer, s.table.kept = nil, answerYes, map[digest][]keptChain{}
+	leaves("an answer that the store never gives", answerFailed)
 	if chains, err := other.of(hexDigest([]byte(s.bob.key)), s.now().AddDate(1, 0, 0)); err != nil || chains != nil {
 		t.Errorf("a year later: %v %v", chains, err)
 	}
@@ -356,10 +358,10 @@ func TestHostileRows(t *testing.T) {
 // A refusedMemory is an error as guard.Open returns it where an allocation fails.
 type refusedMemory struct{}
 
-// Error returns the library's line.
+// Error returns the text of guard.ErrMemory.
 func (refusedMemory) Error() string { return guard.ErrMemory.Error() }
 
-// Is says that the error is a refusal, and for want of memory.
+// Is says that the error is guard.ErrRefused and guard.ErrMemory.
 func (refusedMemory) Is(target error) bool {
 	return target == guard.ErrRefused || target == guard.ErrMemory
 }
@@ -381,7 +383,7 @@ func TestStoreWithoutMemory(t *testing.T) {
 // TestStoreConfigs reads configurations of stores: two right ones, whose settings for the driver are compared, and wrong ones, each of which is refused.
 func TestStoreConfigs(t *testing.T) {
 	withStore := func(fields string) string {
-		return strings.Replace(least, `"/acl"`, `{"postgres": {`+fields+`}}`, 1)
+		return strings.Replace(leastConfig, `"/acl"`, `{"postgres": {`+fields+`}}`, 1)
 	}
 	const needed = `"host": "/run/postgresql", "database": "acl", "user": "u"`
 	config, err := parseConfig([]byte(withStore(needed)))
@@ -399,7 +401,7 @@ func TestStoreConfigs(t *testing.T) {
 		withStore(""), withStore(needed + `, "schema": "a;b"`), withStore(needed + `, "stale_seconds": 2`), withStore(needed + `, "stale_seconds": -1`),
 		withStore(needed + `, "more": 1`), withStore(`"host": "db", "database": "acl", "user": "u"`), withStore(needed + `, "port": 70000`),
 		withStore(needed + `, "cache_mib": -1`),
-		strings.Replace(least, `"/acl"`, `{}`, 1), strings.Replace(least, `"/acl"`, `{"postgres": null}`, 1), strings.Replace(least, `"/acl"`, `[]`, 1),
+		strings.Replace(leastConfig, `"/acl"`, `{}`, 1), strings.Replace(leastConfig, `"/acl"`, `{"postgres": null}`, 1), strings.Replace(leastConfig, `"/acl"`, `[]`, 1),
 	} {
 		if _, err := parseConfig([]byte(text)); err == nil {
 			t.Errorf("accepted: %s", text)
@@ -437,7 +439,7 @@ func TestKeptRows(t *testing.T) {
 	}
 }
 
-// hexOf returns the octets that hexadecimal digits mean, and ends the test if they are no such digits.
+// hexOf returns the octets that hexadecimal digits mean, and ends the test if they cannot be decoded.
 func hexOf(t *testing.T, digits string) []byte {
 	t.Helper()
 	octets, err := hex.DecodeString(digits)

@@ -34,11 +34,11 @@ func tlsConfig(t *testing.T, who person) string {
 	address := listener.Addr().String()
 	listener.Close()
 	certificate, key := tlsFiles(t, who)
-	room := t.TempDir()
+	folder := t.TempDir()
 	list := "(3:acl(5:entry" + who.key + "(3:tag(5:files))))"
 	return fmt.Sprintf(`{"listen": "tls:%s", "tls": {"certificate": %q, "key": %q}, "secret_file": %q, "control": "unix:%s/control", "log": "%s/log",
 		"server": "nginx", "list": %q, "requests": [{"prefix": "/", "methods": {"GET": "read"}, "request": ["files", "{method}", "{path}"]}]}`,
-		address, certificate, key, writeFile(t, "secret", strings.Repeat("s", 32)+"\n"), room, room, writeFile(t, "acl", list))
+		address, certificate, key, writeFile(t, "secret", strings.Repeat("s", 32)+"\n"), folder, folder, writeFile(t, "acl", list))
 }
 
 // askByTLS asks the daemon of a configuration, as a web server that verifies its certificate, whether a person may read a file. It returns the status.
@@ -133,16 +133,17 @@ func TestCertificatesAreReadAgain(t *testing.T) {
 	}
 }
 
-// TestEntrances reads configurations of the socket or port at which the web server asks, right ones and wrong ones. A wrong one is refused with a reason.
-func TestEntrances(t *testing.T) {
+// TestListenSettings reads configurations of the socket or port at which the web server asks, right ones and wrong ones. A wrong one is refused with a
+// reason.
+func TestListenSettings(t *testing.T) {
 	files := `"tls": {"certificate": "/c", "key": "/k"}`
 	secret := `"secret_file": "/s"`
 	control := `"control": "unix:/run/x/control"`
 	listen := func(address string, fields ...string) string {
-		return strings.Replace(with(strings.Join(fields, ", ")), "unix:/run/x/s", address, 1)
+		return strings.Replace(leastWith(strings.Join(fields, ", ")), "unix:/run/x/s", address, 1)
 	}
 	for _, text := range []string{
-		listen("tls:127.0.0.1:9180", files, secret, control), listen("tls:[::1]:9180", files, secret, control), with(`"socket_mode": "0666", ` + secret),
+		listen("tls:127.0.0.1:9180", files, secret, control), listen("tls:[::1]:9180", files, secret, control), leastWith(`"socket_mode": "0666", ` + secret),
 	} {
 		if _, err := parseConfig([]byte(text)); err != nil {
 			t.Errorf("%s: %v", text, err)
@@ -153,9 +154,9 @@ func TestEntrances(t *testing.T) {
 		listen("tls:127.0.0.1:9180", secret, control): `"tls" is missing`, listen("tls:127.0.0.1:9180", files, control): "secret_file is missing",
 		listen("tls:127.0.0.1:9180", `"tls": {"certificate": "/c"}`, secret, control): `"tls" is missing`,
 		listen("tls:127.0.0.1:9180", files, secret):                                   `"control"`, listen("tls:192.0.2.1:9180", files, secret, control): "must be",
-		listen("tls:localhost:9180", files, secret, control): "must be", with(files): `"tls" is for a port`,
+		listen("tls:localhost:9180", files, secret, control): "must be", leastWith(files): `"tls" is for a port`,
 		listen("unix:/"+strings.Repeat("x", 107), `"cache": 1`): "at most 107 octets", listen("unix:/"+strings.Repeat("x", 100), `"cache": 1`): `"control"`,
-		with(`"control": "unix:/run/x/s"`): `another one than "listen"`, with(`"control": "/run/x/c"`): "unix:/PATH",
+		leastWith(`"control": "unix:/run/x/s"`): `another one than "listen"`, leastWith(`"control": "/run/x/c"`): "unix:/PATH",
 	} {
 		if _, err := parseConfig([]byte(text)); err == nil || !strings.Contains(err.Error(), wanted) {
 			t.Errorf("%s: %v", text, err)

@@ -12,22 +12,22 @@ import (
 	"time"
 )
 
-// A hangingSink takes no lines until `goes` is closed. `text` has what it took.
+// A hangingSink takes no lines until `released` is closed. `text` has what it took.
 type hangingSink struct {
-	goes chan struct{}
-	text bytes.Buffer
+	released chan struct{}
+	text     bytes.Buffer
 }
 
-// write waits until `goes` is closed, and then takes the lines.
+// write waits until `released` is closed, and then takes the lines.
 func (h *hangingSink) write(lines []byte) error {
-	<-h.goes
+	<-h.released
 	_, err := h.text.Write(lines)
 	return err
 }
 
 // TestSinkThatHangs writes lines to a sink that takes none: no call waits for ever, write fails, and lines beyond mostQueued are dropped.
 func TestSinkThatHangs(t *testing.T) {
-	sink := &hangingSink{goes: make(chan struct{})}
+	sink := &hangingSink{released: make(chan struct{})}
 	writer := newWriter(sink, 20*time.Millisecond, nil)
 	if err := writer.write([]byte("first\n")); !errors.Is(err, errHangs) {
 		t.Error(err)
@@ -42,7 +42,7 @@ func TestSinkThatHangs(t *testing.T) {
 	if dropped := writer.dropped.Load(); dropped < 99 || dropped > 101 {
 		t.Errorf("%d are dropped", dropped)
 	}
-	close(sink.goes)
+	close(sink.released)
 	err := writer.write([]byte("last\n"))
 	// (the queue was full, and on a busy machine what is before it takes its time)
 	for turn := 0; err != nil && turn < 1000; turn++ {
@@ -88,20 +88,21 @@ func TestManyLines(t *testing.T) {
 // afterwards are.
 func TestTimeOfLines(t *testing.T) {
 	const patience = time.Second
-	sink := &hangingSink{goes: make(chan struct{})}
+	sink := &hangingSink{released: make(chan struct{})}
 	writer := newWriter(sink, patience, nil)
 	var all sync.WaitGroup
 	writeLate := func(line string) {
 		defer all.Done()
 		begun := time.Now()
 		err := writer.write([]byte(line))
-		// (a busy machine may tell it later)
+		// (up to three times the patience, for a busy machine)
 		if took := time.Since(begun); !errors.Is(err, errHangs) || took < patience/2 || took > 3*patience {
 			t.Errorf("%q: %v after %v", line, err, took)
 		}
 	}
 	all.Add(1)
 	go writeLate("first\n")
+	// (until the first line is being written)
 	for writer.taken() == 0 {
 		time.Sleep(time.Millisecond)
 	}
@@ -113,9 +114,9 @@ func TestTimeOfLines(t *testing.T) {
 	}
 	all.Wait()
 	if !writer.isStuck.Load() || writer.written.Load() != 0 {
-		t.Error("it is not said that the sink hangs")
+		t.Error("the sink does not count as hanging, or a line as written")
 	}
-	close(sink.goes)
+	close(sink.released)
 	wanted := "first\n"
 	for line := 0; line < 100; line++ {
 		wanted += "later\n"
@@ -130,7 +131,7 @@ func TestTimeOfLines(t *testing.T) {
 
 // TestOrderOfLines has lines wait behind a write. They are written as they came, those that are offered among the others, and a long line too.
 func TestOrderOfLines(t *testing.T) {
-	sink := &hangingSink{goes: make(chan struct{})}
+	sink := &hangingSink{released: make(chan struct{})}
 	writer := newWriter(sink, time.Minute, nil)
 	long := strings.Repeat("x", mostAtOnce) + "\n"
 	wanted := ""
@@ -151,7 +152,7 @@ func TestOrderOfLines(t *testing.T) {
 			time.Sleep(time.Millisecond)
 		}
 	}
-	close(sink.goes)
+	close(sink.released)
 	all.Wait()
 	if text := sink.text.String(); text != wanted {
 		t.Errorf("%d octets, %.20q", len(text), text)
@@ -176,7 +177,7 @@ func (w *writer) lines() int {
 	return taken + w.queued
 }
 
-// A fullWriter has room for so many more octets, and is full then.
+// A fullWriter takes `room` more octets, and is full then.
 type fullWriter struct {
 	room int
 	text bytes.Buffer
@@ -221,9 +222,10 @@ func TestReaderThatIsGone(t *testing.T) {
 	defer pipe.Close()
 	writer := newWriter(&stream{to: pipe}, time.Minute, nil)
 	writer.offer([]byte("one\n"))
-	if octets := make([]byte, 4); writer.failed.Load() != 0 {
-		t.Error("not written")
-	} else if _, err := io.ReadFull(reader, octets); err != nil {
+	if writer.failed.Load() != 0 {
+		t.Fatal("the first line is not written")
+	}
+	if _, err := io.ReadFull(reader, make([]byte, len("one\n"))); err != nil {
 		t.Error(err)
 	}
 	reader.Close()
