@@ -58,7 +58,7 @@ words! {
         RangeOrdering,
         /// An entry for a name without a principal.
         RelativeInEntry,
-        /// A value that has none of the forms.
+        /// A value that has not the form of its part, such as an entry without a tag.
         Shape,
         /// A text that ends before its value does.
         Short,
@@ -104,7 +104,7 @@ words! {
         KeyNotShown,
         /// The authorization so far must not be delegated.
         NoDelegation,
-        /// The intersection of the tags is nothing.
+        /// The intersection of the tags is empty.
         NoTag,
         /// No moment is within both windows.
         NoValidity,
