@@ -142,7 +142,8 @@ class Verifiers(unittest.TestCase):
         self.assertEqual((len(calls), calls[-1]), (40, SIGNED))
 
     def test_a_verifier_is_not_called_in_vain(self):
-        """No signature is verified for a decision where none could help. An explanation says what is wrong with the certificates."""
+        """No signature is verified for a decision where none could help: the second certificate is not by the subject of the first, or the list is
+        empty. For an explanation the first one is verified all the same."""
         for guard, question in ((self.guard, new_question(b"(sequence " + PAIR * 2 + b")")), (spki.Guard(b"(acl)"), new_question(FORGED))):
             self.assertEqual(guard.decide(question, fail), None)
             with self.assertRaises(ZeroDivisionError):
