@@ -157,7 +157,7 @@ class Verifiers(unittest.TestCase):
         self.assertTrue(self.guard.decide(new_question(), verify))
 
 
-class Opened(unittest.TestCase):
+class OpenedQuestions(unittest.TestCase):
     def setUp(self):
         self.guard = spki.Guard(LIST)
 
@@ -454,7 +454,7 @@ class Copies(unittest.TestCase):
         self.assertEqual((self.guard.decide(new_question(), accept_all), self.opened.decide()), (spki.Grant(1), None))
 
 
-class Keys(unittest.TestCase):
+class ProvenKeys(unittest.TestCase):
     """A question takes a key that is proved, and says so by its type."""
 
     LOGIN = spki.Signature(key=spki.canonical(KEY), message=b"(5:login7:service5:nonce)", value=b"3:sig")
@@ -502,7 +502,7 @@ class Keys(unittest.TestCase):
             self.assertEqual(dataclasses.replace(SIGNED, key=spki.canonical(key)).scheme, scheme)
 
 
-class Parts(unittest.TestCase):
+class QuestionParts(unittest.TestCase):
     """The parts of a question."""
 
     def test_strings_are_strings(self):
@@ -852,7 +852,7 @@ class Libraries(unittest.TestCase):
 
 @unittest.skipUnless(importlib.util.find_spec("setuptools"), "there is no setuptools; Debian: python3-setuptools")
 class Builds(unittest.TestCase):
-    def test_the_library_that_is_named_is_put_in(self):
+    def test_a_build_has_the_library_that_is_named(self):
         """A build has the file that SPKI_LIBRARY names, also if an earlier build in the same folder had another one: after `new` an older file,
         none, and one that is not there, which fails."""
         with tempfile.TemporaryDirectory() as folder:

@@ -302,7 +302,8 @@ class Clients(unittest.TestCase):
         raised.exception.close()
 
     def test_requests(self) -> None:
-        """`Auth` signs a request like that of `requests`, which has `body`, and one like that of `httpx`, which has `content`."""
+        """`Auth` signs a request like that of `requests`, which has `body`, and one like that of `httpx`, which has `content`. It adds nothing to one
+        for another host, and refuses a stream."""
         class Prepared:
             def __init__(self, method: str, url: str, body: bytes | str | None, has_content: bool) -> None:
                 # (99 is wrong: a length is not signed)
