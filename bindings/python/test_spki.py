@@ -505,7 +505,7 @@ class ProvenKeys(unittest.TestCase):
 class QuestionParts(unittest.TestCase):
     """The parts of a question."""
 
-    def test_strings_are_strings(self):
+    def test_a_string_with_spaces_stays_one_string(self):
         """A string with spaces, parentheses or a length in it stays one string of the request."""
         guard = spki.Guard(b"(acl (entry (public-key (test b)) (tag (cache (* prefix /cache/team1/) read))))")
         for words, is_granted in [((b"cache", b"/cache/team1/a.o", b"read"), True), ((b"cache", b"/cache/team1/a.o read", b"write"), False),
@@ -515,7 +515,7 @@ class QuestionParts(unittest.TestCase):
             self.assertEqual(bool(guard.decide(new_question(b"(sequence)", words=list(words)), accept_all)), is_granted, words)
 
     # A request by one word is that string, and not the list of it.
-    def test_one_string_is_a_string(self):
+    def test_one_word_is_no_list(self):
         guard = spki.Guard(b"(acl (entry (public-key (test b)) (tag ftp)))")
         self.assertTrue(guard.decide(new_question(b"(sequence)", words=(b"ftp",)), accept_all))
         self.assertTrue(guard.decide(new_question(b"(sequence)", text=b"ftp"), accept_all))
@@ -523,13 +523,14 @@ class QuestionParts(unittest.TestCase):
 
     # The tag is a list of 40 strings. It contains each request that begins with them. The usual limits would refuse 1,000 strings. The moment is
     # given in both ways, since it is passed beside the array of strings. Few strings come last, after many: none of those may be left.
-    def test_many_strings(self):
+    def test_many_words_make_one_list(self):
         guard = spki.Guard(b"(acl (entry (public-key (test b)) (tag (" + 40 * b"w " + b"))))", limits=HIGHEST)
         for count in (39, 40, 41, 1000, 3):
             for moment in (NOW, b'"2024-01-01_00:00:00"'):
                 self.assertEqual(bool(guard.decide(new_question(b"(sequence)", words=count * [b"w"], moment=moment), accept_all)), count >= 40, count)
 
-    # A window that begins with 1970, asked at its first second, long after it, a second before it, and by a clock in another time zone.
+    # A window that begins with 1970, asked at its first second, long after it, a second before it, and by a clock in another time zone. A `datetime`
+    # without a time zone is a `TypeError`.
     def test_moments_are_compared_with_the_window(self):
         guard = spki.Guard(b'(acl (entry (public-key (test b)) (tag (*)) (not-before "1970-01-01_00:00:00")))')
         for moment, is_granted in [(EPOCH, True), (datetime.max.replace(tzinfo=timezone.utc), True), (b'"1970-01-01_00:00:00"', True),

@@ -463,7 +463,8 @@ def _signature(handle: c_void_p, place: int, keys: dict[bytes, bytes]) -> Signat
 
 def _count_valid(handle: c_void_p, count: int, verify: Verify) -> int:
     """How many of the `count` signatures of an opened question are valid before the first that is not. It marks none, and no
-    other thread may do so meanwhile. Raises `TypeError` if `verify` returns neither `True` nor `False`."""
+    other thread may do so meanwhile. Raises `TypeError` if `verify` returns neither `True` nor `False`, and `Refused` if an
+    allocation failed."""
     memory, call_memory, last_key = _library.memory, _take_call_memory(), b""
     try:
         for place in range(count):

@@ -333,7 +333,7 @@ fn a_value_that_is_a_list_has_no_octets() -> Outcome {
 
 /// A string with a space or a parenthesis in it stays one string of the request.
 #[test]
-fn strings_are_strings() {
+fn a_string_with_spaces_stays_one_string() {
     let guard =
         guard(b"(acl (entry (public-key (test b)) (tag (cache (* prefix /cache/team1/) read))))");
     let rows: [(&[&[u8]], bool); 5] = [
@@ -351,7 +351,7 @@ fn strings_are_strings() {
 
 /// The tag is a list of 40 strings. It contains each request that begins with them. Up to 16 strings are passed on the stack, and more in a vector.
 #[test]
-fn many_strings_are_strings() {
+fn many_strings_make_one_request() {
     let tag = "w ".repeat(40);
     let guard = guard(format!("(acl (entry (public-key (test b)) (tag ({tag}))))").as_bytes());
     for (count, is_granted) in [
