@@ -87,13 +87,13 @@ class Verifiers(unittest.TestCase):
         self.guard = spki.Guard(LIST)
 
     # `LIST` grants the question if the one signature is valid: `verify` is called once, with its key, message and value.
-    def test_is_given_what_is_signed(self):
+    def test_a_verifier_gets_key_message_and_value(self):
         calls = []
         self.assertEqual(self.guard.decide(new_question(), recording(calls)), spki.Grant(1))
         self.assertEqual(calls, [SIGNED])
 
-    # Every other answer of a verifier is a `TypeError`, also one that Python takes for true.
-    def test_answers_true_or_false(self):
+    # An answer other than `True` and `False` is a `TypeError`, also one that Python takes for true.
+    def test_a_verifier_must_answer_true_or_false(self):
         self.assertFalse(self.guard.decide(new_question(), accept_none))
         for answer in (None, 1, 0, -255, 0x101, "yes", object(), [True]):
             for ask in (self.guard.decide, self.guard.explain, self.guard.reduce):
@@ -101,7 +101,7 @@ class Verifiers(unittest.TestCase):
                     ask(new_question(), lambda signature: answer)
 
     # A coroutine is true in Python, but no answer. Python would also warn that it is never awaited.
-    def test_that_is_a_coroutine_is_an_error(self):
+    def test_a_verifier_that_is_a_coroutine_is_an_error(self):
         async def verify(signature):
             return True
 
@@ -111,7 +111,7 @@ class Verifiers(unittest.TestCase):
                 self.guard.decide(new_question(), verify)
 
     # Of three certificates the second has a wrong signature. It is item 3, since each signature is an item too.
-    def test_is_not_called_behind_the_first_wrong_one(self):
+    def test_a_verifier_is_not_called_behind_the_first_wrong_signature(self):
         calls = []
 
         def verify(signature):
@@ -123,13 +123,14 @@ class Verifiers(unittest.TestCase):
         self.assertEqual(calls, [b"3:sig", b"5:wrong"])
 
     # An exception of a verifier is passed on to the caller.
-    def test_what_it_raises_goes_on(self):
+    def test_an_exception_of_a_verifier_reaches_the_caller(self):
         for ask in (self.guard.decide, self.guard.explain, self.guard.reduce):
             with self.assertRaises(ZeroDivisionError):
                 ask(new_question(), fail)
 
-    # Of 40 times PAIR the second is `NotIssuer`: the subject is b by then. With 39 times OWN in front, one PAIR is granted.
-    def test_is_called_for_each_of_many(self):
+    # The verifier is called 40 times for each question. Of 40 times PAIR the second is `NotIssuer`: the subject is b by then. With 39 times OWN in
+    # front, one PAIR is granted.
+    def test_a_verifier_is_called_for_each_of_many(self):
         calls = []
         guard = spki.Guard(LIST, limits=HIGHEST)
         question = new_question(b"(sequence " + PAIR * 40 + b")")
@@ -140,27 +141,28 @@ class Verifiers(unittest.TestCase):
         self.assertTrue(guard.decide(new_question(b"(sequence " + OWN * 39 + PAIR + b")"), recording(calls)))
         self.assertEqual((len(calls), calls[-1]), (40, SIGNED))
 
-    def test_is_not_called_in_vain(self):
-        """No signature is verified for a decision where none could help. An explanation says what is wrong with the certificates."""
+    def test_a_verifier_is_not_called_in_vain(self):
+        """No signature is verified for a decision where none could help: the second certificate is not by the subject of the first, or the list is
+        empty. For an explanation the first one is verified all the same."""
         for guard, question in ((self.guard, new_question(b"(sequence " + PAIR * 2 + b")")), (spki.Guard(b"(acl)"), new_question(FORGED))):
             self.assertEqual(guard.decide(question, fail), None)
             with self.assertRaises(ZeroDivisionError):
                 guard.explain(question, fail)
 
     # A verifier may call the same guard: no lock is held meanwhile.
-    def test_may_ask_the_guard_itself(self):
+    def test_a_verifier_may_ask_its_guard(self):
         def verify(signature):
             return bool(self.guard.decide(new_question(), accept_all))
 
         self.assertTrue(self.guard.decide(new_question(), verify))
 
 
-class Opened(unittest.TestCase):
+class OpenedQuestions(unittest.TestCase):
     def setUp(self):
         self.guard = spki.Guard(LIST)
 
-    # The octets of a value that is one string are those of the string. A value that is a list has none.
-    def test_signatures(self):
+    # A question lists its one signature. The octets of a value that is one string are those of the string. A value that is a list has none.
+    def test_signatures_and_their_octets(self):
         with self.guard.ask(new_question()) as opened:
             self.assertEqual(opened.signatures(), [SIGNED])
             self.assertEqual(SIGNED.octets, b"sig")
@@ -168,7 +170,7 @@ class Opened(unittest.TestCase):
         with self.guard.ask(new_question(SHOWN.replace(b" sig)", b" (sig-val x))"))) as opened:
             self.assertEqual([signature.octets for signature in opened.signatures()], [None])
 
-    def test_marks(self):
+    def test_which_places_are_marked(self):
         """`mark` takes only the place of a listed signature, and no number that would be a place after a cut to fewer bits. `decide`, `explain` and
         `reduce` take no marks as an argument."""
         with self.guard.ask(new_question()) as opened:
@@ -188,7 +190,7 @@ class Opened(unittest.TestCase):
                 with self.assertRaises(TypeError):
                     ask([True])
 
-    def test_mark_below_zero(self):
+    def test_no_place_below_zero_is_marked(self):
         """The place -1, which `Asked.mark` refuses, is refused by the inner call too. It must not become the last of the 64 numbers that
         `_small_sizes` keeps, since this question has a signature at that place."""
         with spki.Guard(LIST, limits=HIGHEST).ask(new_question(b"(sequence " + PAIR * 64 + b")")) as opened:
@@ -260,7 +262,7 @@ class Opened(unittest.TestCase):
         self.assertTrue(asyncio.run(decide()))
 
     # An opened question can be used after its guard is closed, and no more after it is closed itself.
-    def test_outlives_its_guard(self):
+    def test_an_opened_question_outlives_its_guard(self):
         opened = self.guard.ask(new_question())
         self.guard.close()
         del self.guard
@@ -283,7 +285,7 @@ class Opened(unittest.TestCase):
         self.assertEqual(str(opened.reduce()), "entry 1 (five (subject (public-key (test b))) (tag (*)))")
 
     # `require` raises `Denied` for a no, and returns the number of the entry for a yes.
-    def test_a_decision_that_is_required(self):
+    def test_require_raises_for_a_no(self):
         opened = self.guard.ask(new_question())
         for call in (lambda: self.guard.require(new_question(), accept_none), opened.require):
             with self.assertRaises(spki.Denied):
@@ -311,11 +313,12 @@ class Opened(unittest.TestCase):
         endless = self.guard.decide(new_question(), accept_all)
         self.assertEqual((endless.until, endless.holds_at(last + second), endless.holds_at(BEFORE)), (None, True, False))
 
-    # The library is replaced by calls that return ends at the limits of `datetime`, beyond them, which become its first or last moment, and no end.
+    # The replaced call of the library returns the last second of the year 9999, the one after it, which becomes the last moment of a `datetime`, one
+    # before 1970, one long before the year 1, which becomes the first moment, and 2 ** 63 - 1, which means that no window ends.
     def test_ends_that_python_does_not_have(self):
-        opened, most = self.guard.ask(new_question()), datetime.max.replace(microsecond=0, tzinfo=timezone.utc)
+        opened, last_second = self.guard.ask(new_question()), datetime.max.replace(microsecond=0, tzinfo=timezone.utc)
         last, first = (limit.replace(tzinfo=timezone.utc) for limit in (datetime.max, datetime.min))
-        for until, wanted in ((253_402_300_799, most), (253_402_300_800, last), (-1, EPOCH - timedelta(seconds=1)), (-2 ** 62, first),
+        for until, wanted in ((253_402_300_799, last_second), (253_402_300_800, last), (-1, EPOCH - timedelta(seconds=1)), (-2 ** 62, first),
                               (2 ** 63 - 1, None)):
             with mock.patch.object(_library, "decide", return_value=_library.Decision(_library.YES, until)), \
                     mock.patch.object(spki._CallMemory, "line", return_value=b"yes entry 7\n"):
@@ -355,7 +358,7 @@ class Opened(unittest.TestCase):
             self.assertTrue(opened.is_possible and opened.decide() and opened.explain().text and opened.reduce().text)
         self.assertEqual((len(is_held), set().union(*is_held.values())), (6, {True}))
 
-    # The signatures behind the first, or behind the first wrong one, are never copied from the library.
+    # The signatures behind the first, or behind the first wrong one, here the third, are never copied from the library.
     def test_signatures_are_listed_one_by_one(self):
         opened, places = spki.Guard(LIST, limits=HIGHEST).ask(new_question(b"(sequence " + PAIR * 40 + b")")), []
         signature = _library.signature
@@ -365,7 +368,7 @@ class Opened(unittest.TestCase):
         self.assertEqual(places, [0, 0, 1, 2])
 
     def test_each_text_is_copied_once(self):
-        """The key, the message and the value. The octets of the value are a part of it."""
+        """Of each signature the key, the message and the value are copied once each. The octets of the value are a part of it."""
         with mock.patch.object(_library, "memory", mock.MagicMock()) as memory, self.guard.ask(new_question()) as opened:
             memory.__getitem__.side_effect = lambda places: ctypes.string_at(places.start, places.stop - places.start)
             for read in (opened.signatures, lambda: opened.verify(accept_all)):
@@ -417,8 +420,8 @@ class Copies(unittest.TestCase):
         self.assertEqual(len({new_question(), new_question(words=list(WORDS)), new_question(moment=NOW + timedelta(seconds=1))}), 2)
         self.assertNotEqual(new_question(), None)
 
-    # The `repr` of a guard and of an opened question, open and closed.
-    def test_names(self):
+    # The `repr` of a guard and of an opened question says whether it is closed.
+    def test_repr(self):
         names = [repr(self.guard), repr(self.opened)]
         self.guard.close()
         self.opened.close()
@@ -451,7 +454,7 @@ class Copies(unittest.TestCase):
         self.assertEqual((self.guard.decide(new_question(), accept_all), self.opened.decide()), (spki.Grant(1), None))
 
 
-class Keys(unittest.TestCase):
+class ProvenKeys(unittest.TestCase):
     """A question takes a key that is proved, and says so by its type."""
 
     LOGIN = spki.Signature(key=spki.canonical(KEY), message=b"(5:login7:service5:nonce)", value=b"3:sig")
@@ -474,7 +477,7 @@ class Keys(unittest.TestCase):
             spki.ProvenKey.by(signature, accept_all)
 
     # A `ProvenKey` is made by `by` or `assume` alone, does not change, and may be copied.
-    def test_there_is_no_other_way(self):
+    def test_by_and_assume_alone_make_a_proven_key(self):
         key = spki.ProvenKey.assume(KEY)
         for call in (spki.ProvenKey, lambda: spki.ProvenKey(KEY), lambda: spki.ProvenKey.assume("key")):
             with self.assertRaises(TypeError):
@@ -486,23 +489,23 @@ class Keys(unittest.TestCase):
         self.assertNotEqual(key, KEY)
 
     # The three parts of a `Signature` are given by name, so that none is taken for another.
-    def test_texts_have_names(self):
+    def test_the_parts_of_a_signature_have_names(self):
         for given in ((b"key", b"message", b"value"), ()):
             with self.assertRaises(TypeError):
                 spki.Signature(*given)
 
     # The scheme of a signature is that of the form of its key.
-    def test_schemes(self):
+    def test_scheme_by_the_form_of_the_key(self):
         for key, scheme in [(b"(public-key (ecc (curve Ed25519) (flags eddsa) (q #00#)))", spki.Scheme.ED25519),
                             (b"(public-key (rsa (n #00#) (e #010001#)))", spki.Scheme.RSA),
                             (b'(public-key (ecc (curve "NIST P-256") (q #04#)))', spki.Scheme.P256), (KEY, None)]:
             self.assertEqual(dataclasses.replace(SIGNED, key=spki.canonical(key)).scheme, scheme)
 
 
-class Parts(unittest.TestCase):
+class QuestionParts(unittest.TestCase):
     """The parts of a question."""
 
-    def test_strings_are_strings(self):
+    def test_a_string_with_spaces_stays_one_string(self):
         """A string with spaces, parentheses or a length in it stays one string of the request."""
         guard = spki.Guard(b"(acl (entry (public-key (test b)) (tag (cache (* prefix /cache/team1/) read))))")
         for words, is_granted in [((b"cache", b"/cache/team1/a.o", b"read"), True), ((b"cache", b"/cache/team1/a.o read", b"write"), False),
@@ -512,22 +515,23 @@ class Parts(unittest.TestCase):
             self.assertEqual(bool(guard.decide(new_question(b"(sequence)", words=list(words)), accept_all)), is_granted, words)
 
     # A request by one word is that string, and not the list of it.
-    def test_one_string_is_a_string(self):
+    def test_one_word_is_no_list(self):
         guard = spki.Guard(b"(acl (entry (public-key (test b)) (tag ftp)))")
         self.assertTrue(guard.decide(new_question(b"(sequence)", words=(b"ftp",)), accept_all))
         self.assertTrue(guard.decide(new_question(b"(sequence)", text=b"ftp"), accept_all))
         self.assertFalse(guard.decide(new_question(b"(sequence)", text=b"(ftp)"), accept_all))
 
     # The tag is a list of 40 strings. It contains each request that begins with them. The usual limits would refuse 1,000 strings. The moment is
-    # given in both ways, since it is passed beside the array of strings. Few strings come last, after many.
-    def test_many_strings(self):
+    # given in both ways, since it is passed beside the array of strings. Few strings come last, after many: none of those may be left.
+    def test_many_words_make_one_list(self):
         guard = spki.Guard(b"(acl (entry (public-key (test b)) (tag (" + 40 * b"w " + b"))))", limits=HIGHEST)
         for count in (39, 40, 41, 1000, 3):
             for moment in (NOW, b'"2024-01-01_00:00:00"'):
                 self.assertEqual(bool(guard.decide(new_question(b"(sequence)", words=count * [b"w"], moment=moment), accept_all)), count >= 40, count)
 
-    # A window that begins with 1970, asked at its first second, long after it, a second before it, and by a clock in another time zone.
-    def test_moments(self):
+    # A window that begins with 1970, asked at its first second, long after it, a second before it, and by a clock in another time zone. A `datetime`
+    # without a time zone is a `TypeError`.
+    def test_moments_are_compared_with_the_window(self):
         guard = spki.Guard(b'(acl (entry (public-key (test b)) (tag (*)) (not-before "1970-01-01_00:00:00")))')
         for moment, is_granted in [(EPOCH, True), (datetime.max.replace(tzinfo=timezone.utc), True), (b'"1970-01-01_00:00:00"', True),
                                    (b'"1969-12-31_23:59:59"', False),
@@ -604,8 +608,8 @@ class Parts(unittest.TestCase):
         self.assertEqual(spki.string_at(OfFalseLength(b"3:abc")), b"abc")
 
     def test_long_forms(self):
-        """The longest form is that of an octet which is printed in base64: 1,000 times `|AA==|` with 999 spaces, two parentheses and a line feed.
-        For a text that is too long no memory of its length is allocated."""
+        """The longest advanced form is that of octets which are printed in base64: 1,000 times `|AA==|` with 999 spaces, two parentheses and a line
+        feed. For a text that is too long no memory of its length is allocated."""
         self.assertEqual(len(spki.advanced(b"(" + b"1:\0" * 1000 + b")")), 7002)
         with mock.patch.object(spki, "_AnswerMemory", side_effect=spki._AnswerMemory) as memory, self.assertRaises(spki.Refused) as raised:
             spki.canonical(b" " * (1 << 24))
@@ -615,14 +619,14 @@ class Parts(unittest.TestCase):
 
 class Guards(unittest.TestCase):
     # An empty list, the same in transport form, and a list whose entry has no parts.
-    def test_lists(self):
+    def test_access_lists_are_read_or_refused(self):
         self.assertEqual(spki.Guard(b"(acl)").entries, 0)
         self.assertEqual(spki.Guard(b"{KDM6YWNsKQ==}").entries, 0)
         with self.assertRaises(spki.Refused) as raised:
             spki.Guard(b"(acl (entry))")
         self.assertEqual(raised.exception.line, "refused acl 1 Shape")
 
-    # The explanation and the reduction of a list of 500 entries are whole.
+    # The explanation and the reduction of a list that has the entry of LIST 500 times are whole.
     def test_long_answers(self):
         guard = spki.Guard(b"(acl " + LIST[5:-1] * 500 + b")")
         self.assertEqual(guard.entries, 500)
@@ -632,7 +636,7 @@ class Guards(unittest.TestCase):
         self.assertEqual(last_line, "entry 500 (five (subject (public-key (test b))) (tag (*)))")
 
     # The explanation of an empty list has no reasons.
-    def test_explanations(self):
+    def test_an_explanation_of_no_entries(self):
         self.assertEqual(list(spki.Guard(b"(acl)").explain(new_question(), accept_all).reasons()), [])
         self.assertEqual(str(spki.Guard(b"(acl)").explain(new_question(), accept_all)), "no entries")
 
@@ -647,7 +651,8 @@ class Guards(unittest.TestCase):
             with self.assertRaises(TypeError):
                 spki.Guard(by_sha1, other)
 
-    # What is out of range, what exceeds each limit, and that `nodes`, `work` and `answer` bound explanations alone.
+    # A limit out of range is an error. A question beyond a limit of octets, certificates or strings is refused. Limits of nodes, work and the answer
+    # bound explanations alone.
     def test_limits(self):
         for wrong in ({"octets": 1_048_577}, {"nodes": 1_000_001}, {"work": -1}, {"octets": -1}, {"answer": 2 ** 28 + 1},
                       {"certificates": 2 ** 64 + 16}):
@@ -673,7 +678,7 @@ class Guards(unittest.TestCase):
             self.assertEqual((raised.exception.line, raised.exception.part), ("refused TooLarge", None))
 
     # After `close` each of these calls on a guard or an opened question raises `ValueError`, and `close` may be called again.
-    def test_closing(self):
+    def test_calls_after_close(self):
         with spki.Guard(LIST) as guard:
             self.assertTrue(guard.decide(new_question(), accept_all))
             opened = guard.ask(new_question())
@@ -725,8 +730,8 @@ class Guards(unittest.TestCase):
                 thread.join()
                 self.assertEqual(wrong, [], name)
 
-    # Eight threads use one guard and one opened question.
-    def test_threads(self):
+    # Eight threads use one guard and one opened question. Each opens a question 200 times, and decides the opened one as often.
+    def test_threads_share_a_guard_and_a_question(self):
         guard, granted = spki.Guard(LIST), []
         opened = guard.ask(new_question())
 
@@ -762,7 +767,7 @@ class Guards(unittest.TestCase):
 
 class Texts(unittest.TestCase):
     # A text in each form of RFC 9804, and one that is in none: no string begins with `~`.
-    def test_forms(self):
+    def test_conversion_to_each_form(self):
         self.assertEqual(spki.canonical(b"(a #00#)"), b"(1:a1:\0)")
         self.assertEqual(spki.advanced(b"(1:a1:b)"), b"(a b)\n")
         self.assertEqual(spki.transport(b"(a)"), b"{KDE6YSk=}\n")
@@ -770,8 +775,8 @@ class Texts(unittest.TestCase):
             spki.canonical(b"(a ~)")
         self.assertEqual(raised.exception.line, "refused form Bad 3")
 
-    # A path has the numbers of the members to go into. `None` if no string is there, or the text is not in canonical form.
-    def test_strings(self):
+    # A path has the numbers of the members to go into. `string_at` is `None` if no string is there, or the text is not in canonical form.
+    def test_string_at(self):
         key = spki.canonical(b"(public-key (rsa-pkcs1-sha256 (e #010001#) (n #c000ff#)))")
         self.assertEqual(spki.string_at(key, 1, 2, 1), b"\xc0\0\xff")
         self.assertEqual(spki.string_at(key, 0), b"public-key")
@@ -848,7 +853,7 @@ class Libraries(unittest.TestCase):
 
 @unittest.skipUnless(importlib.util.find_spec("setuptools"), "there is no setuptools; Debian: python3-setuptools")
 class Builds(unittest.TestCase):
-    def test_the_library_that_is_named_is_put_in(self):
+    def test_a_build_has_the_library_that_is_named(self):
         """A build has the file that SPKI_LIBRARY names, also if an earlier build in the same folder had another one: after `new` an older file,
         none, and one that is not there, which fails."""
         with tempfile.TemporaryDirectory() as folder:

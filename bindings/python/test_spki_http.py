@@ -36,8 +36,8 @@ except ImportError:
 ROWS = os.path.join(os.path.dirname(os.path.realpath(__file__)), "..", "go", "httpsig", "testdata", "rows")
 ESCAPE = re.compile(r"\\(?:x(..)|(.))")
 CHAIN = "{KDg6c2VxdWVuY2Up}"
-# The examples of RFC 9421, appendix B.2.6 and B.2.4: a private key (B.1.4), its signature of BASE; a public key (B.1.3), its signature OF_CURVE of
-# RESPONSE.
+# The examples of RFC 9421, appendix B.2.6 and B.2.4: a private key of Ed25519 (B.1.4), its SIGNATURE of BASE; a public key of P-256 (B.1.3), its
+# P256_SIGNATURE of RESPONSE.
 PRIVATE = "MC4CAQAwBQYDK2VwBCIEIJ+DYvh6SEqVTm50DFtMDoQikTmiCqirVv9mWG9qfSnF"
 SIGNATURE = "wqcAqbmYJ2ji2glfAMaRy4gruYYnx2nEFN2HN6jrnDnQCK1u02Gb04v9EDgwUPiu4A0w6vuQv5lIp5WPpBKRCw=="
 BASE = """"date": Tue, 20 Apr 2021 02:07:55 GMT
@@ -47,8 +47,8 @@ BASE = """"date": Tue, 20 Apr 2021 02:07:55 GMT
 "content-type": application/json
 "content-length": 18
 "@signature-params": ("date" "@method" "@path" "@authority" "content-type" "content-length");created=1618884473;keyid="test-key-ed25519\""""
-CURVE = "MFkwEwYHKoZIzj0CAQYIKoZIzj0DAQcDQgAEqIVYZVLCrPZHGHjP17CTW0/+D9Lfw0EkjqF7xB4FivAxzic30tMM4GF+hR6Dxh71Z50VGGdldkkDXZCnTNnoXQ=="
-OF_CURVE = "wNmSUAhwb5LxtOtOpNa6W5xj067m5hFrj0XQ4fvpaCLx0NKocgPquLgyahnzDnDAUy5eCdlYUEkLIj+32oiasw=="
+P256_PUBLIC = "MFkwEwYHKoZIzj0CAQYIKoZIzj0DAQcDQgAEqIVYZVLCrPZHGHjP17CTW0/+D9Lfw0EkjqF7xB4FivAxzic30tMM4GF+hR6Dxh71Z50VGGdldkkDXZCnTNnoXQ=="
+P256_SIGNATURE = "wNmSUAhwb5LxtOtOpNa6W5xj067m5hFrj0XQ4fvpaCLx0NKocgPquLgyahnzDnDAUy5eCdlYUEkLIj+32oiasw=="
 RESPONSE = """"@status": 200
 "content-type": application/json
 "content-digest": sha-512=:mEWXIS7MaLRuGgxOBdODa3xqM1XdEvxoYhvlCFJ41QJgJc4GTsPp29l5oGX69wWdXymyU0rjJuahq4l5aGgfLQ==:
@@ -66,13 +66,14 @@ def rows() -> Iterator[tuple[str, spki_http.Message, int, int | None, str]]:
     with open(ROWS, encoding="ascii") as file:
         blocks = [block.splitlines() for block in file.read().split("\n\n") if block.startswith("row ")]
     for lines in blocks:
-        words = [(word, unescaped(rest)) for word, _, rest in (line.partition(" ") for line in lines)]
-        parts = dict(words)
+        columns = [(word, unescaped(rest)) for word, _, rest in (line.partition(" ") for line in lines)]
+        # (a row may have several lines `field`, and has at most one of each other word)
+        parts = dict(columns)
         method, target, authority, now = parts["on"].split("|")
-        fields = [(name, value) for word, text in words if word == "field" for name, _, value in [text.partition(": ")]]
+        fields = [(name, value) for name, _, value in (text.partition(": ") for word, text in columns if word == "field")]
         body = parts["body"].encode("latin-1") if "body" in parts else None
         again = int(parts["again"]) if "again" in parts else None
-        yield lines[0][4:], spki_http.Message(method, authority, target, fields, body), int(now), again, parts["gives"]
+        yield parts["row"], spki_http.Message(method, authority, target, fields, body), int(now), again, parts["gives"]
 
 
 def verifier_at(clock: list[int]) -> spki_http.Verifier:
@@ -154,7 +155,8 @@ class Requests(unittest.TestCase):
                 clock[0] = now
                 self.assertEqual(answer(verifier, message), gives)
 
-    # The signature of the example by Ed25519 is made again, and both examples are verified.
+    # The signature of the example by Ed25519 is made again, and both examples are verified. The first six strings of the parameters are the names of
+    # the components.
     def test_examples_of_the_standard(self) -> None:
         private = load_der_private_key(base64.b64decode(PRIVATE), None)
         assert isinstance(private, Ed25519PrivateKey)
@@ -166,10 +168,10 @@ class Requests(unittest.TestCase):
         self.assertEqual(_message.base_of(message, "https", re.findall(r'"([^"]*)"', parameters)[:6], parameters), BASE.encode())
         self.assertTrue(spki_verify.verify_texts(key=signer.key, message=BASE.encode(),
                                                  value=_fields.value_of("ed25519", base64.b64decode(SIGNATURE))))
-        public = load_der_public_key(base64.b64decode(CURVE)).public_bytes(Encoding.X962, PublicFormat.UncompressedPoint)
+        public = load_der_public_key(base64.b64decode(P256_PUBLIC)).public_bytes(Encoding.X962, PublicFormat.UncompressedPoint)
         key = b"(10:public-key(3:ecc(5:curve10:NIST P-256)(1:q%s)))" % string(public)
         self.assertTrue(spki_verify.verify_texts(key=key, message=RESPONSE.encode(),
-                                                 value=_fields.value_of("ecdsa-p256-sha256", base64.b64decode(OF_CURVE))))
+                                                 value=_fields.value_of("ecdsa-p256-sha256", base64.b64decode(P256_SIGNATURE))))
 
     def valid_message(self) -> tuple[spki_http.Message, int]:
         """The first row that is valid, and its time."""
@@ -201,7 +203,7 @@ class Requests(unittest.TestCase):
             self.assertEqual(answer(verifier_at([now]), nameless), "other-authority")
 
     def test_taken_late(self) -> None:
-        """A nonce that is taken after the end of its signature may have been used before, and be forgotten."""
+        """A nonce that is taken after the end of its signature may have been used before, and be forgotten: it is refused as `expired`."""
         message, now = self.valid_message()
         clock = [now]
         verifier = verifier_at(clock)
@@ -252,7 +254,8 @@ class Clients(unittest.TestCase):
                 self.assertEqual(send(signer, method, body), signer.key, method)
 
     def test_numbers_of_signatures(self) -> None:
-        """A number of a signature gets its share of the octets, with fewer or more octets 00 in front; the halves of Ed25519 are no numbers."""
+        """A number of a signature gets its share of the octets, with fewer or more octets 00 in front; the halves of Ed25519 are no numbers. Without
+        a length the strings stay as they are."""
         def value(kind: bytes, *strings: bytes) -> bytes:
             return b"(7:sig-val(5:%b(1:r%d:%b)(1:s%d:%b)))" % (kind, len(strings[0]), strings[0], len(strings[1]), strings[1])
 
@@ -264,8 +267,8 @@ class Clients(unittest.TestCase):
         self.assertEqual(spki_http.octets_of(value(b"ecdsa", b"\0r", b"ss")), b"\0rss")
 
     def test_covered_fields(self) -> None:
-        """The signature covers a field that the caller names, once. A name that the request has no field of is refused, also if it must be
-        covered where it is present."""
+        """The signature covers a field that the caller names, once, also if it is named twice or must be covered anyway. A name that the request has
+        no field of is refused, also if the field must be covered where it is there. So is a name in capital letters."""
         signer, own_fields = curve_signer(), [("X-Job", "7")]
         fields = signer.fields("PUT", "https://files.example.org/a", b"x", own_fields, ["x-job", "x-job", "content-digest", "x-spki-public-key"])
         covered = fields["Signature-Input"].partition(")")[0]
@@ -275,7 +278,7 @@ class Clients(unittest.TestCase):
                 signer.fields("GET", "https://files.example.org/a", b"", own_fields, ["x-job", absent])
 
     def test_what_cannot_be_signed(self) -> None:
-        """An address or a method that each verifier would refuse."""
+        """An address or a method that each verifier would refuse, such as one with the sign of kelvin, which is k in small letters."""
         for method, url in (("GET", "https://a.example/b c"), ("GET", "https://a.example/\u212a"), ("G T", "https://a.example/"),
                             ("", "https://a.example/"), ("\u212a", "https://a.example/"), ("GET", "ftp://a.example/"),
                             ("GET", "https://a:b@a.example/"), ("GET", "/b")):
@@ -299,7 +302,8 @@ class Clients(unittest.TestCase):
         raised.exception.close()
 
     def test_requests(self) -> None:
-        """`Auth` signs a request like that of `requests`, which has `body`, and one like that of `httpx`, which has `content`."""
+        """`Auth` signs a request like that of `requests`, which has `body`, and one like that of `httpx`, which has `content`. It adds nothing to one
+        for another host, and refuses a stream."""
         class Prepared:
             def __init__(self, method: str, url: str, body: bytes | str | None, has_content: bool) -> None:
                 # (99 is wrong: a length is not signed)

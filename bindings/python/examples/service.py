@@ -15,7 +15,7 @@ MOST, ACTIONS = 65_536, {"GET": b"read", "PUT": b"write"}
 
 class Handler(http.server.BaseHTTPRequestHandler):
     def answer(self) -> None:
-        """Answers 200 and the entry that grants the request, 400 if Content-Length is not 0 to MOST, and else 403 and why: also for no proof."""
+        """Answers 200 and the entry that grants the request, 400 if Content-Length is not from 0 to MOST, or 403 and why it is not granted."""
         host, status = ", ".join(self.headers.get_all("Host", [])), 400  # (two Host fields make a name that the service does not have)
         try:
             length = int(self.headers.get("Content-Length", 0))

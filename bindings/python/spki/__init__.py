@@ -175,13 +175,13 @@ class Asked(_Closable, NoDecision):
         """Marks each signature for which `verify(signature)` returns `True`, in order, up to the first `False`. Raises
         `TypeError` if it returns anything else, such as a coroutine. Then, or if `verify` raises an exception, nothing
         is marked. To explain a denial, verify also where `is_possible` is false."""
-        handle, valid = self._open_handle(), 0
+        handle, valid_count = self._open_handle(), 0
         # (not `in self`: a subclass may iterate otherwise, and the marks are by place)
         for signature in self._each_signature(handle):
             if not answer_of(verify(signature)):
                 break
-            valid += 1
-        for place in range(valid):
+            valid_count += 1
+        for place in range(valid_count):
             with self._lock:
                 _mark(handle, place)
 
@@ -205,8 +205,8 @@ class Asked(_Closable, NoDecision):
         return _entry_of(self.decide())
 
     def explain(self) -> Explanation:
-        """Says of each entry, by the marks, why it grants the request or does not. Raises `Refused` if a limit is
-        exceeded."""
+        """Says of each entry, by the marks, why it grants the request or does not, or which certificate stops all
+        entries. Raises `Refused` if a limit is exceeded."""
         return Explanation(self._lines(_library.explain))
 
     def reduce(self) -> Reduction:
@@ -215,8 +215,8 @@ class Asked(_Closable, NoDecision):
         return Reduction(self._lines(_library.reduce))
 
     def _lines(self, call: _library.Answers) -> str:
-        """The lines of a call, `_library.explain` or `_library.reduce`, without the last line feed. Raises
-        `Refused`."""
+        """The lines that a call, `_library.explain` or `_library.reduce`, writes by the marks, without the last line
+        feed. Raises `Refused` if a limit is exceeded or an allocation failed, and `ValueError` after `close`."""
         handle = self._open_handle()
         with self._lock:
             status, lines = _call_for_answer(self._answer_octets, call, handle)
@@ -240,7 +240,7 @@ class Guard(_Closable):
             raise TypeError("a guard has a `Policy` and `Limits`")
         text, self._policy, self._answer_octets = octets_of(access_list), policy, limits.answer or _library.USUAL_ANSWER
         numbers = [getattr(limits, field.name) for field in fields(limits)]
-        # (no structure of limits means the usual ones)
+        # (the fields of `Limits` are in the order of the structure. No structure means the usual limits)
         structure = _library.Limits(ctypes.sizeof(_library.Limits), *numbers) if any(numbers) else None
         self._handle = handle = _GuardHandle()
         status, line = _call_for_answer(_LINE_OCTETS, library.spki_guard_open, text, len(text), policy.value, structure,
@@ -270,7 +270,8 @@ class Guard(_Closable):
         handle = c_void_p(_open_question(self._open_handle(), question))
         try:
             count = _library.count(handle)
-            for place in range(_count_valid(handle, count, verify) if count and _library.possible(handle) else 0):
+            valid_count = _count_valid(handle, count, verify) if count and _library.possible(handle) else 0
+            for place in range(valid_count):
                 _mark(handle, place)
             return _decide(handle)
         finally:
@@ -282,15 +283,15 @@ class Guard(_Closable):
         return _entry_of(self.decide(question, verify))
 
     def explain(self, question: Question, verify: Verify) -> Explanation:
-        """Says of each entry why it grants the request or does not. Raises `Refused` if a part of the question cannot
-        be read or exceeds a limit, or if the explanation does."""
+        """Says of each entry why it grants the request or does not, or which certificate stops all entries. Raises
+        `Refused` if a part of the question cannot be read or exceeds a limit, or if the explanation exceeds one."""
         with self.ask(question) as asked:
             asked.verify(verify)
             return asked.explain()
 
     def reduce(self, question: Question, verify: Verify) -> Reduction:
         """Which right remains of each entry after all certificates. Raises `Refused` if a part of the question cannot
-        be read or exceeds a limit, or if the reduction does."""
+        be read or exceeds a limit, or if the reduction exceeds one."""
         with self.ask(question) as asked:
             asked.verify(verify)
             return asked.reduce()
@@ -304,8 +305,8 @@ def string_at(text: bytes, *path: int) -> bytes | None:
     of a list is member 0.
 
     `None` if no string is there, or the text is no value in canonical form within the limits. Raises `Refused` if an allocation failed, and
-    `TypeError` if the text is not bytes or a number no `int`. Of `(public-key (rsa (n ..) (e #010001#)))`
-    the path 1, 1, 1 is that of the modulus.
+    `TypeError` if the text is not bytes or a number is no `int`. In `(public-key (rsa (n ..) (e #010001#)))` the path 1, 1, 1 leads to the
+    modulus.
     """
     octets, length, text, places = c_void_p(), c_size_t(), octets_of(text), list(map(int_of, path))
     # (`c_size_t` would cut other numbers, and a text has fewer members than octets)
@@ -336,8 +337,8 @@ def transport(text: bytes) -> bytes:
 
 
 def _convert(command: int, text: bytes) -> bytes:
-    """What `_library.CANONICAL`, `_library.ADVANCED` or `_library.TRANSPORT`, the command, makes of a text. Raises
-    `Refused`."""
+    """A text in another form: the command is `_library.CANONICAL`, `_library.ADVANCED` or `_library.TRANSPORT`. Raises
+    `Refused` as `canonical` does."""
     # No form of a long text has more than three times the octets of another: an octet that is printed in base64 takes 7
     # for the 3 of its canonical text, and `a(b)`, again and again, takes 8 for 3 in transport form. For a short text
     # `_call_for_answer` has more room. A text over the limit is refused, so the room is bounded.
@@ -374,7 +375,7 @@ class _AnswerMemory:
 
     def __init__(self, octets: int) -> None:
         self.buffer, self.octets, self.needed = mmap.mmap(-1, octets, mmap.MAP_PRIVATE), c_size_t(octets), c_size_t()
-        # (an array of ctypes on this memory: `addressof` takes no mmap)
+        # (an object of ctypes at the first octet of this memory: `addressof` takes no mmap)
         self.first = c_char.from_buffer(self.buffer)
         self.at_buffer = c_void_p(addressof(self.first))
 
@@ -441,7 +442,8 @@ def _open_question(guard: c_void_p, question: Question) -> int | None:
 
 def _signature_addresses(handle: c_void_p, place: int, memory: _CallMemory) -> tuple[int, ...]:
     """Eight numbers: address and length of the key, the message and the value of the signature at a place, from 0, and
-    of the octets of the value. `memory` is for the call. Another place is a `RuntimeError`."""
+    of the octets of the value. `memory` is for the call. Raises `RuntimeError` if there is no such place, and `Refused`
+    if an allocation failed."""
     status = _library.signature(handle, _size_argument(place), memory.at_signed)
     if status != _library.DONE:
         raise _exception_of(status, b"")
@@ -450,29 +452,31 @@ def _signature_addresses(handle: c_void_p, place: int, memory: _CallMemory) -> t
 
 def _signature(handle: c_void_p, place: int, keys: dict[bytes, bytes]) -> Signature:
     """Copies the signature of an opened question at a place, from 0. `keys` has the keys that were copied before, so
-    that equal keys are one object."""
+    that equal keys are one object. Raises what `_signature_addresses` raises."""
     call_memory = _take_call_memory()
-    at, length, message_at, message_length, value_at, value_length, *_ = _signature_addresses(handle, place, call_memory)
+    key_at, key_length, message_at, message_length, value_at, value_length, *_ = _signature_addresses(handle, place, call_memory)
     _spare_calls.append(call_memory)
-    memory, key = _library.memory, _library.memory[at:at + length]
+    memory, key = _library.memory, _library.memory[key_at:key_at + key_length]
     message, value = memory[message_at:message_at + message_length], memory[value_at:value_at + value_length]
     return signature_of(keys.setdefault(key, key), message, value)
 
 
 def _count_valid(handle: c_void_p, count: int, verify: Verify) -> int:
     """How many of the `count` signatures of an opened question are valid before the first that is not. It marks none, and no
-    other thread may do so meanwhile. Raises `TypeError` if `verify` returns neither `True` nor `False`."""
+    other thread may do so meanwhile. Raises `TypeError` if `verify` returns neither `True` nor `False`, and `Refused` if an
+    allocation failed."""
     memory, call_memory, last_key = _library.memory, _take_call_memory(), b""
     try:
         for place in range(count):
-            at, length, message_at, message_length, value_at, value_length, *_ = _signature_addresses(handle, place, call_memory)
-            key = memory[at:at + length]
+            key_at, key_length, message_at, message_length, value_at, value_length, *_ = _signature_addresses(handle, place, call_memory)
+            key = memory[key_at:key_at + key_length]
             if key != last_key:
                 # (equal keys in a row are one object, so that a verifier that stores keys stores it once)
                 last_key = key
             message, value = memory[message_at:message_at + message_length], memory[value_at:value_at + value_length]
             answer = verify(signature_of(last_key, message, value))
             if answer is not True:
+                # (raises `TypeError` unless the answer is `False`)
                 answer_of(answer)
                 return place
     finally:
@@ -489,7 +493,7 @@ def _mark(handle: c_void_p, place: int) -> None:
 
 
 def _decide(handle: c_void_p) -> Grant | None:
-    """The grant by the marks of an opened question, or `None` for a no."""
+    """The grant by the marks of an opened question, or `None` for a no. Raises `Refused` if an allocation failed."""
     # (each line of a decision fits)
     memory = _take_call_memory()
     decision, line = _library.decide(handle, memory.at_buffer, memory.octets, memory.at_needed), memory.line()
@@ -511,8 +515,8 @@ def _entry_of(grant: Grant | None) -> int:
 
 @functools.lru_cache(1024)
 def _grant_of(line: bytes, until: int) -> Grant:
-    """The grant of a line `yes entry N`, until a second since 1970, or `_library.ENDLESS`. A grant does not change, so
-    one that was made is used again."""
+    """The grant of a line `yes entry N`. `until` is its last second since 1970, or `_library.ENDLESS`. A grant does not
+    change, so one that was made is used again."""
     return Grant(int(line[len("yes entry "):]), None if until == _library.ENDLESS else moment_of(until))
 
 

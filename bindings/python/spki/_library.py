@@ -77,7 +77,7 @@ memory = cast(Memory, (ctypes.c_char * sys.maxsize).from_address(0))
 
 def file_of_this_version() -> str | None:
     """The file name of the library of this version, `libspki_c.so.0.2`, or None if the loader does not find it or cannot
-    load it. Other versions may be installed beside it, and `find_library` returns any. What is found is loaded."""
+    load it. Other versions may be installed beside it, and `find_library` returns any. The call loads the library."""
     name = f"libspki_c.so.{VERSION}"
     try:
         ctypes.CDLL(name)
@@ -98,8 +98,8 @@ def library_path() -> str:
 
 
 def load(path: str) -> ctypes.CDLL:
-    """Loads the library at a path. Raises ImportError if the first two numbers of its version are not `VERSION`, and
-    OSError if it cannot be loaded."""
+    """Loads the library at a path. Raises ImportError if the first two numbers of its version are not `VERSION`, or if
+    it does not say its version, as those before 0.1.0. Raises OSError if it cannot be loaded."""
     loaded = ctypes.CDLL(path)
     call: Callable[[], bytes] | None = getattr(loaded, "spki_version", None)
     if call is not None:

@@ -1,4 +1,4 @@
-"""What is asked and what is answered, and the checks of what callers hand over."""
+"""Questions, keys, limits, answers and exceptions, and the checks of arguments."""
 from __future__ import annotations
 
 import ctypes
@@ -77,10 +77,10 @@ class Limits:
 
     def __post_init__(self) -> None:
         """Raises `TypeError` for a limit that is no `int`, and `ValueError` for one below 0 or over the highest."""
-        mosts = {"octets": _library.MOST_OCTETS, "nodes": _library.MOST_NODES, "work": _library.MOST_WORK,
-                 "answer": _library.MOST_ANSWER}
+        most_by_name = {"octets": _library.MOST_OCTETS, "nodes": _library.MOST_NODES, "work": _library.MOST_WORK,
+                        "answer": _library.MOST_ANSWER}
         for field in fields(self):
-            most = mosts.get(field.name, _library.HIGHEST)
+            most = most_by_name.get(field.name, _library.HIGHEST)
             if not 0 <= int_of(getattr(self, field.name)) <= most:
                 raise ValueError(f"the limit `{field.name}` is a number from 0 to {most:,}")
 
@@ -198,7 +198,7 @@ class ProvenKey:
 
 
 class Question:
-    """What is asked. It is made once and does not change: all its octets are kept. Questions with the same parts are equal, and a copy is made
+    """What a guard is asked. It does not change, and keeps all octets of its parts. Questions with the same parts are equal, and a copy is made
     of the parts."""
 
     def __init__(self, sequence: bytes, key: ProvenKey, *, words: Sequence[bytes] | None = None, text: bytes | None = None,
@@ -326,7 +326,8 @@ class Explanation(NoDecision):
         return self.text
 
     def reasons(self) -> Iterator[Reason]:
-        """The lines one by one, in their order. There is none if the access list is empty: `text` is `no entries` then."""
+        """The lines one by one, in their order. There is none if the access list is empty and no certificate stops all entries: `text` is
+        `no entries` then."""
         for entry, item, word in REASON.findall(self.text):
             yield Reason(int(entry) if entry else None, int(item) if item else None, Cause(word))
 
@@ -361,8 +362,8 @@ def octets_of(text: bytes) -> bytes:
 
 
 def int_of(number: int) -> int:
-    """A number as an `int`. Raises `TypeError` for other types and for `bool`. ctypes would cut one that is too large,
-    so callers test its range."""
+    """A number as a plain `int`, also if it is of a subclass. Raises `TypeError` for other types and for `bool`. ctypes
+    would cut one that is too large, so callers test its range."""
     if not isinstance(number, int) or isinstance(number, bool):
         raise TypeError(f"a number is an int, and not {type(number).__name__}")
     return int.__index__(number)

@@ -24,8 +24,8 @@ class Fault(_Word):
     """An octet of a text that is not allowed at its place, or a string whose octets are not as many or not as encoded as
     its form requires. Behind the word the line has the offset, from 0."""
     BAD_DATE = "BadDate"
-    """A date that is not written as `2026-03-01_12:00:00` or that the calendar does not have, or seconds below 0 or past
-    the year 9999."""
+    """A date that is not written as `2026-03-01_12:00:00` or has a number such as month 13, or seconds below 0 or past the
+    year 9999. There is no calendar check: `2026-02-30_12:00:00` is a date."""
     DIGEST_LENGTH = "DigestLength"
     """A digest of another length than its algorithm has."""
     EMPTY_LIST = "EmptyList"

@@ -161,11 +161,14 @@ def input_of(text: str) -> Input:
         raise Refused("missing-component")
     if len(parameters) != len(NUMBERS + STRINGS):
         raise Refused("missing-parameter")
-    return Input(text[begin:], components, int(parameters.pop("created")), int(parameters.pop("expires")), **parameters)
+    created, expires = int(parameters.pop("created")), int(parameters.pop("expires"))
+    # (the other parameters are the other fields of `Input`, by the same names)
+    return Input(text[begin:], components, created, expires, **parameters)
 
 
 def signature_of(text: str) -> bytes:
-    """The octets of the signature in the value of `Signature`. Raises `Refused`."""
+    """The octets of the signature in the value of `Signature`. Raises `Refused`: `other-label`, `two-signatures` or
+    `malformed`."""
     parser = Parser(text)
     octets = decoded(parser.take(OCTETS)[1])
     if octets is None:
@@ -239,9 +242,10 @@ def value_of(algorithm: str, octets: bytes) -> bytes:
 
 def octets_of(value: bytes, length: int = 0) -> bytes:
     """The octets of a signature, as RFC 9421 sends them, from its canonical value: the strings of the value, joined.
-    `length` is how many octets a signature by the key has. Signers write more or fewer octets 00 in front of a number,
-    so each string gets its equal share of the length by these. With a length of 0 the strings stay as they are, and the
-    caller ensures that the two of ECDSA are equally long. Those of Ed25519 always stay, since they are no numbers.
+    `length` is how many octets a signature by the key has. Signers write more or fewer octets 00 in front of a number:
+    these are added or removed, so that each string has an equal share of the length. With a length of 0 the strings stay
+    as they are, and the caller ensures that the two of ECDSA are equally long. Those of Ed25519 always stay as they are,
+    since they are no numbers.
     Raises `ValueError` for a text that is no value of a signature."""
     for algorithm, (_, template, _) in FORMS.items():
         if strings := strings_of(value, template):

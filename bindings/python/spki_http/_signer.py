@@ -80,36 +80,36 @@ def _components(message: Message, covered: Iterable[str]) -> list[str]:
     return names + more
 
 
-class _ToNames:
+class _SignsForHosts:
     """The base of `Auth` and `Handler`, which sign a request of a library for HTTP if it goes to one of the given hosts."""
 
     def __init__(self, signer: Signer, *names: str) -> None:
         """`names` are the hosts of services, such as `files.example.org` or `localhost:8080`: a port is needed only if it is not the default."""
         self.signer, self.names = signer, names
 
-    def _is_to_one(self, url: str) -> bool:
-        """Whether the host and port of a URL are those of one of the names."""
+    def _is_to_host(self, url: str) -> bool:
+        """Whether the host and port of a URL are those of one of the names. False if the scheme is neither `https` nor `http`."""
         parts = urllib.parse.urlsplit(url)
         if parts.scheme not in PORTS:
             return False
         return authority_of(parts.scheme, parts.netloc) in [authority_of(parts.scheme, name) for name in self.names]
 
 
-class Auth(_ToNames):
-    """Signs the requests of `requests` and of `httpx`, to one of some names: `requests.put(url, data=body,
+class Auth(_SignsForHosts):
+    """Signs the requests of `requests` and of `httpx` that go to one of the given hosts: `requests.put(url, data=body,
     auth=Auth(signer, "files.example.org"))`.
 
-    A request to any other name gets no signature and no certificates. But `requests` follows a redirection with the
+    A request to any other host gets no signature and no certificates. But `requests` follows a redirection with the
     fields of the first request, and so does `httpx` with `follow_redirects=True`. They prove nothing there:
-    `allow_redirects=False` or `follow_redirects=False` keeps the key and the certificates from other names. The body
+    `allow_redirects=False` or `follow_redirects=False` keeps the key and the certificates from other hosts. The body
     must be octets or a string, and not a stream.
     """
 
     def __call__(self, request: Any) -> Any:
-        """Adds the fields to a request to one of the names, and returns the request. A body that is a string becomes octets, by UTF-8. `requests`
-        and `httpx` call it for each request. Raises `TypeError` for a body that is a stream, or in `httpx` its exception `RequestNotRead`, and
-        what `Signer.fields` raises."""
-        if self._is_to_one(str(request.url)):
+        """Adds the fields of `Signer.fields` if the request goes to one of the hosts. Returns the request. A body that is a string becomes octets,
+        by UTF-8. `requests` and `httpx` call it for each request. Raises `TypeError` for a body that is a stream, or in `httpx` its exception
+        `RequestNotRead`, and what `Signer.fields` raises."""
+        if self._is_to_host(str(request.url)):
             # (`httpx` has `content`, and `requests` has `body`)
             body = (request.content if hasattr(request, "content") else request.body) or b""
             if isinstance(body, str):
@@ -123,16 +123,17 @@ class Auth(_ToNames):
         return request
 
 
-class Handler(_ToNames, urllib.request.BaseHandler):
+class Handler(_SignsForHosts, urllib.request.BaseHandler):
     """Signs the requests of `urllib`, as `Auth` does: `urllib.request.build_opener(Handler(signer, "files.example.org"))`."""
 
-    # (behind urllib's own handlers, of 500, which add fields first)
+    # (urllib's own handlers have the order 500, so they add their fields before this one)
     handler_order = 900
 
     def https_request(self, request: urllib.request.Request) -> urllib.request.Request:
-        """Adds the fields to a request to one of the names, and returns the request. `urllib` calls it for each request. Raises `TypeError` for a
-        body that is not `bytes`, such as a stream, and what `Signer.fields` raises. A redirection does not take the fields along."""
-        if self._is_to_one(request.full_url):
+        """Adds the fields of `Signer.fields` if the request goes to one of the hosts. Returns the request. `urllib` calls it for each request.
+        Raises `TypeError` for a body that is not `bytes`, such as a stream, and what `Signer.fields` raises. A redirected request gets none of
+        these fields from the first one."""
+        if self._is_to_host(request.full_url):
             body = request.data or b""
             if not isinstance(body, bytes):
                 raise TypeError("a body that is signed must be octets")

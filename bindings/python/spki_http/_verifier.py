@@ -22,7 +22,7 @@ NOTHING_SHOWN = b"(sequence)"
 
 
 class Signed(NamedTuple):
-    """A signature that is to be verified, in the forms of a guard."""
+    """A signature that is to be verified, as a guard hands it to a verifier: key and value are canonical texts."""
 
     key: bytes
     message: bytes
@@ -165,7 +165,8 @@ class Verifier:
         return answer
 
     def _check_parameters(self, signature_input: Input) -> None:
-        """Tests the tag, the length of the nonce, and the times. Raises `Refused` by the first test that fails."""
+        """Tests the tag, the length of the nonce, and the times. Raises `Refused` with the name of the first test that
+        fails."""
         now, created, expires = int(self.now()), signature_input.created, signature_input.expires
         for is_wrong, name in (
             (signature_input.tag != TAG, "other-tag"),
@@ -177,8 +178,9 @@ class Verifier:
                 raise Refused(name)
 
     def _check_message(self, message: Message, signature_input: Input) -> tuple[bytes, tuple[str, bytes] | None]:
-        """Tests the method, the target, the authority, and that all is covered that must be. Returns the signed text,
-        and the algorithm and octets of the body's digest, or None if none is covered. Raises `Refused`."""
+        """Tests the method, the target and the authority, and that each field is covered that must be. Returns the
+        signed text, and the algorithm and octets of the body's digest, or None if none is covered. Raises `Refused` with
+        the name of the first test that fails."""
         if not METHOD.fullmatch(message.method):
             raise Refused("bad-method")
         if not TARGET.fullmatch(message.target):

@@ -16,21 +16,21 @@ use spki::{
 use std::error::Error;
 use std::io::{self, Read, Write};
 
-/// The whole input, and how many of its octets are read.
+/// The whole input. `position` is that of the first octet which is not read yet.
 struct Input {
     octets: Vec<u8>,
-    at: usize,
+    position: usize,
 }
 
 impl Input {
     /// Reads the next string, LENGTH:OCTETS, and returns its octets. `None` at the end of the input, or if LENGTH is no number. Panics if the octets
     /// are cut off.
     fn next(&mut self) -> Option<&[u8]> {
-        let rest = &self.octets[self.at..];
+        let rest = &self.octets[self.position..];
         let colon = rest.iter().position(|octet| *octet == b':')?;
         let length: usize = std::str::from_utf8(&rest[..colon]).ok()?.parse().ok()?;
-        self.at += colon + 1 + length;
-        Some(&self.octets[self.at - length..self.at])
+        self.position += colon + 1 + length;
+        Some(&self.octets[self.position - length..self.position])
     }
 
     /// Reads the next string. `None` at the end of the input, or if it is not UTF-8.
@@ -132,12 +132,12 @@ fn answer_to(
     }
 }
 
-/// Writes the answer to each question, LENGTH:OCTETS, in order, until there is none. The answer to a question that is refused is the line of the
-/// refusal.
+/// Writes the answer to each question, LENGTH:OCTETS, in order, until no question is left. The answer to a question that is refused is the line of
+/// the refusal.
 fn main() -> Result<(), Box<dyn Error>> {
     let mut input = Input {
         octets: Vec::new(),
-        at: 0,
+        position: 0,
     };
     io::stdin().read_to_end(&mut input.octets)?;
     while let Some(answer) = answer(&mut input) {

@@ -83,9 +83,9 @@ fn link_lines(folder: &Path) -> Result<Vec<String>, String> {
 /// The folder in which `pkg-config` has the library. `pkg-config` puts the root of the target's system before it. The variables of PLACES and
 /// PERMISSIONS that are set for the target are given to it without the target's name. The error says what to do.
 fn folder_by_pkg_config() -> Result<PathBuf, String> {
-    let set = |name: &&'static str| variable_for_target(name).map(|value| (*name, value));
-    let places: Vec<_> = PLACES.iter().filter_map(set).collect();
-    let permissions: Vec<_> = PERMISSIONS.iter().filter_map(set).collect();
+    let if_set = |name: &&'static str| variable_for_target(name).map(|value| (*name, value));
+    let places: Vec<_> = PLACES.iter().filter_map(if_set).collect();
+    let permissions: Vec<_> = PERMISSIONS.iter().filter_map(if_set).collect();
     let program = variable_for_target("PKG_CONFIG");
     if env::var("HOST") != env::var("TARGET") && permissions.is_empty() && program.is_none() {
         return Err(String::from(

@@ -56,10 +56,10 @@ impl Refusal {
     /// `Fault::Misused` for a call that was made wrongly.
     #[must_use]
     pub fn fault(&self) -> Fault {
-        let is_name = |word: &&str| word.starts_with(|first: char| first.is_ascii_uppercase());
+        let is_fault = |word: &&str| word.starts_with(|first: char| first.is_ascii_uppercase());
         match self.line.strip_prefix("misused") {
             Some(_) => Fault::Misused,
-            None => Fault::of(self.line.split(' ').rfind(is_name).unwrap_or_default()),
+            None => Fault::of(self.line.split(' ').rfind(is_fault).unwrap_or_default()),
         }
     }
 

@@ -136,7 +136,7 @@ impl Asked {
     }
 
     /// Calls a function with each signature, in order, and marks those that it says are valid. After the first that is not valid the function is
-    /// called no more: no entry can grant the request then. With an error, too, the signatures before stay marked.
+    /// called no more: no entry can grant the request then. If the function fails, the signatures that were marked before stay marked.
     ///
     /// To explain why a request is denied, verify also where the request [cannot be granted](Asked::is_possible).
     ///

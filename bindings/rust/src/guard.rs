@@ -193,7 +193,7 @@ impl Guard {
     ///
     /// If the library is of a version that this crate does not know.
     pub fn read(list: &[u8], policy: Policy, limits: Limits) -> Result<Guard, Refusal> {
-        library::check();
+        library::check_version();
         let mut handle = ptr::null_mut();
         let call = |buffer, room, needed| {
             let (octets, length) = (list.as_ptr().cast(), list.len());

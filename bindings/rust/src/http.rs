@@ -216,7 +216,8 @@ impl<N: TakeNonce> Requests<N> {
         Ok((text, Some(digest)))
     }
 
-    /// The canonical text of the key in a request's field, and its kind. Its SHA-256 in hexadecimal digits must be `keyid`, and its algorithm `alg`.
+    /// The canonical text of the key in a request's field, and its kind. Fails with `OtherKey` if its SHA-256 in hexadecimal digits is not `keyid`,
+    /// with `OtherAlgorithm` if its algorithm is not `alg`, and as `form::key_of` does.
     fn signer_of(&self, message: &Message, input: &Input) -> Result<(Vec<u8>, Kind), Unproved> {
         let (key, kind) = form::key_of(&message.field(PUBLIC_KEY)?)?;
         let hash = (self.sha256)(&key);

@@ -18,7 +18,7 @@ pub fn library_version() -> &'static str {
 /// # Panics
 ///
 /// If it is of another one: the program runs with another shared library than it was built for.
-pub(crate) fn check() {
+pub(crate) fn check_version() {
     static CHECKED: Once = Once::new();
     CHECKED.call_once(|| {
         let (version, wanted) = (library_version(), sys::VERSION);

@@ -1,4 +1,4 @@
-//! What is asked.
+//! Questions, and how they are lent to the library.
 
 use crate::signature::ProvenKey;
 use spki_sys as sys;

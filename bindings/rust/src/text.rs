@@ -27,7 +27,7 @@ use std::ptr;
 /// # Ok::<(), spki::Refusal>(())
 /// ```
 pub fn string_at<'t>(text: &'t [u8], path: &[usize]) -> Result<Option<&'t [u8]>, Refusal> {
-    library::check();
+    library::check_version();
     let (mut octets, mut length) = (ptr::null(), 0);
     // SAFETY: each pointer is to as many values as its length says, or to one value of its type, and they do not overlap.
     let status = unsafe {
@@ -107,7 +107,7 @@ pub fn transport(text: &[u8]) -> Result<Vec<u8>, Refusal> {
 
 /// A text in another form: `command` is `sys::CANONICAL`, `sys::ADVANCED` or `sys::TRANSPORT`.
 fn convert(command: c_int, text: &[u8]) -> Result<Vec<u8>, Refusal> {
-    library::check();
+    library::check_version();
     // (an octet that is printed in base64 takes 7 for the 3 of its canonical text; `a(b)`, again and again, takes 8 for 3 in transport form. A text
     // of more than `MOST_OCTETS` is refused. The other 64 octets are room for braces and a line feed)
     let (status, answer) = with_answer(

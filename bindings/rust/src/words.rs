@@ -30,7 +30,8 @@ words! {
     Fault {
         /// An octet that is not allowed in its place, or a string whose octets are not as many or not as encoded as its form requires.
         Bad,
-        /// A date that is not written as `2026-03-01_12:00:00`, or has a number such as month 13; seconds below 0 or past the year 9999.
+        /// A date that is not written as `2026-03-01_12:00:00`, or has a number such as month 13; seconds below 0 or past the year 9999. There is no
+        /// calendar check: `2026-02-30_12:00:00` is a date.
         BadDate,
         /// A digest of another length than its algorithm has.
         DigestLength,
@@ -58,7 +59,7 @@ words! {
         RangeOrdering,
         /// An entry for a name without a principal.
         RelativeInEntry,
-        /// A value that has none of the forms.
+        /// A value that has not the form of its part, such as an entry without a tag.
         Shape,
         /// A text that ends before its value does.
         Short,
@@ -100,11 +101,11 @@ words! {
         DigestDiffers,
         /// The entry grants the request.
         Grants,
-        /// The key of its issuer is not in the sequence.
+        /// Its issuer is a hash, and no key of the sequence has this hash.
         KeyNotShown,
         /// The authorization so far must not be delegated.
         NoDelegation,
-        /// The intersection of the tags is nothing.
+        /// The intersection of the tags is empty.
         NoTag,
         /// No moment is within both windows.
         NoValidity,

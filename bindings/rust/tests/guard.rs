@@ -52,12 +52,12 @@ fn sequence_of(times: usize) -> Vec<u8> {
     format!("(sequence {})", PAIR.repeat(times)).into()
 }
 
-/// A verifier that finds each signature valid.
-fn valid(_: Signature) -> bool {
+/// A verifier that accepts each signature as valid.
+fn accept(_: Signature) -> bool {
     true
 }
 
-/// A key that is taken as proved. It is never freed, so that questions may borrow it.
+/// The key of a client that has proved to hold it. It is never freed, so that questions may borrow it.
 fn proven(key: &'static [u8]) -> &'static ProvenKey<'static> {
     Box::leak(Box::new(ProvenKey::assume(key)))
 }
@@ -70,7 +70,7 @@ fn refusal_line<T: std::fmt::Debug>(result: Result<T, Denied>) -> String {
     }
 }
 
-/// Entry, item and word of each line.
+/// Entry, item and word of each line of an explanation.
 fn lines(explanation: &Explanation) -> Vec<(Option<usize>, Option<usize>, &str)> {
     let reasons = explanation.reasons();
     reasons
@@ -124,7 +124,7 @@ fn a_verifier_is_called_for_each_of_many() -> Outcome {
     Ok(())
 }
 
-/// Nothing is verified where no signature could help: the certificate is for another key, or the list has no entry for the issuer.
+/// Nothing is verified where no signature could help: the second certificate is not by the subject of the first, or the list is empty.
 #[test]
 fn a_verifier_is_not_called_in_vain() {
     let sequence = sequence_of(2);
@@ -137,7 +137,7 @@ fn a_verifier_is_not_called_in_vain() {
     }
 }
 
-/// Two clients at once: what is marked for b grants nothing to c.
+/// Two clients at once: what is marked for b grants nothing to c. A question that is moved keeps its marks.
 #[test]
 fn marks_are_of_one_question() -> Outcome {
     let guard = guard(LIST);
@@ -211,9 +211,9 @@ fn other_numbers_are_no_places() -> Outcome {
     Ok(())
 }
 
-/// The caller gets the verifier's error. A verifier that may fail and does not is asked as any other.
+/// The caller gets the verifier's error. A verifier that may fail, and does not, decides as any other does.
 #[test]
-fn an_error_of_a_verifier_goes_on() {
+fn an_error_of_a_verifier_reaches_the_caller() {
     let sequence = sequence_of(1);
     let decide = |answer| guard(LIST).decide(&question_showing(&sequence), |_| answer);
     assert_eq!(
@@ -253,7 +253,7 @@ fn texts(error: &dyn Error) -> Vec<String> {
 
 /// A program that prints an error and its sources prints each text once, and the cause of the verifier's error too.
 #[test]
-fn an_error_of_a_verifier_is_told_once() {
+fn an_error_of_a_verifier_is_printed_once() {
     let failed = || NoAnswer("x".parse::<u8>().expect_err("no number"));
     let wanted = [
         "a signature could not be verified: no answer",
@@ -266,13 +266,13 @@ fn an_error_of_a_verifier_is_told_once() {
 
 /// A panic of a verifier reaches the caller, and the guard can be asked afterwards.
 #[test]
-fn a_panic_of_a_verifier_goes_on() {
+fn a_panic_of_a_verifier_reaches_the_caller() {
     let sequence = sequence_of(1);
     let guard = guard(LIST);
     let fail = |_: Signature| -> bool { panic!("no such key") };
     let ask = AssertUnwindSafe(|| guard.decide(&question_showing(&sequence), fail));
     assert!(catch_unwind(ask).is_err());
-    assert!(guard.decide(&question_showing(&sequence), valid).is_ok());
+    assert!(guard.decide(&question_showing(&sequence), accept).is_ok());
 }
 
 /// The operator `?` returns a no and a refusal to the caller. What is behind it runs with a grant alone.
@@ -309,7 +309,8 @@ fn an_opened_question_needs_no_texts() -> Outcome {
     assert_eq!(asked.signatures().len(), 2);
     for place in 0..2 {
         asked.mark(place)?;
-        assert_eq!(asked.decide(), Err(Denied::No)); // (the second certificate is none of b)
+        // (the second certificate is by a again, and the subject is b by then)
+        assert_eq!(asked.decide(), Err(Denied::No));
     }
     Ok(())
 }
@@ -332,7 +333,7 @@ fn a_value_that_is_a_list_has_no_octets() -> Outcome {
 
 /// A string with a space or a parenthesis in it stays one string of the request.
 #[test]
-fn strings_are_strings() {
+fn a_string_with_spaces_stays_one_string() {
     let guard =
         guard(b"(acl (entry (public-key (test b)) (tag (cache (* prefix /cache/team1/) read))))");
     let rows: [(&[&[u8]], bool); 5] = [
@@ -343,14 +344,14 @@ fn strings_are_strings() {
         (&[b"cache"], false),
     ];
     for (words, is_granted) in rows {
-        let decision = guard.decide(&question_for(Request::Words(words)), valid);
+        let decision = guard.decide(&question_for(Request::Words(words)), accept);
         assert_eq!(decision.is_ok(), is_granted, "{words:?}");
     }
 }
 
 /// The tag is a list of 40 strings. It contains each request that begins with them. Up to 16 strings are passed on the stack, and more in a vector.
 #[test]
-fn many_strings_are_strings() {
+fn many_strings_make_one_request() {
     let tag = "w ".repeat(40);
     let guard = guard(format!("(acl (entry (public-key (test b)) (tag ({tag}))))").as_bytes());
     for (count, is_granted) in [
@@ -362,7 +363,7 @@ fn many_strings_are_strings() {
         (1000, true),
     ] {
         let words = vec![&b"w"[..]; count];
-        let decision = guard.decide(&question_for(Request::Words(&words)), valid);
+        let decision = guard.decide(&question_for(Request::Words(&words)), accept);
         assert_eq!(decision.is_ok(), is_granted, "{count}");
     }
 }
@@ -379,7 +380,7 @@ fn requests_and_moments_may_be_texts() {
     for (text, is_granted) in texts {
         let moment = Moment::Text(b"\"2024-01-01_00:00:00\"");
         let question = Question::new(b"(sequence)", proven(KEY), Request::Text(text), moment);
-        assert_eq!(guard.decide(&question, valid).is_ok(), is_granted);
+        assert_eq!(guard.decide(&question, accept).is_ok(), is_granted);
     }
 }
 
@@ -399,15 +400,15 @@ fn a_time_of_the_system_is_a_moment() {
     }
 }
 
-/// A right that has ended is not granted by the moments of a clock that failed.
+/// A right that has ended is not granted by the moments of a clock that failed. The year 9999 ends with the second 253,402,300,799.
 #[test]
 fn a_moment_before_1970_or_past_9999_is_refused() {
     let ended =
         b"(acl (entry (public-key (test b)) (tag (*)) (not-after \"1999-12-31_23:59:59\")))";
     let guard = guard(ended);
     let at = |seconds| Question::new(b"(sequence)", proven(KEY), WORDS, Moment::Seconds(seconds));
-    assert!(guard.decide(&at(0), valid).is_ok());
-    assert_eq!(guard.decide(&at(253_402_300_799), valid), Err(Denied::No));
+    assert!(guard.decide(&at(0), accept).is_ok());
+    assert_eq!(guard.decide(&at(253_402_300_799), accept), Err(Denied::No));
     for seconds in [
         -1,
         -2_147_483_648,
@@ -416,7 +417,7 @@ fn a_moment_before_1970_or_past_9999_is_refused() {
         253_402_300_800,
         i64::MAX,
     ] {
-        let line = refusal_line(guard.decide(&at(seconds), valid));
+        let line = refusal_line(guard.decide(&at(seconds), accept));
         assert_eq!(line, "refused at BadDate", "{seconds}");
     }
     let before = Question::new(
@@ -426,7 +427,7 @@ fn a_moment_before_1970_or_past_9999_is_refused() {
         UNIX_EPOCH - Duration::from_nanos(1),
     );
     assert_eq!(
-        refusal_line(guard.decide(&before, valid)),
+        refusal_line(guard.decide(&before, accept)),
         "refused at BadDate"
     );
 }
@@ -441,7 +442,7 @@ fn a_grant_says_until_when_it_holds() -> Outcome {
         Duration::from_secs(1),
     );
     let ending = guard(list);
-    let ask = |time| ending.decide(&Question::new(&sequence, proven(KEY), WORDS, time), valid);
+    let ask = |time| ending.decide(&Question::new(&sequence, proven(KEY), WORDS, time), accept);
     let grant = ask(last - 1000 * second)?;
     assert_eq!(grant.until, Some(last));
     for (time, holds) in [
@@ -453,7 +454,7 @@ fn a_grant_says_until_when_it_holds() -> Outcome {
         assert_eq!((grant.holds_at(time), ask(time).is_ok()), (holds, holds));
     }
     assert!(!grant.holds_at(UNIX_EPOCH - Duration::from_nanos(1)));
-    let endless = guard(LIST).decide(&question_showing(&sequence), valid)?;
+    let endless = guard(LIST).decide(&question_showing(&sequence), accept)?;
     assert_eq!(
         (endless.until, endless.holds_at(last + second)),
         (None, true)
@@ -477,7 +478,7 @@ fn a_login_proves_its_key() {
     let failed = ProvenKey::by(login(message), |_| Err("no such key"));
     assert_eq!(failed, Err(NotProved::Verifier("no such key")));
     // (whoever shows a certificate need not hold the key that has signed it)
-    assert_eq!(ProvenKey::by(SIGNED, valid), Err(NotProved::No));
+    assert_eq!(ProvenKey::by(SIGNED, accept), Err(NotProved::No));
 }
 
 /// The form of a key says how its signatures are made.
@@ -560,7 +561,7 @@ fn the_words_of_lines_are_types() -> Outcome {
 #[test]
 fn refusals_name_the_part() {
     let guard = guard(LIST);
-    let decide = |question: Question| refusal_line(guard.decide(&question, valid));
+    let decide = |question: Question| refusal_line(guard.decide(&question, accept));
     assert_eq!(
         decide(question_showing(b"(sequence) x")),
         "refused sequence Trailing 11"
@@ -588,7 +589,7 @@ fn refusals_name_the_part() {
 fn questions_have_limits() -> Outcome {
     let decide = |limits, question: &Question| {
         let guard = Guard::read(LIST, Policy::AllowSha1, limits).expect("a list");
-        guard.decide(question, valid)
+        guard.decide(question, accept)
     };
     let (one, many) = (sequence_of(1), sequence_of(17));
     let usual = Limits::default();
@@ -672,7 +673,7 @@ fn several_threads_ask_one_guard() -> Outcome {
         for _ in 0..8 {
             scope.spawn(|| {
                 for _ in 0..200 {
-                    assert!(guard.decide(&question_showing(&sequence), valid).is_ok());
+                    assert!(guard.decide(&question_showing(&sequence), accept).is_ok());
                     assert!(asked.decide().is_ok());
                 }
             });

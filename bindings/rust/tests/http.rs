@@ -137,17 +137,13 @@ fn is_digest_of(digest: Option<&ContentDigest>, body: &[u8]) -> bool {
 fn answer(requests: &Requests, row: &Row, now: u64) -> &'static str {
     let fields = row.fields();
     let message = row.message(&fields);
-    match requests.prove(&message, now, |signed: Signature| Openssl.verify(signed)) {
-        Err(unproved) => unproved.name(),
-        Ok(proof)
-            if row
-                .body
-                .as_ref()
-                .map_or(true, |body| is_digest_of(proof.digest.as_ref(), body)) =>
-        {
-            "valid"
-        }
-        Ok(_) => Unproved::OtherDigest.name(),
+    let proof = match requests.prove(&message, now, |signed: Signature| Openssl.verify(signed)) {
+        Ok(proof) => proof,
+        Err(unproved) => return unproved.name(),
+    };
+    match &row.body {
+        Some(body) if !is_digest_of(proof.digest.as_ref(), body) => Unproved::OtherDigest.name(),
+        _ => "valid",
     }
 }
 

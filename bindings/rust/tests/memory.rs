@@ -22,11 +22,11 @@ fn refuses(octets: usize) -> bool {
     octets >= LARGE && left == 0
 }
 
-/// The memory of the system, with large requests refused behind the last of `GRANTS`.
-struct Short;
+/// The memory of the system, of which large requests are refused once `GRANTS` is 0.
+struct ShortMemory;
 
 // SAFETY: each call is passed on as it is, or answered by null, which says that there is no memory.
-unsafe impl GlobalAlloc for Short {
+unsafe impl GlobalAlloc for ShortMemory {
     unsafe fn alloc(&self, layout: Layout) -> *mut u8 {
         if refuses(layout.size()) {
             return ptr::null_mut();
@@ -50,10 +50,10 @@ unsafe impl GlobalAlloc for Short {
 }
 
 #[global_allocator]
-static MEMORY: Short = Short;
+static MEMORY: ShortMemory = ShortMemory;
 
-/// Makes a call with so many large requests for memory granted, and then with all, for each number from 0 to 3. Without any it must be refused, and
-/// with one, for the buffer of its answer, it must answer as with all.
+/// Makes a call with all large requests for memory granted, and then with so many, for each number from 0 to 3. Without any it must be refused. With
+/// one, for the buffer of its answer, or more it must answer as with all.
 fn check<T: PartialEq + std::fmt::Debug>(call: impl Fn() -> Result<T, Refusal>) {
     let wanted = call().expect("an answer");
     for grants in 0..4 {
@@ -67,17 +67,18 @@ fn check<T: PartialEq + std::fmt::Debug>(call: impl Fn() -> Result<T, Refusal>) 
     }
 }
 
+/// The three forms of a text, whose string alone has more than `LARGE` octets.
 #[test]
-fn texts() {
+fn forms_are_refused_without_memory() {
     let text = [b"(a ", &[b'b'; 2 * LARGE][..], b")"].concat();
     check(|| spki::canonical(&text));
     check(|| spki::advanced(&text));
     check(|| spki::transport(&text));
 }
 
+/// The lines of a list of `LARGE` entries. Each entry has a line, so they have more than `LARGE` octets.
 #[test]
-fn lines() {
-    // (each entry has a line)
+fn explanations_and_reductions_are_refused_without_memory() {
     let list = format!(
         "(acl {})",
         "(entry (public-key (test a)) (tag (*)))".repeat(LARGE)

@@ -22,7 +22,7 @@ const MOST_OCTETS: usize = 4096;
 /// Numbers, big-endian: p - 1 and the order of the group of Ed25519, and the coordinates y of its points of order 8.
 const LAST_Y: &str = "7fffffffffffffffffffffffffffffffffffffffffffffffffffffffffffffec";
 const ORDER_25519: &str = "1000000000000000000000000000000014def9dea2f79cd65812631a5cf5d3ed";
-const EIGHTHS: [&str; 2] = [
+const ORDER_8_YS: [&str; 2] = [
     "05fc536d880238b13933c6d305acdfd5f098eff289f4c345b027b2c28f95e826",
     "7a03ac9277fdc74ec6cc392cfa53202a0f67100d760b3cba4fd84d3d706a17c7",
 ];
@@ -190,9 +190,10 @@ fn ed25519(key: &[u8], value: &[u8]) -> Option<Signed> {
 /// small order and no second text: those of order 1, 2 and 4 have the y 1, p - 1 and 0. That it is a point is not tested.
 fn is_of_large_order(point: &[u8]) -> bool {
     let mut y = reversed(point);
+    // (the highest bit is the sign of x)
     y[0] &= 0x7f;
-    let is_eighth = EIGHTHS.iter().any(|eighth| hex(&y) == *eighth);
-    y[..8] != [0; 8] && is_below(&y, LAST_Y) && !is_eighth
+    let has_order_8 = ORDER_8_YS.iter().any(|other| hex(&y) == *other);
+    y[..8] != [0; 8] && is_below(&y, LAST_Y) && !has_order_8
 }
 
 /// A key of a curve, and a signature by ECDSA. `None` for others, and for those that docs/FORMATS.md excludes. That the point is on the curve is left
@@ -244,7 +245,7 @@ fn reversed(octets: &[u8]) -> Vec<u8> {
     octets.iter().rev().copied().collect()
 }
 
-/// Whether a number, big-endian, is below one in hexadecimal digits.
+/// Whether a number, big-endian, is below one in hexadecimal digits in small letters. Without zeros in front, a longer text is a larger number.
 fn is_below(number: &[u8], limit: &str) -> bool {
     let number = hex(number);
     let (number, limit) = (
@@ -285,7 +286,8 @@ fn trimmed(number: &[u8]) -> &[u8] {
 fn signed_number(number: &[u8]) -> Vec<u8> {
     let number = trimmed(number);
     let is_high = number.first().map_or(true, |first| *first >= 0x80);
-    [&[0; 1][..usize::from(is_high)], number].concat()
+    let front: &[u8] = if is_high { &[0] } else { &[] };
+    [front, number].concat()
 }
 
 /// The count of bits of a number of a key. `None` if it is even, or has not an octet 00 in front exactly if its first bit is set.

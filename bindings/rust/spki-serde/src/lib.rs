@@ -61,7 +61,7 @@ pub fn decision<S: Serializer, E: Display>(
     map.end()
 }
 
-/// A time that is a whole second as the seconds since 1970, which are below 0 before it.
+/// The seconds since 1970 of a time that is a whole second. They are below 0 for a time before 1970.
 fn seconds_of(time: SystemTime) -> i64 {
     match time.duration_since(UNIX_EPOCH) {
         Ok(after) => i64::try_from(after.as_secs()).unwrap_or(i64::MAX),

@@ -18,13 +18,13 @@ fn limits_of(value: Value) -> Result<Limits, String> {
 /// Only limits that are set are written. A number above the highest is read as the highest, and a name that is unknown or twice is an error.
 #[test]
 fn limits_are_written_and_read() {
-    let some = Limits::default().octets(4096).work(7);
-    let written = limits::serialize(&some, Serializer).expect("a map");
+    let partial = Limits::default().octets(4096).work(7);
+    let written = limits::serialize(&partial, Serializer).expect("a map");
     assert_eq!(written, json!({"octets": 4096, "work": 7}));
-    for all in [some, Limits::default(), Limits::highest()] {
-        let written = limits::serialize(&all, Serializer).expect("a map");
+    for each in [partial, Limits::default(), Limits::highest()] {
+        let written = limits::serialize(&each, Serializer).expect("a map");
         let read = limits_of(written).expect("limits");
-        assert_eq!(read.named(), all.named());
+        assert_eq!(read.named(), each.named());
     }
     let above = limits_of(json!({"octets": 1_000_000_000_u64})).expect("limits");
     assert_eq!(above.named(), Limits::default().octets(1_048_576).named());
@@ -70,12 +70,12 @@ fn guard_of(list: &[u8]) -> Guard {
     Guard::read(list, Policy::Strict, Limits::default()).expect("a list")
 }
 
-/// A key that is taken as proved.
+/// The key b, as that of a client that has proved to hold it.
 fn client() -> ProvenKey<'static> {
     ProvenKey::assume(&b"(public-key (test b))"[..])
 }
 
-/// A decision as it is written.
+/// A decision as a value in JSON.
 fn json_of(decided: &Result<Grant, Denied>) -> Value {
     decision(decided, Serializer).expect("a map")
 }
@@ -101,7 +101,7 @@ fn grants_are_written() {
     );
 }
 
-/// A window that ends before 1970 ends all the same.
+/// The end of a window before 1970 is written as seconds below 0.
 #[test]
 fn an_end_before_1970_is_written() {
     let list =
@@ -131,13 +131,13 @@ fn denials_are_written() {
         json_of(&refused),
         json!({"granted": false, "refused": "refused sequence Short"})
     );
-    let line = refused
+    let reason = refused
         .as_ref()
         .err()
         .and_then(Denied::refusal)
         .expect("a refusal");
     assert_eq!(
-        refusal(line, Serializer).expect("a line"),
+        refusal(reason, Serializer).expect("a line"),
         "refused sequence Short"
     );
     let failed = Err(Denied::Verifier("no answer"));

@@ -222,7 +222,7 @@ extern "C" {
         buffer_length: usize,
         needed: *mut usize,
     ) -> Decision;
-    /// The answer says of each entry why it grants the request or does not.
+    /// The answer says of each entry why it grants the request or does not, if exactly the marked signatures are valid.
     pub fn spki_asked_explain(
         asked: *const Asked,
         buffer: *mut c_void,

@@ -80,7 +80,7 @@ impl<'a> Parser<'a> {
         self.try_skip(text).then_some(()).ok_or(Unproved::Malformed)
     }
 
-    /// The octets up to the first that is not accepted.
+    /// Takes the octets up to the first that `accepts` refuses, or up to the end.
     fn take_while(&mut self, accepts: impl Fn(u8) -> bool) -> &'a str {
         let end = self.rest.bytes().position(|octet| !accepts(octet));
         let (taken, rest) = self.rest.split_at(end.unwrap_or(self.rest.len()));
@@ -88,7 +88,7 @@ impl<'a> Parser<'a> {
         taken
     }
 
-    /// The name of a member or of a parameter. Fails with `Malformed` if none is there.
+    /// Takes the name of a member or of a parameter. Fails with `Malformed` if none is there.
     fn name(&mut self) -> Result<&'a str, Unproved> {
         if !self
             .rest
@@ -101,7 +101,7 @@ impl<'a> Parser<'a> {
         }))
     }
 
-    /// A string in quotes. Anything else is `Malformed`, also an escape: no string of a request needs one.
+    /// Takes a string in quotes, and returns it without them. Anything else is `Malformed`, also an escape: no string of a request needs one.
     fn string(&mut self) -> Result<&'a str, Unproved> {
         self.expect("\"")?;
         let text = self
@@ -110,7 +110,7 @@ impl<'a> Parser<'a> {
         Ok(text)
     }
 
-    /// A number of seconds, of at most `MOST_DIGITS` digits, without zeros before it. Anything else is `Malformed`.
+    /// Takes a number of seconds, of at most `MOST_DIGITS` digits, without zeros before it. Anything else is `Malformed`.
     fn integer(&mut self) -> Result<u64, Unproved> {
         let digits = self.take_while(|octet| octet.is_ascii_digit());
         if digits.len() > MOST_DIGITS || digits.len() > 1 && digits.starts_with('0') {
@@ -119,7 +119,7 @@ impl<'a> Parser<'a> {
         digits.parse().map_err(|_| Unproved::Malformed)
     }
 
-    /// The octets that are in base64 between two colons. Anything else is `Malformed`.
+    /// Takes the octets that are in base64 between two colons. Anything else is `Malformed`.
     fn octets(&mut self) -> Result<Vec<u8>, Unproved> {
         self.expect(":")?;
         let text = self.take_while(|octet| octet != b':');
@@ -141,8 +141,8 @@ impl<'a> Parser<'a> {
         })
     }
 
-    /// The names in the list of components, which is in parentheses, with one space between two. Fails with `UnknownComponent` also for one with
-    /// parameters, with `ComponentTwice`, and with `Malformed`, also for more than `MOST_COMPONENTS`.
+    /// Takes the list of components, which is in parentheses, with one space between two, and returns their names. Fails with `UnknownComponent`
+    /// also for one with parameters, with `ComponentTwice`, and with `Malformed`, also for more than `MOST_COMPONENTS`.
     fn components(&mut self) -> Result<Vec<&'a str>, Unproved> {
         let mut names = Vec::new();
         self.expect("(")?;

@@ -44,8 +44,8 @@ pub(super) struct Kind {
 }
 
 impl Kind {
-    /// The canonical value, `(7:sig-val..)`, of the octets of a signature, which are as many as the algorithm has, and not none. With RSA they are
-    /// one string of it, and otherwise two equal halves.
+    /// The canonical value, `(7:sig-val..)`, of the octets of a signature. They are as many as the algorithm has, and at least one: `chunks` panics
+    /// for 0. With RSA they are one string of the value, and otherwise two equal halves.
     pub(super) fn value_of(&self, octets: &[u8]) -> Vec<u8> {
         let string_count = self.value.matches('%').count();
         let mut strings = octets.chunks(octets.len() / string_count);

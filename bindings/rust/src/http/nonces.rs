@@ -25,10 +25,10 @@ pub struct Nonces {
     sets: Mutex<Sets>,
 }
 
-/// The hashes. `turned` is when the young set began, in seconds since 1970: 0 before the first nonce.
+/// The hashes of the two sets. `young_since` is when the young set began, in seconds since 1970: 0 before the first nonce.
 #[derive(Debug, Default)]
 struct Sets {
-    turned: u64,
+    young_since: u64,
     old: HashSet<u64>,
     young: HashSet<u64>,
 }
@@ -66,12 +66,12 @@ impl Sets {
     /// Makes the young set the old one once it is `seconds` old, and begins an empty one. One that is twice as old is forgotten as well. If the clock
     /// went back, nothing is forgotten.
     fn turn(&mut self, now: u64, seconds: u64) {
-        let age = now.saturating_sub(self.turned);
+        let age = now.saturating_sub(self.young_since);
         if age < seconds {
             return;
         }
         self.old = std::mem::take(&mut self.young);
-        self.turned = now;
+        self.young_since = now;
         if age >= 2 * seconds {
             self.old.clear();
         }
