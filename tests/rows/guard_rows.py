@@ -39,7 +39,7 @@ def signed_wrongly(certificate: str) -> str:
 
 
 def case_by_hash(behind: str, is_changed: bool = False) -> bytes:
-    """A case with a certificate whose issuer is the hash of KA. `behind`: the text of further items, as KA. `is_changed`: its digest is wrong."""
+    """A case with a certificate by the hash of KA, and the items `behind` it (a text, as KA is). `is_changed`: its signature has a wrong digest."""
     hashed = cert(chains.digest(KA), KB, "(tag (*))")
     return case(ALL, row(hashed, KA), (signed_wrongly(hashed) if is_changed else signed(hashed, KA)) + behind)
 
@@ -110,7 +110,7 @@ def reduced_sets(tag: str) -> tuple[bytes, bytes]:
 
 
 def of_separate_rows() -> Iterator[CallRow]:
-    """Decisions by separate rows. A fault of the case is said before one of the rows."""
+    """Decisions by separate rows. A fault of the case is reported before one of the rows."""
     text, rows = delegation(row(C1, KA), KA), canonical(f"(accepted {row(C1, KA)})")
     for name, case_text, rows_text, wanted in [
         ("row", text, rows, b"Done yes entry 1\n"), ("no row", text, b"(accepted)", b"No no\n"),
