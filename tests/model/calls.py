@@ -24,8 +24,8 @@ Pointer = tuple[bool, int]
 
 
 def of_library(command: str, answered: Answer) -> Answer:
-    """The answer of the library to a command that the program has answered so. For a command that decides YES becomes GRANTED, and NO stays. For
-    other commands both become DONE. Other statuses stay. Counts a row of STATUSES."""
+    """The answer of the library to a command, by that of the program. For a command of DECISIONS, YES becomes GRANTED and NO stays. For other
+    commands both become DONE. Other statuses stay. Counts a row of STATUSES."""
     status, octets = answered
     if status in (YES, NO):
         status = DONE if command not in DECISIONS else GRANTED if status == YES else NO
