@@ -432,8 +432,8 @@ static void ask(struct input *in, const struct parts *parts, spki_guard *guard, 
 }
 
 /* Makes parts of one input, spoils some of them, writes each in some form, opens a guard and asks it. The last three limits are each 10,000, mostly
- * enough, or by the input below 1,000. A request or moment given as strings or in seconds is not spoiled (`others` is true then): in the
- * case that `compare` makes, its text must mean the same. */
+ * enough, or by the input below 1,000, where 0 is the usual limit. A request or moment given as strings or in seconds is not spoiled (`others` is
+ * true then): in the case that `compare` makes, its text must mean the same. */
 int LLVMFuzzerTestOneInput(const uint8_t *data, size_t size)
 {
     static struct parts parts;

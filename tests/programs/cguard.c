@@ -10,7 +10,7 @@
 /* The octets of a thread's stack, the most threads, and how often each asks. */
 enum { STACK = 256 * 1024, MOST_THREADS = 64, TURNS = 50 };
 
-/* The question must list one signature: that of key a in `examples/delegation.sexp`. Returns where its texts are. */
+/* The question must list one signature: that by key a in `examples/delegation.sexp`. Returns its texts, which are the question's. */
 static struct spki_signed expect_signature(const spki_asked *asked)
 {
     struct spki_signed signature, again, none = {0};
@@ -139,7 +139,7 @@ static void equal_signatures(const char *list)
 }
 
 /* Marks belong to the question that was opened, whatever becomes of its buffers (`rooms`, which are overwritten), its guard and other questions. */
-static void one_question(const char *list, const char *sequence, const char *key)
+static void marks_of_question(const char *list, const char *sequence, const char *key)
 {
     char rooms[2][4096];
     spki_guard *guard = open_guard(list, SPKI_ALLOW_SHA1), *other = open_guard("(acl)", SPKI_ALLOW_SHA1);
@@ -485,7 +485,7 @@ static void close_guard_beside(size_t count)
 /* The last second of the year 9999: no later moment can be asked. */
 #define LAST_SECOND INT64_C(253402300799)
 
-/* A decision that is kept holds till the least window ends, and no second longer. */
+/* A decision that is kept holds until the first of its windows ends, and no second longer. */
 static void kept_decisions(void)
 {
     static const struct { const char *list; int64_t until; } rows[] = {
@@ -522,7 +522,7 @@ int main(int count, char **words)
     two_clients(words[3], words[4], words[5], strtoul(words[1], NULL, 10));
     equal_signatures(words[3]);
     kept_decisions();
-    one_question(words[3], words[4], words[5]);
+    marks_of_question(words[3], words[4], words[5]);
     requests_by_strings();
     refused_lists();
     refused_questions();

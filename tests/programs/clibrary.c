@@ -165,7 +165,7 @@ static void misuse(void)
 {
     unsigned char buffer[64];
     size_t needed = 12345;
-    for (unsigned command = 7; command; command *= 2)
+    for (unsigned command = 7; command; command *= 2) /* (until no bit is left) */
         unknown_command(command, buffer, sizeof buffer);
     if (spki_answer(SPKI_CHECK, NULL, 1, buffer, sizeof buffer, &needed).status != SPKI_MISUSED || needed)
         fail("a null text with a length");

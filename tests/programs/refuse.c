@@ -7,8 +7,7 @@
  *   REFUSE_IN=WORD   where the program was started by another word it is left alone
  *
  * At the end it writes to descriptor 3 how many were asked and refused of each, and how many requests for memory came before
- * the first read. A program that hangs is ended by SIGALRM after SECONDS.
- */
+ * the first read. A program that hangs is ended by SIGALRM after SECONDS. */
 #define _GNU_SOURCE
 #include <dlfcn.h>
 #include <errno.h>
