@@ -35,8 +35,8 @@ struct answer {
     unsigned char *octets;
 };
 
-/* Tells libFuzzer of an answer: sets the octet of `seen` that a checksum names. It is of the status and of the first 64 octets of the first line
- * without numbers, which would make many answers of one. */
+/* Tells libFuzzer of an answer: sets the octet of `seen` that a checksum names. It is of the status and of the letters among the first 64 octets of
+ * the first line: numbers would make many answers of one. */
 static void count(const struct answer *answer)
 {
     uint32_t sum = (uint32_t)answer->status;

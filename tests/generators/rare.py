@@ -6,7 +6,7 @@ from model.values import LONGEST, Atom, Value, canonical
 
 from .cases import Builder, Subject
 
-# So many numbers have each kind of text and question that comes at a fixed number (`questions.question`).
+# Each text or question that has a number of its own comes once in so many numbers (`questions.question`).
 EVERY = 20_000
 
 

@@ -171,7 +171,7 @@ static void marks_of_question(const char *list, const char *sequence, const char
     spki_asked_close(asked);
 }
 
-/* A question of strings, which is granted, with its moment as a text. A moment or a request that is given both ways is misuse. */
+/* A question of strings is granted with its moment as a text too. A moment or a request that is given both ways is misuse. */
 static void parts_given_twice(const spki_guard *guard, struct spki_question question)
 {
     question.moment = text("19:2024-01-01_00:00:00");
@@ -292,7 +292,7 @@ static void refused_questions(void)
     spki_guard_close(guard);
 }
 
-/* More octets, certificates or strings than the usual limits are refused by name. */
+/* More strings or octets than the usual limits are refused as `TooManyWords` and `TooLong`. */
 static void usual_limits(void)
 {
     static char long_key[65536];
