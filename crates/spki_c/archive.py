@@ -91,7 +91,7 @@ def exports():
         return CALL.findall(header.read())
 
 
-def interface():
+def interface_version():
     """The version of the calls, which is the first two numbers of VERSION, such as 0.2: the calls may change where the second number does."""
     with open(os.path.join(ROOT, "VERSION"), encoding="ascii") as version:
         return ".".join(version.read().split(".")[:2])
@@ -99,7 +99,7 @@ def interface():
 
 def version_script():
     """The text of the linker's version script for the shared library: the calls have the version of the interface, other symbols are not exported."""
-    return f"SPKI_{interface()} {{\n    global: {' '.join(name + ';' for name in exports())}\n    local: *;\n}};\n"
+    return f"SPKI_{interface_version()} {{\n    global: {' '.join(name + ';' for name in exports())}\n    local: *;\n}};\n"
 
 
 def link(target, kit, proved):
@@ -125,7 +125,7 @@ def link(target, kit, proved):
             if os.path.exists(old):
                 os.remove(old)
         run(f"{prefix}ar", "rcsD", archive, whole)
-        run(cc, "-shared", "-o", shared, whole, f"-Wl,-soname,libspki_c.so.{interface()}", f"-Wl,--version-script={script}", "-Wl,-z,defs",
+        run(cc, "-shared", "-o", shared, whole, f"-Wl,-soname,libspki_c.so.{interface_version()}", f"-Wl,--version-script={script}", "-Wl,-z,defs",
             "-Wl,-z,relro", "-Wl,-z,now")
 
 

@@ -49,8 +49,8 @@ static void count(const struct answer *answer)
 /* A function that does a call of spki.h whose answer goes to a buffer. `with` is a structure with the other arguments of this call. */
 typedef enum spki_status call(const void *with, void *buffer, size_t length, size_t *needed);
 
-/* Does a call with a buffer of this size between canaries, with the request for memory `next_refusal` refused. Nothing but the answer may be written,
- * and the first octet must be 0 if there is none. Returns the answer, whose octets the caller frees. */
+/* Does a call, the function `calls` with its arguments `with`, with a buffer of this size between canaries, and with the request for memory
+ * `next_refusal` refused. Nothing but the answer may be written, and the first octet must be 0 if there is none. The caller frees its `octets`. */
 static struct answer do_call(call *calls, const void *with, size_t size)
 {
     struct answer answer = {0};

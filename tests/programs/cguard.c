@@ -81,10 +81,10 @@ struct client {
     bool is_valid;
 };
 
-/* The start of a thread: asks for a client (`given`) again and again, and marks its signature if it is valid. */
-static void *serve(void *given)
+/* The start of a thread: asks for a client (`argument`) again and again, and marks its signature if it is valid. */
+static void *serve(void *argument)
 {
-    const struct client *client = given;
+    const struct client *client = argument;
     for (int turn = 0; turn < TURNS; turn++) {
         spki_asked *asked = open_question(client->guard, &client->question);
         expect(spki_asked_count(asked) == 1 && spki_asked_possible(asked) && !spki_asked_granted(asked), "a mark of an earlier question counts");
@@ -421,10 +421,10 @@ struct shared {
     spki_asked *asked;
 };
 
-/* The start of a thread: asks a guard, and decides a question that other threads decide too. `given` is a struct shared. */
-static void *ask_at_once(void *given)
+/* The start of a thread: asks a guard, and decides a question that other threads decide too. `argument` is a struct shared. */
+static void *ask_at_once(void *argument)
 {
-    const struct shared *shared = given;
+    const struct shared *shared = argument;
     struct spki_text words[2] = {text("cache"), text("x")};
     struct spki_question question = {.size = sizeof question, .sequence = text("(sequence)"), .key = spki_assume_key(text("(public-key (test b))")),
                                      .words = words, .word_count = 2, .seconds = &moment};
@@ -456,10 +456,10 @@ static void threads(size_t count)
     spki_guard_close(shared.guard);
 }
 
-/* The start of a thread: decides an opened question of its own (`given`) and closes it. */
-static void *decide_and_close(void *given)
+/* The start of a thread: decides an opened question of its own (`argument`) and closes it. */
+static void *decide_and_close(void *argument)
 {
-    spki_asked *asked = given;
+    spki_asked *asked = argument;
     unsigned char line[64];
     size_t needed;
     for (int turn = 0; turn < TURNS; turn++)

@@ -78,7 +78,7 @@ class Attackers:
         self.make_tls_certificates()
 
     def sequences(self) -> dict[str, str]:
-        """The texts for the names that attacks.py has in braces: sequences in braces, Ann's certificate for TLS and the hash of her key."""
+        """The texts for the names that attacks.py has in braces: sequences in braces, Ann's certificate for TLS in `form`, the hash of her key."""
         site = self.site
         good = sequence(site, "ann", "ben", READ)
         # (`text[-8]` is one of the last octets of the signature's value)

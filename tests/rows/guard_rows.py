@@ -169,7 +169,7 @@ def reason(line: bytes) -> bytes:
     return b"Stopped { item: %s, cause: %s }" % stop.groups() if stop else line.replace(b"grants", b"Grants")
 
 
-def questions() -> Iterator[tuple[str, bytes]]:
+def example_cases() -> Iterator[tuple[str, bytes]]:
     """Yields (name, canonical text) of cases, in groups: in each the request, the entries, the rows or the items of the sequence vary."""
     yield "first-run", first_run()
     for request in ("(ftp)", "(ftp host dir)", "(ftp host)", "ftp", "(http host)"):
@@ -190,8 +190,8 @@ def questions() -> Iterator[tuple[str, bytes]]:
 
 
 def of_questions() -> Iterator[CallRow]:
-    """Each example of `questions`, as a case and as a question to a guard of its list, whose parts are in each form."""
-    for name, text in questions():
+    """Each of `example_cases`, as a case and as a question to a guard of its list, whose parts are in each form."""
+    for name, text in example_cases():
         rows, parts = rows_of(text), parts_of(text)
         for wish, call in (("decide", "decide"), ("explain", "explain"), ("reduce", "reduce_case")):
             (_, answer), listed = answer_of(wish, parts, rows)
