@@ -1,5 +1,4 @@
-"""What the calls for C programs answer beside what the program writes: their statuses, misuse, strings inside a value (section "The
-library for C programs")."""
+"""What calls for C programs answer, beside the program's lines: statuses, misuse, strings of a value (section "The library for C programs")."""
 from . import answers, canonical
 from .answers import COMMANDS, NO, REFUSED, YES, Answer
 from .coverage import Rows

@@ -62,8 +62,7 @@ static int are_all(const unsigned char *octets, size_t length, unsigned char wan
     return !length;
 }
 
-/* Asks with a buffer of this size between canaries. The answer must be the known one if it fits. If not, only the first octet may be written: it must
- * be 0. */
+/* Asks with a buffer of this size between canaries. The known answer must be written if it fits. If not, only a first octet 0 must be written. */
 static void ask_with(const struct question *asked, size_t size)
 {
     size_t needed = 12345, written = asked->length <= size ? asked->length : 0;
