@@ -284,7 +284,7 @@ static size_t mark(struct input *in, spki_asked *asked, struct text *rows)
         begin(rows, "by");
         put(rows, signature.key.octets, signature.key.length);
         put(&message, signature.message.octets, signature.message.length);
-        put_hash(rows, &message, 0);
+        put_hash(rows, &message, 0); /* (by SHA-256, as a row requires) */
         put(rows, signature.value.octets, signature.value.length);
         end(rows);
     }

@@ -262,7 +262,7 @@ static void refused_questions(void)
     struct spki_signed signature;
     unsigned char buffer[64];
     spki_guard *guard;
-    spki_asked *asked = (spki_asked *)&until_refusal;
+    spki_asked *asked = (spki_asked *)&until_refusal; /* (not null, so that it is seen that a call sets null) */
     low.octets = 10;
     expect(spki_guard_open("(acl)", 5, SPKI_STRICT, &low, &guard, NULL, 0, NULL) == SPKI_DONE && !spki_guard_entries(guard), "low limits");
     expect_decision(guard, &question, 0, SPKI_REFUSED, "refused sequence Short\n");

@@ -119,7 +119,7 @@ static void answer(struct question *asked)
     ask_with(asked, asked->length + 40);
 }
 
-/* The start of a thread: asks all questions, from the one at a place (a size_t) on. */
+/* The start of a thread: asks all questions, from the one at a place (a size_t) on, with room for the answer and in turn for one octet more. */
 static void *ask_all(void *place)
 {
     size_t first = *(size_t *)place;
