@@ -41,15 +41,15 @@ OF_C = ["-std=c11", "-O2", "-fPIC", "-Wall", "-Wextra", "-Wpedantic", "-Werror"]
 
 
 def toolchain(path):
-    """The module `rtlib` of the toolchain, by the path of its program `rt`. `built_over_gate` builds by it, since `rt lib` does not accept what
+    """The module `rtlib` of the toolchain, by the path of its program `rt`. `build_over_gate` builds by it, since `rt lib` does not accept what
     `rt ci` leaves."""
     loader = importlib.machinery.SourceFileLoader("rt", path)
-    made = importlib.util.module_from_spec(importlib.util.spec_from_loader("rt", loader))
-    loader.exec_module(made)
-    return made.rtlib
+    module = importlib.util.module_from_spec(importlib.util.spec_from_loader("rt", loader))
+    loader.exec_module(module)
+    return module.rtlib
 
 
-def built_over_gate(rt, flags, to):
+def build_over_gate(rt, flags, to):
     """Builds the proved code as the file `to`, over what `rt ci` left of the libraries below. Returns whether it is built: if false, `rt lib` must
     build it. It is not tried if these libraries are built already, or if `rt ci` has not left all of them."""
     crate = next(it for it in rt.crates_below(ROOT) if it.name == "spki_c")
@@ -74,11 +74,11 @@ def put_aside(path):
             os.replace(aside, path)
 
 
-def build_proved(rt, asked, to):
-    """Builds the proved code for the target as the file `to`, which --again links anew. `rt` is the path of the toolchain's program."""
-    flags = [] if asked.target == OWN else [f"--target={asked.target}"]
+def build_proved(rt, options, to):
+    """Builds the proved code as the file `to`, which --again links anew. `rt`: the path of the toolchain's program. `options`: by `arguments`."""
+    flags = [] if options.target == OWN else [f"--target={options.target}"]
     os.makedirs(os.path.dirname(to), exist_ok=True)
-    if asked.over_gate and built_over_gate(toolchain(rt), flags, to):
+    if options.over_gate and build_over_gate(toolchain(rt), flags, to):
         return
     with put_aside(MADE):
         subprocess.run(["rt", "lib", *flags], check=True)
@@ -91,15 +91,15 @@ def exports():
         return CALL.findall(header.read())
 
 
-def interface():
+def interface_version():
     """The version of the calls, which is the first two numbers of VERSION, such as 0.2: the calls may change where the second number does."""
     with open(os.path.join(ROOT, "VERSION"), encoding="ascii") as version:
         return ".".join(version.read().split(".")[:2])
 
 
-def versioned():
-    """The version script of the shared library: the calls have the version of the interface, and no other symbol is seen."""
-    return f"SPKI_{interface()} {{\n    global: {' '.join(name + ';' for name in exports())}\n    local: *;\n}};\n"
+def version_script():
+    """The text of the linker's version script for the shared library: the calls have the version of the interface, other symbols are not exported."""
+    return f"SPKI_{interface_version()} {{\n    global: {' '.join(name + ';' for name in exports())}\n    local: *;\n}};\n"
 
 
 def link(target, kit, proved):
@@ -113,7 +113,7 @@ def link(target, kit, proved):
     with tempfile.TemporaryDirectory() as room:
         whole, script = (os.path.join(room, name) for name in ("spki_c.o", "versions"))
         with open(script, "w", encoding="ascii") as file:
-            file.write(versioned())
+            file.write(version_script())
         of_c = []
         for source in ["spki.c", *["heap.c"] * (target != OWN)]:
             of_c.append(os.path.join(room, f"{source}.o"))
@@ -125,33 +125,33 @@ def link(target, kit, proved):
             if os.path.exists(old):
                 os.remove(old)
         run(f"{prefix}ar", "rcsD", archive, whole)
-        run(cc, "-shared", "-o", shared, whole, f"-Wl,-soname,libspki_c.so.{interface()}", f"-Wl,--version-script={script}", "-Wl,-z,defs",
+        run(cc, "-shared", "-o", shared, whole, f"-Wl,-soname,libspki_c.so.{interface_version()}", f"-Wl,--version-script={script}", "-Wl,-z,defs",
             "-Wl,-z,relro", "-Wl,-z,now")
 
 
 def arguments():
     """The parsed command line: `over_gate`, `again` and `target`."""
-    asked = argparse.ArgumentParser(description="Builds the proved library for C programs, static and shared.")
-    how = asked.add_mutually_exclusive_group()
+    parser = argparse.ArgumentParser(description="Builds the proved library for C programs, static and shared.")
+    how = parser.add_mutually_exclusive_group()
     how.add_argument("--over-gate", action="store_true", help="over what rt ci has left of the libraries below")
     how.add_argument("--again", action="store_true", help="over the proved code of the last run")
-    asked.add_argument("--target", choices=TARGETS, default=OWN, help="the system that the libraries are for")
-    return asked.parse_args()
+    parser.add_argument("--target", choices=TARGETS, default=OWN, help="the system that the libraries are for")
+    return parser.parse_args()
 
 
 def main():
     """Builds both libraries. Ends with a message if a tool is missing, and by CalledProcessError if a command fails."""
-    asked = arguments()
+    options = arguments()
     os.chdir(CRATE)
-    folder, cc, prefix, package_of_cc, package = TARGETS[asked.target]
+    folder, cc, prefix, package_of_cc, package = TARGETS[options.target]
     for tool, name in {cc: package_of_cc, **dict.fromkeys([f"{prefix}{it}" for it in ("ld", "objcopy", "ar")], package)}.items():
         if not shutil.which(tool):
             sys.exit(f"there is no {tool} (Debian: {name}): it links the library")
     rt = os.path.realpath(shutil.which("rt") or sys.exit("rt is not in the path: it builds the library"))
     proved = os.path.join(folder, "proved", "libspki_c.a")
-    if not asked.again:
-        build_proved(rt, asked, proved)
-    link(asked.target, os.path.dirname(os.path.dirname(rt)), proved)
+    if not options.again:
+        build_proved(rt, options, proved)
+    link(options.target, os.path.dirname(os.path.dirname(rt)), proved)
 
 
 if __name__ == "__main__":

@@ -11,25 +11,26 @@ struct parts { struct spki_text sequence, key, request, moment; bool is_worded; 
 /* The texts of a signature, and whether its value is one string. */
 struct texts { struct spki_signed signature; bool is_string; };
 
-/* The parameters by which an answer is returned, and the arguments for them. */
-#define ANSWER void *buffer, size_t buffer_length, size_t *needed
-#define TO buffer, buffer_length, needed
+/* The parameters of a call that returns an answer, and the arguments with which it passes them on. */
+#define BUFFER_PARAMS void *buffer, size_t buffer_length, size_t *needed
+#define BUFFER_ARGS buffer, buffer_length, needed
 
 /* The functions of the proved library, in src/. Each pointer is to a value. Behind a pointer to several values, or to one that may be missing, is
  * their count. `back` receives the handle that a function has taken over and gives back. */
-uint32_t spki_c_answer(uint32_t command, struct spki_text text, ANSWER);
-uint32_t spki_c_check_accepted(struct spki_text text, struct spki_text rows, ANSWER);
-uint32_t spki_c_guard_open(struct spki_text list, uint32_t policy, const struct spki_limits *limits, size_t count, struct handle *guard, ANSWER);
+uint32_t spki_c_answer(uint32_t command, struct spki_text text, BUFFER_PARAMS);
+uint32_t spki_c_check_accepted(struct spki_text text, struct spki_text rows, BUFFER_PARAMS);
+uint32_t spki_c_guard_open(struct spki_text list, uint32_t policy, const struct spki_limits *limits, size_t count, struct handle *guard,
+                           BUFFER_PARAMS);
 void spki_c_close(bool is_question, struct handle value, struct handle *back);
 size_t spki_c_guard_entries(struct handle *guard);
 uint32_t spki_c_guard_ask(struct handle *guard, struct parts parts, const struct spki_text *words, size_t word_count, const int64_t *seconds,
-                          size_t count, struct handle *asked, ANSWER);
+                          size_t count, struct handle *asked, BUFFER_PARAMS);
 size_t spki_c_asked_count(struct handle *asked);
 uint32_t spki_c_asked_signature(struct handle *asked, size_t place, struct texts *texts);
 uint32_t spki_c_asked_mark(struct handle asked, size_t place, struct handle *back);
 bool spki_c_asked_granted(struct handle *asked);
 bool spki_c_asked_possible(struct handle *asked);
-uint32_t spki_c_asked_answer(uint32_t query, struct handle *asked, int64_t *until, ANSWER);
+uint32_t spki_c_asked_answer(uint32_t query, struct handle *asked, int64_t *until, BUFFER_PARAMS);
 uint32_t spki_c_string(struct spki_text text, const size_t *path, size_t depth, size_t *at, size_t *length);
 
 /* Whether a pointer to `count` values of `size` octets is misuse: null with a count, or more than memory can have. */
@@ -52,8 +53,8 @@ static bool begin_answer(void **buffer, size_t length, size_t **needed, size_t *
     return is_buffer;
 }
 
-/* What each call that returns an answer does first. If it is false, the call is misuse. */
-#define BEGINS begin_answer(&buffer, buffer_length, &needed, &(size_t){0})
+/* What each call that returns an answer does first, with its BUFFER_PARAMS. If it is false, the call is misuse. */
+#define BEGIN_ANSWER() begin_answer(&buffer, buffer_length, &needed, &(size_t){0})
 
 /* The handle of a guard or a question, for a call that only borrows it. */
 #define LENT(value) (&(struct handle){(void *)(value)})
@@ -79,26 +80,26 @@ size_t spki_guard_entries(const spki_guard *guard) { return guard ? spki_c_guard
 size_t spki_asked_count(const spki_asked *asked) { return asked ? spki_c_asked_count(LENT(asked)) : 0; }
 bool spki_asked_possible(const spki_asked *asked) { return asked && spki_c_asked_possible(LENT(asked)); }
 
-struct spki_answered spki_answer(enum spki_command command, const void *text, size_t text_length, ANSWER)
+struct spki_answered spki_answer(enum spki_command command, const void *text, size_t text_length, BUFFER_PARAMS)
 {
-    return (struct spki_answered){BEGINS ? spki_c_answer(command, (struct spki_text){text, text_length}, TO) : SPKI_MISUSED};
+    return (struct spki_answered){BEGIN_ANSWER() ? spki_c_answer(command, (struct spki_text){text, text_length}, BUFFER_ARGS) : SPKI_MISUSED};
 }
 
-struct spki_answered spki_check_accepted(const void *text, size_t text_length, const void *rows, size_t rows_length, ANSWER)
+struct spki_answered spki_check_accepted(const void *text, size_t text_length, const void *rows, size_t rows_length, BUFFER_PARAMS)
 {
     const struct spki_text of_case = {text, text_length}, of_rows = {rows, rows_length};
-    return (struct spki_answered){BEGINS ? spki_c_check_accepted(of_case, of_rows, TO) : SPKI_MISUSED};
+    return (struct spki_answered){BEGIN_ANSWER() ? spki_c_check_accepted(of_case, of_rows, BUFFER_ARGS) : SPKI_MISUSED};
 }
 
 enum spki_status spki_guard_open(const void *list, size_t list_length, enum spki_policy policy, const struct spki_limits *limits,
-                                 spki_guard **guard, ANSWER)
+                                 spki_guard **guard, BUFFER_PARAMS)
 {
     struct handle handle = {0};
     /* (a limit of 0 stands for the usual one) */
     struct spki_limits own = {0};
     enum spki_status status = SPKI_MISUSED;
-    if (BEGINS && guard && (!limits || READ(own, struct spki_limits, answer, limits)))
-        status = spki_c_guard_open((struct spki_text){list, list_length}, policy, &own, 1, &handle, TO);
+    if (BEGIN_ANSWER() && guard && (!limits || READ(own, struct spki_limits, answer, limits)))
+        status = spki_c_guard_open((struct spki_text){list, list_length}, policy, &own, 1, &handle, BUFFER_ARGS);
     if (guard)
         *guard = handle.at;
     return status;
@@ -110,15 +111,16 @@ void spki_guard_close(spki_guard *guard)
         close_handle(false, guard);
 }
 
-enum spki_status spki_guard_ask(const spki_guard *guard, const struct spki_question *question, spki_asked **asked, ANSWER)
+enum spki_status spki_guard_ask(const spki_guard *guard, const struct spki_question *question, spki_asked **asked, BUFFER_PARAMS)
 {
     struct handle handle = {0};
     struct spki_question own;
     enum spki_status status = SPKI_MISUSED;
-    if (BEGINS && guard && asked && READ(own, struct spki_question, seconds, question) && !is_misuse(own.words, own.word_count, sizeof *own.words)) {
+    if (BEGIN_ANSWER() && guard && asked && READ(own, struct spki_question, seconds, question)
+        && !is_misuse(own.words, own.word_count, sizeof *own.words)) {
         const struct parts parts = {own.sequence, own.key.text, own.request, own.moment, .is_worded = own.words};
         status = spki_c_guard_ask(LENT(guard), parts, own.words ? own.words : &(struct spki_text){0}, own.word_count,
-                                  own.seconds ? own.seconds : &(int64_t){0}, own.seconds ? 1 : 0, &handle, TO);
+                                  own.seconds ? own.seconds : &(int64_t){0}, own.seconds ? 1 : 0, &handle, BUFFER_ARGS);
     }
     if (asked)
         *asked = handle.at;
@@ -160,17 +162,25 @@ bool spki_asked_granted(const spki_asked *asked)
 }
 
 /* Answers a question, and says until when a yes holds. `query` is SPKI_CHECK, SPKI_EXPLAIN or SPKI_REDUCE. */
-static struct spki_decision answer(enum spki_command query, const spki_asked *asked, ANSWER)
+static struct spki_decision answer(enum spki_command query, const spki_asked *asked, BUFFER_PARAMS)
 {
     struct spki_decision decision = {SPKI_MISUSED, INT64_MIN};
-    if (BEGINS && asked)
-        decision.status = spki_c_asked_answer(query, LENT(asked), &decision.until, TO);
+    if (BEGIN_ANSWER() && asked)
+        decision.status = spki_c_asked_answer(query, LENT(asked), &decision.until, BUFFER_ARGS);
     return decision;
 }
 
-struct spki_decision spki_asked_decide(const spki_asked *asked, ANSWER) { return answer(SPKI_CHECK, asked, TO); }
-struct spki_answered spki_asked_explain(const spki_asked *asked, ANSWER) { return (struct spki_answered){answer(SPKI_EXPLAIN, asked, TO).status}; }
-struct spki_answered spki_asked_reduce(const spki_asked *asked, ANSWER) { return (struct spki_answered){answer(SPKI_REDUCE, asked, TO).status}; }
+struct spki_decision spki_asked_decide(const spki_asked *asked, BUFFER_PARAMS) { return answer(SPKI_CHECK, asked, BUFFER_ARGS); }
+
+struct spki_answered spki_asked_explain(const spki_asked *asked, BUFFER_PARAMS)
+{
+    return (struct spki_answered){answer(SPKI_EXPLAIN, asked, BUFFER_ARGS).status};
+}
+
+struct spki_answered spki_asked_reduce(const spki_asked *asked, BUFFER_PARAMS)
+{
+    return (struct spki_answered){answer(SPKI_REDUCE, asked, BUFFER_ARGS).status};
+}
 
 enum spki_status spki_string(const void *text, size_t text_length, const size_t *path, size_t depth, const void **octets, size_t *length)
 {

@@ -79,7 +79,7 @@
 #define SPKI_VERSION_PATCH 0
 #define SPKI_VERSION "0.2.0"
 
-/* Marks a call whose result must be looked at. */
+/* Marks a call whose result must not be ignored. */
 #if defined __cplusplus
 #define SPKI_RESULT [[nodiscard]]
 #elif defined __GNUC__

@@ -35,8 +35,8 @@ struct answer {
     unsigned char *octets;
 };
 
-/* Tells libFuzzer of an answer: sets the octet of `seen` that a checksum names. It is of the status and of the first 64 octets of the first line
- * without numbers, which would make many answers of one. */
+/* Tells libFuzzer of an answer: sets the octet of `seen` that a checksum names. It is of the status and of the letters among the first 64 octets of
+ * the first line: numbers would make many answers of one. */
 static void count(const struct answer *answer)
 {
     uint32_t sum = (uint32_t)answer->status;
@@ -49,8 +49,8 @@ static void count(const struct answer *answer)
 /* A function that does a call of spki.h whose answer goes to a buffer. `with` is a structure with the other arguments of this call. */
 typedef enum spki_status call(const void *with, void *buffer, size_t length, size_t *needed);
 
-/* Does a call with a buffer of this size between canaries, with the request for memory `next_refusal` refused. Nothing but the answer may be written,
- * and the first octet must be 0 if there is none. Returns the answer, whose octets the caller frees. */
+/* Does a call, the function `calls` with its arguments `with`, with a buffer of this size between canaries, and with the request for memory
+ * `next_refusal` refused. Nothing but the answer may be written, and the first octet must be 0 if there is none. The caller frees its `octets`. */
 static struct answer do_call(call *calls, const void *with, size_t size)
 {
     struct answer answer = {0};
@@ -284,7 +284,7 @@ static size_t mark(struct input *in, spki_asked *asked, struct text *rows)
         begin(rows, "by");
         put(rows, signature.key.octets, signature.key.length);
         put(&message, signature.message.octets, signature.message.length);
-        put_hash(rows, &message, 0);
+        put_hash(rows, &message, 0); /* (by SHA-256, as a row requires) */
         put(rows, signature.value.octets, signature.value.length);
         end(rows);
     }
@@ -432,8 +432,8 @@ static void ask(struct input *in, const struct parts *parts, spki_guard *guard, 
 }
 
 /* Makes parts of one input, spoils some of them, writes each in some form, opens a guard and asks it. The last three limits are each 10,000, mostly
- * enough, or by the input below 1,000. A request or moment given as strings or in seconds is not spoiled (`others` is true then): in the
- * case that `compare` makes, its text must mean the same. */
+ * enough, or by the input below 1,000, where 0 is the usual limit. A request or moment given as strings or in seconds is not spoiled (`others` is
+ * true then): in the case that `compare` makes, its text must mean the same. */
 int LLVMFuzzerTestOneInput(const uint8_t *data, size_t size)
 {
     static struct parts parts;

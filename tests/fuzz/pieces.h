@@ -132,8 +132,7 @@ static void put_principal(struct input *in, struct text *to, unsigned which)
 static const char *const strings[] = {"ftp", "read", "write", "a", "", "10", "9", "/team/", "/team/x", "2024-01-01_00:00:00"};
 enum { STRINGS = sizeof strings / sizeof *strings };
 
-/* Adds the field with the subject of a certificate: the principal of the key with this number, or in some
- * cases a name of it with up to two strings. */
+/* Adds the field with the subject of a certificate: the principal of the key with this number, or by chance a name of it with up to two strings. */
 static void put_subject(struct input *in, struct text *to, unsigned which)
 {
     unsigned names = mostly(in, 0, 4);

@@ -15,7 +15,6 @@ PARTS_OF_KEYS: list[Value] = [
     (Atom(b"test"), Atom(b"a")), (Atom(b"test"), Atom(b"b")), (Atom(b"test"), Atom(b"b", b"h")), (Atom(b"test"),),
     (Atom(b"rsa"), (Atom(b"n"), Atom(b"\x00\xc3\x01")), (Atom(b"e"), Atom(b"\x03"))), (Atom(b"*"), ())]
 KEYS: list[Value] = [(Atom(b"public-key"), parts) for parts in PARTS_OF_KEYS]
-# The chance of a mistake at one step, where no other is given.
 FAULTY = 0.025
 
 
@@ -33,9 +32,9 @@ def word(name: str) -> Value:
 
 
 class Builder:
-    """Builds one case. Each step of it goes wrong by a small chance. `keys` are those from which its issuers and subjects are drawn. The chain has as
-    many certificates as one of `lengths` says, and more to define what names are left. `items` and `rows` are what the sequence and the list of
-    accepted signatures get, and `hashed` the keys that an issuer's hash names, which the sequence must show."""
+    """Builds one case. Each step goes wrong by a small chance. Issuers and subjects are drawn from `keys`. The chain has as many certificates as one
+    of `lengths` says, and more to define the names that are left. `items` and `rows` are those of the sequence and of the list of accepted
+    signatures so far, and `hashed` the keys that an issuer's hash names, which the sequence must show."""
 
     def __init__(self, rng: random.Random) -> None:
         self.rng = rng
@@ -47,9 +46,13 @@ class Builder:
         self.items: list[Value] = []
         self.rows: list[Value] = []
 
-    def wrong(self, chance: float = FAULTY) -> bool:
-        """Whether something happens that has this chance: mostly a mistake, but also what is right and seldom."""
+    def by_chance(self, chance: float) -> bool:
+        """Whether something happens that has this chance."""
         return self.rng.random() < chance
+
+    def wrong(self) -> bool:
+        """Whether a step goes wrong: by the small chance FAULTY, where it has no chance of its own."""
+        return self.by_chance(FAULTY)
 
     # ---- parts
 
@@ -61,7 +64,7 @@ class Builder:
         digest = DIGESTS[algorithm](canonical(key)).digest()
         if self.wrong():
             digest = digest[:-1] + bytes([digest[-1] ^ 1])
-        uri = ((Atom(b"uri"), Atom(b"x")),) if self.wrong(0.15) else ()
+        uri = ((Atom(b"uri"), Atom(b"x")),) if self.by_chance(0.15) else ()
         return (word("hash"), Atom(algorithm), Atom(digest), *uri)
 
     def subject(self, subject: Subject, issuer: Value | None = None) -> Value:
@@ -78,12 +81,12 @@ class Builder:
         earlier, later = [it for it in MOMENTS if it <= self.moment], [it for it in MOMENTS if it >= self.moment]
         for head, fitting in (("not-before", earlier), ("not-after", later)):
             if self.rng.random() < 0.25:
-                limits.append((word(head), Atom(self.rng.choice(MOMENTS if self.wrong(0.2) else fitting))))
+                limits.append((word(head), Atom(self.rng.choice(MOMENTS if self.by_chance(0.2) else fitting))))
         if self.rng.random() < 0.3:
             self.rng.shuffle(limits)
             # (a limit beside `(valid ..)` is a fault)
-            directly = limits[:1] if self.wrong(0.02) else []
-            return [(word("valid"), *limits), *directly] if limits or self.wrong(0.3) else []
+            directly = limits[:1] if self.by_chance(0.02) else []
+            return [(word("valid"), *limits), *directly] if limits or self.by_chance(0.3) else []
         return limits
 
     def tag(self) -> Value:
@@ -96,8 +99,8 @@ class Builder:
         fields = [*needed, *self.window()]
         if propagate:
             fields.append((word("propagate"),))
-        fields += [(word(head), Atom(b"x")) for head in ignored if self.wrong(0.04)]
-        if self.wrong(0.5):
+        fields += [(word(head), Atom(b"x")) for head in ignored if self.by_chance(0.04)]
+        if self.by_chance(0.5):
             self.rng.shuffle(fields)
         return fields
 
@@ -117,16 +120,16 @@ class Builder:
         defines = bool(subject.names) != self.wrong()
         following = self.next_subject(0.15 if defines else 0.35)
         ignored = ("display", "issuer-info", "subject-info", "comment")
-        version: list[Value] = [(word("version"), Atom(b"0"))] if self.wrong(0.08) else []
+        version: list[Value] = [(word("version"), Atom(b"0"))] if self.by_chance(0.08) else []
         subject_field: Value = (word("subject"), self.subject(following, issuer))
         if defines:
             name = subject.names[0] if subject.names and not self.wrong() else self.rng.choice(NAMES)
             needed = [*version, (word("issuer"), (word("name"), principal, Atom(name))), subject_field]
-            fields = self.fields(*needed, propagate=self.wrong(0.01), ignored=ignored)
+            fields = self.fields(*needed, propagate=self.by_chance(0.01), ignored=ignored)
             following.names += subject.names[1:]
         else:
             needed = [*version, (word("issuer"), principal), subject_field, self.tag()]
-            fields = self.fields(*needed, propagate=not is_last and not self.wrong(0.04), ignored=ignored)
+            fields = self.fields(*needed, propagate=not is_last and not self.by_chance(0.04), ignored=ignored)
         self.sign((word("cert"), *fields), issuer)
         return following
 
@@ -137,16 +140,16 @@ class Builder:
             certificate = mutated(certificate, self.rng)
         octets = canonical(certificate)
         algorithm = self.rng.choice((b"sha1", b"sha256", b"sha512"))
-        digest = DIGESTS[algorithm](octets if not self.wrong(0.015) else b"").digest()
-        signer = self.principal(key if not self.wrong(0.015) else self.rng.choice(self.keys), 0.15)
+        digest = DIGESTS[algorithm](octets if not self.by_chance(0.015) else b"").digest()
+        signer = self.principal(key if not self.by_chance(0.015) else self.rng.choice(self.keys), 0.15)
         values: tuple[Value, ...] = (Atom(b"sig"), (Atom(b"rsa"), Atom(b"\x01\xff")), Atom(b"sig", b"h"), ())
         value = self.rng.choice(values)
         self.items.append(certificate)
-        if self.wrong(0.1):
+        if self.by_chance(0.1):
             self.items.append((word("do"), word("hash"), Atom(algorithm)))
         self.items.append((word("signature"), (word("hash"), Atom(algorithm), Atom(digest)), signer, value))
-        if not self.wrong(0.015):
-            shown = value if not self.wrong(0.01) else Atom(b"other")
+        if not self.by_chance(0.015):
+            shown = value if not self.by_chance(0.01) else Atom(b"other")
             self.rows.append((word("by"), key, (word("hash"), word("sha256"), Atom(hashlib.sha256(octets).digest())), shown))
 
     def chain(self, subject: Subject, length: int) -> Subject:
@@ -154,7 +157,7 @@ class Builder:
         for left in range(length, 0, -1):
             subject = self.certificate(subject, left == 1)
         # what names are left is mostly defined. Each definition may leave more of them, so the items have a bound
-        while subject.names and not self.wrong(0.1) and len(self.items) < 24:
+        while subject.names and not self.by_chance(0.1) and len(self.items) < 24:
             subject = self.certificate(subject, True)
         return subject
 
@@ -169,7 +172,7 @@ class Builder:
     # ---- the case
 
     def entries(self, subject: Subject) -> list[Value]:
-        """The entry of the chain, and others that nearly match. To be called behind `chain`: an entry that certificates follow must delegate."""
+        """The entry of the chain, and others that nearly match. To be called after `chain`: an entry that certificates follow must delegate."""
         entries = [self.entry(subject, bool(self.items))]
         for _ in range(self.rng.choice((0, 0, 0, 0, 1, 1, 1, 2, 2, 12))):
             other = subject if self.rng.random() < 0.7 else self.next_subject(0.3)
@@ -185,12 +188,12 @@ class Builder:
         """The whole case: an entry and a chain from it to the key that asks, mostly. To be called once."""
         subject = self.next_subject(0.3)
         last = self.chain(subject, self.rng.choice(self.lengths))
-        entries = self.entries(subject) if not self.wrong(0.02) else []
-        if self.wrong(0.1):
+        entries = self.entries(subject) if not self.by_chance(0.02) else []
+        if self.by_chance(0.1):
             entries.insert(0, (word("version"), Atom(b"0")))
         asker = last.key if not self.wrong() else self.rng.choice(self.keys)
         self.rng.shuffle(self.rows)
-        policy = [(word("policy"), word("strict"))] if self.wrong(0.25) else []
+        policy = [(word("policy"), word("strict"))] if self.by_chance(0.25) else []
         request = self.request if not self.wrong() else tags.request(self.rng)
         return (word("case"), (word("acl"), *entries), (word("accepted"), *self.rows), (word("sequence"), *self.items_with_keys()),
                 (word("key"), asker), (word("request"), request), (word("at"), Atom(self.moment)), *policy)

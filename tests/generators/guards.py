@@ -43,7 +43,7 @@ Asked = Union[Question, GuardQuestion, Call, StringQuestion]
 
 
 def guard_question(rng: random.Random) -> GuardQuestion:
-    """The parts of a case, each by itself and by chance nearly right, asked of a guard of its list."""
+    """A question to a guard of a case's list, with the other parts of the case. The text of each part is right, or by chance nearly right."""
     case = Builder(rng).case()
     assert isinstance(case, tuple)
     acl, rows, sequence = case[1:4]

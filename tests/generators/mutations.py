@@ -221,7 +221,7 @@ def changed_octets(text: bytes, rng: random.Random) -> bytes:
 
 
 def changed_length(text: bytes, rng: random.Random) -> bytes:
-    """A text with a length off by one, with a leading zero, with a space behind it, or much too large. Without a length: with an octet changed."""
+    """A text with a length off by one, larger by 10 to 10^19, with a leading zero or a space behind it. Without a length: with an octet changed."""
     lengths = list(LENGTH.finditer(text))
     if not lengths:
         return changed_octets(text, rng)

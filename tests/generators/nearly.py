@@ -7,20 +7,20 @@ from . import spellings
 from .mutations import mutated, mutated_text
 
 
-def maybe_changed(whole: Value, rng: random.Random, chance: float) -> Value:
+def maybe_changed(value: Value, rng: random.Random, chance: float) -> Value:
     """The value, or by chance one that differs from it at one place or at more. `chance` is that of a first change."""
     while rng.random() < chance:
-        whole = mutated(whole, rng)
+        value = mutated(value, rng)
         chance /= 2
-    return whole
+    return value
 
 
-def maybe_wrong_text(whole: Value, rng: random.Random, wrong: float = 0.35) -> bytes:
+def maybe_wrong_text(value: Value, rng: random.Random, wrong: float = 0.35) -> bytes:
     """A text of a value, with mistakes by chance. `wrong` is the chance of a first mistake."""
     if rng.random() < wrong / 4:
         # a transport form whose octets are nearly a canonical form
-        return spellings.in_braces(mutated_text(canonical(whole), rng), rng)
-    text = spellings.text_of(whole, rng)
+        return spellings.in_braces(mutated_text(canonical(value), rng), rng)
+    text = spellings.text_of(value, rng)
     while rng.random() < wrong:
         text = mutated_text(text, rng)
         wrong /= 2

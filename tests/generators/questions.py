@@ -78,7 +78,7 @@ def call(rng: random.Random) -> Call:
 
 
 def string_question(rng: random.Random) -> StringQuestion:
-    """A value in canonical form, by chance nearly one, and the path to a part of it, by chance to none."""
+    """A value in canonical form, by chance nearly one, and the path to a part of it. By chance the path ends in one or two other numbers."""
     whole = Builder(rng).principal(rng.choice(KEYS)) if rng.random() < 0.3 else value(rng)
     path = rng.choice(places(whole))
     if rng.random() < 0.2:

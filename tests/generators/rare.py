@@ -6,7 +6,7 @@ from model.values import LONGEST, Atom, Value, canonical
 
 from .cases import Builder, Subject
 
-# So many numbers have each kind of text and question that comes at a fixed number (`questions.question`).
+# Each text or question that has a number of its own comes once in so many numbers (`questions.question`).
 EVERY = 20_000
 
 
@@ -34,8 +34,8 @@ def many_strings(kind: bytes, count: int) -> Value:
 
 def pair_near_limit(rng: random.Random) -> tuple[Value, Value]:
     """Two tags whose nodes have a product of a million, or one that is a little less or more."""
-    one, other = rng.choice(((1000, 1000), (999, 1001), (977, 1024), (1001, 1000)))
-    return many_strings(b"list", one), many_strings(b"list", other)
+    first, second = rng.choice(((1000, 1000), (999, 1001), (977, 1024), (1001, 1000)))
+    return many_strings(b"list", first), many_strings(b"list", second)
 
 
 def large_tags(rng: random.Random) -> bytes:
@@ -57,17 +57,17 @@ class LargeTags(Builder):
         self.request = (Atom(b"f"), *1010 * (Atom(b"x"),))
         self.lengths = (1, 1, 2)
 
-    def wrong(self, chance: float = 0.0) -> bool:
+    def by_chance(self, chance: float) -> bool:
         """Whether something happens that has this chance. Under 0.1 it never does: so no mistake stops the chain, and the tags are intersected."""
-        return chance >= 0.1 and super().wrong(chance)
+        return chance >= 0.1 and super().by_chance(chance)
 
     def tag(self) -> Value:
         """A field with a tag of 1,000 or 1,001 nodes, of which two have a product near the limit of 1,000,000, or of 1,025, one more than is read."""
-        return (Atom(b"tag"), many_strings(b"list", self.rng.choice((1000, 1000, 1001, 1001, 1025 if self.wrong(0.5) else 1001))))
+        return (Atom(b"tag"), many_strings(b"list", self.rng.choice((1000, 1000, 1001, 1001, 1025 if self.by_chance(0.5) else 1001))))
 
 
 class GrowingTags(LargeTags):
-    """A case in which two sets leave some 10,000 strings, whose nodes with those of the next tag are a million, or just more or less."""
+    """A case in which the sets of an entry and a certificate leave some 10,000 strings. Times the nodes of the next tag that is about a million."""
 
     def __init__(self, rng: random.Random) -> None:
         super().__init__(rng)
@@ -79,7 +79,7 @@ class GrowingTags(LargeTags):
         return (Atom(b"tag"), self.left.pop(0) if self.left else many_strings(b"set", 100))
 
     def next_subject(self, name_chance: float) -> Subject:
-        """A key, so that each certificate is one of an authorization."""
+        """A key, whatever `name_chance` is, so that each certificate is one of an authorization."""
         return super().next_subject(0)
 
 
@@ -89,7 +89,7 @@ def large_case(rng: random.Random) -> bytes:
 
 
 def deep(rng: random.Random) -> bytes:
-    """Lists inside one another, 64 or 65 deep."""
+    """The text of lists inside one another, 64 or 65 deep: as deep as is read, or deeper by one."""
     count = 64 + rng.randrange(2)
     return count * b"(" + rng.choice((b"", b"a")) + count * b")"
 
@@ -105,9 +105,9 @@ def deep_tags(rng: random.Random) -> bytes:
         members = [(Atom(b"f"), sets), rng.choice(others)]
         rng.shuffle(members)
         sets = (Atom(b"*"), Atom(b"set"), *members)
-    both = [lists, sets]
-    rng.shuffle(both)
-    return canonical((Atom(b"intersect"), *both))
+    pair = [lists, sets]
+    rng.shuffle(pair)
+    return canonical((Atom(b"intersect"), *pair))
 
 
 LONG: tuple[Callable[[random.Random], bytes], ...] = (too_long, too_long_in_braces, text_that_grows)

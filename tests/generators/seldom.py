@@ -64,7 +64,7 @@ def everything_nearly() -> Iterator[Value]:
 
 
 def case_of_two_tags(first: Value, second: Value, request: Value) -> Value:
-    """A case in which the tag of an entry, `first`, and that of a certificate are intersected."""
+    """A case of a request, in which the tag `first` of an entry and the tag `second` of a certificate are intersected."""
     certificate = (Atom(b"cert"), (Atom(b"issuer"), KEY), (Atom(b"subject"), OTHER), (Atom(b"tag"), second))
     digest = (Atom(b"hash"), Atom(b"sha256"), Atom(hashlib.sha256(canonical(certificate)).digest()))
     entry = (Atom(b"entry"), KEY, (Atom(b"propagate"),), (Atom(b"tag"), first))
@@ -145,8 +145,8 @@ def makers_of_guards() -> Iterator[Maker]:
     """Makers of questions to guards: at limits and past them, with tags that are too large, with other parts, and with an oddity in the calls."""
     for wish in WISHES:
         question = guard_question_of(case_of_two_lists(4, 4), wish)
+        # (the product of nodes is 16. The work is 392: each of 4 nodes costs 32, 15 times 4 nodes, 3 nodes without the head, and 3 octets)
         yield from (always(replace(question, limits=Limits(nodes=nodes))) for nodes in (15, 16))
-        # (the work is 392: for each of 4 nodes 32, 15 times 4 nodes, 3 nodes without the head, 3 octets)
         yield from (always(replace(question, limits=Limits(work=work))) for work in (391, 392))
         # (`entry 1 grants` and the end of its line are 15 octets)
         yield from (always(replace(question, limits=Limits(answer=answer))) for answer in (1, 12, 15, 16, 17, 1000))

@@ -41,7 +41,7 @@ Fields = list[tuple[str, str]]
 
 
 def string(octets: bytes) -> bytes:
-    """A string in canonical form."""
+    """Octets as a string in canonical form."""
     return b"%d:%s" % (len(octets), octets)
 
 
@@ -88,9 +88,9 @@ def test_key() -> Ed25519PrivateKey:
 
 
 ALICE, MALLORY = ed25519(test_key()), ed25519(Ed25519PrivateKey.generate())
-CURVE, MODULUS = ecdsa(ec.generate_private_key(ec.SECP256R1()), 256, SHA256()), rsa2048(rsa.generate_private_key(65537, 2048))
-OTHER = ec.generate_private_key(ec.SECP384R1())
-LONGER, BY_SHORT_DIGEST = ecdsa(OTHER, 384, SHA384()), ecdsa(OTHER, 384, SHA256())
+P256, RSA = ecdsa(ec.generate_private_key(ec.SECP256R1()), 256, SHA256()), rsa2048(rsa.generate_private_key(65537, 2048))
+P384_PRIVATE = ec.generate_private_key(ec.SECP384R1())
+P384, P384_BY_SHA256 = ecdsa(P384_PRIVATE, 384, SHA384()), ecdsa(P384_PRIVATE, 384, SHA256())
 
 
 @dataclass
@@ -128,8 +128,8 @@ def hash_of(key: bytes) -> str:
     return hashlib.sha256(key).hexdigest()
 
 
-def lines_of(request: Request) -> Fields:
-    """The fields of a request, with that of the key, without those of the signature."""
+def unsigned_fields(request: Request) -> Fields:
+    """The fields of a request, with that of the key, without Signature-Input and Signature."""
     keys = request.keys if request.keys is not None else (in_braces(request.key.text),)
     return [*request.fields, *(("X-Spki-Public-Key", key) for key in keys)]
 
@@ -146,11 +146,11 @@ def parameters_of(request: Request) -> str:
 
 
 def value_of(request: Request, name: str) -> str:
-    """The value of a component as the signature base has it: of a name with `@` from the request itself, of another one the values of this field."""
+    """The value of a component in the signature base: for a name with `@` a part of the request, for any other the values of that field."""
     path, mark, query = request.target.partition("?")
     derived = {"@method": request.method, "@authority": request.authority.lower(), "@path": path, "@query": "?" + query, "@status": "200",
                "@target-uri": f"https://{request.authority}{path}{mark}{query}", "@scheme": "https", "@request-target": request.target}
-    values = (value for field_name, value in lines_of(request) if field_name.lower() == name)
+    values = (value for field_name, value in unsigned_fields(request) if field_name.lower() == name)
     return derived[name] if name.startswith("@") else ", ".join(values)
 
 
@@ -178,7 +178,7 @@ def row(name: str, gives: str, sent: Request, signature: Optional[Fields] = None
     Signature that are sent: by default those of `sent` itself. `again`: the same request came so many seconds before, and was valid."""
     signature = signed(sent) if signature is None else signature
     LINES.extend([f"row {name}", f"on {escaped(f'{sent.method}|{sent.target}|{sent.authority}|{sent.now}')}"])
-    LINES.extend(f"field {escaped(f'{field_name}: {value}')}" for field_name, value in [*lines_of(sent), *signature])
+    LINES.extend(f"field {escaped(f'{field_name}: {value}')}" for field_name, value in [*unsigned_fields(sent), *signature])
     LINES.extend([f"body {escaped(sent.body)}"] if sent.body is not None else [])
     LINES.extend([f"again {again}"] if again is not None else [])
     LINES.extend([f"gives {gives}", ""])
@@ -196,24 +196,24 @@ POST = Request("POST", fields=[digest(BODY), ("Content-Length", "18")], body=BOD
 CHAINED = Request(fields=[("X-Spki-Sequence", CHAIN)], components=(*PLAIN, "x-spki-sequence"))
 AUTHORIZED = Request(fields=[("Authorization", "SPKI " + CHAIN)], components=(*PLAIN, "authorization"))
 LEAVE = Request("PUT", "/.well-known/spki-chain", fields=[digest(CHAIN), ("Content-Length", str(len(CHAIN)))], body=CHAIN, components=POST.components)
-WITH_TYPE = Request(fields=[("Accept", "text/html")], components=(*PLAIN, "accept"))
-WHOLE = Request(components=("@method", "@authority", "@target-uri", KEY))
+WITH_ACCEPT = Request(fields=[("Accept", "text/html")], components=(*PLAIN, "accept"))
+WITH_URI = Request(components=("@method", "@authority", "@target-uri", KEY))
 
 
 def valid() -> None:
     """Requests that are valid."""
     more = [f"x-{number}" for number in range(27)]
     for name, request in {
-        "Ed25519": GET, "ECDSA": Request(key=CURVE), "ECDSA with P-384": Request(key=LONGER), "RSA": Request(key=MODULUS), "target-uri": WHOLE,
-        "ECDSA with P-384 and a body": replace(POST, key=LONGER), "a body with its digest": POST,
+        "Ed25519": GET, "ECDSA": Request(key=P256), "ECDSA with P-384": Request(key=P384), "RSA": Request(key=RSA), "target-uri": WITH_URI,
+        "ECDSA with P-384 and a body": replace(POST, key=P384), "a body with its digest": POST,
         "a body that is not known": replace(POST, body=None), "a digest by SHA-512": replace(POST, fields=[digest(BODY, "sha-512")]),
         "DELETE with the digest of nothing": Request("DELETE", fields=[digest("")], components=POST.components),
-        "a chain in its own field": CHAINED, "a chain in Authorization": AUTHORIZED, "another field is covered": WITH_TYPE,
+        "a chain in its own field": CHAINED, "a chain in Authorization": AUTHORIZED, "another field is covered": WITH_ACCEPT,
         "no query": Request(target="/foo"), "the root": Request(target="/"), "a path in percent-encoding": Request(target="/%7efoo%2Fbar"),
         "created 60 seconds ahead": Request(created=str(NOW + 60)), "a second before its end": Request(now=NOW + 299),
         "components in another order": Request(components=PLAIN[::-1]), "certificates that are left": LEAVE,
         "certificates that are left, of which the digest alone is known": replace(LEAVE, body=None),
-        "certificates that are left by P-384": replace(LEAVE, key=LONGER),
+        "certificates that are left by P-384": replace(LEAVE, key=P384),
         "32 components": Request(fields=[(name, "1") for name in more], components=(*PLAIN, *more)),
     }.items():
         row(name, "valid", request)
@@ -245,8 +245,8 @@ def changed_requests() -> None:
     }.items():
         row(name, "invalid-signature", sent, signed(GET))
     row("digits of percent-encoding in small letters", "invalid-signature", Request(target="/%7efoo"), signed(Request(target="/%7Efoo")))
-    row("a query with target-uri", "invalid-signature", replace(WHOLE, target="/foo?"), signed(replace(WHOLE, target="/foo")))
-    row("http's port in target-uri", "invalid-signature", WHOLE, signed(replace(WHOLE, authority="example.com:80")))
+    row("a query with target-uri", "invalid-signature", replace(WITH_URI, target="/foo?"), signed(replace(WITH_URI, target="/foo")))
+    row("http's port in target-uri", "invalid-signature", WITH_URI, signed(replace(WITH_URI, authority="example.com:80")))
     row("made for another name", "other-authority", replace(GET, authority="evil.example"))
     row("made for another name, sent with ours", "invalid-signature", GET, signed(replace(GET, authority="evil.example")))
     for name, authority in {"made for ours, sent with another name": "evil.example", "another port": "example.com:8443",
@@ -279,12 +279,12 @@ def changed_bodies() -> None:
     }.items():
         row(name, "body-without-digest", request)
     row("GET with a length of nothing", "valid", replace(GET, fields=[("Content-Length", "0")]))
-    body = in_base64(hashlib.sha256(BODY.encode()).digest())
+    encoded = in_base64(hashlib.sha256(BODY.encode()).digest())
     for name, value in {
         "a digest by MD5": "md5=:XrY7u+Ae7tCTyyK7j1rNww==:", "a digest that is too short": "sha-256=:XrY7u+Ae7tCTyyK7j1rNww==:",
-        "SHA-512 of 32 octets": f"sha-512=:{body}:", "two digests": f"sha-256=:{body}:, sha-256=:{body}:", "an empty digest": "",
-        "a digest in quotes": f'sha-256="{body}"', "a digest without padding": f"sha-256=:{body[:-1]}:",
-        "a digest with a parameter": f"sha-256=:{body}:;a", "a digest's algorithm in capitals": f"SHA-256=:{body}:",
+        "SHA-512 of 32 octets": f"sha-512=:{encoded}:", "two digests": f"sha-256=:{encoded}:, sha-256=:{encoded}:", "an empty digest": "",
+        "a digest in quotes": f'sha-256="{encoded}"', "a digest without padding": f"sha-256=:{encoded[:-1]}:",
+        "a digest with a parameter": f"sha-256=:{encoded}:;a", "a digest's algorithm in capitals": f"SHA-256=:{encoded}:",
     }.items():
         row(name, "bad-digest", replace(POST, fields=[("Content-Digest", value)]))
 
@@ -307,7 +307,7 @@ def changed_certificates() -> None:
 
 
 def changed_fields() -> None:
-    """Adds rows of chains and covered fields that are changed, put in, doubled or taken away."""
+    """Chains and covered fields that are changed, put in, doubled or taken away."""
     row("another chain", "invalid-signature", replace(CHAINED, fields=[("X-Spki-Sequence", "{KDE6YSk=}")]), signed(CHAINED))
     row("a chain taken away", "absent-field", replace(CHAINED, fields=[]), signed(CHAINED))
     row("a chain put in", "uncovered-field", replace(CHAINED, components=PLAIN))
@@ -315,38 +315,38 @@ def changed_fields() -> None:
     row("a second chain put in", "uncovered-field", replace(CHAINED, fields=[*CHAINED.fields, *AUTHORIZED.fields]), signed(CHAINED))
     row("another chain in Authorization", "invalid-signature", replace(AUTHORIZED, fields=[("Authorization", "SPKI {KDE6YSk=}")]), signed(AUTHORIZED))
     row("Authorization put in", "uncovered-field", replace(AUTHORIZED, components=PLAIN))
-    row("a covered field changed", "invalid-signature", replace(WITH_TYPE, fields=[("Accept", "text/plain")]), signed(WITH_TYPE))
-    row("a covered field in other letters", "invalid-signature", replace(WITH_TYPE, fields=[("Accept", "Text/html")]), signed(WITH_TYPE))
-    row("a covered field taken away", "absent-field", replace(WITH_TYPE, fields=[]), signed(WITH_TYPE))
-    row("a covered field in two lines", "repeated-field", replace(WITH_TYPE, fields=[("Accept", "text/html"), ("Accept", "b")]))
-    row("a space put into a covered field", "invalid-signature", replace(WITH_TYPE, fields=[("Accept", "text/ html")]), signed(WITH_TYPE))
+    row("a covered field changed", "invalid-signature", replace(WITH_ACCEPT, fields=[("Accept", "text/plain")]), signed(WITH_ACCEPT))
+    row("a covered field in other letters", "invalid-signature", replace(WITH_ACCEPT, fields=[("Accept", "Text/html")]), signed(WITH_ACCEPT))
+    row("a covered field taken away", "absent-field", replace(WITH_ACCEPT, fields=[]), signed(WITH_ACCEPT))
+    row("a covered field in two lines", "repeated-field", replace(WITH_ACCEPT, fields=[("Accept", "text/html"), ("Accept", "b")]))
+    row("a space put into a covered field", "invalid-signature", replace(WITH_ACCEPT, fields=[("Accept", "text/ html")]), signed(WITH_ACCEPT))
     for name, value in {"a folded field": "text/html,\r\n b", "a line feed in a field": 'text/html\n"x": y',
                         "an octet over ASCII in a field": "text/h\xe9", "a null octet in a field": "text\0"}.items():
-        row(name, "bad-value", replace(WITH_TYPE, fields=[("Accept", value)]))
+        row(name, "bad-value", replace(WITH_ACCEPT, fields=[("Accept", value)]))
 
 
 def changed_inputs() -> None:
     """`Signature-Input` and `Signature` that are changed, or that are not those of the profile, and beside them one that is valid."""
-    both = signed(GET)
-    text, octets = (value for _, value in both)
+    fields = signed(GET)
+    text, valid_signature = (value for _, value in fields)
     bare = text.removeprefix("spki=")
 
-    def sent(name: str, gives: str, changed: str, signature: str = octets) -> None:
-        """Adds a row in which GET has these values of the two fields."""
+    def sent(name: str, gives: str, changed: str, signature: str = valid_signature) -> None:
+        """Adds a row in which GET has Signature-Input `changed`, and as Signature `signature`: by default its own."""
         row(name, gives, GET, [("Signature-Input", changed), ("Signature", signature)])
 
     row("no signature", "absent", GET, [])
-    row("underscores in names of fields", "absent", GET, [(name.replace("-", "_") + "_", value) for name, value in both])
-    row("Signature alone", "malformed", GET, both[1:])
-    row("Signature-Input alone", "malformed", GET, both[:1])
-    row("Signature in two lines", "repeated-field", GET, [*both, both[1]])
-    row("Signature-Input in two lines", "repeated-field", GET, [*both, both[0]])
-    sent("a second signature", "two-signatures", f"{text}, a={bare}", f"{octets}, a=:AAAA:")
-    sent("a second signature of the same label", "two-signatures", f"{text},{text}", f"{octets},{octets}")
-    sent("a second value of Signature alone", "two-signatures", text, f"{octets}, spki=:AAAA:")
-    sent("a signature of another label before it", "other-label", f"a={bare}, {text}", f"a=:AAAA:, {octets}")
-    sent("another label", "other-label", f"sig1={bare}", octets.replace("spki", "sig1"))
-    sent("labels that differ", "other-label", text, octets.replace("spki", "spkj"))
+    row("underscores in names of fields", "absent", GET, [(name.replace("-", "_") + "_", value) for name, value in fields])
+    row("Signature alone", "malformed", GET, fields[1:])
+    row("Signature-Input alone", "malformed", GET, fields[:1])
+    row("Signature in two lines", "repeated-field", GET, [*fields, fields[1]])
+    row("Signature-Input in two lines", "repeated-field", GET, [*fields, fields[0]])
+    sent("a second signature", "two-signatures", f"{text}, a={bare}", f"{valid_signature}, a=:AAAA:")
+    sent("a second signature of the same label", "two-signatures", f"{text},{text}", f"{valid_signature},{valid_signature}")
+    sent("a second value of Signature alone", "two-signatures", text, f"{valid_signature}, spki=:AAAA:")
+    sent("a signature of another label before it", "other-label", f"a={bare}, {text}", f"a=:AAAA:, {valid_signature}")
+    sent("another label", "other-label", f"sig1={bare}", valid_signature.replace("spki", "sig1"))
+    sent("labels that differ", "other-label", text, valid_signature.replace("spki", "spkj"))
     sent("an empty Signature-Input", "malformed", "")
     sent("an empty Signature", "malformed", text, "")
     for name, changed in {
@@ -369,7 +369,7 @@ def changed_inputs() -> None:
     for name in PLAIN:
         row(f"{name} left out", "missing-component", Request(components=tuple(other for other in PLAIN if other != name)))
     row("no components", "missing-component", Request(components=()))
-    row("path alone beside target-uri", "valid", Request(components=(*WHOLE.components, "@path")))
+    row("path alone beside target-uri", "valid", Request(components=(*WITH_URI.components, "@path")))
     row("a component twice", "component-twice", Request(components=(*PLAIN, "@path")))
     for name in ("@status", "@scheme", "@request-target"):
         row(f"the component {name}", "unknown-component", Request(components=(*PLAIN, name)))
@@ -417,10 +417,10 @@ def changed_parameters() -> None:
         row(f"{name} for a keyid", "other-key", Request(keyid=value))
     for algorithm in ("rsa-v1_5-sha256", "hmac-sha256", "ecdsa-p256-sha256", "rsa-pss-sha512", "ED25519", "none", ""):
         row(f"the algorithm {algorithm or 'of no name'}", "other-algorithm", Request(algorithm=algorithm))
-    row("Ed25519 for a key of ECDSA", "other-algorithm", Request(key=CURVE, algorithm="ed25519"))
-    row("the algorithm of P-256 for P-384", "other-algorithm", Request(key=LONGER, algorithm="ecdsa-p256-sha256"))
-    row("the algorithm of P-384 for P-256", "other-algorithm", Request(key=CURVE, algorithm="ecdsa-p384-sha384"))
-    row("P-384 and SHA-256", "other-algorithm", Request(key=LONGER, algorithm="ecdsa-p384-sha256"))
+    row("Ed25519 for a key of ECDSA", "other-algorithm", Request(key=P256, algorithm="ed25519"))
+    row("the algorithm of P-256 for P-384", "other-algorithm", Request(key=P384, algorithm="ecdsa-p256-sha256"))
+    row("the algorithm of P-384 for P-256", "other-algorithm", Request(key=P256, algorithm="ecdsa-p384-sha384"))
+    row("P-384 and SHA-256", "other-algorithm", Request(key=P384, algorithm="ecdsa-p384-sha256"))
 
 
 def changed_keys() -> None:
@@ -434,7 +434,7 @@ def changed_keys() -> None:
     row("a key that is not covered", "missing-component", Request(components=PLAIN[:-1]))
     row("a key that is not there and not covered", "missing-component", Request(components=PLAIN[:-1], keys=()))
     row("a key with an octet over ASCII", "bad-value", Request(keys=(f"{alice}\xe9",)), signed(GET))
-    key, padded = in_base64(ALICE.text), in_base64(MODULUS.text)
+    key, padded = in_base64(ALICE.text), in_base64(RSA.text)
     assert padded.endswith("==")
     for name, value in {
         "a key without braces": key, "a key in advanced form": "(public-key (test a))", "a key with a space": "{%s }" % key,
@@ -442,11 +442,11 @@ def changed_keys() -> None:
         "a key with bits behind its end": "{%s%s==}" % (padded[:-3], chr(ord(padded[-3]) + 1)), "an empty key": "", "an empty key in braces": "{}",
         "a hash in hexadecimal digits for a key": hash_of(ALICE.text), "a key with a parameter": f"{alice};a=1", "a key in quotes": f'"{alice}"',
     }.items():
-        # (some values are texts of MODULUS, and the others of ALICE or of no key)
-        row(name, "bad-key", Request(keys=(value,), keyid=hash_of(MODULUS.text) if padded[:-3] in value else None))
+        # (some values are texts of RSA, and the others of ALICE or of no key)
+        row(name, "bad-key", Request(keys=(value,), keyid=hash_of(RSA.text) if padded[:-3] in value else None))
     for name, shown in {
         "a hash for a key": b"(4:hash6:sha25632:%s)" % hashlib.sha256(ALICE.text).digest(),
-        "a key of another algorithm": b"(10:public-key(3:dsa(1:p1:\5)))", "a key of P-521": LONGER.text.replace(b"P-384", b"P-521"),
+        "a key of another algorithm": b"(10:public-key(3:dsa(1:p1:\5)))", "a key of P-521": P384.text.replace(b"P-384", b"P-521"),
         "a key with text behind it": ALICE.text + b"(1:a)", "a key and a comment": ALICE.text[:-1] + b"(7:comment1:a))",
         "a length with a zero in front": ALICE.text.replace(b"32:", b"032:"), "a key of 4,098 characters": rsa_key_of(3028),
     }.items():
@@ -455,7 +455,7 @@ def changed_keys() -> None:
 
 def other_keys() -> None:
     """Keys other than that of the signature, and keys of odd sizes."""
-    (_, text), (_, octets) = signed(GET)
+    (_, text), (_, value) = signed(GET)
     mallory = in_braces(MALLORY.text)
     small = b"(10:public-key(3:ecc(5:curve7:Ed25519)(5:flags5:eddsa)(1:q32:%s)))" % bytes(32)
     row("a point of small order", "invalid-signature", Request(keys=(in_braces(small),)), [
@@ -469,7 +469,7 @@ def other_keys() -> None:
     row("another key", "invalid-signature", Request(keys=(mallory,), keyid=hash_of(MALLORY.text)))
     row("another key put in", "other-key", Request(keys=(mallory,)), signed(GET))
     row("another key put in with its hash", "invalid-signature", Request(keys=(mallory,)), [
-        ("Signature-Input", text.replace(hash_of(ALICE.text), hash_of(MALLORY.text))), ("Signature", octets)])
+        ("Signature-Input", text.replace(hash_of(ALICE.text), hash_of(MALLORY.text))), ("Signature", value)])
     row("another key and no name of the service", "other-authority", Request(keys=(mallory,), authority="evil.example"))
     row("another key and a chain that is not covered", "uncovered-field", replace(CHAINED, components=PLAIN, keys=(mallory,)))
     row("another key of another algorithm", "other-key", Request(keyid=hash_of(MALLORY.text), algorithm="ecdsa-p256-sha256"))
@@ -513,44 +513,44 @@ def changed_signatures() -> None:
     sent("a line feed in base64", "malformed", f":{in_base64(octets)[:8]}\n{in_base64(octets)[8:]}:")
     sent("no colon at the end", "malformed", f":{in_base64(octets)}")
     sent("a parameter behind the signature", "malformed", f":{in_base64(octets)}:;a=1")
-    bits = in_base64(octets).removesuffix("==")
-    sent("bits behind the end", "malformed", f":{bits[:-1]}{chr(ord(bits[-1]) + 1)}==:")
+    digits = in_base64(octets).removesuffix("==")
+    sent("bits behind the end", "malformed", f":{digits[:-1]}{chr(ord(digits[-1]) + 1)}==:")
 
 
 def changed_ecdsa() -> None:
     """The octets of a signature by ECDSA, which are r and s side by side, and what is sent again."""
-    curve = Request(key=CURVE)
-    (_, text), (_, value) = signed(curve)
+    by_p256 = Request(key=P256)
+    (_, text), (_, value) = signed(by_p256)
     numbers = octets_of(value)
     r, s = int.from_bytes(numbers[:32], "big"), int.from_bytes(numbers[32:], "big")
-    row_of_signature("ECDSA in DER", "invalid-signature", curve, text, f":{in_base64(encode_dss_signature(r, s))}:")
-    row_of_signature("ECDSA with numbers 00", "invalid-signature", curve, text, f":{in_base64(bytes(64))}:")
+    row_of_signature("ECDSA in DER", "invalid-signature", by_p256, text, f":{in_base64(encode_dss_signature(r, s))}:")
+    row_of_signature("ECDSA with numbers 00", "invalid-signature", by_p256, text, f":{in_base64(bytes(64))}:")
     other = numbers[:32] + (ORDER_256 - s).to_bytes(32, "big")
-    row_of_signature("ECDSA with the other s, whose nonce is the same", "valid", curve, text, f":{in_base64(other)}:")
-    longer = Request(key=LONGER)
-    (_, longer_text), (_, value) = signed(longer)
+    row_of_signature("ECDSA with the other s, whose nonce is the same", "valid", by_p256, text, f":{in_base64(other)}:")
+    by_p384 = Request(key=P384)
+    (_, text), (_, value) = signed(by_p384)
     numbers = octets_of(value)
     r, s = int.from_bytes(numbers[:48], "big"), int.from_bytes(numbers[48:], "big")
     for name, octets in {
         "in DER": encode_dss_signature(r, s), "with numbers 00": bytes(96), "with numbers of 32 octets": numbers[:32] + numbers[48:80],
         "with numbers of 49 octets": b"\0" + numbers[:48] + b"\0" + numbers[48:],
         "with the order for r": ORDER_384.to_bytes(48, "big") + numbers[48:],
-        "of the other order": numbers[48:] + numbers[:48], "of another message": LONGER.sign(b"another message"),
+        "of the other order": numbers[48:] + numbers[:48], "of another message": P384.sign(b"another message"),
     }.items():
-        row_of_signature(f"P-384 {name}", "invalid-signature", longer, longer_text, f":{in_base64(octets)}:")
+        row_of_signature(f"P-384 {name}", "invalid-signature", by_p384, text, f":{in_base64(octets)}:")
     other = numbers[:48] + (ORDER_384 - s).to_bytes(48, "big")
-    row_of_signature("P-384 with the other s", "valid", longer, longer_text, f":{in_base64(other)}:")
-    row("P-384 by SHA-256", "invalid-signature", longer, signed(replace(longer, key=BY_SHORT_DIGEST, algorithm=LONGER.algorithm)))
-    row("P-384 sent again", "nonce-seen", longer, again=0)
+    row_of_signature("P-384 with the other s", "valid", by_p384, text, f":{in_base64(other)}:")
+    row("P-384 by SHA-256", "invalid-signature", by_p384, signed(replace(by_p384, key=P384_BY_SHA256, algorithm=P384.algorithm)))
+    row("P-384 sent again", "nonce-seen", by_p384, again=0)
     row("sent again at once", "nonce-seen", GET, again=0)
     row("sent again in its window", "nonce-seen", replace(GET, now=NOW + 299), again=299)
     row("sent again a second later", "nonce-seen", Request(now=NOW + 1), again=1)
     row("sent again after its window", "expired", replace(GET, now=NOW + 300), again=200)
-    row("ECDSA sent again", "nonce-seen", curve, again=0)
+    row("ECDSA sent again", "nonce-seen", by_p256, again=0)
 
 
 def main() -> None:
-    """Writes the table, in the place of the one that is there. The docstring of each part stands in it as a remark."""
+    """Writes the table over the old one. The docstring of each function that adds rows precedes its rows there, as a remark."""
     for rows in (valid, changed_requests, changed_bodies, changed_certificates, changed_fields, changed_inputs, changed_parameters, changed_keys,
                  other_keys, changed_signatures, changed_ecdsa):
         LINES.append(f"# {rows.__doc__}\n")

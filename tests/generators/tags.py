@@ -82,7 +82,7 @@ def pair(rng: random.Random) -> tuple[Value, Value]:
     """Two written tags, which mostly have a request in common."""
     if rng.random() < 0.05:
         body = rng.choice(STRINGS)
-        return strings_tag_for(body, rng), strings_tag_for(body, rng)
+        return range_or_prefix_for(body, rng), range_or_prefix_for(body, rng)
     if rng.random() < 0.12:
         return two_sets(rng)
     common = request(rng)
@@ -106,7 +106,7 @@ def two_sets(rng: random.Random) -> tuple[Value, Value]:
     return sets[0], sets[1]
 
 
-def strings_tag_for(body: bytes, rng: random.Random) -> Value:
+def range_or_prefix_for(body: bytes, rng: random.Random) -> Value:
     """A range or a prefix that contains a string, or nearly."""
     if rng.random() < 0.7:
         return range_for(body, rng)

@@ -143,14 +143,14 @@ def intersect(value: Value) -> bytes:
     """The printed line with the intersection of the two tags of `(intersect A B)`. Raises Refused."""
     if not isinstance(value, tuple) or head_of(value) != b"intersect" or len(value) != 3:
         raise refusal("intersect Shape", "intersect Shape")
-    both = []
+    two_tags = []
     for number, member in enumerate(value[1:], 1):
         try:
-            both.append(tags.read(member))
+            two_tags.append(tags.read(member))
         except TagFault as fault:
             raise refusal(f"tag {number}", f"tag {number} {fault}") from None
     try:
-        common = intersection(*both)
+        common = intersection(*two_tags)
     except TooLarge as why:
         raise too_large("intersect", why) from None
     LINES.count_use("intersect")

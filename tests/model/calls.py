@@ -1,5 +1,4 @@
-"""What the calls for C programs answer beside what the program writes: their statuses, misuse, strings inside a value (section "The
-library for C programs")."""
+"""What calls for C programs answer, beside the program's lines: statuses, misuse, strings of a value (section "The library for C programs")."""
 from . import answers, canonical
 from .answers import COMMANDS, NO, REFUSED, YES, Answer
 from .coverage import Rows
@@ -24,8 +23,8 @@ Pointer = tuple[bool, int]
 
 
 def of_library(command: str, answered: Answer) -> Answer:
-    """The answer of the library to a command that the program has answered so. For a command that decides YES becomes GRANTED, and NO stays. For
-    other commands both become DONE. Other statuses stay. Counts a row of STATUSES."""
+    """The answer of the library to a command, by that of the program. For a command of DECISIONS, YES becomes GRANTED and NO stays. For other
+    commands both become DONE. Other statuses stay. Counts a row of STATUSES."""
     status, octets = answered
     if status in (YES, NO):
         status = DONE if command not in DECISIONS else GRANTED if status == YES else NO

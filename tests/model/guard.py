@@ -110,7 +110,7 @@ def open_guard(text: bytes, strict: bool, limits: Limits) -> Guard:
 
 
 def case_of(guard: Guard, question: Parts, rows: list[Row]) -> Case:
-    """The case of a question, with these accepted signatures (rows). Octets are counted, then parts read in order, then counts. Raises Refused."""
+    """The case of a question, with these accepted signatures (rows). Raises Refused for the octets, else for the first bad part, else for counts."""
     if octets_of(question) > guard.limits.octets:
         REFUSED.count_use("question TooLong")
         raise Refused("question TooLong")

@@ -34,11 +34,11 @@ def check_laws(command: str, text: bytes, answer: Answer, requests: Callable[[tu
         TRIED.count_use("what is written is read again")
     else:
         assert isinstance(value, tuple)
-        a, b, both = tags.read(value[1]), tags.read(value[2]), tag_of_any_size(again)
-        for request in requests((a, b, both)):
+        a, b, common = tags.read(value[1]), tags.read(value[2]), tag_of_any_size(again)
+        for request in requests((a, b, common)):
             is_of_both = contains(a, request) and contains(b, request)
             TRIED.count_use("a request of both tags" if is_of_both else "a request of one tag or none")
-            if contains(both, request) != is_of_both:
+            if contains(common, request) != is_of_both:
                 raise ModelDisagrees(f"{canonical(request)!r}: in both tags: {is_of_both}, in the intersection: {not is_of_both}")
 
 

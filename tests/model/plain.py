@@ -1,7 +1,7 @@
 """Plain values, of Python's own types: a string is `bytes`, a string with a display hint a pair of `bytes` (hint, string), a list a `list`."""
 from typing import Any
 
-from . import canonical as forms
+from . import canonical as canonical_form
 from . import values
 from .printed import printed
 from .values import Atom, Value
@@ -23,7 +23,7 @@ def value_of(plain_value: Any) -> Value:
 
 def read(text: bytes) -> Any:
     """The plain value of a canonical text. Raises FormFault if the text is not one."""
-    return plain(forms.read(text))
+    return plain(canonical_form.read(text))
 
 
 def canonical(plain_value: Any) -> bytes:

@@ -70,7 +70,7 @@ def joined(left: Authorization, right: Authorization, strict: bool) -> Authoriza
 
 
 def resolved(left: Authorization, name: Definition, strict: bool) -> Authorization:
-    """The authorization whose subject has its first name replaced by what the name means. Raises NoJoin, and TooLarge if work is spent."""
+    """The authorization whose subject has its first name replaced by what the name means. Raises NoJoin, and TooLarge for the work."""
     if not left.subject.names:
         raise no_join("NotTheName: no name left")
     if not names(left.subject.principal, name.key, strict):

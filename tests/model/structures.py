@@ -294,7 +294,7 @@ def read_version(value: Value, place: str = "a list") -> None:
 
 
 def reader_of_one(read: Callable[[Value], Any]) -> Callable[[Value], Any]:
-    """The reader of a field that has one member, by the reader of the member."""
+    """The reader of a field of any head that has one member, by the reader of the member."""
 
     def reader(value: Value) -> Any:
         members = Members(value, head_of(value) or b"")

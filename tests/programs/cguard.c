@@ -10,7 +10,7 @@
 /* The octets of a thread's stack, the most threads, and how often each asks. */
 enum { STACK = 256 * 1024, MOST_THREADS = 64, TURNS = 50 };
 
-/* The question must list one signature: that of key a in `examples/delegation.sexp`. Returns where its texts are. */
+/* The question must list one signature: that by key a in `examples/delegation.sexp`. Returns its texts, which are the question's. */
 static struct spki_signed expect_signature(const spki_asked *asked)
 {
     struct spki_signed signature, again, none = {0};
@@ -81,10 +81,10 @@ struct client {
     bool is_valid;
 };
 
-/* The start of a thread: asks for a client (`given`) again and again, and marks its signature if it is valid. */
-static void *serve(void *given)
+/* The start of a thread: asks for a client (`argument`) again and again, and marks its signature if it is valid. */
+static void *serve(void *argument)
 {
-    const struct client *client = given;
+    const struct client *client = argument;
     for (int turn = 0; turn < TURNS; turn++) {
         spki_asked *asked = open_question(client->guard, &client->question);
         expect(spki_asked_count(asked) == 1 && spki_asked_possible(asked) && !spki_asked_granted(asked), "a mark of an earlier question counts");
@@ -139,7 +139,7 @@ static void equal_signatures(const char *list)
 }
 
 /* Marks belong to the question that was opened, whatever becomes of its buffers (`rooms`, which are overwritten), its guard and other questions. */
-static void one_question(const char *list, const char *sequence, const char *key)
+static void marks_of_question(const char *list, const char *sequence, const char *key)
 {
     char rooms[2][4096];
     spki_guard *guard = open_guard(list, SPKI_ALLOW_SHA1), *other = open_guard("(acl)", SPKI_ALLOW_SHA1);
@@ -171,7 +171,7 @@ static void one_question(const char *list, const char *sequence, const char *key
     spki_asked_close(asked);
 }
 
-/* A question of strings, which is granted, with its moment as a text. A moment or a request that is given both ways is misuse. */
+/* A question of strings is granted with its moment as a text too. A moment or a request that is given both ways is misuse. */
 static void parts_given_twice(const spki_guard *guard, struct spki_question question)
 {
     question.moment = text("19:2024-01-01_00:00:00");
@@ -262,7 +262,7 @@ static void refused_questions(void)
     struct spki_signed signature;
     unsigned char buffer[64];
     spki_guard *guard;
-    spki_asked *asked = (spki_asked *)&until_refusal;
+    spki_asked *asked = (spki_asked *)&until_refusal; /* (not null, so that it is seen that a call sets null) */
     low.octets = 10;
     expect(spki_guard_open("(acl)", 5, SPKI_STRICT, &low, &guard, NULL, 0, NULL) == SPKI_DONE && !spki_guard_entries(guard), "low limits");
     expect_decision(guard, &question, 0, SPKI_REFUSED, "refused sequence Short\n");
@@ -292,7 +292,7 @@ static void refused_questions(void)
     spki_guard_close(guard);
 }
 
-/* More octets, certificates or strings than the usual limits are refused by name. */
+/* More strings or octets than the usual limits are refused as `TooManyWords` and `TooLong`. */
 static void usual_limits(void)
 {
     static char long_key[65536];
@@ -421,10 +421,10 @@ struct shared {
     spki_asked *asked;
 };
 
-/* The start of a thread: asks a guard, and decides a question that other threads decide too. `given` is a struct shared. */
-static void *ask_at_once(void *given)
+/* The start of a thread: asks a guard, and decides a question that other threads decide too. `argument` is a struct shared. */
+static void *ask_at_once(void *argument)
 {
-    const struct shared *shared = given;
+    const struct shared *shared = argument;
     struct spki_text words[2] = {text("cache"), text("x")};
     struct spki_question question = {.size = sizeof question, .sequence = text("(sequence)"), .key = spki_assume_key(text("(public-key (test b))")),
                                      .words = words, .word_count = 2, .seconds = &moment};
@@ -456,10 +456,10 @@ static void threads(size_t count)
     spki_guard_close(shared.guard);
 }
 
-/* The start of a thread: decides an opened question of its own (`given`) and closes it. */
-static void *decide_and_close(void *given)
+/* The start of a thread: decides an opened question of its own (`argument`) and closes it. */
+static void *decide_and_close(void *argument)
 {
-    spki_asked *asked = given;
+    spki_asked *asked = argument;
     unsigned char line[64];
     size_t needed;
     for (int turn = 0; turn < TURNS; turn++)
@@ -485,7 +485,7 @@ static void close_guard_beside(size_t count)
 /* The last second of the year 9999: no later moment can be asked. */
 #define LAST_SECOND INT64_C(253402300799)
 
-/* A decision that is kept holds till the least window ends, and no second longer. */
+/* A decision that is kept holds until the first of its windows ends, and no second longer. */
 static void kept_decisions(void)
 {
     static const struct { const char *list; int64_t until; } rows[] = {
@@ -522,7 +522,7 @@ int main(int count, char **words)
     two_clients(words[3], words[4], words[5], strtoul(words[1], NULL, 10));
     equal_signatures(words[3]);
     kept_decisions();
-    one_question(words[3], words[4], words[5]);
+    marks_of_question(words[3], words[4], words[5]);
     requests_by_strings();
     refused_lists();
     refused_questions();

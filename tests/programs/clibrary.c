@@ -62,8 +62,7 @@ static int are_all(const unsigned char *octets, size_t length, unsigned char wan
     return !length;
 }
 
-/* Asks with a buffer of this size between canaries. The answer must be the known one if it fits. If not, only the first octet may be written: it must
- * be 0. */
+/* Asks with a buffer of this size between canaries. The known answer must be written if it fits. If not, only a first octet 0 must be written. */
 static void ask_with(const struct question *asked, size_t size)
 {
     size_t needed = 12345, written = asked->length <= size ? asked->length : 0;
@@ -120,7 +119,7 @@ static void answer(struct question *asked)
     ask_with(asked, asked->length + 40);
 }
 
-/* The start of a thread: asks all questions, from the one at a place (a size_t) on. */
+/* The start of a thread: asks all questions, from the one at a place (a size_t) on, with room for the answer and in turn for one octet more. */
 static void *ask_all(void *place)
 {
     size_t first = *(size_t *)place;
@@ -165,7 +164,7 @@ static void misuse(void)
 {
     unsigned char buffer[64];
     size_t needed = 12345;
-    for (unsigned command = 7; command; command *= 2)
+    for (unsigned command = 7; command; command *= 2) /* (until no bit is left) */
         unknown_command(command, buffer, sizeof buffer);
     if (spki_answer(SPKI_CHECK, NULL, 1, buffer, sizeof buffer, &needed).status != SPKI_MISUSED || needed)
         fail("a null text with a length");

@@ -1,6 +1,6 @@
-/* Gives spki.c structures of other headers: of one with a field more than the library's, and of one with a field less. LATER is the header that
- * spki.c is compiled with: 0 for spki.h, 1 for one whose structures have a field `later` at their ends. What the proved library would be given is
- * kept here. Prints the line of what is wrong, and ends with 1 then. */
+/* Gives spki.c structures of other headers: with up to MORE fields more than the library's, and with one less. LATER is the header that spki.c is
+ * compiled with: 0 for spki.h, 1 for one whose structures have a field `later` at their ends. What the proved library would be given is kept here.
+ * Prints the line of what is wrong, and ends with 1 then. */
 #include "spki.c"
 
 #include <stdio.h>
@@ -11,7 +11,8 @@ static struct parts parts_seen;
 static size_t limits_count;
 
 /* In place of the proved library's function: keeps the limits that spki.c has read, and opens a guard. */
-uint32_t spki_c_guard_open(struct spki_text list, uint32_t policy, const struct spki_limits *limits, size_t count, struct handle *guard, ANSWER)
+uint32_t spki_c_guard_open(struct spki_text list, uint32_t policy, const struct spki_limits *limits, size_t count, struct handle *guard,
+                           BUFFER_PARAMS)
 {
     (void)list, (void)policy, (void)buffer, (void)buffer_length, (void)needed;
     limits_seen = *limits;
@@ -22,7 +23,7 @@ uint32_t spki_c_guard_open(struct spki_text list, uint32_t policy, const struct 
 
 /* In place of the proved library's function: keeps the parts of the question that spki.c has read, and opens a question. */
 uint32_t spki_c_guard_ask(struct handle *guard, struct parts parts, const struct spki_text *words, size_t word_count, const int64_t *seconds,
-                          size_t count, struct handle *asked, ANSWER)
+                          size_t count, struct handle *asked, BUFFER_PARAMS)
 {
     (void)guard, (void)words, (void)word_count, (void)seconds, (void)count, (void)buffer, (void)buffer_length, (void)needed;
     parts_seen = parts;
@@ -60,8 +61,7 @@ _Static_assert(sizeof(struct spki_text) == 2 * sizeof(size_t) && sizeof(struct s
                    && sizeof(struct spki_proven_key) == sizeof(struct spki_text),
                "a structure that has no size has another one");
 
-/* The octets of the limits and of a question as 0.2.0 has them: each library of this interface must read these sizes. MORE is the most fields that
- * main adds to them. */
+/* The octets of the limits and of a question in 0.2.0, which each library of this interface must read, and the most fields that main adds. */
 enum { LIMITS = 7 * sizeof(size_t), QUESTION = 12 * sizeof(size_t), MORE = 4 };
 
 /* Opens a guard by spki.c with limits that are an array of numbers, of which the first is their size. */

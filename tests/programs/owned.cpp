@@ -73,8 +73,8 @@ static int opened_question()
     guard.reset();
     spki::asked moved = std::move(asked);
     CHECK(moved.size() == 1);
-    const spki::signature it = moved.signature(0);
-    CHECK(it.key == "(10:public-key(4:test1:a))" && it.value == "3:sig" && it.octets == "sig");
+    const spki::signature listed = moved.signature(0);
+    CHECK(listed.key == "(10:public-key(4:test1:a))" && listed.value == "3:sig" && listed.octets == "sig");
     CHECK(!moved.decide() && moved.explain() == "item 1 NotAccepted\n");
     for (std::size_t place : {std::size_t(1), std::size_t(0x101), std::size_t(-1), std::size_t(-255)})
         CHECK(is_misuse([&] { moved.mark(place); }) && !moved.decide());
@@ -119,7 +119,7 @@ static int equal_signatures()
 }
 
 // A decision holds until the first of its windows ends, and no second longer. The clock counts nanoseconds, so it has no time after 2262.
-static int decisions_that_are_kept()
+static int kept_decisions()
 {
     using std::chrono::seconds;
     const auto ending = [](const char *date) {
@@ -150,7 +150,7 @@ static int impossible_requests()
 }
 
 // A guard or question that was moved away counts 0, a question is a no, and other calls are misuse. A key that was moved away is still the key.
-static int handles_given_away()
+static int moved_handles()
 {
     spki::guard guard(list);
     spki::asked asked = guard.ask({sequence, key, words, now});
@@ -237,6 +237,6 @@ static int threads()
 
 int main()
 {
-    return decisions() || opened_question() || two_clients() || equal_signatures() || decisions_that_are_kept() || impossible_requests()
-           || handles_given_away() || refusals() || logins() || literals() || threads();
+    return decisions() || opened_question() || two_clients() || equal_signatures() || kept_decisions() || impossible_requests()
+           || moved_handles() || refusals() || logins() || literals() || threads();
 }

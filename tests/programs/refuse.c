@@ -7,8 +7,7 @@
  *   REFUSE_IN=WORD   where the program was started by another word it is left alone
  *
  * At the end it writes to descriptor 3 how many were asked and refused of each, and how many requests for memory came before
- * the first read. A program that hangs is ended by SIGALRM after SECONDS.
- */
+ * the first read. A program that hangs is ended by SIGALRM after SECONDS. */
 #define _GNU_SOURCE
 #include <dlfcn.h>
 #include <errno.h>
@@ -60,6 +59,7 @@ static void read_plan(struct calls *calls, const char *name) {
     calls->all = strstr(words, "..") != NULL;
 }
 
+/* In place of malloc of the C library, which is `next` here. The functions below take the places of others in the same way. */
 void *malloc(size_t size) {
     NEXT(void *(*)(size_t), "malloc");
     return is_refused(&memory) ? no_memory() : next(size);
@@ -102,6 +102,7 @@ static ssize_t refused_result(void) {
     return error_number == 0 ? 0 : -1;
 }
 
+/* In place of read. One of standard input may be refused, and takes at most one octet where REFUSE_STEP is set. */
 ssize_t read(int file, void *octets, size_t most) {
     NEXT(ssize_t (*)(int, void *, size_t), "read");
     if (file == 0 && reads.asked == 0) before_reads = memory.asked;
@@ -109,6 +110,7 @@ ssize_t read(int file, void *octets, size_t most) {
     return next(file, octets, file == 0 && one_octet && most > 1 ? 1 : most);
 }
 
+/* In place of write. One to standard output may be refused, and takes at most one octet where REFUSE_STEP is set. */
 ssize_t write(int file, const void *octets, size_t most) {
     NEXT(ssize_t (*)(int, const void *, size_t), "write");
     if (file == 1 && is_refused(&writes)) return refused_result();

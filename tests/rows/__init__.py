@@ -83,12 +83,12 @@ def shown(octets: bytes) -> str:
 def fault_of(program: str, row: Row) -> str | None:
     """What is wrong with the program's answer to a row, None if nothing is."""
     status, answer = run(program, row.command, row.text)
-    fault = fault_beside(program, row) if (status, answer) == (row.status, row.answer) else (
+    fault = fault_of_other_commands(program, row) if (status, answer) == (row.status, row.answer) else (
         f"wanted {row.status} {shown(row.answer)}\ncame   {status} {shown(answer)}")
     return fault and f"{row.place}: {row.command}\ntext   {shown(row.text)}\n{fault}"
 
 
-def fault_beside(program: str, row: Row) -> str | None:
+def fault_of_other_commands(program: str, row: Row) -> str | None:
     """What is wrong with what other commands answer to the text of a row, None if nothing is. `reduce` and `explain` must agree with `check`. What
     `advanced` and `transport` write of a text must be read as the value that `canonical` writes. The row's own answer is right."""
     if row.command == "check":

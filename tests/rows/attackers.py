@@ -70,7 +70,7 @@ def sequence(site: Site, by: str, to: str, tag: str, *, days: int = 9, begins: i
 
 
 class Attackers:
-    """What attackers send to a site. `form` is that of a certificate in the server's header, as `Behind.form`."""
+    """What attackers send to a site. `form` is that of a certificate in the server's header: `escaped-pem` or `base64-der`."""
 
     def __init__(self, site: Site, form: str = "escaped-pem") -> None:
         self.site, self.form = site, form
@@ -78,7 +78,7 @@ class Attackers:
         self.make_tls_certificates()
 
     def sequences(self) -> dict[str, str]:
-        """The texts for the names that attacks.py has in braces: sequences in braces, Ann's certificate for TLS and the hash of her key."""
+        """The texts for the names that attacks.py has in braces: sequences in braces, Ann's certificate for TLS in `form`, the hash of her key."""
         site = self.site
         good = sequence(site, "ann", "ben", READ)
         # (`text[-8]` is one of the last octets of the signature's value)
@@ -90,7 +90,7 @@ class Attackers:
             "signer": canonical(sequence(site, "ben", "ben", READ)).replace(b"6:issuer" + self.key("ben"), b"6:issuer" + self.key("ann")),
             "secret": sequence(site, "ann", "ben", "(files read (* prefix /secret/))"), "unsigned": [b"sequence", good[1]], "none": [b"sequence"],
             "other": sequence(site, "ann", "ben", "(files read /web/other)"), "passed": sequence(site, "ben", "eve", READ, chain=good),
-            "many": [b"sequence", *good[1:] * 17], "bare": self.key("ben"), "deep": b"(1:a" * 65 + b")" * 65, "name": self.name()}
+            "many": [b"sequence", *good[1:] * 17], "bare": self.key("ben"), "deep": b"(1:a" * 65 + b")" * 65, "name": self.sequence_of_name()}
         certificate = site.text("keys/ann.crt")
         ann = certificate.translate({ord(it): f"%{ord(it):02X}" for it in "\n +/=%"})
         if self.form == "base64-der":
@@ -102,7 +102,7 @@ class Attackers:
         """The public key of `ann`, `ben` or another, in canonical form."""
         return canonical(signer_at(self.site.at(f"keys/{who}")).key)
 
-    def name(self) -> Value:
+    def sequence_of_name(self) -> Value:
         """The sequence of a certificate by which Ann gives Ben a name, and no right."""
         signer = signer_at(self.site.at("keys/ann"))
         certificate = certificate_of(signer.key, signer_at(self.site.at("keys/ben")).key, fields_of(None, None, now(9)), b"readers")

@@ -54,7 +54,7 @@ def raw(text: str) -> bytes:
     return text.replace("\n", "\r\n").encode("latin-1")
 
 
-def of_headers() -> Iterator[Plain]:
+def attacks_by_headers() -> Iterator[Plain]:
     """Requests in which a client sends headers that only the web server may set."""
     for what, *lines in [
             ("Ann's certificate in the server's header", "X-Client-Cert: {ann}"),
@@ -76,7 +76,7 @@ def of_headers() -> Iterator[Plain]:
     yield "the server's header without TLS's certificate", None, request(WEB, "X-Client-Cert: {ann}")
 
 
-def of_doubled_parts() -> Iterator[Plain]:
+def attacks_by_doubled_parts() -> Iterator[Plain]:
     """Requests with a header twice, two requests in one, and lines that are no header."""
     shown, basic = "Authorization: SPKI {ben}", "Authorization: Basic YW5uOmFubg=="
     yield "two headers with certificates, the first of another scheme", "ben", request(WEB, basic, shown)
@@ -108,7 +108,7 @@ def of_doubled_parts() -> Iterator[Plain]:
     yield "a body that is announced", "ben", request(WEB, "Expect: 100-continue", shown, method="PUT", body="ben")
 
 
-def of_methods() -> Iterator[Plain]:
+def attacks_by_methods() -> Iterator[Plain]:
     """Methods that the configuration does not name, methods without a right, and versions of HTTP."""
     for method in ("POST", "PATCH", "OPTIONS", "TRACE", "CONNECT", "PROPFIND", "MKCOL", "get", "GETX", "G\0T"):
         yield f"the method {method!r}", "ann", request(WEB, method=method, body="x" if method == "POST" else "")
@@ -147,13 +147,13 @@ PATHS = [
     "/web/" + "a/" * 2100 + "x", "/web/~ann/../../secret/plan.txt", "/web/index.html:$DATA", "/web/.../secret/plan.txt"]
 
 
-def of_paths() -> Iterator[Plain]:
+def attacks_by_paths() -> Iterator[Plain]:
     """Ann, who may read /web/ alone, asks for what is not there by a path that begins so, or for one whose meaning is not clear."""
     for path in PATHS:
         yield f"the path {path.encode('latin-1')[:40]!r}", "ann", request(path)
 
 
-def of_certificates() -> Iterator[Plain]:
+def attacks_by_certificates() -> Iterator[Plain]:
     """Certificates of others, changed ones, and keys that are not held."""
     yield "no certificate for TLS", None, request(WEB)
     yield "Ben's certificates by no key", None, request(WEB, "Authorization: SPKI {ben}")
@@ -180,7 +180,7 @@ def of_certificates() -> Iterator[Plain]:
 LEAVING = "/.well-known/spki-chain"
 
 
-def of_leaving() -> Iterator[Plain]:
+def attacks_on_left_certificates() -> Iterator[Plain]:
     """Requests at the one path where a client leaves certificates, and which some servers pass on without asking the daemon first: nothing is decided
     there, and no certificates are left without a signature."""
     claims = ("X-Original-Method: GET", f"X-Original-URI: {WEB}", "X-Original-Host: localhost", "X-Forwarded-Method: GET", f"X-Forwarded-Uri: {WEB}",
@@ -207,11 +207,11 @@ def with_statuses(attacks: Iterator[Plain], must: set[int]) -> Iterator[Attack]:
 
 def all_attacks() -> Iterator[Attack]:
     """All rows. A path that has more than plain characters, or leaves its folder, may be refused by the server itself."""
-    yield from with_statuses(of_headers(), DENIED)
-    yield from with_statuses(of_doubled_parts(), MALFORMED)
-    yield from with_statuses(of_methods(), DENIED)
-    for path, each in zip(PATHS, of_paths(), strict=True):
+    yield from with_statuses(attacks_by_headers(), DENIED)
+    yield from with_statuses(attacks_by_doubled_parts(), MALFORMED)
+    yield from with_statuses(attacks_by_methods(), DENIED)
+    for path, each in zip(PATHS, attacks_by_paths(), strict=True):
         is_plain = PLAIN_PATH.fullmatch(path) and ".." not in path
         yield from with_statuses(iter([each]), DENIED if is_plain else UNCLEAR)
-    yield from with_statuses(of_certificates(), DENIED)
-    yield from with_statuses(of_leaving(), UNCLEAR)
+    yield from with_statuses(attacks_by_certificates(), DENIED)
+    yield from with_statuses(attacks_on_left_certificates(), UNCLEAR)

@@ -47,7 +47,7 @@ class CallRow(NamedTuple):
     answer: bytes
 
     def line(self) -> bytes:
-        """The row as the program reads it."""
+        """The line that the program reads for the row: the call, and its texts in hexadecimal digits."""
         return b" ".join([self.call.encode(), *(text.hex().encode() for text in self.texts)]) + b"\n"
 
 

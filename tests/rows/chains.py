@@ -155,25 +155,24 @@ def long_lists():
         case(small * 8 + granted + large, *shown, request="n"), ninth
     named = [f"(entry (name {key('a')} {names}) (tag (*)))" for names in ("friends", "friends friends", "others")]
     first, second = (f"(cert (issuer (name {key(issuer)} friends)) (subject {key(subject)}))" for issuer, subject in ("ab", "bd"))
-    both, one = rows_and_items((first, key("a")), (second, key("b"))), rows_and_items((first, key("a")))
-    yield "eight entries for a name, and one for two names", case(named[0] * 8 + named[1], *both), ninth
-    yield "eight entries for another name, and one for the name", case(named[2] * 8 + named[0], *one, asks=key("b")), ninth
-    yield "nine entries for a name that is another key's", case(named[0] * 9, *one), NO
+    shown_both, shown_first = rows_and_items((first, key("a")), (second, key("b"))), rows_and_items((first, key("a")))
+    yield "eight entries for a name, and one for two names", case(named[0] * 8 + named[1], *shown_both), ninth
+    yield "eight entries for another name, and one for the name", case(named[2] * 8 + named[0], *shown_first, asks=key("b")), ninth
+    yield "nine entries for a name that is another key's", case(named[0] * 9, *shown_first), NO
 
 
 def long_lists_of_tags():
-    """Yields (name, text, what `check` answers): lists of nine entries, and two certificates whose tags have over 1,000,000 as the
-    product of their nodes."""
-    def behind(entries, tag):
-        """A case of entries and of two certificates with a tag."""
+    """Yields (name, text, what `check` answers): nine entries, and two certificates whose tags have a product of nodes over 1,000,000."""
+    def case_of(entries, tag):
+        """A case of entries and of two certificates, both with this tag."""
         first, second = cert(key("a"), key("b"), f"(propagate) (tag {tag})"), cert(key("b"), key("d"), f"(tag {tag})")
         return case(entries, *rows_and_items((first, key("a")), (second, key("b"))), request="n")
 
     over, granted = entry("a", '(propagate) (tag n) (not-after "2023-12-31_23:59:59")'), entry("a", "(propagate) (tag n)")
     different, copies = "(* set n " + " ".join(f"a{i}" for i in range(999)) + ")", f"(* set {'n ' * 1000})"
-    yield "eight entries of which one member is left, and one that grants", behind(over * 8 + granted, different), (0, "yes entry 9\n")
-    yield "nine entries of which 1,000 members are left", behind(over * 9, copies), refused("TooLarge")
-    yield "nine entries of which nothing is left", behind(entry("a", "(propagate) (tag m)") * 9, copies), NO
+    yield "eight entries of which one member is left, and one that grants", case_of(over * 8 + granted, different), (0, "yes entry 9\n")
+    yield "nine entries of which 1,000 members are left", case_of(over * 9, copies), refused("TooLarge")
+    yield "nine entries of which nothing is left", case_of(entry("a", "(propagate) (tag m)") * 9, copies), NO
 
 
 def moments():
@@ -227,8 +226,7 @@ HASH = digest("x")
 
 
 def malformed():
-    """Yields (name, text, what `check` answers): cases that are refused for a row or a policy, or have several faults, of which the first
-    is named."""
+    """Yields (name, text, what `check` answers): cases refused for a row or a policy, or with several faults, of which the first is named."""
     faults = [
         ("()", "Shape"), ("x", "Shape"), ("(by)", "Shape"), ("(row)", "Shape"), (f"(by {key('a')})", "Shape"),
         (f"(by {key('a')} {HASH})", "Shape"), (f"(by {key('a')} {HASH} sig sig)", "Shape"), (f"(by a {HASH} sig)", "Shape"),
@@ -279,10 +277,10 @@ def explained():
     stopped, no_tag = (1, "entry 1 item 3 NoDelegation\n"), (1, "entry 1 item 1 NoTag\n")
     yield "delegation: one too many", case(all_of_it, *rows_and_items((c1, a), (c2, b)), c), stopped, stopped
     yield "delegation passed on", case(all_of_it, *rows_and_items((cert(a, b), a)), b), five(b, "(propagate) (tag (*))"), GRANTS
-    both = entry("a", "(propagate) (tag (* set read write))")
+    read_and_write = entry("a", "(propagate) (tag (* set read write))")
     narrowed, apart = cert(a, b, "(tag (* set write (* prefix re)))"), cert(a, b, "(tag x)")
-    yield "reduced sets", case(both, *rows_and_items((narrowed, a)), b, "read"), five(b, "(tag (* set read write))"), GRANTS
-    yield "reduced sets: none", case(both, *rows_and_items((apart, a)), b, "read"), no_tag, no_tag
+    yield "reduced sets", case(read_and_write, *rows_and_items((narrowed, a)), b, "read"), five(b, "(tag (* set read write))"), GRANTS
+    yield "reduced sets: none", case(read_and_write, *rows_and_items((apart, a)), b, "read"), no_tag, no_tag
     sha1 = five(f"(hash sha1 |{base64.b64encode(hashlib.sha1(canonical(a)).digest()).decode()}|)")
     by_sha1 = f"(entry {digest(a, 'sha1')} (tag (*)))"
     yield "open: subject by sha1", case(by_sha1, asks=a), sha1, GRANTS

@@ -39,7 +39,7 @@ def signed_wrongly(certificate: str) -> str:
 
 
 def case_by_hash(behind: str, is_changed: bool = False) -> bytes:
-    """A case with a certificate whose issuer is the hash of KA. `behind`: the text of further items, as KA. `is_changed`: its digest is wrong."""
+    """A case with a certificate by the hash of KA, and the items `behind` it (a text, as KA is). `is_changed`: its signature has a wrong digest."""
     hashed = cert(chains.digest(KA), KB, "(tag (*))")
     return case(ALL, row(hashed, KA), (signed_wrongly(hashed) if is_changed else signed(hashed, KA)) + behind)
 
@@ -110,7 +110,7 @@ def reduced_sets(tag: str) -> tuple[bytes, bytes]:
 
 
 def of_separate_rows() -> Iterator[CallRow]:
-    """Decisions by separate rows. A fault of the case is said before one of the rows."""
+    """Decisions by separate rows. A fault of the case is reported before one of the rows."""
     text, rows = delegation(row(C1, KA), KA), canonical(f"(accepted {row(C1, KA)})")
     for name, case_text, rows_text, wanted in [
         ("row", text, rows, b"Done yes entry 1\n"), ("no row", text, b"(accepted)", b"No no\n"),
@@ -169,7 +169,7 @@ def reason(line: bytes) -> bytes:
     return b"Stopped { item: %s, cause: %s }" % stop.groups() if stop else line.replace(b"grants", b"Grants")
 
 
-def questions() -> Iterator[tuple[str, bytes]]:
+def example_cases() -> Iterator[tuple[str, bytes]]:
     """Yields (name, canonical text) of cases, in groups: in each the request, the entries, the rows or the items of the sequence vary."""
     yield "first-run", first_run()
     for request in ("(ftp)", "(ftp host dir)", "(ftp host)", "ftp", "(http host)"):
@@ -190,8 +190,8 @@ def questions() -> Iterator[tuple[str, bytes]]:
 
 
 def of_questions() -> Iterator[CallRow]:
-    """Each example of `questions`, as a case and as a question to a guard of its list, whose parts are in each form."""
-    for name, text in questions():
+    """Each of `example_cases`, as a case and as a question to a guard of its list, whose parts are in each form."""
+    for name, text in example_cases():
         rows, parts = rows_of(text), parts_of(text)
         for wish, call in (("decide", "decide"), ("explain", "explain"), ("reduce", "reduce_case")):
             (_, answer), listed = answer_of(wish, parts, rows)

@@ -66,7 +66,8 @@ def lists_in_lists():
 
 
 def deep_parts():
-    """Yields (name, command, text, answer): requests and tags as deep as may be, and deeper by one list."""
+    """Yields (name, command, text, answer): requests and tags as deep as may be, and deeper by one list. Of the 64 lists 2 are around a request, 4
+    around a tag in a case, and 1 around a tag in an `intersect`."""
     def nested(depth):
         """The text of so many lists, each inside the one before."""
         return "(f " * depth + "f" + ")" * depth
@@ -100,7 +101,7 @@ def nodes():
 def products():
     """Yields (name, command, text, answer): products of two tags' nodes around 1,000,000."""
     def sets(one, other):
-        """The text that asks for the intersection of two sets, whose members are these texts."""
+        """The text for the intersection of two sets, whose members are these texts."""
         return f"(intersect (* set {one}) (* set {other}))"
 
     yield "1,024 nodes and 976", "intersect", sets(strings(1023), strings(975)), (0, f"(* set {strings(1023 * 975)})\n")
@@ -108,7 +109,6 @@ def products():
     yield "1,000 nodes twice", "intersect", sets(numbered(999), numbered(999)), (0, f"(* set {numbered(999)})\n")
     yield "1,001 nodes and 1,000", "intersect", sets(numbered(1000), numbered(999)), refused("TooLarge")
     yield "1,001 nodes twice", "intersect", sets(numbered(1000), numbered(1000)), refused("TooLarge")
-
     fits, larger = (f"({strings(count, 'x')})" for count in (999, 1000))
     yield "lists of 1,000 nodes", "intersect", f"(intersect {fits} {fits})", (0, fits + "\n")
     yield "lists of 1,001 nodes", "intersect", f"(intersect {larger} {larger})", refused("TooLarge")

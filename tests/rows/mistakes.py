@@ -22,8 +22,8 @@ def entry(fields):
     return f"(acl\n (entry {KEY}\n  {fields}))\n"
 
 
-def hash_of(text):
-    """A list of an entry for a hash, whose parts are this text."""
+def entry_for_hash(text):
+    """A list of an entry for a hash. The text is that of the hash behind its head: its algorithm and its digest."""
     return f"(acl\n (entry (hash {text})\n  (tag (packages read))))\n"
 
 
@@ -55,10 +55,10 @@ MISTAKES = [
     ("a misspelled sequence", "s.sexp", f"(sequenze {KEY})\n", (1, 1), True, "is `sequence` meant?"),
     ("a certificate without its signature", "s.sexp", f"(sequence {KEY}\n {certificate('(tag read)').strip()})\n", (2, 2), True,
      "take that whole file again from who signed it"),
-    ("a hash without marks", "acl.sexp", hash_of(f"sha256 {DIGITS}"), (2, 22), True, "between two `#`"),
-    ("a hash that is cut off", "acl.sexp", hash_of(f"sha256 #{DIGITS[:-2]}#"), (2, 22), True,
+    ("a hash without marks", "acl.sexp", entry_for_hash(f"sha256 {DIGITS}"), (2, 22), True, "between two `#`"),
+    ("a hash that is cut off", "acl.sexp", entry_for_hash(f"sha256 #{DIGITS[:-2]}#"), (2, 22), True,
      "64 hexadecimal digits, here 62, between two `#`: copy it again, or take that of `spki-cert key --hash FILE`"),
-    ("an algorithm with a hyphen", "acl.sexp", hash_of(f"sha-256 #{DIGITS}#"), (2, 15), True, "is `sha256` meant?"),
+    ("an algorithm with a hyphen", "acl.sexp", entry_for_hash(f"sha-256 #{DIGITS}#"), (2, 15), True, "is `sha256` meant?"),
     ("a name of nobody in an entry", "acl.sexp", "(acl\n (entry (name builders)\n  (tag read)))\n", (2, 9), True, "needs the key"),
     ("a tag in a certificate for a name", "c.sexp", f"(cert (issuer (name {KEY} builders)) (subject {OTHER})\n (tag read))\n", (2, 2), True,
      "remove the `tag`, or"),
@@ -128,17 +128,17 @@ MISTAKES = [
      "sign a new one, since a changed date breaks the signature"),
     ("an end before the beginning", "c.sexp", certificate('(tag read)\n (not-before "2099-02-01_00:00:00") (not-after "2099-01-01_00:00:00")'),
      (3, 37), False, "ends before it begins"),
-    ("a hash by SHA-1", "acl.sexp", hash_of(f"sha1 #{DIGITS[:40]}#"), (2, 9), False, "strict policy"),
+    ("a hash by SHA-1", "acl.sexp", entry_for_hash(f"sha1 #{DIGITS[:40]}#"), (2, 9), False, "strict policy"),
     ("a key that is cut off", "key.sexp", "(public-key (ecc (curve Ed25519) (flags eddsa) (q #2876#)))\n", (1, 13), False, "this is no whole key"),
     ("a key in a key", "key.sexp", "(public-key (public-key (ecc)))\n", (1, 13), False, "replace the whole outer `(public-key ..)` by the inner one")]
 
 # Words of a command that are a mistake: what is wrong, the words, the exit status, and words of what is said. `NAME` begins a sentence on a
 # file. In the folder are keys of alice, bob and carol, `acl.sexp` with an entry for alice, and `to-bob`, a certificate of alice for bob.
-OfWords = collections.namedtuple("OfWords", "what words status said")
+MistakeInWords = collections.namedtuple("MistakeInWords", "what words status said")
 SIGNS = ("sign", "--by", "alice", "-o", "c.sexp", "--to")
 BOB = (*SIGNS, "bob.pub", "--tag", "(packages read)")
 READS = (*SIGNS, "bob.pub", "--days", "1", "--tag")
-OF_WORDS = [OfWords(*row) for row in [
+OF_WORDS = [MistakeInWords(*row) for row in [
     ("the name of another command", (*BOB, "--days", "1", "--name", "x"), 2,
      "of sign, but of name; to define a name: `spki-cert name`; a note: `--comment`; is `--named` meant?"),
     ("a case and another moment", ("ask", "--case", "acl.sexp", "--at", "2099-01-01"), 2, "--case is a whole question"),

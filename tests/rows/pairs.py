@@ -21,17 +21,17 @@ def normal_form(members):
     return members[0] if len(members) == 1 else written(members)
 
 
-def intersection(one, other):
+def intersection(first, second):
     """The text that asks for the intersection of two tags."""
-    return b"(intersect " + one + b" " + other + b")"
+    return b"(intersect " + first + b" " + second + b")"
 
 
-def rows(intersected):
-    """Yields (place, command, text, status, answer) of each pair of sets. The wanted answer is composed of what the program answers to each pair of
-    members. `intersected` starts the program on a text, and returns a future of its status and answer."""
-    started = {pair: intersected(intersection(*pair)) for pair in product(MEMBERS, MEMBERS)}
+def rows(start):
+    """Yields (place, command, text, status, answer) of each pair of sets. The expected answer is composed of what the program answers to each pair of
+    members. `start` starts `intersect` on a text, and returns a future of its status and answer."""
+    started = {pair: start(intersection(*pair)) for pair in product(MEMBERS, MEMBERS)}
     by_pair = {pair: run.result()[1].rstrip(b"\n") for pair, run in started.items()}
-    for ones, others in product(sets(), sets()):
-        common = tuple(by_pair[pair] for pair in product(ones, others) if by_pair[pair] != NOTHING)
-        text = intersection(written(ones), written(others))
+    for first, second in product(sets(), sets()):
+        common = tuple(by_pair[pair] for pair in product(first, second) if by_pair[pair] != NOTHING)
+        text = intersection(written(first), written(second))
         yield f"pairs: {text.decode()}", "intersect", text, 0, normal_form(common) + b"\n"

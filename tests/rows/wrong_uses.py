@@ -29,12 +29,12 @@ MAINS = {
 
 @dataclass(frozen=True)
 class Row:
-    """A wrong use in a language: its place in the file, from 0, its outcome, a pattern of what the compiler must print, or "", its name and code."""
+    """A wrong use in a language: its place in the file, from 0, its outcome, a pattern for what the compiler prints (or ""), its name and code."""
 
     language: str
     place: int
     outcome: str
-    said: str
+    pattern: str
     name: str
     code: str
 

@@ -89,7 +89,7 @@ class OfSites(unittest.TestCase):
         self.assertEqual([self.site.status("ben", "GET", PAGE), self.status("GET", PAGE, *self.fields("ben", PAGE))], [200, 200])
         self.assertEqual(self.status("GET", "/secret/plan.txt", *self.fields("ben", "/secret/plan.txt")), 401)
         sender = attackers.Attackers(self.site, self.site.form)
-        for each in attacks.with_statuses(attacks.of_leaving(), attacks.UNCLEAR):
+        for each in attacks.with_statuses(attacks.attacks_on_left_certificates(), attacks.UNCLEAR):
             answer = self.site.answer(each.who, sender.filled(each.octets))
             self.assertLessEqual(set(attackers.statuses(answer) or [0]), each.must, each.what)
         address = f"https://localhost:{self.site.port}{place}"

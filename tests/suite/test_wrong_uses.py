@@ -72,7 +72,7 @@ class WrongUses(built.OfLibrary):
             with self.subTest(row.name):
                 # (the pattern may be empty, which every text matches)
                 self.assertIn(row.name, faults)
-                self.assertRegex(faults[row.name], f"(?s){row.said}")
+                self.assertRegex(faults[row.name], f"(?s){row.pattern}")
 
     def check_outcomes(self, rows: list[Row], output: str) -> None:
         """The program of these rows must have written a line for each, with the place of the row and its outcome."""
