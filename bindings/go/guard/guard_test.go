@@ -114,11 +114,11 @@ func TestVerifierIsGivenWhatIsSigned(t *testing.T) {
 // TestZeroIsNoYes shows that the zero Decision is a no, and that the zero Policy is Strict, under which a hash by SHA-1 names no key.
 func TestZeroIsNoYes(t *testing.T) {
 	if (guard.Decision{}).Granted() {
-		t.Error("no decision grants")
+		t.Error("the zero Decision grants")
 	}
-	var usual guard.Policy
+	var zero guard.Policy
 	bySHA1 := fmt.Sprintf("(acl (entry (hash sha1 #%x#) (tag (*))))", sha1.Sum([]byte("(10:public-key(4:test1:b))")))
-	for policy, wanted := range map[guard.Policy]bool{usual: false, guard.Strict: false, guard.AllowSHA1: true} {
+	for policy, wanted := range map[guard.Policy]bool{zero: false, guard.Strict: false, guard.AllowSHA1: true} {
 		opened, err := guard.Open([]byte(bySHA1), policy, guard.Limits{})
 		if err != nil {
 			t.Fatal(err)
@@ -145,8 +145,9 @@ func TestVerifierStopsAtTheFirstWrongOne(t *testing.T) {
 	}
 }
 
-// TestMarks marks places that the question does not have, which is ErrMisused and marks nothing, and then its only place, 0, twice.
-func TestMarks(t *testing.T) {
+// TestMarkOfNoPlace marks places that the question does not have, which is ErrMisused and marks nothing, and then its only place, 0, twice. Some of
+// the former are 0 in their last octet.
+func TestMarkOfNoPlace(t *testing.T) {
 	asked := askMarked(t, openGuard(t, list), questionWith(1))
 	if listed := asked.Signatures(); len(listed) != 1 || string(listed[0].Message) != signed[1] || !asked.Possible() {
 		t.Errorf("%q", listed)
@@ -179,9 +180,9 @@ func verifiedOf(t *testing.T, opened *guard.Guard, question guard.Question, plac
 	return asked.Verified()
 }
 
-// TestVerifiedBefore decides by signatures that are known to be valid. A row has the places that are marked, how many marks count, and the entry that
+// TestDecideVerified decides by signatures that are known to be valid. A row has the places that are marked, how many marks count, and the entry that
 // grants the request, or 0. At the end, the function of a log changes the sequence that it gets, which is a copy.
-func TestVerifiedBefore(t *testing.T) {
+func TestDecideVerified(t *testing.T) {
 	opened, question := openGuard(t, list), questionWith(1)
 	withSequence := question
 	withSequence.Sequence = []byte("(sequence " + own + pair + ")")
@@ -200,8 +201,8 @@ func TestVerifiedBefore(t *testing.T) {
 		if err != nil || !bytes.HasPrefix(canonical.Sequence(), []byte("(8:sequence")) {
 			t.Fatalf("%q, %v", canonical.Sequence(), err)
 		}
-		for _, each := range []guard.Verified{verified, canonical} {
-			if decision, err := opened.DecideVerified(question, each); err != nil || decision.Entry() != row.wanted {
+		for _, form := range []guard.Verified{verified, canonical} {
+			if decision, err := opened.DecideVerified(question, form); err != nil || decision.Entry() != row.wanted {
 				t.Errorf("%v: %v, %v", row, decision, err)
 			}
 		}
@@ -407,8 +408,8 @@ func TestStringsAreStrings(t *testing.T) {
 	}
 }
 
-// TestTexts gives the request and the time as texts. The second request is `(ftp)` in transport form.
-func TestTexts(t *testing.T) {
+// TestRequestAndTimeAsTexts gives both as texts. The second request is `(ftp)` in transport form.
+func TestRequestAndTimeAsTexts(t *testing.T) {
 	opened := openGuard(t, "(acl (entry (public-key (test b)) (tag (ftp host))))")
 	for text, wanted := range map[string]bool{"(ftp host)": true, "{KDM6ZnRwKQ==}": false, "ftp": false} {
 		question := questionWith(0)
@@ -597,7 +598,7 @@ func TestAClockThatFailed(t *testing.T) {
 	}
 }
 
-// TestUntil keeps a grant. It holds till the least window ends, and no second longer.
+// TestUntil keeps a grant. It holds up to the not-after of the entry, and no second longer. A grant without a window holds from 1970 on, a no never.
 func TestUntil(t *testing.T) {
 	ending := openGuard(t, `(acl (entry (public-key (test a)) (propagate) (tag (*)) (not-after "2026-06-30_23:59:59")))`)
 	last, question := time.Date(2026, 6, 30, 23, 59, 59, 0, time.UTC), questionWith(1)
@@ -662,8 +663,8 @@ func TestVerifierThatFails(t *testing.T) {
 	}
 }
 
-// byLongKey returns a question with `times` certificates by one key of `octets` octets, which their issuers and signatures name by its hash.
-func byLongKey(t testing.TB, times, octets int) guard.Question {
+// questionByLongKey returns a question with `times` certificates by one key of `octets` octets, which their issuers and signatures name by its hash.
+func questionByLongKey(t testing.TB, times, octets int) guard.Question {
 	t.Helper()
 	key := fmt.Sprintf("(10:public-key(4:test%d:%s))", octets, strings.Repeat("x", octets))
 	hash := fmt.Sprintf("(hash sha256 #%x#)", sha256.Sum256([]byte(key)))
@@ -686,7 +687,7 @@ func TestSignaturesAreCopiedOneByOne(t *testing.T) {
 	}
 	defer opened.Close()
 	const times, octets = 200, 100_000
-	question := byLongKey(t, times, octets)
+	question := questionByLongKey(t, times, octets)
 	calls := 0
 	for name, decide := range map[string]func() error{
 		"all valid": func() error {
@@ -783,8 +784,8 @@ func TestPanicOfVerifier(t *testing.T) {
 	}
 }
 
-// TestForms converts texts among the three forms of RFC 9804, and what is in none of them is refused. For `tooLong` no room is taken by its length:
-// its 16 MiB are copied once from the string, and the longest answer to a text within the limit has 3 MiB.
+// TestForms converts texts among the three forms of RFC 9804, and what is in none of them is refused. The buffer of an answer does not grow with a
+// text that is too long: the 16 MiB of `tooLong` are copied once from the string, and the longest answer to a text within the limit has 3 MiB.
 func TestForms(t *testing.T) {
 	tooLong := strings.Repeat(" ", 16<<20)
 	canonical, err := guard.Canonical([]byte("(a b)"))
