@@ -43,14 +43,15 @@ def options():
 
 def start_file(name):
     """The octets of `start.json`, by which the page begins: the examples, the texts of the other boxes, how many octets a question may have, and
-    `name`, which is that of what decides."""
+    `name`, the name of the engine that decides."""
     with open(os.path.join(TOP, "examples", "guide", "granted.sexp"), encoding="utf-8") as file:
         others = {**OTHERS, "case": file.read()}
     return json.dumps({"engine": name, "examples": EXAMPLES, "others": others, "mostOctets": MOST_BODY}).encode()
 
 
 def print_or_say_why(text):
-    """Prints a text. Returns whether standard output takes it. Otherwise says why not, and what Python would write again at its end is dropped."""
+    """Prints a text, and returns whether that worked. If not, prints why on standard error, and puts /dev/null in place of standard output: Python
+    writes again at its end what is left in the buffer."""
     try:
         print(text, flush=True)
     except OSError as why:

@@ -106,7 +106,7 @@ def add_rights_left(given, story, reasons, reduced):
     if first and first.entry and first.item:
         # (the items before that item, and all keys behind it, which hashes in the items before may name)
         keys = [item for item in story.items[first.item:] if item[0] == b"public-key"]
-        line_before = given.cut([*story.items[:first.item - 1], *keys])[first.entry - 1]
+        line_before = given.reduce_items([*story.items[:first.item - 1], *keys])[first.entry - 1]
         if "(five" in line_before:
             story.rights_left[first.entry, first.item] = value(right_text(line_before))
 
@@ -177,8 +177,8 @@ def intersection(engine, tags, words):
     """The intersection of two tags, which are texts: the `text`, cut at MOST_LETTERS, `isWhole` if nothing is cut, and what `containment` says of it
     and of the request of these words. If the library refuses them, only the `line` of the refusal."""
     try:
-        both = engine.command("intersect", b"(9:intersect" + b"".join(map(engine.canonical, tags)) + b")")
-        return {"text": both.decode()[:MOST_LETTERS], "isWhole": len(both) <= MOST_LETTERS, **containment(engine, both, words)}
+        tag = engine.command("intersect", b"(9:intersect" + b"".join(map(engine.canonical, tags)) + b")")
+        return {"text": tag.decode()[:MOST_LETTERS], "isWhole": len(tag) <= MOST_LETTERS, **containment(engine, tag, words)}
     except Refused as why:
         return {"line": why.line}
 

@@ -32,8 +32,8 @@ def terms(name, value):
 
 
 class Chain:
-    """The boxes and arrows of a story, from above: `steps`. `subject` is that of the last box of a subject, or None before the first. A story is a
-    question that was answered."""
+    """The boxes and arrows of a story, from above: `steps`, to which the methods add. `subject` is that of the last box of a subject, or None before
+    the first. A story is a question that was answered."""
 
     def __init__(self, story):
         self.story, self.steps, self.subject = story, [], None
@@ -119,7 +119,8 @@ def chain(story, reason):
 
 
 def without_middle(steps):
-    """The steps, or if they are more than MOST_STEPS + 1, those at both ends, with an arrow between that says how many certificates are left out."""
+    """The steps of a chain. If they are more than MOST_STEPS + 1, only those at both ends, with an arrow between that says how many certificates are
+    left out."""
     half = MOST_STEPS // 2
     middle = steps[half:-half]
     # (a single step may be a box, so it is drawn)
