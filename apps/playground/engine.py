@@ -264,7 +264,7 @@ def case_text(acl, sequence, key, request, at, accepted, is_strict):
             + policy + b")")
 
 
-def program():
+def find_program():
     """The path of the program, or None: the built one, the installed one, or the one without proofs. The variable SPKI_PROGRAM of the
     environment names another than these."""
     if "SPKI_PROGRAM" in os.environ:
@@ -281,7 +281,7 @@ def choose_engine(wanted):
         except (ImportError, OSError):
             if wanted == "library":
                 raise LookupError("libspki_c.so is not found: build it by crates/spki_c/archive.py, or name it in SPKI_LIBRARY") from None
-    path = program()
+    path = find_program()
     if path is None and "SPKI_PROGRAM" in os.environ:
         raise LookupError(f"SPKI_PROGRAM names no program: {os.environ['SPKI_PROGRAM']}")
     if path is None:

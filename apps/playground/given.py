@@ -35,7 +35,7 @@ def words_of(sent):
     return tuple(word.encode(errors="replace") for word in members(sent, "request", str, "a list of strings"))
 
 
-class Given:
+class SentQuestion:
     """A question of separate boxes, as octets. `sent` is the object that the page sent, whose fields may have wrong types: a text that is no string
     is taken as empty, and for a list of another type the class raises `Refused`. `sequence` has the signatures that the page made up too. Methods
     that ask the engine raise `Refused`."""
@@ -74,7 +74,7 @@ class Given:
             # (the message that is signed is the certificate)
             certificate = read(signed.message)
             labels.learn(certificate)
-            rows.append({"by": labels.of(read(signed.key)), "says": on_one_line(certificate)[:MOST_LETTERS],
+            rows.append({"by": labels.name_of(read(signed.key)), "says": on_one_line(certificate)[:MOST_LETTERS],
                          "madeUp": signed.value == string(VALUE), "counts": place not in self.question.refused_signatures})
         return rows
 
@@ -127,8 +127,8 @@ class Given:
         return case_text(*parts, request_text(self.words), question.at, accepted, question.is_strict)
 
 
-class GivenCase:
-    """A whole case in one box, with those methods of `Given` by which `asking.py` decides, explains and refuses it."""
+class SentCase:
+    """A whole case in one box, with those methods of `SentQuestion` by which `asking.py` decides, explains and refuses it."""
 
     def __init__(self, engine, sent):
         self.engine, self.octets = engine, text(sent, "text").encode(errors="replace")
