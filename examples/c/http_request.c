@@ -347,12 +347,12 @@ static bool is_target(struct spki_text target)
 /* The name of the service that a request is for, as the service has it, or null if it has no such name. The port 443 is left out. */
 static const struct spki_text *authority_of(const struct http_service *service, const struct http_request *request)
 {
-    struct spki_text asked = request->authority, port = SPKI_LITERAL(":443");
-    const unsigned char *octets = asked.octets;
-    if (asked.length >= port.length && memcmp(octets + asked.length - port.length, port.octets, port.length) == 0)
-        asked.length -= port.length;
+    struct spki_text name = request->authority, port = SPKI_LITERAL(":443");
+    const unsigned char *octets = name.octets;
+    if (name.length >= port.length && memcmp(octets + name.length - port.length, port.octets, port.length) == 0)
+        name.length -= port.length;
     for (size_t i = 0; i < service->name_count; i++)
-        if (asked.length > 0 && equals_ignoring_case(asked, service->names[i]))
+        if (name.length > 0 && equals_ignoring_case(name, service->names[i]))
             return &service->names[i];
     return NULL;
 }
