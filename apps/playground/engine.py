@@ -99,7 +99,8 @@ class ByLibrary(Engine):
     name, limits_memory = "libspki_c.so", True
 
     def __init__(self):
-        """Loads the library: that which SPKI_LIBRARY names, or the built one. Raises `ImportError` or `OSError` if it is not there."""
+        """Loads the library: that which SPKI_LIBRARY names, else the built one, else that which the package `spki` finds. Raises `ImportError` or
+        `OSError` if it is not there."""
         super().__init__()
         if "SPKI_LIBRARY" not in os.environ and os.path.exists(LIBRARY):
             os.environ["SPKI_LIBRARY"] = LIBRARY

@@ -33,7 +33,7 @@ class Labels:
             self.faults.append({"line": number, "why": why.line})
 
     def learn(self, value):
-        """Takes the keys of a value, so that their hashes are known, and the comments of entries and certificates."""
+        """Adds the keys of a value to `hashes`, and the comments of its entries and certificates to the labels."""
         waiting = [value]
         while waiting:
             part = waiting.pop()

@@ -254,9 +254,9 @@ func TestClientAndServer(t *testing.T) {
 	}
 }
 
-// TestCovered names fields to be covered. Each is covered once. One that the request lacks is an error, also if it must be covered where it is
-// present. So is a name with a capital letter.
-func TestCovered(t *testing.T) {
+// TestFieldsToCover names more fields that Sign covers. Each is covered once. One that the request lacks is an error, also if it must be covered where
+// it is present. So is a name with a capital letter.
+func TestFieldsToCover(t *testing.T) {
 	signer, verifier := signers(t)[Ed25519], NewVerifier("example.com")
 	for covered, want := range map[string]error{"x-job x-job @path": nil, "x-jobs": AbsentField, "content-digest": AbsentField, "X-Job": UnknownComponent} {
 		message := Message{Method: "GET", Authority: "example.com", Target: "/foo", Header: http.Header{"X-Job": {"7"}}}
@@ -624,8 +624,8 @@ func FuzzSigned(f *testing.F) {
 	})
 }
 
-// BenchmarkVerify times Check, with each kind of key.
-func BenchmarkVerify(b *testing.B) {
+// BenchmarkCheck times Verifier.Check, with each kind of key.
+func BenchmarkCheck(b *testing.B) {
 	for name, signer := range signers(b) {
 		b.Run(name, func(b *testing.B) {
 			message := Message{Method: "GET", Authority: "example.com", Target: "/foo?a=b", Header: http.Header{}}
