@@ -66,8 +66,9 @@ class Chain:
             self.add_certificate(number, item, reason.word if is_last else None, self.story.left(reason) if is_last else None)
 
     def add_certificate(self, number, item, word, before):
-        """Adds a certificate, which is item `number` from 1: an arrow to its subject. If it stops the chain, `word` is the cause, otherwise None, and
-        `before` is the right before it, if that is known. Then the arrow is red, or faint behind a red gap for a certificate that does not join."""
+        """Adds a certificate, which is item `number` from 1: an arrow to its subject. If it does not stop the chain, `word` and `before` are None.
+        Otherwise `word` is the cause, `before` the right before it, if that is known, and the arrow is red, or faint behind a red gap if the
+        certificate does not join."""
         issuer = issuer_of(item)
         # (one that does not join comes behind a gap, from the box of its issuer, and is faint)
         if word in APART:
