@@ -31,7 +31,7 @@ def seconds_of(text):
     return int(text)
 
 
-def options():
+def parse_options():
     """The options of the command line, as argparse has them: `port`, `no_browser`, `engine` and `seconds`."""
     parser = argparse.ArgumentParser(prog="apps/playground", description=__doc__.split("\n")[0])
     parser.add_argument("--port", type=int, default=0, help="the port; the default is one that is free")
@@ -43,14 +43,15 @@ def options():
 
 def start_file(name):
     """The octets of `start.json`, by which the page begins: the examples, the texts of the other boxes, how many octets a question may have, and
-    `name`, which is that of what decides."""
+    `name`, the name of the engine that decides."""
     with open(os.path.join(TOP, "examples", "guide", "granted.sexp"), encoding="utf-8") as file:
         others = {**OTHERS, "case": file.read()}
     return json.dumps({"engine": name, "examples": EXAMPLES, "others": others, "mostOctets": MOST_BODY}).encode()
 
 
 def print_or_say_why(text):
-    """Prints a text. Returns whether standard output takes it. Otherwise says why not, and what Python would write again at its end is dropped."""
+    """Prints a text, and returns whether that worked. If not, prints why on standard error, and puts /dev/null in place of standard output: Python
+    writes again at its end what is left in the buffer."""
     try:
         print(text, flush=True)
     except OSError as why:
@@ -63,17 +64,17 @@ def print_or_say_why(text):
 def main():
     """Serves the page until it is ended by ctrl-c or SIGTERM. The first line that it prints is the address, which a program that starts it reads, and
     the second says what decides. Returns the exit status: 0, or 2 if it cannot start or print these lines, and says why."""
-    given = options()
+    options = parse_options()
     try:
-        engine = choose_engine(given.engine)
+        engine = choose_engine(options.engine)
     except LookupError as why:
         print(why, file=sys.stderr)
         return 2
-    workers = Workers(given.engine, given.seconds)
+    workers = Workers(options.engine, options.seconds)
     try:
-        server = Server(given.port, workers, JOBS, start_file(engine.name))
+        server = Server(options.port, workers, JOBS, start_file(engine.name))
     except (OSError, OverflowError) as why:
-        print(f"port {given.port}: {why}", file=sys.stderr)
+        print(f"port {options.port}: {why}", file=sys.stderr)
         workers.end()
         return 2
     with server:
@@ -82,7 +83,7 @@ def main():
         try:
             if not print_or_say_why(f"{server.address}\n{engine.name} decides; ctrl-c ends the page"):
                 return 2
-            if not given.no_browser:
+            if not options.no_browser:
                 # (a browser in the terminal ends only when its user leaves it, and must be answered before)
                 threading.Thread(target=webbrowser.open, args=(server.address,), daemon=True).start()
             server.serve_forever()

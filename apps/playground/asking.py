@@ -1,12 +1,13 @@
 """What the page asks, and the answers as it shows them. Each job yields its answer in parts, a decision before its explanation: a part is a
-dictionary, and its fields replace those of earlier parts. `engine` is who decides, an `Engine`, and `sent` the object that the page sent.
+dictionary, and its fields replace those of earlier parts. `engine` is the `Engine` that decides, `sent` the object that the page sent, and
+`sent_question` the question in it.
 
-A job that takes too long is ended by the one who asked for it, who keeps the parts that were yielded.
+The server ends the process of a job that takes too long, and keeps the parts that were yielded.
 """
 import moments
 from chain import chain
 from engine import PARTS, Question, Refused, string
-from given import MOST_LETTERS, Given, GivenCase, text, words_of
+from given import MOST_LETTERS, SentQuestion, SentCase, text, words_of
 from labels import Labels
 from place import places, places_for_page
 from sentences import ONE_STRING, REFUSED, is_one_string_of_words, right_left, sentence_of, title
@@ -17,10 +18,10 @@ from story import Story, reasons_of
 MOST_REASONS, MOST_LEFT = 100, 20
 
 
-def refusal_part(given, line):
-    """The part of an answer that shows a refusal. `given` is the question, a `Given` or `GivenCase`, and `line` the line of the refusal, as
+def refusal_part(sent_question, line):
+    """The part of an answer that shows a refusal. `sent_question` is a `SentQuestion` or a `SentCase`, and `line` the line of the refusal, as
     `refused sequence 3 Shape`."""
-    return {"kind": "refused", "line": line, "shown": given.shown(line), "title": REFUSED.get(line, ""), "faults": given.fault(line)}
+    return {"kind": "refused", "line": line, "shown": sent_question.shown(line), "title": REFUSED.get(line, ""), "faults": sent_question.fault(line)}
 
 
 def labels_of(engine, sent):
@@ -37,48 +38,48 @@ def question(engine, sent):
     labels = labels_of(engine, sent)
     yield {"labelFaults": labels.faults}
     try:
-        given = Given(engine, sent)
+        sent_question = SentQuestion(engine, sent)
     except Refused as why:
         # (what was sent has a field of a wrong type; the page itself sends none)
         yield {"kind": "refused", "line": why.line, "title": f"The question cannot be read: {why.line.removeprefix('refused: ')}.", "faults": {}}
         return
     try:
-        signatures = given.signatures(labels)
-        yield from decision_parts(given, labels)
+        signatures = sent_question.signatures(labels)
+        yield from decision_parts(sent_question, labels)
         yield {"signatures": signatures}
         if sent.get("withCase") is True:
-            yield {"case": laid_out(read(given.case()))}
+            yield {"case": laid_out(read(sent_question.case()))}
     except Refused as why:
-        yield refusal_part(given, why.line)
+        yield refusal_part(sent_question, why.line)
 
 
 def case(engine, sent):
     """Yields the answer to the whole case that the page sent in one box, in parts: the faults of the labels, the decision and its explanation. If
     the case is refused, the last part says why."""
-    given, labels = GivenCase(engine, sent), labels_of(engine, sent)
+    sent_case, labels = SentCase(engine, sent), labels_of(engine, sent)
     yield {"labelFaults": labels.faults}
     try:
-        yield from decision_parts(given, labels)
+        yield from decision_parts(sent_case, labels)
     except Refused as why:
-        yield refusal_part(given, why.line)
+        yield refusal_part(sent_case, why.line)
 
 
-def decision_parts(given, labels):
+def decision_parts(sent_question, labels):
     """Yields the decision of a question, then the reasons and the picture, then both again with the rights that remain, which they name. If the
-    library refuses to explain, a notice is the last part. `given` is the question, a `Given` or `GivenCase`. Raises `Refused` if the library refuses
-    to decide."""
-    line = given.check()
+    library refuses to explain, a notice is the last part. `sent_question` is a `SentQuestion` or a `SentCase`. Raises `Refused` if the library
+    refuses to decide."""
+    line = sent_question.check()
     yield {"kind": "yes" if line.startswith("yes") else "no", "line": line}
-    acl, sequence, key, request, at = given.values()
+    acl, sequence, key, request, at = sent_question.values()
     for value in (key, acl, sequence):
         labels.learn(value)
     # (a version of the list is no entry)
     entries = [member for member in acl[1:] if member[0] == b"entry"]
     story = Story(labels, entries, sequence[1:], key, request, at)
     try:
-        reasons = sorted(reasons_of(given.lines("explain")), key=lambda reason: reason.rank)
+        reasons = sorted(reasons_of(sent_question.lines("explain")), key=lambda reason: reason.rank)
         yield reasons_part(story, reasons, line)
-        add_rights_left(given, story, reasons, given.lines("reduce"))
+        add_rights_left(sent_question, story, reasons, sent_question.lines("reduce"))
     except Refused as why:
         yield {"notice": f"The decision has no explanation here: {why.line}."}
         return
@@ -94,11 +95,11 @@ def reasons_part(story, reasons, line):
             "chain": chain(story, reasons[0] if reasons else None)}
 
 
-def add_rights_left(given, story, reasons, reduced):
+def add_rights_left(sent_question, story, reasons, reduced):
     """Adds rights to `story.rights_left`. By an entry's number and None: the right that remains of it, from `reduced`, the lines of `reduce` in the
     order of the entries, for the entries of the first MOST_LEFT `reasons`, which go furthest. By the number of the first reason's entry and that of
     the item that stops its chain: the right before that item, which the library is asked for. Raises `Refused`, with those before added."""
-    value = given.engine.value
+    value = sent_question.engine.value
     for reason in reasons[:MOST_LEFT]:
         if reason.entry and "(five" in reduced[reason.entry - 1]:
             story.rights_left[reason.entry, None] = value(right_text(reduced[reason.entry - 1]))
@@ -106,7 +107,7 @@ def add_rights_left(given, story, reasons, reduced):
     if first and first.entry and first.item:
         # (the items before that item, and all keys behind it, which hashes in the items before may name)
         keys = [item for item in story.items[first.item:] if item[0] == b"public-key"]
-        line_before = given.cut([*story.items[:first.item - 1], *keys])[first.entry - 1]
+        line_before = sent_question.reduce_items([*story.items[:first.item - 1], *keys])[first.entry - 1]
         if "(five" in line_before:
             story.rights_left[first.entry, first.item] = value(right_text(line_before))
 
@@ -120,10 +121,10 @@ def times(engine, sent):
     """Yields one part: the spans of time in which the answer to the question that the page sent stays the same, each with this answer, as
     `moments.spans` returns them; or for a refusal `refused`, with its line."""
     try:
-        given = Given(engine, sent)
-        acl, sequence, *_ = given.values()
+        sent_question = SentQuestion(engine, sent)
+        acl, sequence, *_ = sent_question.values()
         # (the first line of `check` is its whole answer)
-        yield moments.spans((acl, sequence), lambda date: engine.lines(given.question._replace(at=string(date)), "check")[0])
+        yield moments.spans((acl, sequence), lambda date: engine.lines(sent_question.question._replace(at=string(date)), "check")[0])
     except Refused as why:
         yield {"refused": why.line}
 
@@ -177,8 +178,8 @@ def intersection(engine, tags, words):
     """The intersection of two tags, which are texts: the `text`, cut at MOST_LETTERS, `isWhole` if nothing is cut, and what `containment` says of it
     and of the request of these words. If the library refuses them, only the `line` of the refusal."""
     try:
-        both = engine.command("intersect", b"(9:intersect" + b"".join(map(engine.canonical, tags)) + b")")
-        return {"text": both.decode()[:MOST_LETTERS], "isWhole": len(both) <= MOST_LETTERS, **containment(engine, both, words)}
+        tag = engine.command("intersect", b"(9:intersect" + b"".join(map(engine.canonical, tags)) + b")")
+        return {"text": tag.decode()[:MOST_LETTERS], "isWhole": len(tag) <= MOST_LETTERS, **containment(engine, tag, words)}
     except Refused as why:
         return {"line": why.line}
 

@@ -25,37 +25,37 @@ def arrow(state, *lines, whole=""):
     return {"kind": "arrow", "state": state, "lines": [line for line in lines if line], "whole": whole}
 
 
-def terms(name, value):
+def lines_beside(name, value):
     """The lines beside the arrow of an entry or a certificate: its name, tag, delegation and validity, or None for what it does not say."""
     passes = "may be passed on" if field(value, b"propagate") else None
     return [name, tag_of(value), passes, window(value)]
 
 
 class Chain:
-    """The boxes and arrows of a story, from above: `steps`. `subject` is that of the last box of a subject, or None before the first. A story is a
-    question that was answered."""
+    """The boxes and arrows of a story, from above: `steps`, to which the methods add. `subject` is that of the last box of a subject, or None before
+    the first. A story is a question that was answered."""
 
     def __init__(self, story):
         self.story, self.steps, self.subject = story, [], None
 
-    def box(self, shape, label, whole, note="", state="plain"):
+    def add_box(self, shape, label, whole, note="", state="plain"):
         """Adds a box with a label and a note below it. `whole` is its text in full. `shape` is `list`, `subject` or `request`, and `state` is
         `plain`, `good`, `bad` or `faint`, by which the page colours it."""
         self.steps.append({"kind": "box", "shape": shape, "label": label, "note": note, "whole": whole, "state": state})
 
-    def subject_box(self, subject, state="plain"):
-        """Adds the box of a subject, if the last one is of another subject. `state` is as for `box`."""
+    def add_subject(self, subject, state="plain"):
+        """Adds the box of a subject, if the last one is of another subject. `state` is as for `add_box`."""
         if subject != self.subject:
-            self.box("subject", self.story.labels.of(subject), on_one_line(subject), state=state)
+            self.add_box("subject", self.story.labels.name_of(subject), on_one_line(subject), state=state)
         self.subject = subject
 
     def begin(self, number):
         """Adds the access list and one of its entries, by its number from 1."""
         entry = self.story.entries[number - 1]
         count = len(self.story.entries)
-        self.box("list", "Access list", "1 entry" if count == 1 else f"{count} entries")
-        self.steps.append(arrow("plain", *terms(f"entry {number}", entry), whole=on_one_line(entry)))
-        self.subject_box(entry[1])
+        self.add_box("list", "Access list", "1 entry" if count == 1 else f"{count} entries")
+        self.steps.append(arrow("plain", *lines_beside(f"entry {number}", entry), whole=on_one_line(entry)))
+        self.add_subject(entry[1])
 
     def follow(self, reason):
         """Adds the certificates up to the one that stops the chain, which is `reason.item`, or all if none does."""
@@ -63,27 +63,28 @@ class Chain:
             if item[0] != b"cert" or (reason.item and number > reason.item):
                 continue
             is_last = number == reason.item
-            self.certificate(number, item, reason.word if is_last else None, self.story.left(reason) if is_last else None)
+            self.add_certificate(number, item, reason.word if is_last else None, self.story.left(reason) if is_last else None)
 
-    def certificate(self, number, item, word, before):
-        """Adds a certificate, which is item `number` from 1: an arrow to its subject. If it stops the chain, `word` is the cause, otherwise None, and
-        `before` is the right before it, if that is known. Then the arrow is red, or faint behind a red gap for a certificate that does not join."""
+    def add_certificate(self, number, item, word, before):
+        """Adds a certificate, which is item `number` from 1: an arrow to its subject. If it does not stop the chain, `word` and `before` are None.
+        Otherwise `word` is the cause, `before` the right before it, if that is known, and the arrow is red, or faint behind a red gap if the
+        certificate does not join."""
         issuer = issuer_of(item)
         # (one that does not join comes behind a gap, from the box of its issuer, and is faint)
         if word in APART:
             self.steps.append(arrow("gap", word, SHORT[word]))
         if word in APART or self.subject is None:
-            self.subject_box(issuer)
-        lines = terms(f"certificate {self.story.number(number)}", item)
+            self.add_subject(issuer)
+        lines = lines_beside(f"certificate {self.story.number(number)}", item)
         # (a certificate that defines a name has no tag; its second line is which name)
         if issuer[0] == b"name":
-            lines[1] = f"defines {self.story.labels.of(issuer)}"
+            lines[1] = f"defines {self.story.labels.name_of(issuer)}"
         state = "faint" if word in APART else "bad" if word else "plain"
         why = [f"{word}: {SHORT[word]}"] if state == "bad" else []
         if before and word in ("NoTag", "NoValidity"):
             lines.append(f"left before: {tag_of(before) if word == 'NoTag' else window(before)}")
         self.steps.append(arrow(state, *why, *lines, whole=on_one_line(item)))
-        self.subject_box(subject_after(self.subject or issuer, item) if state == "plain" else subject_of(item), "faint" if word else "plain")
+        self.add_subject(subject_after(self.subject or issuer, item) if state == "plain" else subject_of(item), "faint" if word else "plain")
 
     def end(self, reason, left):
         """Adds the box of the request, and the arrow to it, which says whether the chain of `reason` grants it. For NotTheKey a gap and the box
@@ -92,34 +93,35 @@ class Chain:
         is_granted = word == "grants"
         if word == "NotTheKey":
             self.steps.append(arrow("gap", word, SHORT[word]))
-            self.subject_box(story.key)
+            self.add_subject(story.key)
             self.steps.append(arrow("plain", "requests"))
         else:
             right = [] if left is None else [f"left: {tag_of(left)}", window(left)]
             why = f"yes, entry {reason.entry}" if is_granted else f"{word}: {SHORT[word]}"
             self.steps.append(arrow("good" if is_granted else "bad", why, *right, whole=on_one_line(left) if left else ""))
         state = "good" if is_granted else "plain" if word == "NotTheKey" else "bad"
-        self.box("request", on_one_line(story.request), on_one_line(story.request), moment_of(story.at), state)
+        self.add_box("request", on_one_line(story.request), on_one_line(story.request), moment_of(story.at), state)
 
 
 def chain(story, reason):
     """The chain that `reason`, a line of `explain`, is about, as a dictionary for the page: its `steps`, and `behind`, which is how many certificates
     behind the one that stops it are not drawn. The reason is None where there are no entries."""
-    steps = Chain(story)
+    drawn = Chain(story)
     if reason is None:
-        steps.box("list", "Access list", "0 entries", "no entries", "bad")
-        return {"steps": steps.steps, "behind": 0}
+        drawn.add_box("list", "Access list", "0 entries", "no entries", "bad")
+        return {"steps": drawn.steps, "behind": 0}
     if reason.entry:
-        steps.begin(reason.entry)
-    steps.follow(reason)
+        drawn.begin(reason.entry)
+    drawn.follow(reason)
     if reason.item is None:
-        steps.end(reason, story.left(reason))
+        drawn.end(reason, story.left(reason))
     behind = sum(item[0] == b"cert" for item in story.items[reason.item:]) if reason.item else 0
-    return {"steps": without_middle(steps.steps), "behind": behind}
+    return {"steps": without_middle(drawn.steps), "behind": behind}
 
 
 def without_middle(steps):
-    """The steps, or if they are more than MOST_STEPS + 1, those at both ends, with an arrow between that says how many certificates are left out."""
+    """The steps of a chain. If they are more than MOST_STEPS + 1, only those at both ends, with an arrow between that says how many certificates are
+    left out."""
     half = MOST_STEPS // 2
     middle = steps[half:-half]
     # (a single step may be a box, so it is drawn)

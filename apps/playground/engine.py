@@ -16,9 +16,9 @@ TOP = os.path.realpath(os.path.join(os.path.dirname(os.path.abspath(__file__)), 
 LIBRARY = os.path.join(TOP, "crates", "spki_c", "out", "libspki_c.so")
 PROGRAM = os.path.join(TOP, "crates", "spki", "out", "spki")
 # The program that `tests/run --quick` compiles without a proof.
-TRIED = os.path.join(TOP, "tests", "out", "tried", "spki")
+UNPROVED_PROGRAM = os.path.join(TOP, "tests", "out", "tried", "spki")
 # What is said where nothing can decide: the quickest command that changes it. `{}` is the path of `tests/run`.
-NOTHING = "nothing that can decide is built: `{} --quick words` compiles the program in a minute or two, and proves nothing; then start this again"
+NOT_BUILT = "nothing that can decide is built: `{} --quick words` compiles the program in a minute or two, and proves nothing; then start this again"
 sys.path.append(os.path.join(TOP, "apps", "spki-cert"))
 from spki_cert_tool.sexp import canonical, read  # noqa: E402
 
@@ -90,6 +90,7 @@ class Engine:
         answer = self.answer(name, text)
         if answer.startswith(b"refused "):
             raise Refused(answer.decode().rstrip("\n"))
+        # (`spki` adds no line feed to a canonical form, which may end in one of its own)
         return answer if name == "canonical" else answer.removesuffix(b"\n")
 
 
@@ -99,7 +100,8 @@ class ByLibrary(Engine):
     name, limits_memory = "libspki_c.so", True
 
     def __init__(self):
-        """Loads the library: that which SPKI_LIBRARY names, or the built one. Raises `ImportError` or `OSError` if it is not there."""
+        """Loads the library: that which SPKI_LIBRARY names, else the built one, else that which the package `spki` finds. Raises `ImportError` or
+        `OSError` if it is not there."""
         super().__init__()
         if "SPKI_LIBRARY" not in os.environ and os.path.exists(LIBRARY):
             os.environ["SPKI_LIBRARY"] = LIBRARY
@@ -122,6 +124,7 @@ class ByLibrary(Engine):
 
     def open_guard(self, acl, is_strict):
         """The guard of an access list, a text: an object that answers questions by it. Raises the library's `Refused`."""
+        # (for certificates and strings the same number is as good as no limit, since their octets are bounded already)
         return self.spki.Guard(acl, self.spki.Policy.STRICT if is_strict else self.spki.Policy.ALLOW_SHA1,
                                self.spki.Limits(octets=MOST_OCTETS, certificates=MOST_OCTETS, words=MOST_OCTETS, nodes=MOST_NODES))
 
@@ -157,14 +160,14 @@ class ByLibrary(Engine):
 
 
 class ByProgram(Engine):
-    """The engine that runs the program `spki`, at a path, for each answer. Its memory is not limited by a limit on this process."""
+    """The engine that runs the program `spki`, at a path, for each answer. No limit is set on the memory of the program."""
 
     limits_memory = False
 
     def __init__(self, program):
         super().__init__()
         self.program = program
-        self.name = "spki, compiled without proofs," if program == TRIED else "spki"
+        self.name = "spki, compiled without proofs," if program == UNPROVED_PROGRAM else "spki"
         self.signed = functools.lru_cache(CACHE_SIZE)(self.list_signed)
 
     def answer(self, name, text):
@@ -173,6 +176,7 @@ class ByProgram(Engine):
             ended = subprocess.run([self.program, name], input=text, stdout=subprocess.PIPE, stderr=subprocess.DEVNULL)
         except OSError as why:
             raise Failed(f"The program cannot be run: {why.strerror}.") from None
+        # (the status is 0 for a yes or another answer, 1 for a no, and 2 for a refusal)
         if ended.returncode not in (0, 1, 2) or not ended.stdout:
             raise Failed(f"The program ended with status {ended.returncode} and no answer.")
         return ended.stdout
@@ -191,8 +195,8 @@ class ByProgram(Engine):
             except Refused as why:
                 # (a guard reads the parts one after the other, so a wrong value in an earlier part is refused first. `check` looks for that, with
                 # texts of PARTS, which can be read, in place of this part and the later ones)
-                others = list(PARTS.values())[len(canonical_texts):]
-                self.command("check", case_text(acl, *canonical_texts, *others, (), question.is_strict))
+                readable = list(PARTS.values())[len(canonical_texts):]
+                self.command("check", case_text(acl, *canonical_texts, *readable, (), question.is_strict))
                 raise Refused(why.line.replace(" form ", f" {name} ", 1)) from None
         return acl, *canonical_texts
 
@@ -254,19 +258,20 @@ def row(signed):
 
 
 def case_text(acl, sequence, key, request, at, accepted, is_strict):
-    """The text of the case that has these parts, all in canonical form. `accepted` are the signatures that are valid in it, as `Signed`."""
+    """The text of the case that has these parts, all in canonical form. `accepted` are the signatures that are valid in it, as `Signed`: one that is
+    there twice gets one row."""
     rows = b"".join(dict.fromkeys(map(row, accepted)))
     policy = b"(6:policy6:strict)" if is_strict else b""
     return (b"(4:case" + acl + b"(8:accepted" + rows + b")" + sequence + b"(3:key" + key + b")(7:request" + request + b")(2:at" + at + b")"
             + policy + b")")
 
 
-def program():
+def find_program():
     """The path of the program, or None: the built one, the installed one, or the one without proofs. The variable SPKI_PROGRAM of the
     environment names another than these."""
     if "SPKI_PROGRAM" in os.environ:
         return shutil.which(os.environ["SPKI_PROGRAM"])
-    return shutil.which(PROGRAM) or shutil.which("spki") or shutil.which(TRIED)
+    return shutil.which(PROGRAM) or shutil.which("spki") or shutil.which(UNPROVED_PROGRAM)
 
 
 def choose_engine(wanted):
@@ -278,9 +283,9 @@ def choose_engine(wanted):
         except (ImportError, OSError):
             if wanted == "library":
                 raise LookupError("libspki_c.so is not found: build it by crates/spki_c/archive.py, or name it in SPKI_LIBRARY") from None
-    path = program()
+    path = find_program()
     if path is None and "SPKI_PROGRAM" in os.environ:
         raise LookupError(f"SPKI_PROGRAM names no program: {os.environ['SPKI_PROGRAM']}")
     if path is None:
-        raise LookupError(NOTHING.format(os.path.relpath(os.path.join(TOP, "tests", "run"))))
+        raise LookupError(NOT_BUILT.format(os.path.relpath(os.path.join(TOP, "tests", "run"))))
     return ByProgram(path)

@@ -35,7 +35,7 @@ def words_of(sent):
     return tuple(word.encode(errors="replace") for word in members(sent, "request", str, "a list of strings"))
 
 
-class Given:
+class SentQuestion:
     """A question of separate boxes, as octets. `sent` is the object that the page sent, whose fields may have wrong types: a text that is no string
     is taken as empty, and for a list of another type the class raises `Refused`. `sequence` has the signatures that the page made up too. Methods
     that ask the engine raise `Refused`."""
@@ -62,7 +62,7 @@ class Given:
         """The lines that the command `check`, `explain` or `reduce` answers to this question."""
         return self.engine.lines(self.question, command)
 
-    def cut(self, items):
+    def reduce_items(self, items):
         """The lines of `reduce`, which say what right is left of each entry, if the sequence had only these items, which are values."""
         return self.engine.lines(self.question._replace(sequence=canonical([b"sequence", *items])), "reduce")
 
@@ -74,7 +74,7 @@ class Given:
             # (the message that is signed is the certificate)
             certificate = read(signed.message)
             labels.learn(certificate)
-            rows.append({"by": labels.of(read(signed.key)), "says": on_one_line(certificate)[:MOST_LETTERS],
+            rows.append({"by": labels.name_of(read(signed.key)), "says": on_one_line(certificate)[:MOST_LETTERS],
                          "madeUp": signed.value == string(VALUE), "counts": place not in self.question.refused_signatures})
         return rows
 
@@ -108,11 +108,13 @@ class Given:
     def fault_of_words(self, name, line):
         """What is shown at the box `name`, `request` or `at`, for a refusal. What is typed there is no S-expression, so its first line is the
         place."""
-        typed = self.box["at"]
-        why = f"{'this is no moment' if typed else 'the moment is missing'}; choose a date and a time of day, in UTC"
-        if name == "request":
-            typed = b"\n".join(self.words)
-            why = next((remark for _, remark in places(request_text(self.words), line)), "") if self.words else "a request has at least one string"
+        typed = self.box["at"] if name == "at" else b"\n".join(self.words)
+        if name == "at":
+            why = f"{'this is no moment' if typed else 'the moment is missing'}; choose a date and a time of day, in UTC"
+        elif self.words:
+            why = next((remark for _, remark in places(request_text(self.words), line)), "")
+        else:
+            why = "a request has at least one string"
         first = typed.split(b"\n")[0]
         place = {"begin": 0, "end": len(first.decode(errors="replace")), "line": 1, "column": 1, "why": why}
         return {"line": line, "places": [place]}
@@ -125,14 +127,15 @@ class Given:
         return case_text(*parts, request_text(self.words), question.at, accepted, question.is_strict)
 
 
-class GivenCase:
-    """A whole case in one box, with those methods of `Given` by which `asking.py` decides, explains and refuses it."""
+class SentCase:
+    """A whole case in one box, with those methods of `SentQuestion` by which `asking.py` decides, explains and refuses it."""
 
     def __init__(self, engine, sent):
         self.engine, self.octets = engine, text(sent, "text").encode(errors="replace")
 
     def values(self):
         """The access list, the sequence, the key, the request and the moment of the case, as values: a string is `bytes`, and a list a `list`."""
+        # (a case is `(case ACL (accepted ..) (sequence ..) (key KEY) (request REQUEST) (at MOMENT) ..)`)
         case = self.engine.value(self.octets)
         return case[1], case[3], case[4][1], case[5][1], case[6][1]
 
@@ -144,9 +147,10 @@ class GivenCase:
         """The lines that the command `check`, `explain` or `reduce` answers to the case."""
         return self.engine.command(command, self.octets).decode().split("\n")
 
-    def cut(self, items):
+    def reduce_items(self, items):
         """The lines of `reduce`, which say what right is left of each entry, if the sequence of the case had only these items, which are values."""
         case = self.engine.value(self.octets)
+        # (the sequence is member 3 of a case)
         return self.engine.command("reduce", canonical([*case[:3], [b"sequence", *items], *case[4:]])).decode().split("\n")
 
     @functools.cached_property

@@ -33,7 +33,7 @@ class Labels:
             self.faults.append({"line": number, "why": why.line})
 
     def learn(self, value):
-        """Takes the keys of a value, so that their hashes are known, and the comments of entries and certificates."""
+        """Adds the keys of a value to `hashes`, and the comments of its entries and certificates to the labels."""
         waiting = [value]
         while waiting:
             part = waiting.pop()
@@ -59,16 +59,16 @@ class Labels:
         """The key that a principal, a key or a hash, names, if it is known, else the principal."""
         return self.hashes.get((principal[1], principal[2]), principal) if principal[0] == b"hash" else principal
 
-    def of(self, subject):
+    def name_of(self, subject):
         """What a principal or a name is called: its own label, else for a hash that of its key, else a short form."""
         label = self.of_values.get(canonical(subject))
         if label:
             return label
         if subject[0] == b"name":
             names = [name.decode(errors="replace") for name in subject[2:]]
-            return f"{' '.join(names)} of {self.of(subject[1])}"
+            return f"{' '.join(names)} of {self.name_of(subject[1])}"
         key = self.key(subject)
-        return self.of(key) if key is not subject else short(subject)
+        return self.name_of(key) if key is not subject else short(subject)
 
 
 def field(value, head):

@@ -24,7 +24,7 @@ def date_of(parts):
     return b"%04d-%02d-%02d_%02d:%02d:%02d" % parts
 
 
-def after(parts):
+def next_date(parts):
     """The next date, also as six numbers: there is no calendar, so each month has 31 days and a minute a second 60. None after the last one."""
     for place in reversed(range(len(parts))):
         if parts[place] < LAST[place]:
@@ -53,7 +53,7 @@ def spans(values, answer):
     all_limits = [limits_of(value) for value in values]
     # (by the moment from which the answer may change: the word and the limit as the page shows them)
     begins = {moment: ("from", moment) for limits in all_limits for moment in limits[b"not-before"]}
-    ends = {after(moment): ("after", moment) for limits in all_limits for moment in limits[b"not-after"] if after(moment)}
+    ends = {next_date(moment): ("after", moment) for limits in all_limits for moment in limits[b"not-after"] if next_date(moment)}
     # (where an end and a begin change the answer at the same moment, the begin is shown)
     all_changes = {**ends, **begins}
     changes = dict(sorted(all_changes.items())[:MOST_LIMITS])

@@ -46,9 +46,9 @@ def sentence_of(story, reason):
     if reason.word == "TagLacks" and is_one_string_of_words(story.request):
         hint = ONE_STRING
     fields = {"entry": reason.entry, "number": story.number(reason.item) if reason.item else 0,
-              "client": story.labels.of(story.key), "moment": moment_of(story.at),
-              "holder": story.labels.of(story.holder(reason)) if reason.entry else "",
-              "issuer": story.labels.of(issuer_of(story.certificate(reason.item))) if reason.item else "",
+              "client": story.labels.name_of(story.key), "moment": moment_of(story.at),
+              "holder": story.labels.name_of(story.holder(reason)) if reason.entry else "",
+              "issuer": story.labels.name_of(issuer_of(story.certificate(reason.item))) if reason.item else "",
               "shown": phrase_on_certificates(story), "window": "in another time"}
     right = story.left(reason)
     if right:
@@ -73,5 +73,5 @@ def title(reasons, line):
 def right_left(story, number, item, right):
     """The right `(five ..)` that remains of the entry with a number, as the page lists it: a dictionary. If `item` is the number of an item, it is
     the right before this item, which stops the chain. For None it is the right at the chain's end."""
-    return {"entry": number, "before": story.number(item) if item else 0, "holder": story.labels.of(field(right, b"subject")[1]),
+    return {"entry": number, "before": story.number(item) if item else 0, "holder": story.labels.name_of(field(right, b"subject")[1]),
             "tag": tag_of(right), "window": window(right) or "at all times", "passes": field(right, b"propagate") is not None}

@@ -26,7 +26,7 @@ HEADERS = {"Content-Security-Policy": POLICY, "X-Content-Type-Options": "nosniff
            "Permissions-Policy": "camera=(), microphone=(), geolocation=()"}
 
 
-def files():
+def read_files():
     """The files of the folder `page` whose suffix is in KINDS, by their names: each as the value of `Content-Type` and its octets."""
     by_name = {}
     for name in sorted(os.listdir(PAGE)):
@@ -169,7 +169,7 @@ class Server(http.server.ThreadingHTTPServer):
         """Listens on a port of 127.0.0.1, or on any free one for 0. Raises `OSError` or `OverflowError` if that is not possible."""
         super().__init__(("127.0.0.1", port), Handler)
         self.token, self.workers, self.jobs = secrets.token_urlsafe(24), workers, jobs
-        self.files = {**files(), "start.json": (KINDS[".json"], start)}
+        self.files = {**read_files(), "start.json": (KINDS[".json"], start)}
         self.room = threading.BoundedSemaphore(MOST_CONNECTIONS)
         # (browsers leave out the port of http)
         port = "" if self.server_port == 80 else f":{self.server_port}"

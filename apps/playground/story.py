@@ -6,7 +6,7 @@ read.
 """
 import re
 import sys
-from dataclasses import dataclass, field as of_default
+from dataclasses import dataclass, field as dataclass_field
 
 from labels import Labels, field
 from spki_cert_tool.sexp import on_one_line
@@ -56,7 +56,7 @@ class Story:
     request: object
     # The moment.
     at: bytes
-    rights_left: dict = of_default(default_factory=dict)
+    rights_left: dict = dataclass_field(default_factory=dict)
     """Rights `(five ..)` by the number of an entry and that of an item: the right of the entry before this item, or for None at the chain's end."""
 
     def certificate(self, item):

@@ -50,11 +50,11 @@ static void answer(bool writes, const char *folder, const char *path, const char
 }
 
 /* Answers each line of its input. Exit status: 0 at the end, 1 for a line that is too long or has an octet 00, 2 for wrong arguments or no list. */
-int main(int count, char **given)
+int main(int argc, char **argv)
 {
-    static char list[1 << 20], key[MOST], sequence[MOST], line[MOST], asked[2 * MOST], last[2 * MOST];
-    struct spki_text text = count == 5 ? octets_of(given[1], list, sizeof list) : (struct spki_text){NULL, 0};
-    /* (the decision about the request in `last`: while it holds, the same request is not decided again) */
+    static char list[1 << 20], key[MOST], sequence[MOST], line[MOST], request[2 * MOST], last_request[2 * MOST];
+    struct spki_text text = argc == 5 ? octets_of(argv[1], list, sizeof list) : (struct spki_text){NULL, 0};
+    /* (the decision about `last_request`: while it holds, the same request is not decided again) */
     struct spki_decision kept = {SPKI_NO, INT64_MIN};
     spki_guard *guard;
     if (spki_guard_open(text.octets, text.length, SPKI_STRICT, NULL, &guard, line, sizeof line, NULL) != SPKI_DONE)
@@ -64,14 +64,14 @@ int main(int count, char **given)
         line[strcspn(line, "\n")] = '\0';
         char *content = line, *action = strsep(&content, " "), *path = content ? strsep(&content, " ") : "";
         const struct spki_text words[] = {SPKI_LITERAL("cache"), {action, strlen(action)}, {path, strlen(path)}};
-        snprintf(asked, sizeof asked, "%s %s", action, path);
-        if (strcmp(asked, last) || !spki_holds_at(kept, time(NULL)))
-            kept = decide(guard, spki_assume_key(octets_of(given[3], key, sizeof key)), octets_of(given[4], sequence, sizeof sequence), words);
-        strcpy(last, asked);
+        snprintf(request, sizeof request, "%s %s", action, path);
+        if (strcmp(request, last_request) || !spki_holds_at(kept, time(NULL)))
+            kept = decide(guard, spki_assume_key(octets_of(argv[3], key, sizeof key)), octets_of(argv[4], sequence, sizeof sequence), words);
+        strcpy(last_request, request);
         if ((strcmp(action, "read") && strcmp(action, "write")) || !is_normal(path) || !spki_holds_at(kept, time(NULL)))
             puts("denied");
         else
-            answer(*action == 'w', given[2], path, content ? content : "");
+            answer(*action == 'w', argv[2], path, content ? content : "");
     }
     spki_guard_close(guard);
     return !feof(stdin);

@@ -52,21 +52,21 @@ static struct spki_text text_of(const char *path, unsigned char *octets)
 
 /* Prints the decision. The exit status is 0 for granted, 1 for denied, 2 for wrong arguments or no access list, 3 for a file that cannot be read
  * or is too long. */
-int main(int count, char **given)
+int main(int argc, char **argv)
 {
     static unsigned char octets[3][MOST_OCTETS], line[256];
     struct spki_text texts[3], words[MOST_WORDS];
-    if (count <= FIRST_WORD || count > FIRST_WORD + MOST_WORDS)
+    if (argc <= FIRST_WORD || argc > FIRST_WORD + MOST_WORDS)
         errx(2, "usage: decide ACL SEQUENCE KEY WORD ..");
     for (int place = 0; place < 3; place++)
-        texts[place] = text_of(given[place + 1], octets[place]);
-    for (int place = FIRST_WORD; place < count; place++)
-        words[place - FIRST_WORD] = (struct spki_text){given[place], strlen(given[place])};
+        texts[place] = text_of(argv[place + 1], octets[place]);
+    for (int place = FIRST_WORD; place < argc; place++)
+        words[place - FIRST_WORD] = (struct spki_text){argv[place], strlen(argv[place])};
     spki_guard *guard;
     if (spki_guard_open(texts[0].octets, texts[0].length, SPKI_STRICT, NULL, &guard, line, sizeof line, NULL) != SPKI_DONE)
-        errx(2, "%s is no access list", given[1]);
+        errx(2, "%s is no access list", argv[1]);
     /* THE CLIENT MUST HAVE PROVED THAT IT HOLDS THE KEY: a public key is public */
-    bool granted = is_granted(guard, texts[1], spki_assume_key(texts[2]), words, (size_t)(count - FIRST_WORD), time(NULL));
+    bool granted = is_granted(guard, texts[1], spki_assume_key(texts[2]), words, (size_t)(argc - FIRST_WORD), time(NULL));
     puts(granted ? "granted" : "denied");
     spki_guard_close(guard);
     return !granted;

@@ -18,7 +18,7 @@ enum { CREATED, EXPIRES, NONCE, KEYID, ALG, TAG, PARAMETERS };
 
 static const char *const parameter_names[PARAMETERS] = {"created", "expires", "nonce", "keyid", "alg", "tag"};
 static const char *const derived[] = {"@method", "@authority", "@target-uri", "@path", "@query"};
-static const char malformed[] = "malformed", chained[] = "authorization", sequence[] = "x-spki-sequence", body_digest[] = "content-digest";
+static const char malformed[] = "malformed", authorization[] = "authorization", sequence[] = "x-spki-sequence", body_digest[] = "content-digest";
 static const char public_key[] = "x-spki-public-key";
 
 /* The value of `Signature-Input`. `text` is that of `@signature-params`, as it was sent. `components` has `count` names. `strings` has the values of
@@ -176,7 +176,8 @@ static bool read_integer(struct cursor *in, long long *number)
     return digits > 0 && digits <= MOST_DIGITS && (digits == 1 || *first != '0');
 }
 
-/* Sets the cursor to what follows the label and its `=`. The label must be `spki`. Returns null, or the name of the refusal. */
+/* Sets the cursor to what follows the label and its `=`. The label must be `spki`, and the value have at most MOST_INPUT octets. Returns null, or the
+ * name of the refusal. */
 static const char *read_label(struct spki_text value, struct cursor *in)
 {
     const unsigned char *first = value.octets;
@@ -287,7 +288,8 @@ static bool read_octets(struct cursor *in, unsigned char *octets, size_t room, s
     return decode_base64(between(first, in->at), octets, room, length) && try_skip(in, ":");
 }
 
-/* Reads `Signature`, also if it is too long for every algorithm: check_message refuses that. Returns null, or the name of the refusal. */
+/* Reads the octets that `Signature` has, also if they are too many for every algorithm: check_message refuses that. Returns null, or the name of the
+ * refusal. */
 static const char *read_signature(struct spki_text value, unsigned char octets[MOST_INPUT], size_t *length)
 {
     struct cursor in;
@@ -345,12 +347,12 @@ static bool is_target(struct spki_text target)
 /* The name of the service that a request is for, as the service has it, or null if it has no such name. The port 443 is left out. */
 static const struct spki_text *authority_of(const struct http_service *service, const struct http_request *request)
 {
-    struct spki_text asked = request->authority, port = SPKI_LITERAL(":443");
-    const unsigned char *octets = asked.octets;
-    if (asked.length >= port.length && memcmp(octets + asked.length - port.length, port.octets, port.length) == 0)
-        asked.length -= port.length;
+    struct spki_text name = request->authority, port = SPKI_LITERAL(":443");
+    const unsigned char *octets = name.octets;
+    if (name.length >= port.length && memcmp(octets + name.length - port.length, port.octets, port.length) == 0)
+        name.length -= port.length;
     for (size_t i = 0; i < service->name_count; i++)
-        if (asked.length > 0 && equals_ignoring_case(asked, service->names[i]))
+        if (name.length > 0 && equals_ignoring_case(name, service->names[i]))
             return &service->names[i];
     return NULL;
 }
@@ -509,7 +511,7 @@ static const char *read_digest(struct spki_text value, struct http_proof *proof)
  * proof. Returns null, or the name of the refusal. */
 static const char *check_fields(const struct http_request *request, const struct input *input, struct http_proof *proof)
 {
-    const char *const names[] = {chained, sequence, body_digest};
+    const char *const names[] = {authorization, sequence, body_digest};
     struct spki_text value;
     for (size_t i = 0; i < sizeof names / sizeof *names; i++)
         if (count_lines(request, literal(names[i]), NULL) > 0 && !covers(input, names[i]))

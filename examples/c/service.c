@@ -41,18 +41,18 @@ static void read_head(int client, char head[MOST_HEAD])
 }
 
 /* Listens on a free port of loopback, prints it, and answers clients one by one. The exit status is 2 without a port or list, 1 if it ends later. */
-int main(int count, char **given)
+int main(int argc, char **argv)
 {
     static char list[MOST_LIST + 1], head[MOST_HEAD];
     struct sockaddr_in address = {.sin_family = AF_INET, .sin_addr = {htonl(INADDR_LOOPBACK)}};
     socklen_t size = sizeof address;
     const int listener = socket(AF_INET, SOCK_STREAM, 0);
-    FILE *file = count == 3 ? fopen(given[1], "rb") : NULL;
+    FILE *file = argc == 3 ? fopen(argv[1], "rb") : NULL;
     spki_guard *guard;
     if (!file || spki_guard_open(list, fread(list, 1, sizeof list, file), SPKI_STRICT, NULL, &guard, NULL, 0, NULL) != SPKI_DONE
         || bind(listener, (struct sockaddr *)&address, size) || listen(listener, 16) || getsockname(listener, (struct sockaddr *)&address, &size))
         return 2;
-    const struct spki_text name = {given[2], strlen(given[2])};
+    const struct spki_text name = {argv[2], strlen(argv[2])};
     const struct http_service service = {&name, 1, time(NULL), http_nonces_take, http_nonces_open(MOST_NONCES)};
     signal(SIGPIPE, SIG_IGN);
     dprintf(STDOUT_FILENO, "%d\n", ntohs(address.sin_port));

@@ -131,8 +131,8 @@ static inline void verify_reverse(struct spki_text half, unsigned char reversed[
         reversed[i] = octets[VERIFY_HALF - 1 - i];
 }
 
-/* Whether q can be a key of Ed25519, and r and s a signature. By a point of small order many signatures count, and some points have a second text:
- * neither may be a key. So y is at least 2^192, below p - 1, and none of the two y of order 8. The number s is below the order of the group. */
+/* Whether q can be a key of Ed25519, and r and s a signature. For a point of small order anyone can make signatures, and some points have a second
+ * text: neither may be a key. So y is at least 2^192, below p - 1, and none of the two y of order 8. The number s is below the order of the group. */
 static inline bool verify_is_ed25519(struct spki_text q, struct spki_text r, struct spki_text s)
 {
     static const char last_y[] = "\x7f\xff\xff\xff\xff\xff\xff\xff\xff\xff\xff\xff\xff\xff\xff\xff\xff\xff\xff\xff\xff\xff\xff\xff\xff\xff\xff\xff"

@@ -38,7 +38,7 @@ def entry(principal, *fields, names=()):
     subject = b"(4:name%s%s)" % (principal, b"".join(map(string, names))) if names else principal
     text = b"(5:entry%s%s)" % (subject, b"".join(map(spki.canonical, fields)))
     # (raises `Refused` if the text is no entry)
-    list_of([text]).close()
+    guard_of([text]).close()
     return text
 
 
@@ -46,7 +46,7 @@ def entry(principal, *fields, names=()):
 LIMITS = spki.Limits(nodes=10_000)
 
 
-def list_of(texts, policy=spki.Policy.STRICT, limits=LIMITS):
+def guard_of(texts, policy=spki.Policy.STRICT, limits=LIMITS):
     """A guard of the access list of these entries, texts in canonical form. Raises `spki.Refused` if one of them is no entry."""
     return spki.Guard(b"(3:acl%s)" % b"".join(texts), policy, limits)
 
@@ -57,7 +57,7 @@ class Service:
 
     def __init__(self, store, policy=spki.Policy.STRICT, limits=LIMITS):
         self.store, self.policy, self.limits = store, policy, limits
-        self.no_entries = list_of([], policy, limits)
+        self.no_entries = guard_of([], policy, limits)
 
     def decide(self, question, verify):
         """The number, in the store, of the first entry that grants the request. `None` if no entry does.
@@ -71,6 +71,6 @@ class Service:
         with self.no_entries.ask(question) as asked:
             first = next(iter(asked), None)
         rows = self.store.found(digests_of(first.key if first else spki.canonical(question.key.text)))
-        with list_of([text for _, text in rows], self.policy, self.limits) as guard:
+        with guard_of([text for _, text in rows], self.policy, self.limits) as guard:
             decision = guard.decide(question, verify)
         return rows[decision.entry - 1][0] if decision else None

@@ -280,7 +280,7 @@ def main():
     """Runs the whole example. Returns the exit status: 0 if all is as wanted, 1 if not, 2 if the program or the folder is not there."""
     if len(sys.argv) > 1:
         tools.SPKI = os.path.abspath(sys.argv[1])
-    missing = [tools.SPKI] * (shutil.which(tools.SPKI) is None)
+    missing = [] if shutil.which(tools.SPKI) else [tools.SPKI]
     missing += [folder for folder in sys.argv[2:3] if not os.path.isdir(folder)]
     if missing:
         print(f"{missing[0]} is not there", file=sys.stderr)

@@ -118,7 +118,7 @@ def outcome(decide, asked):
 def decider_by_whole_list(store, policy):
     """Returns a function that decides a question by a guard of all rows of the store: the number of the row that grants, or None."""
     rows = list(store.all())
-    guard = entries.list_of([row.text for row in rows], policy, entries.LIMITS)
+    guard = entries.guard_of([row.text for row in rows], policy, entries.LIMITS)
 
     def decide(asked):
         decision = guard.decide(asked, is_right)

@@ -1,7 +1,7 @@
 // The answer to a question or a whole case: verdict, places, reasons, rights, signatures and picture.
 import { picture, stepsInWords } from "./chain.js";
 import { byId, htmlElement, setText } from "./dom.js";
-import { renew } from "./state.js";
+import { markAsNew } from "./state.js";
 
 const KINDS = { yes: "Yes", no: "No", refused: "Refused" };
 const CARDS = ["picture-card", "reasons-card", "rights-card", "text-card"];
@@ -36,7 +36,7 @@ export class Answer {
 
   /** Shows an answer to a question or a case, as `asking.py` makes it. Parts of it may be missing. */
   show(answer) {
-    renew("question");
+    markAsNew("question");
     if (!answer.kind) {
       this.showNone(answer.notice ?? "The server sent none.");
       return;
@@ -46,7 +46,7 @@ export class Answer {
     const first = answer.reasons?.[0];
     this.showFaults(answer);
     const line = answer.kind === "no" && first ? `no, ${lineOf(first)}` : answer.shown ?? answer.line;
-    this.verdict(answer.kind, KINDS[answer.kind], title, line, first ? EXPLAINED + first.line : answer.line);
+    this.showVerdict(answer.kind, KINDS[answer.kind], title, line, first ? EXPLAINED + first.line : answer.line);
     this.showReasons(answer, title);
     this.showRights(answer);
     this.showSignatures(answer);
@@ -58,7 +58,7 @@ export class Answer {
   /** Shows that there is no answer, and why. Nothing of an earlier one is left. */
   showNone(why) {
     showNotice("notice", "");
-    this.verdict("none", "No answer", why, "");
+    this.showVerdict("none", "No answer", why, "");
     this.showFaults({});
     byId("signatures").classList.add("old");
     CARDS.forEach((id) => byId(id).hidden = true);
@@ -75,7 +75,7 @@ export class Answer {
 
   /** Shows the decision: its kind, which styles it, and that as a word, its title as `text`, and its line. `exact` is the tooltip of the line, and
     * has the line of `spki`, since the shown one may have other numbers. */
-  verdict(kind, word, text, line, exact = "") {
+  showVerdict(kind, word, text, line, exact = "") {
     byId("verdict").dataset.kind = kind;
     byId("line").title = exact;
     setText(byId("kind"), word);
@@ -112,11 +112,16 @@ export class Answer {
   showReasons(answer, title) {
     const refusal = { says: title, hint: "A refusal decides nothing. A service treats it as a no.", word: answer.shown ?? answer.line };
     const reasons = answer.kind === "refused" ? [refusal] : answer.reasons ?? [];
+    const more = answer.more ? htmlElement("li", {}, answer.more === 1 ? "and 1 more entry" : `and ${answer.more} more entries`) : "";
     byId("reasons-card").hidden = !reasons.length;
-    byId("reasons").replaceChildren(...reasons.map((reason, place) => htmlElement("li", { class: place ? "" : "first", "data-kind": answer.kind },
-      htmlElement("p", {}, reason.says), reason.hint && !place ? htmlElement("p", { class: "hint" }, reason.hint) : "",
-      htmlElement("code", { title: reason.line ? EXPLAINED + reason.line : answer.line }, lineOf(reason)))),
-    answer.more ? htmlElement("li", {}, answer.more === 1 ? "and 1 more entry" : `and ${answer.more} more entries`) : "");
+    byId("reasons").replaceChildren(...reasons.map((reason, place) => this.reasonItem(answer, reason, place === 0)), more);
+  }
+
+  /** The element of HTML for a reason of an answer: the reason in words, what to do if it is the first, and its line. */
+  reasonItem(answer, reason, isFirst) {
+    const hint = isFirst && reason.hint ? htmlElement("p", { class: "hint" }, reason.hint) : "";
+    const line = htmlElement("code", { title: reason.line ? EXPLAINED + reason.line : answer.line }, lineOf(reason));
+    return htmlElement("li", { class: isFirst ? "first" : "", "data-kind": answer.kind }, htmlElement("p", {}, reason.says), hint, line);
   }
 
   /** Lists the rights that remain of the entries, each with who holds it. Hides the list if the answer has none of them yet. */
@@ -129,7 +134,8 @@ export class Answer {
     rights.some((right) => !right.before) ? "" : htmlElement("li", {}, "Nothing remains at the end."));
   }
 
-  /** Lists the signatures with their ticks, unless they are shown already. A tick that has the focus keeps it. */
+  /** Lists the signatures with their ticks, unless they are shown already, and dims the list if the answer has none yet. A tick that has the focus
+    * keeps it. */
   showSignatures(answer) {
     const key = JSON.stringify([answer.signatures, this.refused]);
     byId("signatures").classList.toggle("old", !answer.signatures);

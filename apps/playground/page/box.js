@@ -51,16 +51,16 @@ export class Box {
     if (!place) {
       return htmlElement("li", {}, "This is refused.", line);
     }
-    return htmlElement("li", {}, this.goTo(place), `: ${place.why}`, line);
+    return htmlElement("li", {}, this.placeButton(place), `: ${place.why}`, line);
   }
 
   /** The element of HTML for a further place of a refusal. */
   further(place) {
-    return htmlElement("li", { class: "further" }, this.goTo(place), `: ${place.why}`);
+    return htmlElement("li", { class: "further" }, this.placeButton(place), `: ${place.why}`);
   }
 
-  /** A button that selects a place. */
-  goTo(place) {
+  /** A button that selects a place in the text. */
+  placeButton(place) {
     const button = htmlElement("button", { type: "button" }, `Line ${place.line}, column ${place.column}`);
     button.addEventListener("click", () => {
       this.text.focus();

@@ -1,11 +1,11 @@
 // The answers about tags and forms.
 import { showNotice } from "./answer.js";
 import { byId, htmlElement, setText } from "./dom.js";
-import { renew } from "./state.js";
+import { markAsNew } from "./state.js";
 
 /** Shows the answer about two tags and a request, as `tags` of `asking.py` makes it. `boxes` are all boxes of the page by their names. */
 export function showTags(boxes, answer) {
-  renew("tags");
+  markAsNew("tags");
   showNotice("tags-notice", answer.notice);
   boxes.first.showFault(answer.first?.line ? answer.first : null);
   boxes.second.showFault(answer.second?.line ? answer.second : null);
@@ -24,7 +24,7 @@ export function showTags(boxes, answer) {
 
 /** Shows the three forms of a value, or its refusal, as `forms` of `asking.py` answers. `boxes` are all boxes of the page by their names. */
 export function showForms(boxes, answer) {
-  renew("forms");
+  markAsNew("forms");
   showNotice("forms-notice", answer.notice);
   boxes.value.showFault(answer.line ? answer : null);
   for (const name of ["canonical", "advanced", "transport"]) {

@@ -5,7 +5,7 @@ import { Box } from "./box.js";
 import { byId, htmlElement, setText } from "./dom.js";
 import { stateInFragment, linkTo } from "./link.js";
 import { showForms, showTags } from "./others.js";
-import { outdate } from "./state.js";
+import { markAllAsOld } from "./state.js";
 import { Times, inputValueOf } from "./times.js";
 
 const PANELS = ["question", "case", "tags", "forms"];
@@ -65,7 +65,7 @@ const askers = {
 /** Something that is asked was changed: what is shown is out of date, and the chosen panel asks again. */
 function changed() {
   changes += 1;
-  outdate(() => answer.wait());
+  markAllAsOld(() => answer.wait());
   askers[chosen]();
 }
 

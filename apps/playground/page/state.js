@@ -12,7 +12,7 @@ const elements = (name) => document.querySelectorAll(PARTS[name]);
 
 /** Marks all parts as those of an earlier text, which dims them. After WAITING milliseconds those that are still marked are hidden, and `whenSlow`
  * is called if the verdict is one of them. */
-export function outdate(whenSlow) {
+export function markAllAsOld(whenSlow) {
   clearTimeout(waitTimer);
   for (const name of Object.keys(PARTS)) {
     elements(name).forEach((element) => element.classList.add("old"));
@@ -26,6 +26,6 @@ export function outdate(whenSlow) {
 }
 
 /** Marks a part, by its name in PARTS, as the answer to what is typed, so that it is neither dimmed nor hidden. */
-export function renew(name) {
+export function markAsNew(name) {
   elements(name).forEach((element) => element.classList.remove("old", "blank"));
 }

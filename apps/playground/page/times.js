@@ -1,6 +1,6 @@
 // The scale of time: when the answer is yes, and a slider for the moment.
 import { byId, htmlElement, setText } from "./dom.js";
-import { renew } from "./state.js";
+import { markAsNew } from "./state.js";
 
 // The seconds of a day, and the steps of the slider.
 const DAY = 86400, STEPS = 1000;
@@ -8,7 +8,7 @@ const DAY = 86400, STEPS = 1000;
 const FIRST = Date.UTC(1000, 0, 1) / 1000, LAST = Date.UTC(9999, 11, 31, 23, 59, 59) / 1000;
 
 /** The seconds from 1970 to a moment in UTC: `YYYY-MM-DD HH:MM:SS`, also with `T` for the space or without seconds. A date that the calendar does not
-  * have is a near one, and another text is NaN. */
+  * have counts as a later one, as February 30 as March 1 or 2. Another text is NaN. */
 function secondsOf(moment) {
   const [, ...parts] = /^(\d+)-(\d+)-(\d+).(\d+):(\d+)(?::(\d+))?/.exec(moment) ?? [];
   // (by setters, since `Date.UTC` takes the years 0 to 99 as 1900 to 1999)
@@ -41,7 +41,7 @@ export class Times {
 
   /** Shows when the answer is yes, by an answer as `times` of `asking.py` makes it. Hides the scale if that has no spans. */
   show(answer) {
-    renew("times");
+    markAsNew("times");
     byId("slider").closest(".times").hidden = !answer.spans;
     this.spans = answer.spans ?? [];
     this.limits = (answer.limits ?? []).map(secondsOf);

@@ -22,7 +22,7 @@ type sharedAsked struct {
 	mutex  sync.Mutex
 	handle askedHandle
 	// What Verified returns: the sequence, the policy by which its signatures are listed, and how many of them Mark has marked in order: the first,
-	// then the second, and so on. Other marks count for Decide alone.
+	// then the second, and so on. Other marks count for the answers of this question alone.
 	sequence      []byte
 	policy        Policy
 	markedInOrder int
@@ -73,8 +73,8 @@ func (a *Asked) Count() int {
 }
 
 // Each calls a function with the place, from 0, of each signature that the decision depends on, and with the signature, in order, until it returns
-// false: then the error is nil. A signature is copied when it is its turn, and one whose key is that of the signature before has the same octets for
-// it: do not change them. The error is ErrClosed if the question is closed, also meanwhile and also if it has no signature, or ErrMemory.
+// false: then the error is nil. Each signature is copied just before its call. Neighbours with equal keys share the octets of the key: do not change
+// them. The error is ErrMemory, or ErrClosed if the question is closed before or meanwhile, also if it has no signature.
 func (a *Asked) Each(use func(place int, signed Signature) bool) error {
 	var previous Signature
 	for place := 0; place < a.count; place++ {
@@ -132,7 +132,7 @@ func (a *Asked) Mark(place int) error {
 	return nil
 }
 
-// Verify calls a function with each signature, in order, up to the first that is not valid, and marks those that are. To explain a denial, call it
+// Verify calls a function with each signature, in order, up to the first that is not valid, and marks those before it. To explain a denial, call it
 // also where Possible is false. The error is that of Each.
 func (a *Asked) Verify(verify Verify) error {
 	return a.VerifyContext(context.Background(), func(_ context.Context, signature Signature) (bool, error) {
@@ -144,16 +144,19 @@ func (a *Asked) Verify(verify Verify) error {
 // last call. The error is that of the function, of the context or of Each, and then nothing is marked, or ErrClosed if the question is closed while
 // the marks are set.
 func (a *Asked) VerifyContext(ctx context.Context, verify VerifyContext) error {
-	valid, failure := 0, ctx.Err()
-	if failure != nil {
-		return failure
+	if err := ctx.Err(); err != nil {
+		return err
 	}
+	// The number of signatures before the first that is not valid, and the error of `verify` or of the context.
+	var valid int
+	var failure error
 	err := a.Each(func(_ int, signed Signature) bool {
 		isValid, err := verify(ctx, signed)
 		if err == nil {
 			err = ctx.Err()
 		}
-		if failure = err; err != nil || !isValid {
+		failure = err
+		if err != nil || !isValid {
 			return false
 		}
 		valid++

@@ -53,9 +53,9 @@ func (d Decision) String() string {
 // decisionOf returns the grant of a line `yes entry N`, until a second since 1970: math.MaxInt64 if no window ends. It returns an error for each
 // other line.
 func decisionOf(line string, until int64) (Decision, error) {
-	const before = "yes entry "
-	entry, err := strconv.Atoi(strings.TrimPrefix(withoutLineFeed(line), before))
-	if !strings.HasPrefix(line, before) || err != nil || entry < 1 {
+	const prefix = "yes entry "
+	entry, err := strconv.Atoi(strings.TrimPrefix(withoutLineFeed(line), prefix))
+	if !strings.HasPrefix(line, prefix) || err != nil || entry < 1 {
 		return Decision{}, fmt.Errorf("libspki_c is of another version than this module: %q", line)
 	}
 	return Decision{entry, until}, nil

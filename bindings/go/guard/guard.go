@@ -146,7 +146,7 @@ func (g *Guard) Ask(question Question) (*Asked, error) {
 	return &asked, nil
 }
 
-// ask is Ask without the finalizer, for a caller that closes the question in any case. It keeps copies alone of what `question` has.
+// ask is Ask without the finalizer, for a caller that closes the question in any case. It copies all that it keeps of `question`.
 func (g *Guard) ask(question *Question) (Asked, error) {
 	handle, err := g.lock()
 	if err != nil {
@@ -167,7 +167,7 @@ func (g *Guard) Decide(question Question, verify Verify) (Decision, error) {
 	return g.decideAndLog(question, func() (Decision, error) { return g.decide(&question, verify) })
 }
 
-// decideAndLog returns what the function `decide` returns. If the guard is Logged, it passes that to the function of the log before.
+// decideAndLog returns what the function `decide` returns. If the guard is Logged, the function of the log gets that first, as an Event.
 func (g *Guard) decideAndLog(question Question, decide func() (Decision, error)) (Decision, error) {
 	if g.log == nil {
 		return decide()

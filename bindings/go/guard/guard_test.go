@@ -19,26 +19,26 @@ import (
 	"conguraki/spki/guard"
 )
 
-// What the tests ask: by `list` key a may do everything, and by the certificate `pair` a lets b do it. Keys and signatures are
+// What the tests ask: by `list` key a may do everything, and by the certificate `forB` a lets b do it. Keys and signatures are
 // words, such as a and `sig`: the verifier of each test says which signatures are valid.
 const (
 	list = "(acl (entry (public-key (test a)) (propagate) (tag (*))))"
-	pair = `(cert (issuer (public-key (test a))) (subject (public-key (test b))) (tag (*)))
+	forB = `(cert (issuer (public-key (test a))) (subject (public-key (test b))) (tag (*)))
 		(signature (hash sha256 #d71ecfb335b8e4b04cb035426566a94e817a12cfcfa4dbf5b704b6cd670c7ad2#) (public-key (test a)) sig)`
 )
 
-// The key, the message and the value of the signature of `pair`, as a verifier gets them.
-var signed = []string{
+// The key, the message and the value of the signature of `forB`, as a verifier gets them.
+var signatureForB = []string{
 	"(10:public-key(4:test1:a))",
 	"(4:cert(6:issuer(10:public-key(4:test1:a)))(7:subject(10:public-key(4:test1:b)))(3:tag(1:*)))",
 	"3:sig",
 }
 
-// questionWith returns a question by b, who shows the certificate `pair` so many times. Under `list` it can be granted for 1 alone: behind the first
+// questionWith returns a question by b, who shows the certificate `forB` so many times. Under `list` it can be granted for 1 alone: behind the first
 // the subject is b, and the next issuer is a.
 func questionWith(times int) guard.Question {
 	return guard.Question{
-		Sequence: []byte("(sequence " + strings.Repeat(pair, times) + ")"), Key: spki.AssumeKey([]byte("(public-key (test b))")),
+		Sequence: []byte("(sequence " + strings.Repeat(forB, times) + ")"), Key: spki.AssumeKey([]byte("(public-key (test b))")),
 		Words: []string{"ftp", "host"}, Time: time.Date(2024, 1, 1, 0, 0, 0, 0, time.UTC),
 	}
 }
@@ -54,12 +54,12 @@ func openGuard(t testing.TB, list string) *guard.Guard {
 	return opened
 }
 
-// By own, a lets itself do everything: such a certificate may stand in front of another one, also twice. By forged, c has a certificate in the
-// name of a, whose signature is not valid.
+// By `forA`, a lets itself do everything: such a certificate may stand in front of another one, also twice. By `forgedForC`, c has a certificate in
+// the name of a, whose signature is not valid.
 const (
-	own = `(cert (issuer (public-key (test a))) (subject (public-key (test a))) (propagate) (tag (*)))
+	forA = `(cert (issuer (public-key (test a))) (subject (public-key (test a))) (propagate) (tag (*)))
 		(signature (hash sha256 #b26a73c3cdcb26bbb71fa21531b5b6a1745fc316ddfcf53862a174f5dccebfb6#) (public-key (test a)) sig)`
-	forged = `(cert (issuer (public-key (test a))) (subject (public-key (test c))) (tag (*)))
+	forgedForC = `(cert (issuer (public-key (test a))) (subject (public-key (test c))) (tag (*)))
 		(signature (hash sha256 #b0c7e53153c3b09dad60263b3b4738aa1ae756cc4642305bcf4fdc4114ff0d5d#) (public-key (test a)) forged)`
 )
 
@@ -95,12 +95,12 @@ func valid(guard.Signature) bool { return true }
 // invalid is a verifier for which no signature is valid.
 func invalid(guard.Signature) bool { return false }
 
-// TestVerifierIsGivenWhatIsSigned decides by a verifier that accepts the signature of `pair` alone, and by one that accepts none.
+// TestVerifierIsGivenWhatIsSigned decides by a verifier that accepts the signature of `forB` alone, and by one that accepts none.
 func TestVerifierIsGivenWhatIsSigned(t *testing.T) {
 	calls := 0
 	decision, err := openGuard(t, list).Decide(questionWith(1), func(signature guard.Signature) bool {
 		calls++
-		return reflect.DeepEqual([]string{string(signature.Key), string(signature.Message), string(signature.Value)}, signed)
+		return reflect.DeepEqual([]string{string(signature.Key), string(signature.Message), string(signature.Value)}, signatureForB)
 	})
 	if err != nil || !decision.Granted() || decision.Entry() != 1 || calls != 1 || decision.String() != "yes entry 1" {
 		t.Errorf("%v, %v, %d calls", decision, err, calls)
@@ -114,11 +114,11 @@ func TestVerifierIsGivenWhatIsSigned(t *testing.T) {
 // TestZeroIsNoYes shows that the zero Decision is a no, and that the zero Policy is Strict, under which a hash by SHA-1 names no key.
 func TestZeroIsNoYes(t *testing.T) {
 	if (guard.Decision{}).Granted() {
-		t.Error("no decision grants")
+		t.Error("the zero Decision grants")
 	}
-	var usual guard.Policy
+	var zero guard.Policy
 	bySHA1 := fmt.Sprintf("(acl (entry (hash sha1 #%x#) (tag (*))))", sha1.Sum([]byte("(10:public-key(4:test1:b))")))
-	for policy, wanted := range map[guard.Policy]bool{usual: false, guard.Strict: false, guard.AllowSHA1: true} {
+	for policy, wanted := range map[guard.Policy]bool{zero: false, guard.Strict: false, guard.AllowSHA1: true} {
 		opened, err := guard.Open([]byte(bySHA1), policy, guard.Limits{})
 		if err != nil {
 			t.Fatal(err)
@@ -134,7 +134,7 @@ func TestZeroIsNoYes(t *testing.T) {
 // is item 3, since each signature is an item too.
 func TestVerifierStopsAtTheFirstWrongOne(t *testing.T) {
 	question, calls := questionWith(3), 0
-	question.Sequence = []byte("(sequence " + pair + strings.Replace(pair, "sig)", "wrong)", 1) + pair + ")")
+	question.Sequence = []byte("(sequence " + forB + strings.Replace(forB, "sig)", "wrong)", 1) + forB + ")")
 	explanation, err := openGuard(t, list).Explain(question, func(signature guard.Signature) bool {
 		calls++
 		return string(signature.Value) == "3:sig"
@@ -145,10 +145,11 @@ func TestVerifierStopsAtTheFirstWrongOne(t *testing.T) {
 	}
 }
 
-// TestMarks marks places that the question does not have, which is ErrMisused and marks nothing, and then its only place, 0, twice.
-func TestMarks(t *testing.T) {
+// TestMarkOfNoPlace marks places that the question does not have, which is ErrMisused and marks nothing, and then its only place, 0, twice. Some of
+// the former are 0 in their last octet.
+func TestMarkOfNoPlace(t *testing.T) {
 	asked := askMarked(t, openGuard(t, list), questionWith(1))
-	if listed := asked.Signatures(); len(listed) != 1 || string(listed[0].Message) != signed[1] || !asked.Possible() {
+	if listed := asked.Signatures(); len(listed) != 1 || string(listed[0].Message) != signatureForB[1] || !asked.Possible() {
 		t.Errorf("%q", listed)
 	}
 	for _, place := range []int{1, 2, 0x100, 0x101, -1, -256, math.MaxInt, math.MinInt} {
@@ -179,12 +180,12 @@ func verifiedOf(t *testing.T, opened *guard.Guard, question guard.Question, plac
 	return asked.Verified()
 }
 
-// TestVerifiedBefore decides by signatures that are known to be valid. A row has the places that are marked, how many marks count, and the entry that
+// TestDecideVerified decides by signatures that are known to be valid. A row has the places that are marked, how many marks count, and the entry that
 // grants the request, or 0. At the end, the function of a log changes the sequence that it gets, which is a copy.
-func TestVerifiedBefore(t *testing.T) {
+func TestDecideVerified(t *testing.T) {
 	opened, question := openGuard(t, list), questionWith(1)
 	withSequence := question
-	withSequence.Sequence = []byte("(sequence " + own + pair + ")")
+	withSequence.Sequence = []byte("(sequence " + forA + forB + ")")
 	question.Sequence = nil
 	for _, row := range []struct {
 		places []int
@@ -200,8 +201,8 @@ func TestVerifiedBefore(t *testing.T) {
 		if err != nil || !bytes.HasPrefix(canonical.Sequence(), []byte("(8:sequence")) {
 			t.Fatalf("%q, %v", canonical.Sequence(), err)
 		}
-		for _, each := range []guard.Verified{verified, canonical} {
-			if decision, err := opened.DecideVerified(question, each); err != nil || decision.Entry() != row.wanted {
+		for _, form := range []guard.Verified{verified, canonical} {
+			if decision, err := opened.DecideVerified(question, form); err != nil || decision.Entry() != row.wanted {
 				t.Errorf("%v: %v, %v", row, decision, err)
 			}
 		}
@@ -223,7 +224,7 @@ func TestVerifiedBefore(t *testing.T) {
 func TestVerifiedIsOfItsSequence(t *testing.T) {
 	opened, question := openGuard(t, list), questionWith(1)
 	withSequence, otherSequence := question, append([]byte(nil), question.Sequence...)
-	withSequence.Sequence = []byte("(sequence " + own + pair + ")")
+	withSequence.Sequence = []byte("(sequence " + forA + forB + ")")
 	verified := verifiedOf(t, opened, withSequence, 0, 1)
 	allowingSHA1, err := guard.Open([]byte(list), guard.AllowSHA1, guard.Limits{})
 	if err != nil {
@@ -255,7 +256,7 @@ func TestVerifiedIsOfItsSequence(t *testing.T) {
 // TestMarksAreOfOneQuestion asks for two clients at once. What is marked for b grants nothing to c, who shows a forged certificate.
 func TestMarksAreOfOneQuestion(t *testing.T) {
 	opened, question := openGuard(t, list), questionWith(0)
-	question.Sequence, question.Key = []byte("(sequence "+forged+")"), spki.AssumeKey([]byte("(public-key (test c))"))
+	question.Sequence, question.Key = []byte("(sequence "+forgedForC+")"), spki.AssumeKey([]byte("(public-key (test c))"))
 	good, bad, again := askMarked(t, opened, questionWith(1)), askMarked(t, opened, question), askMarked(t, opened, questionWith(1))
 	for _, asked := range []*guard.Asked{good, bad} {
 		err := asked.Verify(func(signature guard.Signature) bool { return string(signature.Value) == "3:sig" })
@@ -275,7 +276,7 @@ func TestMarksAreOfOneQuestion(t *testing.T) {
 // TestClientsInThreads asks for two clients in several goroutines. Each answer is by the marks of its own question.
 func TestClientsInThreads(t *testing.T) {
 	opened, forging := openGuard(t, list), questionWith(0)
-	forging.Sequence, forging.Key = []byte("(sequence "+forged+")"), spki.AssumeKey([]byte("(public-key (test c))"))
+	forging.Sequence, forging.Key = []byte("(sequence "+forgedForC+")"), spki.AssumeKey([]byte("(public-key (test c))"))
 	var all sync.WaitGroup
 	serve := func(question guard.Question, wanted bool) {
 		defer all.Done()
@@ -297,7 +298,7 @@ func TestClientsInThreads(t *testing.T) {
 // TestMarksAreOfOnePlace shows two equal certificates, of which both have to be marked.
 func TestMarksAreOfOnePlace(t *testing.T) {
 	question := questionWith(0)
-	question.Sequence, question.Key = []byte("(sequence "+own+own+")"), spki.AssumeKey([]byte("(public-key (test a))"))
+	question.Sequence, question.Key = []byte("(sequence "+forA+forA+")"), spki.AssumeKey([]byte("(public-key (test a))"))
 	for place := 0; place < 2; place++ {
 		asked := askMarked(t, openGuard(t, list), question, place)
 		if isGranted(t, asked) || asked.Count() != 2 {
@@ -313,7 +314,7 @@ func TestMarksAreOfOnePlace(t *testing.T) {
 // second alone grants nothing.
 func TestVerifierThatFailsMarksNothing(t *testing.T) {
 	question, fault := questionWith(0), errors.New("no such key")
-	question.Sequence, question.Key = []byte("(sequence "+own+own+")"), spki.AssumeKey([]byte("(public-key (test a))"))
+	question.Sequence, question.Key = []byte("(sequence "+forA+forA+")"), spki.AssumeKey([]byte("(public-key (test a))"))
 	asked, calls := askMarked(t, openGuard(t, list), question), 0
 	err := asked.VerifyContext(context.Background(), func(context.Context, guard.Signature) (bool, error) {
 		if calls++; calls == 2 {
@@ -349,8 +350,8 @@ func TestNothingIsVerifiedInVain(t *testing.T) {
 // TestSignaturesAreOfTheSequence asks with other keys, requests, times and lists. The signatures depend on the sequence alone: a Verified keeps
 // places of a sequence for other questions.
 func TestSignaturesAreOfTheSequence(t *testing.T) {
-	otherDigest := strings.Replace(pair, "#d7", "#d8", 1)
-	for _, text := range []string{pair, pair + pair, pair + otherDigest + pair, "(public-key (test c)) " + pair} {
+	otherDigest := strings.Replace(forB, "#d7", "#d8", 1)
+	for _, text := range []string{forB, forB + forB, forB + otherDigest + forB, "(public-key (test c)) " + forB} {
 		question := questionWith(0)
 		question.Sequence = []byte("(sequence " + text + ")")
 		var wanted []guard.Signature
@@ -407,8 +408,8 @@ func TestStringsAreStrings(t *testing.T) {
 	}
 }
 
-// TestTexts gives the request and the time as texts. The second request is `(ftp)` in transport form.
-func TestTexts(t *testing.T) {
+// TestRequestAndTimeAsTexts gives both as texts. The second request is `(ftp)` in transport form.
+func TestRequestAndTimeAsTexts(t *testing.T) {
 	opened := openGuard(t, "(acl (entry (public-key (test b)) (tag (ftp host))))")
 	for text, wanted := range map[string]bool{"(ftp host)": true, "{KDM6ZnRwKQ==}": false, "ftp": false} {
 		question := questionWith(0)
@@ -597,7 +598,7 @@ func TestAClockThatFailed(t *testing.T) {
 	}
 }
 
-// TestUntil keeps a grant. It holds till the least window ends, and no second longer.
+// TestUntil keeps a grant. It holds up to the not-after of the entry, and no second longer. A grant without a window holds from 1970 on, a no never.
 func TestUntil(t *testing.T) {
 	ending := openGuard(t, `(acl (entry (public-key (test a)) (propagate) (tag (*)) (not-after "2026-06-30_23:59:59")))`)
 	last, question := time.Date(2026, 6, 30, 23, 59, 59, 0, time.UTC), questionWith(1)
@@ -651,7 +652,7 @@ func TestVerifierThatFails(t *testing.T) {
 	}
 	ends, end := context.WithCancel(context.Background())
 	question, calls := questionWith(0), 0
-	question.Sequence = []byte("(sequence " + own + own + pair + ")")
+	question.Sequence = []byte("(sequence " + forA + forA + forB + ")")
 	decision, err := opened.DecideContext(ends, question, func(context.Context, guard.Signature) (bool, error) {
 		calls++
 		end()
@@ -662,8 +663,8 @@ func TestVerifierThatFails(t *testing.T) {
 	}
 }
 
-// byLongKey returns a question with `times` certificates by one key of `octets` octets, which their issuers and signatures name by its hash.
-func byLongKey(t testing.TB, times, octets int) guard.Question {
+// questionByLongKey returns a question with `times` certificates by one key of `octets` octets, which their issuers and signatures name by its hash.
+func questionByLongKey(t testing.TB, times, octets int) guard.Question {
 	t.Helper()
 	key := fmt.Sprintf("(10:public-key(4:test%d:%s))", octets, strings.Repeat("x", octets))
 	hash := fmt.Sprintf("(hash sha256 #%x#)", sha256.Sum256([]byte(key)))
@@ -686,7 +687,7 @@ func TestSignaturesAreCopiedOneByOne(t *testing.T) {
 	}
 	defer opened.Close()
 	const times, octets = 200, 100_000
-	question := byLongKey(t, times, octets)
+	question := questionByLongKey(t, times, octets)
 	calls := 0
 	for name, decide := range map[string]func() error{
 		"all valid": func() error {
@@ -783,8 +784,8 @@ func TestPanicOfVerifier(t *testing.T) {
 	}
 }
 
-// TestForms converts texts among the three forms of RFC 9804, and what is in none of them is refused. For `tooLong` no room is taken by its length:
-// its 16 MiB are copied once from the string, and the longest answer to a text within the limit has 3 MiB.
+// TestForms converts texts among the three forms of RFC 9804, and what is in none of them is refused. The buffer of an answer does not grow with a
+// text that is too long: the 16 MiB of `tooLong` are copied once from the string, and the longest answer to a text within the limit has 3 MiB.
 func TestForms(t *testing.T) {
 	tooLong := strings.Repeat(" ", 16<<20)
 	canonical, err := guard.Canonical([]byte("(a b)"))

@@ -91,8 +91,7 @@ func errorOf(status C.enum_spki_status, line string) error {
 	return fmt.Errorf("libspki_c is of another version than this module: status %d", uint(status))
 }
 
-// open reads an access list. The caller closes the guard. A library of another version is an error too. The caller has tested by Limits.check that no
-// limit is below zero.
+// open reads an access list. The caller closes the guard, and has tested by Limits.check that no limit is below zero. The errors are those of Open.
 func open(list []byte, policy Policy, limits Limits) (guardHandle, error) {
 	if linked := C.GoString(C.spki_version()); !isCompatible(linked) {
 		return nil, fmt.Errorf("libspki_c has the version %s, and this module needs %s", linked, Version)
@@ -160,15 +159,15 @@ func signature(asked askedHandle, place int, key []byte) (Signature, error) {
 	if status := C.spki_asked_signature(asked, C.size_t(place), &signed); status != C.SPKI_DONE {
 		return Signature{}, errorOf(status, "")
 	}
-	if own := octetsOf(signed.key); !bytes.Equal(own, key) {
-		key = append([]byte(nil), own...)
+	if signer := octetsOf(signed.key); !bytes.Equal(signer, key) {
+		key = append([]byte(nil), signer...)
 	}
-	// (one allocation for both. The capacity of Message is its length, so that an append to it does not change Value)
+	// (one allocation for message and value. The capacity of Message is its length, so that an append to it does not change Value)
 	message, value := octetsOf(signed.message), octetsOf(signed.value)
-	both, length := make([]byte, len(message)+len(value)), len(message)
-	copy(both, message)
-	copy(both[length:], value)
-	return Signature{Key: key, Message: both[:length:length], Value: both[length:]}, nil
+	copied, end := make([]byte, len(message)+len(value)), len(message)
+	copy(copied, message)
+	copy(copied[end:], value)
+	return Signature{Key: key, Message: copied[:end:end], Value: copied[end:]}, nil
 }
 
 // mark says that the signature at a place, from 0, is valid. The error is ErrMisused if there is no such place.
@@ -184,7 +183,7 @@ func possible(asked askedHandle) bool {
 	return bool(C.spki_asked_possible(asked))
 }
 
-// decide returns the decision by the marks of a question.
+// decide returns the decision by the marks of a question. The error says that an allocation failed.
 func decide(asked askedHandle) (Decision, error) {
 	result := C.library_decide(asked)
 	return decisionIn(&result)
@@ -209,8 +208,8 @@ func decisionIn(result *C.struct_library_result) (Decision, error) {
 	return Decision{}, errorOf(result.status, lineIn(result))
 }
 
-// lines returns the lines of a command without the last line feed. They have at most `most` octets, the guard's limit of an answer, or roomForLine if
-// that is more: a refusal must fit. The error is ErrTooLarge or ErrMemory.
+// lines returns the lines of a command without the last line feed. They have at most `most` octets, the guard's limit of an answer. The buffer has at
+// least roomForLine octets, so that a refusal fits. The error is ErrTooLarge or ErrMemory.
 func lines(asked askedHandle, command command, most int) (string, error) {
 	if most < roomForLine {
 		most = roomForLine
@@ -241,6 +240,7 @@ func convert(command command, source []byte) ([]byte, error) {
 	argument := text(source)
 	status := C.spki_answer(command, argument.octets, argument.length, unsafe.Pointer(&buffer[0]), C.size_t(len(buffer)), &length).status
 	if status == C.SPKI_TOO_SMALL {
+		// (`length` is then that of the answer, and the buffer has fewer octets)
 		return nil, errorOf(status, "")
 	}
 	if status != C.SPKI_DONE {

@@ -28,14 +28,12 @@ struct library_question {
     int64_t seconds;
 };
 
-/* Opens a guard. Limits that are all 0 are the usual ones. `line` is that of a refusal, if there is one. */
+/* Opens a guard. A limit of 0 is the usual one. `line` is that of a refusal, if there is one. */
 static inline struct library_result library_open(struct spki_text list, enum spki_policy policy, struct spki_limits limits)
 {
     struct library_result result = {0};
-    bool is_set = limits.octets || limits.certificates || limits.words || limits.nodes || limits.work || limits.answer;
     limits.size = sizeof limits;
-    result.status =
-        spki_guard_open(list.octets, list.length, policy, is_set ? &limits : NULL, &result.guard, result.line, sizeof result.line, &result.length);
+    result.status = spki_guard_open(list.octets, list.length, policy, &limits, &result.guard, result.line, sizeof result.line, &result.length);
     return result;
 }
 

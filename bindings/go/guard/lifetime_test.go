@@ -45,7 +45,7 @@ func TestCloseOfNoSignatures(t *testing.T) {
 	expectUnlisted(t, asked)
 }
 
-// expectUnlisted calls what lists the signatures of a question that is closed. Each call must be ErrClosed, and pass on no signature.
+// expectUnlisted calls what lists the signatures of a closed question. No call may list one, and Each and Verify must return ErrClosed.
 func expectUnlisted(t *testing.T, asked *guard.Asked) {
 	t.Helper()
 	never := func(guard.Signature) bool { t.Error("a signature is passed on"); return true }
@@ -63,7 +63,7 @@ func expectUnlisted(t *testing.T, asked *guard.Asked) {
 // TestCopies copies a guard and a question by value and drops the originals. The collector must free nothing while a copy is left: it runs twice
 // in each of 20 turns, since finalizers run later. Closing one copy closes all of them, and each may be closed again.
 func TestCopies(t *testing.T) {
-	copies := func() (guard.Guard, guard.Asked) {
+	openCopies := func() (guard.Guard, guard.Asked) {
 		opened, err := guard.Open([]byte(list), guard.Strict, guard.Limits{})
 		if err != nil {
 			t.Fatal(err)
@@ -78,7 +78,7 @@ func TestCopies(t *testing.T) {
 		return *opened, *asked
 	}
 	for turn := 0; turn < 20; turn++ {
-		opened, asked := copies()
+		opened, asked := openCopies()
 		runtime.GC()
 		runtime.GC()
 		if decision, err := opened.Decide(questionWith(1), valid); err != nil || !decision.Granted() {
@@ -87,17 +87,17 @@ func TestCopies(t *testing.T) {
 		if !isGranted(t, &asked) {
 			t.Fatal("a mark is lost")
 		}
-		other, same := opened, asked
-		other.Close()
-		same.Close()
+		sameGuard, sameAsked := opened, asked
+		sameGuard.Close()
+		sameAsked.Close()
 		if _, err := opened.Ask(questionWith(1)); !errors.Is(err, guard.ErrClosed) {
 			t.Error(err)
 		}
 		if decision, err := asked.Decide(); !errors.Is(err, guard.ErrClosed) || decision.Granted() {
 			t.Errorf("%v, %v", decision, err)
 		}
-		other.Close()
-		same.Close()
+		sameGuard.Close()
+		sameAsked.Close()
 	}
 }
 

@@ -1,6 +1,9 @@
 package guard
 
-import "fmt"
+import (
+	"fmt"
+	"math"
+)
 
 // A Policy says which hashes name keys. The zero value is Strict.
 type Policy int
@@ -32,8 +35,7 @@ type Limits struct {
 
 // Highest returns the highest limits. They are not for questions of strangers: on some questions within them an explanation takes seconds.
 func Highest() Limits {
-	const most = int(^uint(0) >> 1)
-	return Limits{Octets: mostOctets, Certificates: most, Words: most, Nodes: mostNodes, Work: mostWork, Answer: mostAnswer}
+	return Limits{Octets: mostOctets, Certificates: math.MaxInt, Words: math.MaxInt, Nodes: mostNodes, Work: mostWork, Answer: mostAnswer}
 }
 
 // answerOctets returns the most octets of the lines of Explain or Reduce: Answer, or the library's own limit if that is 0.
@@ -44,7 +46,7 @@ func (l Limits) answerOctets() int {
 	return l.Answer
 }
 
-// check returns ErrMisused if a limit is below zero, or if Answer is over the highest. Whether another limit is too high the library tests.
+// check returns an ErrMisused if a limit is below zero, or if Answer is over the highest. The library tests whether another limit is too high.
 func (l Limits) check() error {
 	for _, limit := range []int{l.Octets, l.Certificates, l.Words, l.Nodes, l.Work, l.Answer} {
 		if limit < 0 {

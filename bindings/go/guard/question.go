@@ -19,7 +19,7 @@ type Question struct {
 	Moment []byte
 }
 
-// joined returns the key, the request, the moment and the strings of the request in one piece, and the length of each, which has the size of C's
+// joined returns the key, the request, the moment and the strings of the request in one piece, and the length of each: a uintptr has the size of C's
 // size_t. It is for library.go: C must not be given memory of Go's that has pointers, as a list of strings does.
 func (q *Question) joined() ([]byte, []uintptr) {
 	key := q.Key.Text()

@@ -8,8 +8,8 @@ import (
 	"strings"
 )
 
-// A digest is that of a body, as `Content-Digest` gives it. The algorithm is `sha-256` or `sha-512`. The zero value, without octets, is that of a
-// request that covers no digest.
+// A digest is the hash of a body, as `Content-Digest` gives it. The algorithm is `sha-256` or `sha-512`. The zero value, without octets, means that the
+// signature covers no digest.
 type digest struct {
 	algorithm string
 	octets    []byte
@@ -28,7 +28,7 @@ func digestOf(value string) (digest, error) {
 	return digest{name, octets}, nil
 }
 
-// matches says whether a digest is that of a body.
+// matches says whether a digest is that of a body. The zero value is the digest of no body.
 func (d digest) matches(body []byte) bool {
 	if d.algorithm == "sha-512" {
 		hash := sha512.Sum512(body)

@@ -30,7 +30,7 @@ import (
 )
 
 // A row is one of the table that all languages read: tests/generators/signed_requests.py says what its lines are. `gives` is the answer: `valid` or
-// the name of a refusal. With isAgain the same message came `again` seconds before, too.
+// the name of a refusal. With isAgain the same message was sent `again` seconds earlier, too.
 type row struct {
 	name, gives string
 	message     Message
@@ -127,8 +127,8 @@ func TestRows(t *testing.T) {
 	}
 }
 
-// octets decodes base64, and ends the test if that fails.
-func octets(t testing.TB, text string) []byte {
+// mustDecode decodes base64, and ends the test if that fails.
+func mustDecode(t testing.TB, text string) []byte {
 	decoded, err := base64.StdEncoding.DecodeString(text)
 	if err != nil {
 		t.Fatal(err)
@@ -158,7 +158,7 @@ func TestPublishedExamples(t *testing.T) {
 	if err != nil {
 		t.Fatal(err)
 	}
-	private, err := x509.ParsePKCS8PrivateKey(octets(t, privateRFC))
+	private, err := x509.ParsePKCS8PrivateKey(mustDecode(t, privateRFC))
 	if err != nil {
 		t.Fatal(err)
 	}
@@ -170,15 +170,15 @@ func TestPublishedExamples(t *testing.T) {
 	if err != nil || base64.StdEncoding.EncodeToString(signature) != signatureRFC {
 		t.Errorf("%v, %x", err, signature)
 	}
-	if !verify.Signature(spki.Signature{Key: signer.key, Message: text, Value: valueOf(Ed25519, octets(t, signatureRFC))}) {
+	if !verify.Signature(spki.Signature{Key: signer.key, Message: text, Value: valueOf(Ed25519, mustDecode(t, signatureRFC))}) {
 		t.Error("Ed25519")
 	}
-	public, err := x509.ParsePKIXPublicKey(octets(t, curveRFC))
+	public, err := x509.ParsePKIXPublicKey(mustDecode(t, curveRFC))
 	if err != nil {
 		t.Fatal(err)
 	}
 	key, err := verify.KeyOf(public)
-	if err != nil || !verify.Signature(spki.Signature{Key: key, Message: []byte(responseRFC), Value: valueOf(P256, octets(t, curveSignatureRFC))}) {
+	if err != nil || !verify.Signature(spki.Signature{Key: key, Message: []byte(responseRFC), Value: valueOf(P256, mustDecode(t, curveSignatureRFC))}) {
 		t.Error("ECDSA")
 	}
 	digest, err := digestOf("sha-512=:WZDPaVn/7XgHaAy8pmojAkGWoRx2UFChF41A2svX+TaPm+AbwAgBWnrIiYllu7BNNyealdVLvRwEmTHWXvJwew==:")
@@ -204,16 +204,13 @@ func signers(t testing.TB) map[string]*Signer {
 	return byAlgorithm
 }
 
-// TestClientAndServer sends requests by a Transport, with each kind of key. The server answers the hash of the proven key, and keeps the body. A
-// request without a signature is unauthorized.
-func TestClientAndServer(t *testing.T) {
-	verifier := NewVerifier()
-	verifier.Scheme = "http"
-	var body []byte
-	server := httptest.NewServer(http.HandlerFunc(func(answer http.ResponseWriter, request *http.Request) {
+// serverOfHashes returns a server that answers a request with the hash of the key that it proves, and sets `body` to its body. A request that proves
+// no key is unauthorized.
+func serverOfHashes(verifier *Verifier, body *[]byte) *httptest.Server {
+	return httptest.NewServer(http.HandlerFunc(func(answer http.ResponseWriter, request *http.Request) {
 		proof, err := verifier.Request(request)
 		if err == nil {
-			body, err = proof.Body(request.Body, 100)
+			*body, err = proof.Body(request.Body, 100)
 		}
 		if err != nil {
 			http.Error(answer, err.Error(), http.StatusUnauthorized)
@@ -221,6 +218,14 @@ func TestClientAndServer(t *testing.T) {
 		}
 		fmt.Fprint(answer, proof.Hash())
 	}))
+}
+
+// TestClientAndServer sends requests by a Transport, with each kind of key, to serverOfHashes, and one without a signature, which is unauthorized.
+func TestClientAndServer(t *testing.T) {
+	verifier := NewVerifier()
+	verifier.Scheme = "http"
+	var body []byte
+	server := serverOfHashes(verifier, &body)
 	defer server.Close()
 	name := strings.TrimPrefix(server.URL, "http://")
 	verifier.Authorities = []string{name}
@@ -249,9 +254,9 @@ func TestClientAndServer(t *testing.T) {
 	}
 }
 
-// TestCovered names fields to be covered. Each is covered once. One that the request lacks is an error, also if it must be covered where it is
-// present. So is a name with a capital letter.
-func TestCovered(t *testing.T) {
+// TestFieldsToCover names more fields that Sign covers. Each is covered once. One that the request lacks is an error, also if it must be covered where
+// it is present. So is a name with a capital letter.
+func TestFieldsToCover(t *testing.T) {
 	signer, verifier := signers(t)[Ed25519], NewVerifier("example.com")
 	for covered, want := range map[string]error{"x-job x-job @path": nil, "x-jobs": AbsentField, "content-digest": AbsentField, "X-Job": UnknownComponent} {
 		message := Message{Method: "GET", Authority: "example.com", Target: "/foo", Header: http.Header{"X-Job": {"7"}}}
@@ -310,8 +315,8 @@ func TestMethodsAreTokens(t *testing.T) {
 	}
 }
 
-// TestTakenLate takes a nonce that was used, before and after the end of its signature. After it the nonce may be forgotten, so it is Expired.
-func TestTakenLate(t *testing.T) {
+// TestTakeOfUsedNonce takes a nonce that was used, before and after the end of its signature. After it the nonce may be forgotten, so it is Expired.
+func TestTakeOfUsedNonce(t *testing.T) {
 	now := time.Now().Unix()
 	verifier, message := NewVerifier("example.com"), Message{Method: "GET", Authority: "example.com", Target: "/", Header: http.Header{}}
 	verifier.Now = func() time.Time { return time.Unix(now, 0) }
@@ -322,13 +327,16 @@ func TestTakenLate(t *testing.T) {
 		t.Fatal(err)
 	}
 	proof, err := verifier.Check(message)
-	for _, late := range []struct {
+	if err != nil {
+		t.Fatal(err)
+	}
+	for _, row := range []struct {
 		seconds int64
-		want    error
+		wanted  error
 	}{{100, NonceSeen}, {800, Expired}} {
-		now += late.seconds
-		if taken := verifier.Take(proof); err != nil || taken != late.want {
-			t.Error(late.seconds, err, taken)
+		now += row.seconds
+		if err := verifier.Take(proof); err != row.wanted {
+			t.Errorf("%+v: %v", row, err)
 		}
 	}
 }
@@ -389,8 +397,8 @@ func TestServerHasWhatWasSent(t *testing.T) {
 	}
 }
 
-// TestOtherNamesLearnNothing sends a request to a server that is not among the names of the Transport, and one to a server that is, with a Host that
-// is another service's. They get no signature and no certificates.
+// TestOtherNamesLearnNothing sends a request to a server that is not among the names of the Transport, and one to a server that is, with the Host of
+// another service. They get no signature and no certificates.
 func TestOtherNamesLearnNothing(t *testing.T) {
 	server := httptest.NewServer(http.HandlerFunc(func(answer http.ResponseWriter, request *http.Request) {
 		fmt.Fprint(answer, len(request.Header["Signature"])+len(request.Header["X-Spki-Sequence"]))
@@ -449,7 +457,7 @@ func TestRedirectionWithoutTLS(t *testing.T) {
 	}
 }
 
-// TestBody reads bodies, whose signed one is `abc` if there is a digest. `most` is the limit of octets.
+// TestBody reads bodies of at most `most` octets. With a digest, the signed body is `abc`. `ok` says whether the body is returned.
 func TestBody(t *testing.T) {
 	digest, _ := digestOf(ContentDigest([]byte("abc")))
 	for _, row := range []struct {
@@ -616,8 +624,8 @@ func FuzzSigned(f *testing.F) {
 	})
 }
 
-// BenchmarkVerify times Check, with each kind of key.
-func BenchmarkVerify(b *testing.B) {
+// BenchmarkCheck times Verifier.Check, with each kind of key.
+func BenchmarkCheck(b *testing.B) {
 	for name, signer := range signers(b) {
 		b.Run(name, func(b *testing.B) {
 			message := Message{Method: "GET", Authority: "example.com", Target: "/foo?a=b", Header: http.Header{}}

@@ -81,7 +81,7 @@ func (p *parser) expectEnd() error {
 	return Malformed
 }
 
-// name reads the name of a member or of a parameter. It returns an empty one if none is there.
+// name reads the name of a member or of a parameter, and returns it. It is empty if none is there.
 func (p *parser) name() string {
 	end := 0
 	for end < len(p.rest) && isNameOctet(p.rest[end], end) {

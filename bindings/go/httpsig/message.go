@@ -114,7 +114,8 @@ func (b *base) text(components []string, parameters string) ([]byte, error) {
 		if err != nil {
 			return nil, err
 		}
-		text = append(append(append(append(append(text, '"'), name...), `": `...), value...), '\n')
+		text = append(append(append(text, '"'), name...), `": `...)
+		text = append(append(text, value...), '\n')
 	}
 	return append(append(text, `"@signature-params": `...), parameters...), nil
 }

@@ -58,7 +58,7 @@ func (m *Memory) Take(key []byte, nonce string, now, seconds int64) error {
 	return nil
 }
 
-// dropOld drops the old set, and puts the young one in its place, once the young one is `seconds` old. If it is twice as old, both are dropped. If
+// dropOld drops the old set, and puts the young one in its place, once the young one is `seconds` old. From twice `seconds` on, both are dropped. If
 // the clock went back, none is. The caller has locked the mutex.
 func (m *Memory) dropOld(now, seconds int64) {
 	age := now - m.youngSince

@@ -128,7 +128,7 @@ var (
 	order8MinusY = numberOf("7a03ac9277fdc74ec6cc392cfa53202a0f67100d760b3cba4fd84d3d706a17c7")
 )
 
-// numberOf returns the number of hexadecimal digits, of which the first counts most.
+// numberOf returns the number that hexadecimal digits write, the highest digit first.
 func numberOf(digits string) *big.Int {
 	number, _ := new(big.Int).SetString(digits, 16)
 	return number
@@ -149,7 +149,7 @@ func isUsablePoint(q []byte) bool {
 	return y.BitLen() > 192 && y.Cmp(lastY) < 0 && y.Cmp(order8Y) != 0 && y.Cmp(order8MinusY) != 0
 }
 
-// littleEndian returns the number of octets of which the first counts least.
+// littleEndian returns the number that octets encode, the lowest octet first.
 func littleEndian(octets []byte) *big.Int {
 	reversed := make([]byte, len(octets))
 	for place, octet := range octets {

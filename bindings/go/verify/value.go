@@ -17,7 +17,7 @@ const (
 	beforeR     = "(7:sig-val(5:eddsa(1:r"
 	beforeRSA   = "(7:sig-val(3:rsa(1:s"
 	beforeECDSA = "(7:sig-val(5:ecdsa(1:r"
-	betweenBoth = ")(1:s"
+	beforeS     = ")(1:s"
 	afterValue  = ")))"
 )
 
@@ -27,7 +27,8 @@ const topOfOrder = 0x10
 
 var order = numberOf("1000000000000000000000000000000014def9dea2f79cd65812631a5cf5d3ed")
 
-// ed25519Value returns r and s of a signature by Ed25519, 32 octets each, one after the other, and whether the value is one. Both are little-endian.
+// ed25519Value returns r and s of a signature by Ed25519, 32 octets each, one after the other, and whether the value has this form and s is below the
+// order. Both are little-endian.
 func ed25519Value(value []byte) ([]byte, bool) {
 	r, s, ok := pair(value, beforeR)
 	if !ok || len(r) != half || len(s) != half || s[half-1] >= topOfOrder && littleEndian(s).Cmp(order) >= 0 {
@@ -52,7 +53,7 @@ func rsaValue(value []byte, public *rsa.PublicKey) ([]byte, bool) {
 }
 
 // ecdsaValue returns the numbers r and s of a signature by ECDSA with a curve, and whether the value is one: both are above 0 and below the order of
-// the curve. The numbers must not be used otherwise.
+// the curve. If it is none, the numbers must not be used.
 func ecdsaValue(value []byte, curve elliptic.Curve) (*big.Int, *big.Int, bool) {
 	first, second, ok := pair(value, beforeECDSA)
 	r, s, order := new(big.Int).SetBytes(first), new(big.Int).SetBytes(second), curve.Params().N
@@ -66,7 +67,7 @@ func pair(value []byte, before string) ([]byte, []byte, bool) {
 		return nil, nil, false
 	}
 	r, ok := text.string(mostOctets)
-	if !ok || !text.trySkip(betweenBoth) {
+	if !ok || !text.trySkip(beforeS) {
 		return nil, nil, false
 	}
 	s, ok := text.string(mostOctets)

@@ -34,8 +34,8 @@ func (s signed) verifies() bool {
 	return isValid(s.Key, s.Message, s.Value)
 }
 
-// bySpkiCert returns certificates that `spki-cert sign` made, one by each kind of key.
-func bySpkiCert(t testing.TB) []signed {
+// rowsOfSpkiCert returns certificates that `spki-cert sign` made, one by each kind of key.
+func rowsOfSpkiCert(t testing.TB) []signed {
 	t.Helper()
 	octets, err := os.ReadFile("testdata/spki-cert.json")
 	var rows []signed
@@ -48,9 +48,9 @@ func bySpkiCert(t testing.TB) []signed {
 	return rows
 }
 
-// TestCertificatesOfSpkiCert verifies the signature of each row.
+// TestCertificatesOfSpkiCert verifies the signature of each certificate that `spki-cert sign` made.
 func TestCertificatesOfSpkiCert(t *testing.T) {
-	for _, row := range bySpkiCert(t) {
+	for _, row := range rowsOfSpkiCert(t) {
 		if !row.verifies() {
 			t.Errorf("%s: a right signature is refused", row.Kind)
 		}
@@ -59,7 +59,7 @@ func TestCertificatesOfSpkiCert(t *testing.T) {
 
 // TestEachChangedOctet flips one bit of one octet at a time, of each octet of a key, message or value. No signature is valid then.
 func TestEachChangedOctet(t *testing.T) {
-	for _, row := range bySpkiCert(t) {
+	for _, row := range rowsOfSpkiCert(t) {
 		for _, octets := range [][]byte{row.Key, row.Message, row.Value} {
 			for place := range octets {
 				octets[place] ^= 1 << (place % 8)
@@ -74,7 +74,7 @@ func TestEachChangedOctet(t *testing.T) {
 
 // TestEachTruncation cuts each key and each value to each lesser length. None is valid then.
 func TestEachTruncation(t *testing.T) {
-	for _, row := range bySpkiCert(t) {
+	for _, row := range rowsOfSpkiCert(t) {
 		for length := range row.Key {
 			if isValid(row.Key[:length], row.Message, row.Value) {
 				t.Errorf("%s: %d octets of the key suffice", row.Kind, length)
@@ -88,9 +88,9 @@ func TestEachTruncation(t *testing.T) {
 	}
 }
 
-// TestSignaturesOfOthers takes the value, or the key, from another row. None is valid then.
+// TestSignaturesOfOthers verifies each certificate with the value, or with the key, of another one. No signature is valid then.
 func TestSignaturesOfOthers(t *testing.T) {
-	rows := bySpkiCert(t)
+	rows := rowsOfSpkiCert(t)
 	for i, row := range rows {
 		for j, other := range rows {
 			if i != j && (isValid(row.Key, row.Message, other.Value) || isValid(other.Key, row.Message, row.Value)) {
@@ -102,7 +102,7 @@ func TestSignaturesOfOthers(t *testing.T) {
 
 // TestOtherTextsOfAKey writes each key in other ways. Nothing is a signature by what results. A replacement that does not change a key is left out.
 func TestOtherTextsOfAKey(t *testing.T) {
-	for _, row := range bySpkiCert(t) {
+	for _, row := range rowsOfSpkiCert(t) {
 		for _, text := range [][]byte{
 			append([]byte(" "), row.Key...), append(append([]byte{}, row.Key...), ' '), append(append([]byte{}, row.Key...), row.Key...),
 			bytes.Replace(row.Key, []byte("10:public-key"), []byte("[1:h]10:public-key"), 1),
@@ -120,7 +120,7 @@ func TestOtherTextsOfAKey(t *testing.T) {
 
 // TestKeysGoThereAndBack reads each key by PublicOf. KeyOf must write the same text.
 func TestKeysGoThereAndBack(t *testing.T) {
-	for _, row := range bySpkiCert(t) {
+	for _, row := range rowsOfSpkiCert(t) {
 		public, err := PublicOf(row.Key)
 		if err != nil {
 			t.Fatal(row.Kind, err)
@@ -205,8 +205,8 @@ func TestKeysOfOtherKinds(t *testing.T) {
 	}
 }
 
-// TestPSS signs with three lengths of salt: 32 octets, the longest, which is the option 0, and 20. Those with 32 alone are valid, and for
-// SignatureOrPSS alone. This accepts what Signature accepts, too.
+// TestPSS signs with three lengths of salt: 32 octets, the longest, which is the option 0, and 20. Only the one with 32 is valid, and only for
+// SignatureOrPSS, which also accepts what Signature accepts.
 func TestPSS(t *testing.T) {
 	private, err := rsa.GenerateKey(rand.Reader, LeastBits)
 	if err != nil {
@@ -224,14 +224,15 @@ func TestPSS(t *testing.T) {
 			t.Fatal(err)
 		}
 		value := canonicalText(beforeRSA, octets, afterValue)
-		if got := SignatureOrPSS(spki.Signature{Key: key, Message: message, Value: value}); got != (salt == rsa.PSSSaltLengthEqualsHash) {
-			t.Errorf("a salt of the length %d: %v", salt, got)
+		accepts := SignatureOrPSS(spki.Signature{Key: key, Message: message, Value: value})
+		if accepts != (salt == rsa.PSSSaltLengthEqualsHash) {
+			t.Errorf("a salt of the length %d: %v", salt, accepts)
 		}
 		if isValid(key, message, value) {
 			t.Error("Signature accepts PSS")
 		}
 	}
-	for _, row := range bySpkiCert(t) {
+	for _, row := range rowsOfSpkiCert(t) {
 		if !SignatureOrPSS(spki.Signature{Key: row.Key, Message: row.Message, Value: row.Value}) {
 			t.Errorf("%s: SignatureOrPSS refuses what Signature accepts", row.Kind)
 		}
@@ -269,10 +270,10 @@ func TestFewerZerosInFront(t *testing.T) {
 
 // FuzzSignature fails if three texts are valid whose key and message are not those of a row: only a holder of a private key could make them.
 func FuzzSignature(f *testing.F) {
-	for _, row := range bySpkiCert(f) {
+	for _, row := range rowsOfSpkiCert(f) {
 		f.Add(row.Key, row.Message, row.Value)
 	}
-	rows := bySpkiCert(f)
+	rows := rowsOfSpkiCert(f)
 	f.Fuzz(func(t *testing.T, key, message, value []byte) {
 		if !isValid(key, message, value) {
 			return

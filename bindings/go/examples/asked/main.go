@@ -30,8 +30,8 @@ type input struct {
 	fault error
 }
 
-// next reads a string, LENGTH:OCTETS, and returns its octets. If the input ends or LENGTH is no number, it sets i.fault, and returns no string of the
-// input.
+// next reads a string, LENGTH:OCTETS, and returns its octets. If the input ends or LENGTH is no number, it sets i.fault, and the result must not be
+// used.
 func (i *input) next() string {
 	digits, err := i.ReadString(':')
 	if i.fault = err; err != nil {

@@ -29,13 +29,13 @@ func main() {
 		log.Fatal("usage: cache ACL FOLDER KEY SEQUENCE")
 	}
 	list := must(guard.Open(must(os.ReadFile(os.Args[1])), guard.Strict, guard.Limits{}))
-	client, sequence, decision, decided := spki.AssumeKey(must(os.ReadFile(os.Args[3]))), must(os.ReadFile(os.Args[4])), guard.Decision{}, ""
+	client, sequence, decision, lastRequest := spki.AssumeKey(must(os.ReadFile(os.Args[3]))), must(os.ReadFile(os.Args[4])), guard.Decision{}, ""
 	for lines := bufio.NewScanner(os.Stdin); lines.Scan() || must(false, lines.Err()); { // (Scan also ends at an error, as for a line over 64 KiB)
 		words := append(strings.SplitN(lines.Text(), " ", 3), "", "") // (action, path and text, of which some may be empty)
 		file, isNormal := os.Args[2]+words[1], words[1] != "/" && path.Clean("/"+words[1]) == words[1]
-		if request := words[0] + " " + words[1]; request != decided || !decision.HoldsAt(time.Now()) {
+		if request := words[0] + " " + words[1]; request != lastRequest || !decision.HoldsAt(time.Now()) {
 			question := guard.Question{Key: client, Sequence: sequence, Words: []string{"cache", words[0], words[1]}, Time: time.Now()}
-			decided = request                                     // (while its grant holds, the same request is not decided again)
+			lastRequest = request                                 // (while its grant holds, the same request is not decided again)
 			decision, _ = list.Decide(question, verify.Signature) // (with an error it is a no)
 		}
 		if !isNormal || !decision.HoldsAt(time.Now()) {
