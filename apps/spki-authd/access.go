@@ -24,7 +24,7 @@ type accessKeeper struct {
 	present atomic.Pointer[access]
 	last    atomic.Pointer[reloadOutcome]
 	// The reloads, of which the first is that of the start, and those that were refused.
-	all, refused atomic.Uint64
+	reloads, refused atomic.Uint64
 }
 
 // A reloadOutcome is when a reload ended, and why it was refused, or nil.
@@ -143,7 +143,7 @@ func (a *access) checkStoresFresh() error {
 func (k *accessKeeper) reload(c *config, allowFewerEnded bool, now time.Time) error {
 	err := k.replace(c, allowFewerEnded, now)
 	k.last.Store(&reloadOutcome{now, err})
-	k.all.Add(1)
+	k.reloads.Add(1)
 	if err != nil {
 		k.refused.Add(1)
 	}

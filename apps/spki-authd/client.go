@@ -55,9 +55,9 @@ func newKeys(name string) *keys {
 	return &keys{forms[name], newRecentMap[string, client](mostKeys)}
 }
 
-// of returns the client whose certificate a header has, or the error of keyOf. `text` is the header's value. The web server has verified that the client
-// holds the certificate's key.
-func (k *keys) of(text string) (client, error) {
+// holderOf returns the client whose certificate a header has. `text` is the header's value. The web server has verified that the client holds the
+// certificate's key. It fails with errCertificate or errKey, as keyOf does.
+func (k *keys) holderOf(text string) (client, error) {
 	if holder, isKept := k.clients.get(text); isKept {
 		return holder, nil
 	}

@@ -61,7 +61,7 @@ func (d *daemon) exposition() string {
 	text.single("ended_certificates", "gauge", "Digests in the file of ended certificates.", present.ended.count)
 	text.family("state_info", "gauge", "The digests of the lists and of the ended certificates.")
 	text.value("state_info", fmt.Sprintf("{ended=%q,list=%q}", present.ended.digest, present.digestNow()), 1)
-	text.single("reloads_total", "counter", "Reloads, with that of the start.", d.keeper.all.Load())
+	text.single("reloads_total", "counter", "Reloads, with that of the start.", d.keeper.reloads.Load())
 	text.single("reloads_refused_total", "counter", "Reloads that were refused.", d.keeper.refused.Load())
 	text.single("last_reload_refused", "gauge", "1 if the last reload was refused.", number(last.fault != nil))
 	text.single("read_timestamp_seconds", "gauge", "When the lists in force were read.", present.read.Unix())

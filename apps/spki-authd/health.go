@@ -109,7 +109,7 @@ func (d *daemon) health() (string, error) {
 	fmt.Fprintf(&text, "started: %s\n", age(d.begun))
 	fmt.Fprintf(&text, "last reload: %s, %s\n", age(last.at), how)
 	// (the first reload is that of the start)
-	fmt.Fprintf(&text, "reloads: %d, refused %d\n", d.keeper.all.Load()-1, d.keeper.refused.Load())
+	fmt.Fprintf(&text, "reloads: %d, refused %d\n", d.keeper.reloads.Load()-1, d.keeper.refused.Load())
 	fmt.Fprintf(&text, "lists: %d, entries %d, read %s\nlist: %s\n", len(present.lists), present.entries(), age(present.read), present.digestNow())
 	fmt.Fprintf(&text, "ended: %d, %s\n", present.ended.count, present.ended.digest)
 	fmt.Fprintf(&text, "log of grants: lines %d, failures %d\n", d.granted.written.Load(), d.granted.failed.Load())

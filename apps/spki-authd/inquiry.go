@@ -15,7 +15,7 @@ const mostID = 64
 
 // An inquiry is what the web server asks the daemon about its client's request, as the headers of its own request say it.
 type inquiry struct {
-	// The method and the target of the client's request, and the header's value with the client's TLS certificate, which keys.of reads, or empty.
+	// The method and the target of the client's request, and the header's value with the client's TLS certificate, which keys.holderOf reads, or empty.
 	method, target, certificate string
 	// The client's SPKI certificates in transport form, or empty.
 	sequence string
@@ -37,8 +37,8 @@ var (
 	errTooLong  = errors.New("the headers have more octets than header_octets")
 )
 
-// inquiryOf reads what the web server asks from the headers of its request. With an error, one of those above or errHost, it returns what it has read
-// until then, for the log.
+// inquiryOf reads what the web server asks from the headers of its request. It fails with errSecret, errTooLong, errHeader, errHost, errPrefix or
+// errSequence, and then returns what it has read until then, for the log.
 func (c *config) inquiryOf(request *http.Request) (inquiry inquiry, err error) {
 	if err := c.checkServer(request); err != nil {
 		return inquiry, err

@@ -71,7 +71,7 @@ func (s *site) leaves(t testing.TB, who person, sequence string) (int, answer) {
 // keeps says whether any sequence that a client has left is kept for a person's key.
 func (s *site) keeps(t testing.TB, who person) bool {
 	t.Helper()
-	chains, err := s.chains.of(hexDigest([]byte(who.key)), s.now())
+	chains, err := s.chains.currentOf(hexDigest([]byte(who.key)), s.now())
 	if err != nil {
 		t.Fatal(err)
 	}
@@ -308,7 +308,7 @@ func heldBy(t *testing.T, kept *folderChains) string {
 func TestClockAhead(t *testing.T) {
 	kept, now := newKept(t, 1, 2), time.Now()
 	count := func(at time.Time) int {
-		current, _ := kept.of("a", at)
+		current, _ := kept.currentOf("a", at)
 		return len(current)
 	}
 	adds(t, kept, "a", "a1", now, answerKept)
@@ -404,7 +404,7 @@ func TestEndedAtStart(t *testing.T) {
 				t.Fatal(err)
 			}
 			files, _ := filepath.Glob(filepath.Join(kept.Folder, "*", "*"))
-			if current, _ := started.of("b", now); len(current) != 1 || (len(files) == 1) != mayRemove {
+			if current, _ := started.currentOf("b", now); len(current) != 1 || (len(files) == 1) != mayRemove {
 				t.Errorf("%s: %v, %v", ended, current, files)
 			}
 			if mayRemove && heldBy(t, started) != "current" {
@@ -556,7 +556,7 @@ func TestKeptChainsEnd(t *testing.T) {
 		if err != nil {
 			t.Fatal(err)
 		}
-		if current, _ := opened.of(hexDigest([]byte(s.bob.key)), now); len(current) != row[1] {
+		if current, _ := opened.currentOf(hexDigest([]byte(s.bob.key)), now); len(current) != row[1] {
 			t.Error(row, current)
 		}
 	}
@@ -582,11 +582,11 @@ func TestEndedFiles(t *testing.T) {
 	kept.Keys = 1
 	for place, key := range []string{bobs, carols} {
 		now := begun.AddDate(place+1, 0, 0)
-		if current, _ := kept.of(bobs, now); current != nil || len(s.filesOfChains()) != 1 {
+		if current, _ := kept.currentOf(bobs, now); current != nil || len(s.filesOfChains()) != 1 {
 			t.Error(current, s.filesOfChains())
 		}
 		adds(t, kept, key, long, now, answerKept)
-		current, _ := kept.of(key, now)
+		current, _ := kept.currentOf(key, now)
 		if files := s.filesOfChains(); len(current) != 1 || len(files) != 1 || filepath.Base(filepath.Dir(files[0])) != key {
 			t.Error(current, files)
 		}
@@ -715,7 +715,7 @@ func TestDiskThatHangs(t *testing.T) {
 		time.Sleep(time.Millisecond)
 	}
 	go func() {
-		kept.of("b", time.Now())
+		kept.currentOf("b", time.Now())
 		close(returned)
 	}()
 	select {

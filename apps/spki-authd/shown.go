@@ -46,8 +46,8 @@ func newSequences(cache int) *sequences {
 	return &sequences{newRecentMap[string, *shownSequence](mostShown)}
 }
 
-// of returns a sequence that is kept, by its text as it was shown, or nil. For an empty text it returns emptySequence.
-func (s *sequences) of(text string) *shownSequence {
+// get returns a sequence that is kept, by its text as it was shown, or nil. For an empty text it returns emptySequence.
+func (s *sequences) get(text string) *shownSequence {
 	if text == "" {
 		return emptySequence
 	}

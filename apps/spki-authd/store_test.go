@@ -320,7 +320,7 @@ func TestStoredChains(t *testing.T) {
 	asks("without the entries for the issuer", 503, "")
 	s.table.fault = nil
 	other := newStoredChains(limits, s.table)
-	if chains, err := other.of(hexDigest([]byte(s.bob.key)), s.now()); err != nil || len(chains) != 1 || chains[0].text != bobs {
+	if chains, err := other.currentOf(hexDigest([]byte(s.bob.key)), s.now()); err != nil || len(chains) != 1 || chains[0].text != bobs {
 		t.Errorf("%v %v", chains, err)
 	}
 	s.table.fault = errors.New("the server is gone")
@@ -329,7 +329,7 @@ func TestStoredChains(t *testing.T) {
 	leaves("shown, and not kept", answerFailed)
 	s.table.fault, s.table.became, s.table.kept = nil, answerYes, map[digest][]keptChain{}
 	leaves("an answer that is none", answerFailed)
-	if chains, err := other.of(hexDigest([]byte(s.bob.key)), s.now().AddDate(1, 0, 0)); err != nil || chains != nil {
+	if chains, err := other.currentOf(hexDigest([]byte(s.bob.key)), s.now().AddDate(1, 0, 0)); err != nil || chains != nil {
 		t.Errorf("a year later: %v %v", chains, err)
 	}
 }
