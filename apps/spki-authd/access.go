@@ -33,21 +33,22 @@ type reloadOutcome struct {
 	fault error
 }
 
-// readAccess reads the access lists of a configuration and its file of ended certificates. `now` is noted as the time of that. After an error no list in
-// a file stays open. A store is opened by the first call alone, and stays open.
+// readAccess reads the access lists of a configuration and its file of ended certificates. `now` is noted as the time of that. It fails if a file cannot
+// be read or is refused, or if the settings of a store are wrong: then no list in a file stays open. A store is opened by the first call alone, and stays
+// open.
 func readAccess(c *config, now time.Time) (*access, error) {
 	policy, err := policyOf(c.Policy)
 	if err != nil {
 		return nil, err
 	}
 	present := &access{ended: noneEnded, read: now}
-	for _, where := range c.scopes() {
-		opened, err := where.read(policy, c)
+	for _, scope := range c.scopes() {
+		opened, err := scope.read(policy, c)
 		if err != nil {
 			present.close()
 			return nil, err
 		}
-		opened.scope = where
+		opened.scope = scope
 		present.lists = append(present.lists, opened)
 	}
 	present.digest = present.digestOfLists()

@@ -74,13 +74,13 @@ func (d *daemon) listenAndServe() error {
 	return d.serve(listener)
 }
 
-// flush writes the answers that are no grants, and the events, that wait, if that does not last longer than the patience of their writers.
+// flush writes the waiting lines of events, and of answers other than grants. It waits for each of the two writers no longer than its patience.
 func (d *daemon) flush() {
 	d.other.flush()
 	d.messages.flush()
 }
 
-// closeLedger closes the log of grants. Its errors are those of withLedger.
+// closeLedger closes the log of grants. It fails as ledger.close does, or with errHangs if that does not end in time.
 func (d *daemon) closeLedger() error {
 	return d.withLedger(d.ledger.close)
 }
@@ -175,8 +175,8 @@ func (d *daemon) statusLine() string {
 	return line
 }
 
-// tell writes an event: what the daemon did, such as `reloaded`, or did not do because of a fault, which may be nil. The event has the digests of the lists
-// and ended certificates that are in force now.
+// tell writes an event: what the daemon did, such as `reloaded`, or, if `fault` is not nil, what it did not do because of that. The event has the digests
+// of the lists and ended certificates that are in force now.
 func (d *daemon) tell(action string, fault error) {
 	present := d.keeper.present.Load()
 	message := event{

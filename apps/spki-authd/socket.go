@@ -15,7 +15,7 @@ import (
 const mostWaiting = 4096
 
 // openSocket opens a Unix socket at a path. Only the daemon's user and root can write to it: so the control socket stays, and for the web server's socket
-// setOwner sets another group and mode. It removes a socket that an ended daemon has left there.
+// setGroupAndMode sets others. It removes a socket that an ended daemon has left there.
 func openSocket(path string) (net.Listener, error) {
 	if err := removeStale(path); err != nil {
 		return nil, err
@@ -26,9 +26,9 @@ func openSocket(path string) (net.Listener, error) {
 	return net.Listen("unix", path)
 }
 
-// widen sets the length of a listener's queue to mostWaiting. Go takes the length from /proc/sys, and 128 where that is hidden, as by ProcSubset=pid of the
-// daemon's unit. A client that finds the queue full is refused. A listener without a file descriptor stays as it is.
-func widen(listener net.Listener) error {
+// lengthenQueue sets the length of a listener's queue to mostWaiting. Go takes the length from /proc/sys, and 128 where that is hidden, as by
+// ProcSubset=pid of the daemon's unit. A client that finds the queue full is refused. A listener without a file descriptor stays as it is.
+func lengthenQueue(listener net.Listener) error {
 	raw, isSystem := listener.(syscall.Conn)
 	if !isSystem {
 		return nil
@@ -70,8 +70,8 @@ func removeStale(path string) error {
 	return os.Remove(path)
 }
 
-// setOwner sets the group and the mode of the web server's socket, as `socket_group` and `socket_mode` say.
-func (c *config) setOwner(path string) error {
+// setGroupAndMode sets the group and the mode of the web server's socket, as `socket_group` and `socket_mode` say.
+func (c *config) setGroupAndMode(path string) error {
 	if c.SocketGroup != "" {
 		number, err := c.groupOfSocket()
 		if err != nil {

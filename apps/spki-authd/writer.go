@@ -73,7 +73,8 @@ const looksInPatience = 20
 
 var errHangs = errors.New("the log takes no line in time")
 
-// newWriter returns a writer, whose goroutine it starts. `eachSecond` may be nil.
+// newWriter returns a writer to a sink, whose goroutine it starts. Callers wait for a line no longer than `patience`. The goroutine calls eachSecond each
+// second, unless that is nil.
 func newWriter(to sink, patience time.Duration, eachSecond func()) *writer {
 	started := &writer{to: to, patience: patience, commands: make(chan func()), wakes: make(chan struct{}, 1), eachSecond: eachSecond}
 	started.watchdog = time.AfterFunc(patience, started.endLate)
