@@ -283,8 +283,8 @@ func (s *connectionServer) recoverPanic() {
 }
 
 // answerOne reads and answers one request, and says whether another one may follow on the connection. A request that does not end in time is logged
-// and gets no answer. What is no request, or one whose headers end early, is answered by `refused`. Only the answer to a PUT, by which certificates
-// are left, needs the body: any other body is dropped before. After a request with a body no other one may follow.
+// and gets no answer. Octets that are no request, and a request whose headers end early, are answered by `refused`. Only the answer to a PUT, by which
+// certificates are left, needs the body: any other body is dropped before. After a request with a body no other one may follow.
 func (s *connectionServer) answerOne(connection net.Conn, reader *requestReader) bool {
 	request, err := reader.next()
 	if err != nil && errors.Is(err, os.ErrDeadlineExceeded) {

@@ -95,8 +95,8 @@ func (d *daemon) answerOrder(connection net.Conn, limit time.Duration) {
 	fmt.Fprintf(connection, "%s\n%s", first, text)
 }
 
-// doOrder does an order, and returns the text of its answer, for some orders also with an error. It fails with errOrder for what is none of the
-// orders above, and as inMain does, with this patience.
+// doOrder does an order, and returns the text of its answer, for some orders also with an error. It fails with errOrder for a text that is no order,
+// with errMainBusy if the main loop is busy for longer than `patience`, and as what the order asks for does.
 func (d *daemon) doOrder(order string, patience time.Duration) (string, error) {
 	switch order {
 	case orderHealth:

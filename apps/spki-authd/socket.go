@@ -14,8 +14,8 @@ import (
 // The most connections that wait in the system's queue until they are accepted. The system also bounds that by net.core.somaxconn.
 const mostWaiting = 4096
 
-// openSocket opens a Unix socket at a path. Only the daemon's user and root can write to it: so the control socket stays, and for the web server's socket
-// setGroupAndMode sets others. It removes a socket that an ended daemon has left there.
+// openSocket opens a Unix socket at a path. Only the daemon's user and root can write to it. The control socket stays so, and for the web server's socket
+// setGroupAndMode sets another group and mode. It removes a socket that an ended daemon has left there.
 func openSocket(path string) (net.Listener, error) {
 	if err := removeStale(path); err != nil {
 		return nil, err
@@ -45,9 +45,9 @@ func lengthenQueue(listener net.Listener) error {
 	return err
 }
 
-// removeStale removes a socket that an ended daemon has left: one that refuses connections. Nothing else is removed: it fails if what is there is no
-// socket, if another daemon answers there, and also if that cannot be told, as where the queue of the other one is full. Without a file at the path
-// it does nothing.
+// removeStale removes a socket that an ended daemon has left: one that refuses connections. Nothing else is removed: it fails if the file is no socket, if
+// another daemon answers there, or if connecting fails otherwise, as where the queue of another daemon is full. Without a file at the path it does
+// nothing.
 func removeStale(path string) error {
 	about, err := os.Lstat(path)
 	if errors.Is(err, fs.ErrNotExist) {

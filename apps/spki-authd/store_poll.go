@@ -13,9 +13,9 @@ func (s *store) poll() {
 	}
 }
 
-// pollOnce reads what has changed since the last poll. If that cannot be told, as at the first poll or after a failover to a server that lacks
-// changes, or if too much has changed, it drops all lists that are kept, and reads all ended certificates again. After an error the state that was
-// polled last stays.
+// pollOnce reads what has changed since the last poll. Where the changes are not known, as at the first poll or after a failover to a server that lacks
+// some, or where they are too many, it drops all lists that are kept, and reads all ended certificates again. After an error the state that was polled
+// last stays.
 func (s *store) pollOnce() error {
 	before, begun := s.lastPolled(), s.now()
 	var result pollResult

@@ -150,8 +150,8 @@ func (p *pool) take() (*link, error) {
 	return &link{Conn: opened, times: times}, nil
 }
 
-// ask runs the statement with a number such as askRows, and calls a function with each of its rows. The row's values are valid during that call alone. After
-// an error, also one of the function, the connection is closed.
+// ask runs the statement with a number such as askRows and these values of its parameters, and calls a function with each of its rows. The row's values are
+// valid during that call alone. After an error, also one of the function, the connection is closed.
 func (p *pool) ask(number int, use func(row []driver.Value) error, values ...driver.Value) error {
 	link, err := p.take()
 	if err != nil {
