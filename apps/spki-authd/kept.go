@@ -257,7 +257,7 @@ func (f *folderChains) remove(files ...keptFile) {
 // it: none if there is room, and otherwise those of this key, and then of others, until there is. It removes nothing itself. The mutex is held, or no
 // other goroutine has `f` yet.
 func (f *folderChains) roomFor(key string, octets int, now time.Time) (ended []keptFile, hasRoom bool) {
-	// (the sequences of this key, the keys, and the octets with the new sequence, all without the sequences in `ended`)
+	// (each without the sequences in `ended`: how many this key has, how many keys there are, and the octets of all with the new one)
 	own, keys, total := len(f.byKey[key]), len(f.byKey), f.octets+octets
 	isRoom := func() bool { return own < f.Each && (own > 0 || keys < f.Keys) && total <= mostLeft }
 	// (adds the ended sequences of one key to `ended`, one after the other, until there is room)

@@ -572,7 +572,7 @@ func TestKeptChainsEnd(t *testing.T) {
 	}
 }
 
-// TestEndedFiles keeps one sequence, the same a year later, when it has ended, and the same for another key, which takes the only room. `of` touches
+// TestEndedFiles keeps one sequence, the same a year later, when it has ended, and the same for another key, which takes the only room. currentOf touches
 // no file, and after each `add` there is one file, that of the key.
 func TestEndedFiles(t *testing.T) {
 	s := newKeeping(t)
@@ -689,7 +689,7 @@ func TestKeptFiles(t *testing.T) {
 	}
 }
 
-// TestDiskThatHangs leaves a sequence where the disk does not answer: its file is a FIFO that nobody reads. Meanwhile `of` returns what is kept for another
+// TestDiskThatHangs leaves a sequence where the disk does not answer: its file is a FIFO that nobody reads. Meanwhile currentOf returns what is kept for another
 // key, without waiting.
 func TestDiskThatHangs(t *testing.T) {
 	kept, err := openFolderChains(&chains{Folder: t.TempDir(), Days: 1, Each: 1, Keys: 9}, time.Now(), true)
@@ -721,7 +721,7 @@ func TestDiskThatHangs(t *testing.T) {
 	select {
 	case <-returned:
 	case <-time.After(time.Second):
-		t.Error("`of` waits for the disk")
+		t.Error("currentOf waits for the disk")
 	}
 	reader, err := os.OpenFile(path, os.O_RDONLY|syscall.O_NONBLOCK, 0)
 	if err != nil {
