@@ -130,7 +130,7 @@ func fromXFCC(text string) ([]byte, error) {
 		if !isField {
 			return nil, errCertificate
 		}
-		value, rest, err := fieldOf(rest)
+		value, rest, err := cutValue(rest)
 		if err != nil {
 			return nil, err
 		}
@@ -145,10 +145,10 @@ func fromXFCC(text string) ([]byte, error) {
 	return fromEscapedPEM(certificates[0])
 }
 
-// fieldOf returns the value that a text begins with, in quotes or not, and what follows the semicolon behind the value. It fails with errCertificate for
+// cutValue returns the value that a text begins with, in quotes or not, and what follows the semicolon behind the value. It fails with errCertificate for
 // a quote without its end, for anything but a semicolon behind a value in quotes, and for a comma, a quote or a backslash in one without. A comma would
 // begin another element, which another proxy wrote.
-func fieldOf(text string) (value, rest string, err error) {
+func cutValue(text string) (value, rest string, err error) {
 	if !strings.HasPrefix(text, `"`) {
 		value, rest, _ = strings.Cut(text, ";")
 		if strings.ContainsAny(value, `,"\`) {

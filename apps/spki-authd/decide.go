@@ -135,7 +135,7 @@ func (d *decider) decideKnown(result *record, question guard.Question, path stri
 	whole := question
 	whole.Sequence = text
 	_, list, err := d.withList(&whole, result.Host, path, func(present *access, list *list) (err error) {
-		if valid, err = sequence.notEnded(present); err == nil {
+		if valid, err = sequence.countNotEnded(present); err == nil {
 			decision, err = list.guard.DecideVerified(question, signatures.First(valid))
 		}
 		return err
@@ -209,7 +209,7 @@ func (d *decider) decideBy(result *record, present *access, list *list, question
 		return guard.Decision{}, err
 	}
 	certificates := newShownSequence(signatures)
-	notEnded, err := certificates.notEnded(present)
+	notEnded, err := certificates.countNotEnded(present)
 	if err != nil {
 		return guard.Decision{}, err
 	}
@@ -269,7 +269,7 @@ func (d *decider) countValid(result *record, certificates *shownSequence, signat
 	return len(signatures)
 }
 
-// answerOf returns the answer to a request whose decision failed with an error: `refused` if it is the fault of what the client has sent, and otherwise
+// answerOf returns the answer to a request whose decision failed with an error: `refused` if the reason is what the client has sent, and otherwise
 // `failed`.
 func answerOf(err error) answer {
 	// (want of memory is a refusal by the library too)

@@ -129,7 +129,7 @@ func (d *decider) checkCertificates(result *record, key guard.ProvenKey, sequenc
 	}
 	certificates := newShownSequence(signatures)
 	result.Certificates = certificates.names
-	notEnded, err := certificates.notEnded(d.keeper.present.Load())
+	notEnded, err := certificates.countNotEnded(d.keeper.present.Load())
 	if err != nil {
 		return err
 	}

@@ -44,7 +44,7 @@ const (
 // method, another host, too many requests, too long a header, and a method or a version that the server does not have.
 var denials = map[int]bool{400: true, 401: true, 403: true, 405: true, 421: true, 429: true, 431: true, 501: true, 505: true}
 
-// verdictOf says what the status of an answer means. What is neither a denial nor 5xx counts as granted, also 301, 304, 404, 409, 412 and 416: a server
+// verdictOf says what the status of an answer means. One that is neither a denial nor 5xx counts as granted, also 301, 304, 404, 409, 412 and 416: a server
 // answers these after a yes.
 func verdictOf(status int) verdict {
 	switch {

@@ -132,8 +132,8 @@ func newStrangeCertificate() (*tls.Certificate, error) {
 }
 
 // send sends a request, for a path that nobody has asked for before, and returns the answer. While that is 429, it waits timeAgain and sends the request
-// for another path, up to mostAgain times, and fails with errShown then. It fails with errNotSent for what the protocol cannot send, and where there is no
-// answer.
+// for another path, up to mostAgain times, and fails with errShown then. It fails with errNotSent for a request that the protocol cannot send, and as
+// sendOnce does where there is no answer.
 func (a asker) send(base *url.URL, attempt try) (probeAnswer, error) {
 	if attempt.needsHTTP1 && a.protocol != 1 {
 		return probeAnswer{}, errNotSent

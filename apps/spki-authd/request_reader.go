@@ -24,7 +24,7 @@ const (
 	mostKeptRoom   = 32_768
 )
 
-// newRequestReader returns what reads the requests of a connection.
+// newRequestReader returns a requestReader for a connection from which nothing was read yet.
 func newRequestReader(connection io.Reader) *requestReader {
 	return &requestReader{input: bufio.NewReaderSize(connection, roomForRequest)}
 }

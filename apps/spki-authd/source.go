@@ -112,8 +112,8 @@ func (s *storeOf) isSocket() bool {
 	return strings.HasPrefix(s.Host, "/")
 }
 
-// stale returns how old the state of the store may be, so that the daemon still decides by it.
-func (s *storeOf) stale() time.Duration {
+// mostAge returns how old the state of the store may be, so that the daemon still decides by it: `stale_seconds`.
+func (s *storeOf) mostAge() time.Duration {
 	return time.Duration(s.StaleSeconds) * time.Second
 }
 

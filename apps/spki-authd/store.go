@@ -289,7 +289,7 @@ func (s *store) checkFresh() error {
 		return fmt.Errorf("store: %w", s.fault)
 	}
 	age, err := s.polled.age(s.now())
-	if err == nil && age > s.options.stale() {
+	if err == nil && age > s.options.mostAge() {
 		err = fmt.Errorf("%w: its last beat is %v old", errStale, age.Round(time.Millisecond))
 	}
 	if err != nil && s.fault != nil {

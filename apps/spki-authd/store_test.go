@@ -388,7 +388,7 @@ func TestStoreConfigs(t *testing.T) {
 	if err != nil {
 		t.Fatal(err)
 	}
-	if settings := config.Source.store; settings.Schema != "spki" || settings.stale() != 10*time.Second || !strings.Contains(settings.settings(), "sslmode=disable") {
+	if settings := config.Source.store; settings.Schema != "spki" || settings.mostAge() != 10*time.Second || !strings.Contains(settings.settings(), "sslmode=disable") {
 		t.Errorf("%+v", settings)
 	}
 	if config, err = parseConfig([]byte(withStore(`"host": "db", "root": "/a'b", "database": "d", "user": "u"`))); err != nil ||

@@ -109,11 +109,12 @@ func (w *writer) offer(line []byte) {
 	}
 }
 
-// add adds a line to the last batch that waits, or to a new one, and returns that batch. isKept is that of the batch. The mutex is held.
+// add adds a line to the last batch that waits, or to a new one, and returns that batch. isKept says whether the line is still to be written when its
+// caller has stopped waiting: a batch has only lines with the same isKept. The mutex is held.
 func (w *writer) add(line []byte, isKept bool) *batch {
 	last := len(w.waiting) - 1
 	if last < 0 || w.waiting[last].isFull || w.waiting[last].isKept != isKept {
-		w.waiting = append(w.waiting, &batch{lines: w.newRoom(), isKept: isKept, begun: time.Now(), done: make(chan struct{})})
+		w.waiting = append(w.waiting, &batch{lines: w.emptyBuffer(), isKept: isKept, begun: time.Now(), done: make(chan struct{})})
 		last++
 		w.watch()
 		w.wake()
@@ -126,8 +127,8 @@ func (w *writer) add(line []byte, isKept bool) *batch {
 	return present
 }
 
-// newRoom returns an empty buffer for lines: a new one, or one that was used before. The mutex is held.
-func (w *writer) newRoom() []byte {
+// emptyBuffer returns an empty buffer for lines: a new one, or one that was used before. The mutex is held.
+func (w *writer) emptyBuffer() []byte {
 	last := len(w.rooms) - 1
 	if last < 0 {
 		return make([]byte, 0, roomForLines)
