@@ -74,8 +74,9 @@ func (a *access) readEnded(path string) error {
 	return err
 }
 
-// digestOfLists returns the stamp of the one list, or of several the SHA-256 digest, in hexadecimal digits, of a line for each with its host, prefix and
-// stamp. The stamp is the digest of a file, and names the last change of a store. Operators compare what is returned between daemons.
+// digestOfLists returns the stamp of a single list. For several lists it returns the SHA-256 digest, in hexadecimal digits, of a line for each, with its
+// host, prefix and stamp. The stamp of a list is the digest of its file, or names the last change of its store. Operators compare the result between
+// daemons.
 func (a *access) digestOfLists() string {
 	if len(a.lists) == 1 {
 		return a.lists[0].stamp()

@@ -95,9 +95,8 @@ func baseOf(address string) (*url.URL, error) {
 }
 
 // sendAll sends all requests of `tries` by an asker, and prints how often each status was the answer. It leaves an asker out, and prints why, if the server
-// lacks its protocol, or if it may fail and gets no first answer. It fails if any other asker gets none, and with errShown if one request is answered
-// by 429 again and again. Without -stopped it also fails with errShown if the first answer is 5xx, or if most requests have 5xx or no answer. A
-// request that the protocol cannot send is not counted.
+// lacks its protocol, or if it may fail and gets no first answer. It fails if another asker gets no first answer, and with errShown if a request is
+// answered by 429 again and again. Without -stopped it also fails with errShown if the first answer is 5xx, or if most requests have 5xx or no answer.
 func (p *probe) sendAll(asker asker) error {
 	first, err := asker.send(p.base, tries[0])
 	if err != nil && asker.mayFail && !errors.Is(err, errShown) {
@@ -116,6 +115,20 @@ func (p *probe) sendAll(asker asker) error {
 	}
 	counts, sentBefore, failedBefore := map[string]int{}, p.sent, p.failed
 	p.note(asker, first, counts)
+	if err := p.sendOthers(asker, counts); err != nil {
+		return err
+	}
+	fmt.Fprintf(p.out, "%s: %s\n", asker.name, countsAsText(counts))
+	sent, failed := p.sent-sentBefore, p.failed-failedBefore+counts[noAnswer]
+	if !p.isStopped && 2*failed > sent {
+		return fmt.Errorf("%w: %s: %d of %d requests have 5xx or no answer; does the daemon run?", errShown, asker.name, failed, sent)
+	}
+	return nil
+}
+
+// sendOthers sends all requests of `tries` but the first by an asker, and counts the answers, also in `counts` by their statuses. A request that the
+// protocol cannot send is not counted. It fails with errShown if one request is answered by 429 again and again.
+func (p *probe) sendOthers(asker asker, counts map[string]int) error {
 	for _, each := range tries[1:] {
 		answer, err := asker.send(p.base, each)
 		switch {
@@ -128,11 +141,6 @@ func (p *probe) sendAll(asker asker) error {
 		default:
 			p.note(asker, answer, counts)
 		}
-	}
-	fmt.Fprintf(p.out, "%s: %s\n", asker.name, countsAsText(counts))
-	sent, failed := p.sent-sentBefore, p.failed-failedBefore+counts[noAnswer]
-	if !p.isStopped && 2*failed > sent {
-		return fmt.Errorf("%w: %s: %d of %d requests have 5xx or no answer; does the daemon run?", errShown, asker.name, failed, sent)
 	}
 	return nil
 }

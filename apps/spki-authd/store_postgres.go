@@ -88,7 +88,7 @@ func openReader(options *storeOf, patience time.Duration) (reader, error) {
 		askChains: "SELECT text, (extract(epoch FROM until) * 1000000)::bigint FROM @.chains WHERE key = $1 ORDER BY until, digest",
 		askKeep:   "SELECT @.keep($1, $2, $3, $4, $5)",
 	} {
-		// (the name of the schema was checked)
+		// (`@` is the schema, whose name was checked)
 		opened.texts[ask] = strings.ReplaceAll(text, "@", options.Schema)
 	}
 	return opened, nil

@@ -154,8 +154,8 @@ func (w *writer) watch() {
 	}
 }
 
-// endLate ends the waiting of callers whose lines are late, and drops late batches of lines of write. A line of write that comes from now on is in a later
-// batch, so it has its whole time.
+// endLate ends the waiting of callers whose lines are late, and drops late batches that are not kept, which are those of write. A waiting batch that is not
+// kept takes no further line: so a line that is added from now on has its whole time. The timer calls it.
 func (w *writer) endLate() {
 	w.mutex.Lock()
 	defer w.mutex.Unlock()
@@ -180,8 +180,8 @@ func (w *writer) endLate() {
 	}
 }
 
-// giveUp ends the waiting for a batch, by errHangs, and says whether the batch is still to be written. Lines of write count as failed from then on. The
-// mutex is held.
+// giveUp ends the waiting for a late batch, with errHangs, and says whether the batch is still to be written. The first time, the lines of one that is not
+// kept count as failed. The mutex is held.
 func (w *writer) giveUp(late *batch) (isKept bool) {
 	w.isStuck.Store(true)
 	if !late.isKept && !late.isDone {
