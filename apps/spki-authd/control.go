@@ -35,8 +35,8 @@ const (
 // An order is a function that the daemon's main loop calls between two events, and the channel for its error. So reloads and reopenings, by orders or
 // by signals, come one after the other.
 type order struct {
-	call func(*daemon) error
-	done chan error
+	call   func(*daemon) error
+	result chan error
 }
 
 var (
@@ -120,7 +120,7 @@ func (d *daemon) inMain(call func(*daemon) error, patience time.Duration) error 
 	sent := order{call, make(chan error, 1)}
 	select {
 	case d.orders <- sent:
-		return <-sent.done
+		return <-sent.result
 	case <-time.After(patience):
 		return errMainBusy
 	}

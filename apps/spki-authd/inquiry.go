@@ -128,7 +128,7 @@ func (c *config) checkServer(request *http.Request) error {
 // their own. It fails with errSequence for both, for `SPKI` alone, and for a text that does not begin with `{`, and as headerValue does. Other
 // credentials in `Authorization` are passed over.
 func (c *config) sequenceOf(request *http.Request) (string, error) {
-	own, err := headerValue(request, c.Headers.Sequence)
+	inHeader, err := headerValue(request, c.Headers.Sequence)
 	if err != nil {
 		return "", err
 	}
@@ -136,16 +136,16 @@ func (c *config) sequenceOf(request *http.Request) (string, error) {
 	if err != nil {
 		return "", err
 	}
-	var sent string
+	var inCredentials string
 	if len(credentials) >= len(scheme) && strings.EqualFold(credentials[:len(scheme)], scheme) {
-		sent = strings.TrimLeft(credentials[len(scheme):], " ")
+		inCredentials = strings.TrimLeft(credentials[len(scheme):], " ")
 	} else if strings.EqualFold(credentials, strings.TrimSpace(scheme)) {
 		return "", errSequence
 	}
-	if own != "" && sent != "" {
+	if inHeader != "" && inCredentials != "" {
 		return "", errSequence
 	}
-	if sequence := own + sent; sequence == "" || strings.HasPrefix(sequence, "{") {
+	if sequence := inHeader + inCredentials; sequence == "" || strings.HasPrefix(sequence, "{") {
 		return sequence, nil
 	}
 	return "", errSequence

@@ -205,14 +205,14 @@ func (f *folderChains) read(key, name string, now time.Time) (removable []keptFi
 		return thisFile
 	}
 	if hasRoom {
-		return f.put(key, chain, now)
+		return f.keepInMemory(key, chain, now)
 	}
 	return nil
 }
 
-// put keeps a sequence in memory, in place of the same one if the key has that. Where room is needed, it takes sequences that have ended out of
-// memory, and returns their files, which the caller removes. `writing` is held, or no other goroutine has `f` yet.
-func (f *folderChains) put(key string, chain keptChain, now time.Time) []keptFile {
+// keepInMemory keeps a sequence in memory, in place of the same one if the key has that. Where room is needed, it takes sequences that have ended out
+// of memory, and returns their files, which the caller removes. `writing` is held, or no other goroutine has `f` yet.
+func (f *folderChains) keepInMemory(key string, chain keptChain, now time.Time) []keptFile {
 	f.mutex.Lock()
 	defer f.mutex.Unlock()
 	// (first, so that it is not among those that are returned: its file is now that of the new one)
@@ -363,7 +363,7 @@ func (f *folderChains) add(key string, chain keptChain, now time.Time) (answer, 
 	if err := f.write(key, chain); err != nil {
 		return answerFailed, err
 	}
-	f.remove(f.put(key, chain, now)...)
+	f.remove(f.keepInMemory(key, chain, now)...)
 	return answerKept, nil
 }
 

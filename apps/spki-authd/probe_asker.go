@@ -99,11 +99,11 @@ func askersOf(base *url.URL) ([]asker, error) {
 		newAsker("HTTP/1.1, a strange key", 1, strange), newAsker("HTTP/2, a strange key", 2, strange)}, nil
 }
 
-// newAsker returns an asker for a protocol, 1 for HTTP/1.1 or 2 for HTTP/2. `own` is its certificate for TLS, or nil. It follows no redirect.
-func newAsker(name string, protocol int, own *tls.Certificate) asker {
+// newAsker returns an asker for a protocol, 1 for HTTP/1.1 or 2 for HTTP/2. `certificate` is its own for TLS, or nil. It follows no redirect.
+func newAsker(name string, protocol int, certificate *tls.Certificate) asker {
 	settings := &tls.Config{RootCAs: rootsOfSite, NextProtos: []string{"http/1.1"}}
-	if own != nil {
-		settings.Certificates = []tls.Certificate{*own}
+	if certificate != nil {
+		settings.Certificates = []tls.Certificate{*certificate}
 	}
 	transport := &http.Transport{TLSClientConfig: settings, DisableCompression: true, ForceAttemptHTTP2: protocol == 2}
 	if protocol == 2 {
@@ -115,7 +115,7 @@ func newAsker(name string, protocol int, own *tls.Certificate) asker {
 	}
 	client := &http.Client{Transport: transport, Timeout: timeForAnswer}
 	client.CheckRedirect = func(*http.Request, []*http.Request) error { return http.ErrUseLastResponse }
-	return asker{name, protocol, own != nil, client}
+	return asker{name, protocol, certificate != nil, client}
 }
 
 // newStrangeCertificate makes a key that no server knows, and returns a certificate for TLS that this key has signed.

@@ -87,11 +87,11 @@ func (d *daemon) closeLedger() error {
 
 // withLedger has the writer of grants call a function between two writes, and returns its error, or errHangs if that does not end in time.
 func (d *daemon) withLedger(call func() error) error {
-	done := make(chan error, 1)
-	if !d.granted.do(func() { done <- call() }) {
+	result := make(chan error, 1)
+	if !d.granted.do(func() { result <- call() }) {
 		return errHangs
 	}
-	return <-done
+	return <-result
 }
 
 // serve is the main loop. It tells the service manager that the daemon is ready. Other goroutines answer the requests of a listener, while it does
@@ -115,7 +115,7 @@ func (d *daemon) serve(listener net.Listener) error {
 		case <-d.signals.reopen:
 			_ = d.reopen()
 		case order := <-d.orders:
-			order.done <- order.call(d)
+			order.result <- order.call(d)
 		case <-d.signals.end:
 			return d.end(listener, connections)
 		}

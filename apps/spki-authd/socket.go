@@ -99,8 +99,8 @@ func (c *config) groupOfSocket() (int, error) {
 	if err != nil || os.Geteuid() == 0 || number == os.Getegid() {
 		return number, err
 	}
-	own, err := os.Getgroups()
-	for _, each := range own {
+	groups, err := os.Getgroups()
+	for _, each := range groups {
 		if each == number {
 			return number, nil
 		}
