@@ -689,8 +689,8 @@ func TestKeptFiles(t *testing.T) {
 	}
 }
 
-// TestDiskThatHangs leaves a sequence where the disk does not answer: its file is a FIFO that nobody reads. Meanwhile currentOf returns what is kept for another
-// key, without waiting.
+// TestDiskThatHangs leaves a sequence where the disk does not answer: its file is a FIFO that nobody reads. Meanwhile currentOf returns what is kept
+// for another key, without waiting.
 func TestDiskThatHangs(t *testing.T) {
 	kept, err := openFolderChains(&chains{Folder: t.TempDir(), Days: 1, Each: 1, Keys: 9}, time.Now(), true)
 	if err != nil {
