@@ -24,7 +24,7 @@ type accessKeeper struct {
 	present atomic.Pointer[access]
 	last    atomic.Pointer[reloadOutcome]
 	// The reloads, of which the first is that of the start, and those that were refused.
-	all, refused atomic.Uint64
+	reloads, refused atomic.Uint64
 }
 
 // A reloadOutcome is when a reload ended, and why it was refused, or nil.
@@ -33,21 +33,22 @@ type reloadOutcome struct {
 	fault error
 }
 
-// readAccess reads the access lists of a configuration and its file of ended certificates. `now` is noted as the time of that. After an error no list in
-// a file stays open. A store is opened by the first call alone, and stays open.
+// readAccess reads the access lists of a configuration and its file of ended certificates. `now` is noted as the time of that. It fails if a file cannot
+// be read or is refused, or if the settings of a store are wrong: then no list in a file stays open. A store is opened by the first call alone, and stays
+// open.
 func readAccess(c *config, now time.Time) (*access, error) {
 	policy, err := policyOf(c.Policy)
 	if err != nil {
 		return nil, err
 	}
 	present := &access{ended: noneEnded, read: now}
-	for _, where := range c.scopes() {
-		opened, err := where.read(policy, c)
+	for _, scope := range c.scopes() {
+		opened, err := scope.read(policy, c)
 		if err != nil {
 			present.close()
 			return nil, err
 		}
-		opened.scope = where
+		opened.scope = scope
 		present.lists = append(present.lists, opened)
 	}
 	present.digest = present.digestOfLists()
@@ -73,8 +74,9 @@ func (a *access) readEnded(path string) error {
 	return err
 }
 
-// digestOfLists returns the stamp of the one list, or of several the SHA-256 digest, in hexadecimal digits, of a line for each with its host, prefix and
-// stamp. The stamp is the digest of a file, and names the last change of a store. Operators compare what is returned between daemons.
+// digestOfLists returns the stamp of a single list. For several lists it returns the SHA-256 digest, in hexadecimal digits, of a line for each, with its
+// host, prefix and stamp. The stamp of a list is the digest of its file, or names the last change of its store. Operators compare the result between
+// daemons.
 func (a *access) digestOfLists() string {
 	if len(a.lists) == 1 {
 		return a.lists[0].stamp()
@@ -143,7 +145,7 @@ func (a *access) checkStoresFresh() error {
 func (k *accessKeeper) reload(c *config, allowFewerEnded bool, now time.Time) error {
 	err := k.replace(c, allowFewerEnded, now)
 	k.last.Store(&reloadOutcome{now, err})
-	k.all.Add(1)
+	k.reloads.Add(1)
 	if err != nil {
 		k.refused.Add(1)
 	}

@@ -28,7 +28,7 @@ func newCache(most int) *cache {
 	return &cache{newRecentMap[digest, struct{}](most)}
 }
 
-// verifies says whether a signature is valid, and whether that was known before. What is not known is verified by `verify`, and kept if it is valid.
+// verifies says whether a signature is valid, and whether that was known before. One that is not known is verified by `verify`, and kept if it is valid.
 // `message` is the digest of signature.Message, which callers have.
 func (c *cache) verifies(signature guard.Signature, message digest, verify guard.Verify) (isValid, wasKnown bool) {
 	name := digestOf(signature, message)

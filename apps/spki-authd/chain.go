@@ -9,9 +9,9 @@ import (
 	"conguraki/spki/guard"
 )
 
-// open opens an access list of these entries with the policy and the limits of all lists. The entries are in canonical form, one behind the other, or
+// openList opens an access list of these entries with the policy and the limits of all lists. The entries are in canonical form, one behind the other, or
 // nil for none. The caller closes the guard.
-func (c *config) open(entries []byte) (*guard.Guard, error) {
+func (c *config) openList(entries []byte) (*guard.Guard, error) {
 	policy, err := policyOf(c.Policy)
 	if err != nil {
 		return nil, err
@@ -23,7 +23,7 @@ func (c *config) open(entries []byte) (*guard.Guard, error) {
 // verifies none. It fails with errUnkept if there is none, or if a certificate would not count even if all signatures were valid: so it marks them all as
 // valid, and asks the library for a reason. It also fails with the library's refusal of the sequence. `key` and `now` only complete the question.
 func (c *config) signaturesOf(sequence string, key guard.ProvenKey, now time.Time) ([]guard.Signature, error) {
-	empty, err := c.open(nil)
+	empty, err := c.openList(nil)
 	if err != nil {
 		return nil, err
 	}
@@ -60,7 +60,7 @@ func (c *config) namesKey(principal []byte, key guard.ProvenKey, now time.Time) 
 	if !bytes.HasPrefix(principal, []byte("(10:public-key")) && !bytes.HasPrefix(principal, []byte("(4:hash")) {
 		return false, nil
 	}
-	list, err := c.open([]byte("(5:entry" + string(principal) + "(3:tag(1:*)))"))
+	list, err := c.openList([]byte("(5:entry" + string(principal) + "(3:tag(1:*)))"))
 	if err != nil {
 		return false, err
 	}

@@ -55,9 +55,9 @@ func newKeys(name string) *keys {
 	return &keys{forms[name], newRecentMap[string, client](mostKeys)}
 }
 
-// of returns the client whose certificate a header has, or the error of keyOf. `text` is the header's value. The web server has verified that the client
-// holds the certificate's key.
-func (k *keys) of(text string) (client, error) {
+// holderOf returns the client whose certificate a header has. `text` is the header's value. The web server has verified that the client holds the
+// certificate's key. It fails with errCertificate or errKey, as keyOf does.
+func (k *keys) holderOf(text string) (client, error) {
 	if holder, isKept := k.clients.get(text); isKept {
 		return holder, nil
 	}
@@ -130,7 +130,7 @@ func fromXFCC(text string) ([]byte, error) {
 		if !isField {
 			return nil, errCertificate
 		}
-		value, rest, err := fieldOf(rest)
+		value, rest, err := cutValue(rest)
 		if err != nil {
 			return nil, err
 		}
@@ -145,10 +145,10 @@ func fromXFCC(text string) ([]byte, error) {
 	return fromEscapedPEM(certificates[0])
 }
 
-// fieldOf returns the value that a text begins with, in quotes or not, and what follows the semicolon behind the value. It fails with errCertificate for
+// cutValue returns the value that a text begins with, in quotes or not, and what follows the semicolon behind the value. It fails with errCertificate for
 // a quote without its end, for anything but a semicolon behind a value in quotes, and for a comma, a quote or a backslash in one without. A comma would
 // begin another element, which another proxy wrote.
-func fieldOf(text string) (value, rest string, err error) {
+func cutValue(text string) (value, rest string, err error) {
 	if !strings.HasPrefix(text, `"`) {
 		value, rest, _ = strings.Cut(text, ";")
 		if strings.ContainsAny(value, `,"\`) {

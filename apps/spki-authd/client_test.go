@@ -86,10 +86,10 @@ func TestKindsOfKeys(t *testing.T) {
 func TestKeysAreKept(t *testing.T) {
 	keys, alice := newKeys(escapedPEM), newPerson(t)
 	for turn := 0; turn < 2; turn++ {
-		if holder, err := keys.of(alice.escaped()); err != nil || holder.key.Text() != alice.key || holder.keyDigest != hexDigest([]byte(alice.key)) {
+		if holder, err := keys.holderOf(alice.escaped()); err != nil || holder.key.Text() != alice.key || holder.keyDigest != hexDigest([]byte(alice.key)) {
 			t.Errorf("turn %d: %v, %v", turn, holder, err)
 		}
-		if _, err := keys.of(alice.escaped() + "x"); err == nil {
+		if _, err := keys.holderOf(alice.escaped() + "x"); err == nil {
 			t.Error("what is no certificate is kept")
 		}
 	}

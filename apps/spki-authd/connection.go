@@ -27,7 +27,7 @@ type connectionServer struct {
 	// Whether the daemon ends. It is set before `end` gives the open connections their deadlines, so that each later setStage sets one too.
 	isEnding atomic.Bool
 	// Counts the open connections.
-	all sync.WaitGroup
+	connections sync.WaitGroup
 	// Closed after isShut, when the last connection is closed.
 	isEmpty chan struct{}
 }
@@ -68,8 +68,8 @@ const (
 )
 
 var (
-	errOther = errors.New("this is no request that a web server sends")
-	errSlow  = errors.New("the request did not end in time")
+	errNoRequest = errors.New("this is no request that a web server sends")
+	errSlow      = errors.New("the request did not end in time")
 )
 
 // newConnectionServer returns a server for the answers of a decider, with at most as many connections at once as its configuration allows.
@@ -78,8 +78,8 @@ func newConnectionServer(decider *decider) *connectionServer {
 	return &connectionServer{decider: decider, places: places, isShut: make(chan struct{}), open: map[net.Conn]*connectionState{}, isEmpty: make(chan struct{})}
 }
 
-// serve accepts connections until the listener is closed, and answers each in a goroutine of its own. Where as many are open as may be, an idle one is
-// closed for the next one, or the next one waits until any is closed.
+// serve accepts connections until the listener is closed, and answers the requests of each in a goroutine of its own. Where as many are open as may be,
+// an idle one is closed for the next one, or the next one waits until any is closed.
 func (s *connectionServer) serve(listener net.Listener) {
 	defer close(s.isShut)
 	go s.watch()
@@ -146,7 +146,7 @@ func (s *connectionServer) add(connection net.Conn) *connectionState {
 	s.mutex.Lock()
 	defer s.mutex.Unlock()
 	s.open[connection] = state
-	s.all.Add(1)
+	s.connections.Add(1)
 	return state
 }
 
@@ -156,7 +156,7 @@ func (s *connectionServer) remove(connection net.Conn) {
 	s.mutex.Lock()
 	defer s.mutex.Unlock()
 	delete(s.open, connection)
-	s.all.Done()
+	s.connections.Done()
 	<-s.places
 }
 
@@ -210,7 +210,7 @@ func (s *connectionServer) endLate(now time.Time) {
 	}
 }
 
-// endLate ends a connection if its time is over: by a deadline that has passed, its reads and writes fail.
+// endLate ends a connection if its time is over: by a deadline that has passed, its reads and writes fail. Before the first setStage it has no time.
 func (c *connectionState) endLate(now time.Time) {
 	c.mutex.Lock()
 	defer c.mutex.Unlock()
@@ -232,7 +232,7 @@ func (s *connectionServer) end(limit context.Context) error {
 	go func() {
 		// (once isShut is closed, no connection is added any more)
 		<-s.isShut
-		s.all.Wait()
+		s.connections.Wait()
 		close(s.isEmpty)
 	}()
 	select {
@@ -268,7 +268,7 @@ func (s *connectionServer) answerAll(state *connectionState) {
 			return
 		}
 		// (this waits for the first octet of a request)
-		if _, err := reader.all.Peek(1); err != nil || s.setStage(state, isBusy) != nil {
+		if _, err := reader.input.Peek(1); err != nil || s.setStage(state, isBusy) != nil {
 			return
 		}
 		isOpen = s.answerOne(connection, reader)
@@ -278,29 +278,29 @@ func (s *connectionServer) answerAll(state *connectionState) {
 // recoverPanic is deferred by answerAll: it stops a panic, and logs it. Then the connection is closed without an answer.
 func (s *connectionServer) recoverPanic() {
 	if fault := recover(); fault != nil {
-		s.decider.endAs(answerFailed, fmt.Errorf("panic: %v", fault))
+		s.decider.logFault(answerFailed, fmt.Errorf("panic: %v", fault))
 	}
 }
 
 // answerOne reads and answers one request, and says whether another one may follow on the connection. A request that does not end in time is logged
-// and gets no answer. What is no request, or one whose headers end early, is answered by `refused`. Only the answer to a PUT, by which certificates
-// are left, needs the body: any other body is dropped before. After a request with a body no other one may follow.
+// and gets no answer. Octets that are no request, and a request whose headers end early, are answered by `refused`. Only the answer to a PUT, by which
+// certificates are left, needs the body: any other body is dropped before. After a request with a body no other one may follow.
 func (s *connectionServer) answerOne(connection net.Conn, reader *requestReader) bool {
 	request, err := reader.next()
 	if err != nil && errors.Is(err, os.ErrDeadlineExceeded) {
-		s.decider.endAs(answerRefused, errSlow)
+		s.decider.logFault(answerRefused, errSlow)
 		return false
 	}
 	isLast, decision := true, record{}
 	if err != nil || request.ProtoMajor != 1 {
-		decision = s.decider.endAs(answerRefused, errOther)
+		decision = s.decider.logFault(answerRefused, errNoRequest)
 	} else {
 		isPut := s.decider.config.isPut(request)
 		hasOtherBody := !isPut && skipBody(request)
 		isLast = isPut || hasOtherBody || request.Close || !request.ProtoAtLeast(1, 1)
 		decision = s.decider.answerTo(request)
 		if isPut {
-			passOver(request)
+			dropBody(request)
 		}
 	}
 	isLast = isLast || s.isEnding.Load()
@@ -311,19 +311,19 @@ func (s *connectionServer) answerOne(connection net.Conn, reader *requestReader)
 	return err == nil && !isLast
 }
 
-// skipBody drops the body of a request as passOver does, and says whether it has one. Its caller reads no other request behind a body: so no part of
+// skipBody drops the body of a request as dropBody does, and says whether it has one. Its caller reads no other request behind a body: so no part of
 // what a web server takes for a body can be read as a request.
 func skipBody(request *http.Request) (hasBody bool) {
 	if request.ContentLength == 0 {
 		return false
 	}
-	passOver(request)
+	dropBody(request)
 	return true
 }
 
-// passOver reads and drops up to mostBody octets of a body, unless the client waits to be asked for it (`Expect`). Where octets are left unread when the
+// dropBody reads and drops up to mostBody octets of a body, unless the client waits to be asked for it (`Expect`). Where octets are left unread when the
 // connection is closed, the system may report that to the web server before it has read the answer.
-func passOver(request *http.Request) {
+func dropBody(request *http.Request) {
 	if request.Header.Get("Expect") == "" {
 		// (what is longer, or ends early, is left)
 		_, _ = io.CopyN(io.Discard, request.Body, mostBody)

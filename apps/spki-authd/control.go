@@ -35,8 +35,8 @@ const (
 // An order is a function that the daemon's main loop calls between two events, and the channel for its error. So reloads and reopenings, by orders or
 // by signals, come one after the other.
 type order struct {
-	call func(*daemon) error
-	done chan error
+	call   func(*daemon) error
+	result chan error
 }
 
 var (
@@ -95,8 +95,8 @@ func (d *daemon) answerOrder(connection net.Conn, limit time.Duration) {
 	fmt.Fprintf(connection, "%s\n%s", first, text)
 }
 
-// doOrder does an order, and returns the text of its answer, for some orders also with an error. It fails with errOrder for what is none of the
-// orders above, and as inMain does, with this patience.
+// doOrder does an order, and returns the text of its answer, for some orders also with an error. It fails with errOrder for a text that is no order,
+// with errMainBusy if the main loop is busy for longer than `patience`, and as what the order asks for does.
 func (d *daemon) doOrder(order string, patience time.Duration) (string, error) {
 	switch order {
 	case orderHealth:
@@ -120,7 +120,7 @@ func (d *daemon) inMain(call func(*daemon) error, patience time.Duration) error 
 	sent := order{call, make(chan error, 1)}
 	select {
 	case d.orders <- sent:
-		return <-sent.done
+		return <-sent.result
 	case <-time.After(patience):
 		return errMainBusy
 	}

@@ -127,7 +127,7 @@ func TestControlSocket(t *testing.T) {
 // TestBusyMainLoop sends orders to a daemon whose main loop takes none. Each is answered by errMainBusy before its connection ends, and not done.
 func TestBusyMainLoop(t *testing.T) {
 	busy := &daemon{decider: newSite(t, "").decider, orders: make(chan order)}
-	reloads := busy.keeper.all.Load()
+	reloads := busy.keeper.reloads.Load()
 	for _, order := range []string{orderReload, orderReopen} {
 		operator, connection := net.Pipe()
 		// (it waits for the main loop for a second, half of this time)
@@ -140,7 +140,7 @@ func TestBusyMainLoop(t *testing.T) {
 			t.Errorf("%s: %q, %v", order, octets, err)
 		}
 	}
-	if busy.keeper.all.Load() != reloads {
+	if busy.keeper.reloads.Load() != reloads {
 		t.Error("a reload was done")
 	}
 }

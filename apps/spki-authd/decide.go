@@ -101,13 +101,13 @@ func targetForLog(target string) string {
 
 // judge asks the guard of a host and a path whether a key may make the request in a record, and sets the record's answer, which is `no` before.
 // `path` is decoded. `sequence` is in transport form, or empty if no certificate is shown: then a denial is `unauthenticated`, since certificates may
-// help. If it cannot be decided, the answer is `no` where no list is for the host and the path, and else that of answerOf.
+// help. If it cannot be decided, the answer is `no` where no list is for the host and the path, and else `refused` or `failed`, as answerOf says.
 func (d *decider) judge(result *record, key guard.ProvenKey, path, sequence string, now time.Time) {
 	question := guard.Question{Key: key, Words: result.Request, Time: now}
 	var decision guard.Decision
 	var err error
 	// (decideKnown opens no question that explain could ask for reasons)
-	if verified := d.sequences.of(sequence); verified != nil && !d.config.Explain {
+	if verified := d.sequences.get(sequence); verified != nil && !d.config.Explain {
 		decision, err = d.decideKnown(result, question, path, verified)
 	} else {
 		decision, err = d.decideAnew(result, question, path, sequence)
@@ -124,8 +124,9 @@ func (d *decider) judge(result *record, key guard.ProvenKey, path, sequence stri
 	}
 }
 
-// decideKnown decides a question by a sequence whose signatures are known to be valid, and notes it in a record. A certificate that has ended early
-// counts as not verified, and so do those behind it. `question` has no sequence of its own.
+// decideKnown decides a question by a sequence whose signatures are known to be valid, and notes the sequence in a record. A certificate that has ended
+// early counts as not verified, and so do those behind it. `question` has no sequence of its own. It fails with errNoList or errBusy, if a store is stale
+// or cannot be read, or if the library refuses the question.
 func (d *decider) decideKnown(result *record, question guard.Question, path string, sequence *shownSequence) (guard.Decision, error) {
 	signatures, text := sequence.canonical()
 	valid := 0
@@ -134,7 +135,7 @@ func (d *decider) decideKnown(result *record, question guard.Question, path stri
 	whole := question
 	whole.Sequence = text
 	_, list, err := d.withList(&whole, result.Host, path, func(present *access, list *list) (err error) {
-		if valid, err = sequence.notEnded(present); err == nil {
+		if valid, err = sequence.countNotEnded(present); err == nil {
 			decision, err = list.guard.DecideVerified(question, signatures.First(valid))
 		}
 		return err
@@ -179,8 +180,9 @@ func (l *list) useAtGate(present *access, use func(present *access, list *list) 
 	return use(present, l)
 }
 
-// decideAnew decides a question by certificates whose signatures are not all known to be valid, and notes it in a record. With `explain` in the
-// configuration it decides by known ones too. `sequence` has the certificates in transport form, or is empty. `path` is decoded.
+// decideAnew decides a question by certificates whose signatures are not all known to be valid, and notes them in a record. With `explain` in the
+// configuration it decides by known ones too. `sequence` has the certificates in transport form, or is empty. `path` is decoded. It fails with errNoList
+// or errBusy, if a store is stale or cannot be read, or if the library refuses the question.
 func (d *decider) decideAnew(result *record, question guard.Question, path, sequence string) (decision guard.Decision, err error) {
 	question.Sequence = noCertificates
 	if sequence != "" {
@@ -195,7 +197,7 @@ func (d *decider) decideAnew(result *record, question guard.Question, path, sequ
 
 // decideBy is decideAnew by a list. It verifies signatures only if no certificate has ended early, and the request would be granted if all signatures
 // were valid: so a client that gets no right by them costs no verification. Otherwise the record counts those in front of the first ended one as not
-// verified. If all of them are valid, the sequence is kept for decideKnown.
+// verified. If all signatures are valid, the sequence is kept for decideKnown, by its text `sequence`.
 func (d *decider) decideBy(result *record, present *access, list *list, question guard.Question, sequence string) (guard.Decision, error) {
 	opened, err := list.guard.Ask(question)
 	if err != nil {
@@ -207,7 +209,7 @@ func (d *decider) decideBy(result *record, present *access, list *list, question
 		return guard.Decision{}, err
 	}
 	certificates := newShownSequence(signatures)
-	notEnded, err := certificates.notEnded(present)
+	notEnded, err := certificates.countNotEnded(present)
 	if err != nil {
 		return guard.Decision{}, err
 	}
@@ -267,7 +269,7 @@ func (d *decider) countValid(result *record, certificates *shownSequence, signat
 	return len(signatures)
 }
 
-// answerOf returns the answer to a request whose decision failed with an error: `refused` if it is the fault of what the client has sent, and otherwise
+// answerOf returns the answer to a request whose decision failed with an error: `refused` if the reason is what the client has sent, and otherwise
 // `failed`.
 func answerOf(err error) answer {
 	// (want of memory is a refusal by the library too)

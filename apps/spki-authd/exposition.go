@@ -10,26 +10,26 @@ type exposition struct {
 	strings.Builder
 }
 
-// family writes the two lines that precede the values of one metric. `name` lacks `spki_authd_`, here and below. `kind` is counter, gauge or histogram,
+// writeFamily writes the two lines that precede the values of one metric. `name` lacks `spki_authd_`, here and below. `kind` is counter, gauge or histogram,
 // and `help` is on one line, without a backslash.
-func (e *exposition) family(name, kind, help string) {
+func (e *exposition) writeFamily(name, kind, help string) {
 	fmt.Fprintf(e, "# HELP spki_authd_%s %s\n# TYPE spki_authd_%s %s\n", name, help, name, kind)
 }
 
-// value writes the line of one value of a metric. `labels` is as `{rule="1"}` or empty: no label has an octet that a client sends.
-func (e *exposition) value(name, labels string, value any) {
+// writeValue writes the line of one value of a metric. `labels` is as `{rule="1"}` or empty: no label has an octet that a client sends.
+func (e *exposition) writeValue(name, labels string, value any) {
 	fmt.Fprintf(e, "spki_authd_%s%s %v\n", name, labels, value)
 }
 
-// single writes all lines of a metric that has one value.
-func (e *exposition) single(name, kind, help string, value any) {
-	e.family(name, kind, help)
-	e.value(name, "", value)
+// writeSingle writes all lines of a metric that has one value.
+func (e *exposition) writeSingle(name, kind, help string, value any) {
+	e.writeFamily(name, kind, help)
+	e.writeValue(name, "", value)
 }
 
-// histogram writes all lines of a metric of times in seconds. Each bucket's value also counts the shorter times, as Prometheus requires.
-func (e *exposition) histogram(name, help string, times *histogram) {
-	e.family(name, "histogram", help)
+// writeHistogram writes all lines of a metric of times in seconds. Each bucket's value also counts the shorter times, as Prometheus requires.
+func (e *exposition) writeHistogram(name, help string, times *histogram) {
+	e.writeFamily(name, "histogram", help)
 	sum := uint64(0)
 	for place := range times.buckets {
 		sum += times.buckets[place].Load()
@@ -37,41 +37,41 @@ func (e *exposition) histogram(name, help string, times *histogram) {
 		if place < len(bounds) {
 			bound = fmt.Sprint(bounds[place].Seconds())
 		}
-		e.value(name+"_bucket", fmt.Sprintf("{le=%q}", bound), sum)
+		e.writeValue(name+"_bucket", fmt.Sprintf("{le=%q}", bound), sum)
 	}
-	e.value(name+"_sum", "", float64(times.nanoseconds.Load())/1e9)
-	e.value(name+"_count", "", sum)
+	e.writeValue(name+"_sum", "", float64(times.nanoseconds.Load())/1e9)
+	e.writeValue(name+"_count", "", sum)
 }
 
 // exposition returns all metrics of the daemon, in Prometheus' format. docs/OPERATING.md and bench/dashboard.py use their names.
 func (d *daemon) exposition() string {
 	text, present, last := new(exposition), d.keeper.present.Load(), d.keeper.last.Load()
-	text.family("decisions_total", "counter", "Answers by answer and by the number of the rule, which is 0 where no rule was reached.")
+	text.writeFamily("decisions_total", "counter", "Answers by answer and by the number of the rule, which is 0 where no rule was reached.")
 	for rule, counts := range d.counts.decisions {
 		for place := range counts {
-			text.value("decisions_total", fmt.Sprintf("{answer=%q,rule=\"%d\"}", answers[place], rule), counts[place].Load())
+			text.writeValue("decisions_total", fmt.Sprintf("{answer=%q,rule=\"%d\"}", answers[place], rule), counts[place].Load())
 		}
 	}
-	text.histogram("seconds", "The time of an answer, with its line in the log.", &d.counts.seconds)
-	text.family("signatures_total", "counter", "Signatures that were known to be valid, verified, or spared since they could change nothing.")
-	text.value("signatures_total", `{how="known"}`, d.counts.known.Load())
-	text.value("signatures_total", `{how="verified"}`, d.counts.verified.Load())
-	text.value("signatures_total", `{how="spared"}`, d.counts.spared.Load())
-	text.single("list_entries", "gauge", "Entries of all lists.", present.entries())
-	text.single("ended_certificates", "gauge", "Digests in the file of ended certificates.", present.ended.count)
-	text.family("state_info", "gauge", "The digests of the lists and of the ended certificates.")
-	text.value("state_info", fmt.Sprintf("{ended=%q,list=%q}", present.ended.digest, present.digestNow()), 1)
-	text.single("reloads_total", "counter", "Reloads, with that of the start.", d.keeper.all.Load())
-	text.single("reloads_refused_total", "counter", "Reloads that were refused.", d.keeper.refused.Load())
-	text.single("last_reload_refused", "gauge", "1 if the last reload was refused.", number(last.fault != nil))
-	text.single("read_timestamp_seconds", "gauge", "When the lists in force were read.", present.read.Unix())
-	text.single("start_timestamp_seconds", "gauge", "When the daemon was started.", d.begun.Unix())
-	text.single("clock_seconds", "gauge", "The time of the daemon's clock.", d.now().Unix())
-	text.single("clock_back_total", "counter", "How often the time of day went back.", d.clock.times.Load())
-	text.stores(present)
-	text.single("log_lines_total", "counter", "Lines in the log of grants.", d.granted.written.Load())
-	text.single("log_failures_total", "counter", "Grants that became 503, since their lines could not be written in time.", d.granted.failed.Load())
-	text.single("lines_lost_total", "counter", "Other lines that were dropped.", d.other.failed.Load()+d.other.dropped.Load())
+	text.writeHistogram("seconds", "The time of an answer, with its line in the log.", &d.counts.seconds)
+	text.writeFamily("signatures_total", "counter", "Signatures that were known to be valid, verified, or spared since they could change nothing.")
+	text.writeValue("signatures_total", `{how="known"}`, d.counts.known.Load())
+	text.writeValue("signatures_total", `{how="verified"}`, d.counts.verified.Load())
+	text.writeValue("signatures_total", `{how="spared"}`, d.counts.spared.Load())
+	text.writeSingle("list_entries", "gauge", "Entries of all lists.", present.entries())
+	text.writeSingle("ended_certificates", "gauge", "Digests in the file of ended certificates.", present.ended.count)
+	text.writeFamily("state_info", "gauge", "The digests of the lists and of the ended certificates.")
+	text.writeValue("state_info", fmt.Sprintf("{ended=%q,list=%q}", present.ended.digest, present.digestNow()), 1)
+	text.writeSingle("reloads_total", "counter", "Reloads, with that of the start.", d.keeper.reloads.Load())
+	text.writeSingle("reloads_refused_total", "counter", "Reloads that were refused.", d.keeper.refused.Load())
+	text.writeSingle("last_reload_refused", "gauge", "1 if the last reload was refused.", number(last.fault != nil))
+	text.writeSingle("read_timestamp_seconds", "gauge", "When the lists in force were read.", present.read.Unix())
+	text.writeSingle("start_timestamp_seconds", "gauge", "When the daemon was started.", d.begun.Unix())
+	text.writeSingle("clock_seconds", "gauge", "The time of the daemon's clock.", d.now().Unix())
+	text.writeSingle("clock_back_total", "counter", "How often the time of day went back.", d.clock.times.Load())
+	text.writeStores(present)
+	text.writeSingle("log_lines_total", "counter", "Lines in the log of grants.", d.granted.written.Load())
+	text.writeSingle("log_failures_total", "counter", "Grants that became 503, since their lines could not be written in time.", d.granted.failed.Load())
+	text.writeSingle("lines_lost_total", "counter", "Other lines that were dropped.", d.other.failed.Load()+d.other.dropped.Load())
 	return text.String()
 }
 

@@ -10,8 +10,8 @@ import (
 )
 
 // checkFields returns an error if an object in the text of a configuration has a field twice. encoding/json would take the last one, and a reader may
-// see the first. Names that it takes for the same, such as those in upper and lower case, count as one. What is no JSON is an error too, unless only
-// the end of the text is missing: parseConfig tests that.
+// see the first. Names that it treats as equal, such as those in upper and lower case, count as one. A text that is no JSON is an error too, unless
+// only its end is missing: parseConfig tests that.
 func checkFields(octets []byte) error {
 	decoder := json.NewDecoder(bytes.NewReader(octets))
 	var open []*object
@@ -28,29 +28,30 @@ func checkFields(octets []byte) error {
 			continue
 		}
 		if len(open) > 0 {
-			if err := open[len(open)-1].take(token); err != nil {
+			if err := open[len(open)-1].note(token); err != nil {
 				return err
 			}
 		}
 		if token == json.Delim('{') || token == json.Delim('[') {
-			open = append(open, &object{isNamed: token == json.Delim('{'), seen: map[string]bool{}})
+			open = append(open, &object{hasNames: token == json.Delim('{'), seen: map[string]bool{}})
 		}
 	}
 }
 
-// An object is what was read of an object or an array of JSON that is still open. isNamed is true for an object, and false for an array, which has no
+// An object is what was read of an object or an array of JSON that is still open. hasNames is true for an object, and false for an array, which has no
 // names. isValue is true where a value comes next, and seen has the names so far, in small letters.
 type object struct {
-	isNamed, isValue bool
-	seen             map[string]bool
+	hasNames, isValue bool
+	seen              map[string]bool
 }
 
-// take notes the next token of an object or an array, and fails if it is a name that the object has already. Of a nested object or array, its caller
+// note notes the next token of an object or an array, and fails if it is a name that the object has already. Of a nested object or array, its caller
 // passes the first token alone.
-func (o *object) take(token json.Token) error {
-	if !o.isNamed {
+func (o *object) note(token json.Token) error {
+	if !o.hasNames {
 		return nil
 	}
+	// (names and values alternate: if a value comes next now, this token is a name)
 	o.isValue = !o.isValue
 	if !o.isValue {
 		return nil

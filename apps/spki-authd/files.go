@@ -14,8 +14,8 @@ var (
 	errLong   = errors.New("more octets than may be")
 )
 
-// mustBeFile takes both results of Stat. It returns errNoFile if they are of no ordinary file, and the error of Stat if that failed.
-func mustBeFile(about fs.FileInfo, err error) error {
+// checkOrdinary takes both results of Stat. It returns errNoFile if they are of no ordinary file, and the error of Stat if that failed.
+func checkOrdinary(about fs.FileInfo, err error) error {
 	if err == nil && !about.Mode().IsRegular() {
 		err = errNoFile
 	}
@@ -25,7 +25,7 @@ func mustBeFile(about fs.FileInfo, err error) error {
 // readFile reads a file of at most `most` octets. It fails with errLong for a longer one, and with errNoFile for what is no ordinary file. That is tested
 // before it is opened: to open a FIFO would wait for a writer, and to open a device may have an effect.
 func readFile(path string, most int) ([]byte, error) {
-	if err := mustBeFile(os.Stat(path)); err != nil {
+	if err := checkOrdinary(os.Stat(path)); err != nil {
 		return nil, fmt.Errorf("%s: %w", path, err)
 	}
 	file, err := os.OpenFile(path, os.O_RDONLY|syscall.O_NONBLOCK, 0)
@@ -34,7 +34,7 @@ func readFile(path string, most int) ([]byte, error) {
 	}
 	defer file.Close()
 	// (another file may have been moved to the path since)
-	if err := mustBeFile(file.Stat()); err != nil {
+	if err := checkOrdinary(file.Stat()); err != nil {
 		return nil, fmt.Errorf("%s: %w", path, err)
 	}
 	octets, err := io.ReadAll(io.LimitReader(file, int64(most)+1))

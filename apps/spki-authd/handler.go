@@ -9,8 +9,8 @@ import (
 
 var errNotLogged = errors.New("the log of grants takes no line")
 
-// answerTo decides one request of the web server, and logs and counts the answer, which the caller sends. Whatever goes wrong is not 200, also if a
-// grant cannot be logged. The log has the time of the decision, and the counts that of the decision and its line in the log.
+// answerTo decides one request of the web server, and logs and counts the answer, which the caller sends. If anything fails, also the logging of a
+// grant, the status is not 200. The log has the time of the decision, and the counts that of the decision and its line in the log.
 func (d *decider) answerTo(request *http.Request) record {
 	begun := d.now()
 	result := d.answer(request, begun)
@@ -23,9 +23,9 @@ func (d *decider) answerTo(request *http.Request) record {
 	return result
 }
 
-// endAs logs and counts the answer to a request that cannot be read, or whose connection fails or panics, and returns its record. `fault` is the
-// reason. The time of the answer counts as 0.
-func (d *decider) endAs(answer answer, fault error) record {
+// logFault logs and counts the answer to a request that cannot be read, is too slow, or ends in a panic, and returns its record. `fault` is the reason.
+// The time of the answer counts as 0.
+func (d *decider) logFault(answer answer, fault error) record {
 	result := record{Time: stamp(d.now())}.withReason(answer, fault)
 	d.logAnswer(&result)
 	d.counts.note(&result, 0)

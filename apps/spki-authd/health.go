@@ -95,9 +95,9 @@ func (d *daemon) health() (string, error) {
 	d.clock.note(d.now())
 	var text strings.Builder
 	present, last := d.keeper.present.Load(), d.keeper.last.Load()
-	how, faults := "done", []string{}
+	outcome, faults := "done", []string{}
 	if last.fault != nil {
-		how = "refused: " + last.fault.Error()
+		outcome = "refused: " + last.fault.Error()
 		faults = append(faults, "the last reload was refused: "+last.fault.Error())
 	}
 	if d.granted.isFailing.Load() || d.granted.isStuck.Load() {
@@ -107,9 +107,9 @@ func (d *daemon) health() (string, error) {
 		return fmt.Sprintf("%s, %d s ago", stamp(since), int(d.now().Sub(since).Seconds()))
 	}
 	fmt.Fprintf(&text, "started: %s\n", age(d.begun))
-	fmt.Fprintf(&text, "last reload: %s, %s\n", age(last.at), how)
+	fmt.Fprintf(&text, "last reload: %s, %s\n", age(last.at), outcome)
 	// (the first reload is that of the start)
-	fmt.Fprintf(&text, "reloads: %d, refused %d\n", d.keeper.all.Load()-1, d.keeper.refused.Load())
+	fmt.Fprintf(&text, "reloads: %d, refused %d\n", d.keeper.reloads.Load()-1, d.keeper.refused.Load())
 	fmt.Fprintf(&text, "lists: %d, entries %d, read %s\nlist: %s\n", len(present.lists), present.entries(), age(present.read), present.digestNow())
 	fmt.Fprintf(&text, "ended: %d, %s\n", present.ended.count, present.ended.digest)
 	fmt.Fprintf(&text, "log of grants: lines %d, failures %d\n", d.granted.written.Load(), d.granted.failed.Load())

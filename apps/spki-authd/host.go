@@ -51,7 +51,7 @@ func isPort(text string) bool {
 	return len(text) <= 5
 }
 
-// isHost says whether a text of the configuration is a host in the form that hostOf returns, so that the two can be equal.
+// isHost says whether a text of the configuration is a host in the form that hostOf returns, so that it can equal the host of a request.
 func isHost(text string) bool {
 	host, err := hostOf(text)
 	return err == nil && host == text

@@ -15,7 +15,7 @@ const mostID = 64
 
 // An inquiry is what the web server asks the daemon about its client's request, as the headers of its own request say it.
 type inquiry struct {
-	// The method and the target of the client's request, and the header's value with the client's TLS certificate, which keys.of reads, or empty.
+	// The method and the target of the client's request, and the header's value with the client's TLS certificate, which keys.holderOf reads, or empty.
 	method, target, certificate string
 	// The client's SPKI certificates in transport form, or empty.
 	sequence string
@@ -37,8 +37,8 @@ var (
 	errTooLong  = errors.New("the headers have more octets than header_octets")
 )
 
-// inquiryOf reads what the web server asks from the headers of its request. With an error, one of those above or errHost, it returns what it has read
-// until then, for the log.
+// inquiryOf reads what the web server asks from the headers of its request. It fails with errSecret, errTooLong, errHeader, errHost, errPrefix or
+// errSequence, and then returns what it has read until then, for the log.
 func (c *config) inquiryOf(request *http.Request) (inquiry inquiry, err error) {
 	if err := c.checkServer(request); err != nil {
 		return inquiry, err
@@ -85,8 +85,8 @@ func (c *config) targetOf(request *http.Request) (string, error) {
 	return request.RequestURI[len(c.PathPrefix):], nil
 }
 
-// hostOf returns the host that the client asks for, in small letters without a port. Where neither a rule nor a list depends on the host, one that is
-// missing or not clear is returned empty, and is no error. A header that is there twice is an error always.
+// hostOf returns the host that the client asks for, in small letters without a port. If that is missing or not clear, it fails with errHost, or returns
+// an empty text where neither a rule nor a list depends on the host. For a header that is there twice it always fails with errHeader.
 func (c *config) hostOf(request *http.Request) (string, error) {
 	text := request.Host
 	if c.Headers.Host != "" {
@@ -128,7 +128,7 @@ func (c *config) checkServer(request *http.Request) error {
 // their own. It fails with errSequence for both, for `SPKI` alone, and for a text that does not begin with `{`, and as headerValue does. Other
 // credentials in `Authorization` are passed over.
 func (c *config) sequenceOf(request *http.Request) (string, error) {
-	own, err := headerValue(request, c.Headers.Sequence)
+	inHeader, err := headerValue(request, c.Headers.Sequence)
 	if err != nil {
 		return "", err
 	}
@@ -136,16 +136,16 @@ func (c *config) sequenceOf(request *http.Request) (string, error) {
 	if err != nil {
 		return "", err
 	}
-	var sent string
+	var inCredentials string
 	if len(credentials) >= len(scheme) && strings.EqualFold(credentials[:len(scheme)], scheme) {
-		sent = strings.TrimLeft(credentials[len(scheme):], " ")
+		inCredentials = strings.TrimLeft(credentials[len(scheme):], " ")
 	} else if strings.EqualFold(credentials, strings.TrimSpace(scheme)) {
 		return "", errSequence
 	}
-	if own != "" && sent != "" {
+	if inHeader != "" && inCredentials != "" {
 		return "", errSequence
 	}
-	if sequence := own + sent; sequence == "" || strings.HasPrefix(sequence, "{") {
+	if sequence := inHeader + inCredentials; sequence == "" || strings.HasPrefix(sequence, "{") {
 		return sequence, nil
 	}
 	return "", errSequence

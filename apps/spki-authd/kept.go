@@ -38,8 +38,9 @@ const (
 // A chainKeeper has the sequences of certificates that clients have left, in a folder or in a store. They give nothing by themselves: a request is decided
 // by them as if it showed them.
 type chainKeeper interface {
-	// of returns the sequences of a key that have not ended, by their ends. Here and below, `key` is the SHA-256 digest of a key in hexadecimal digits.
-	of(key string, now time.Time) ([]keptChain, error)
+	// currentOf returns the sequences of a key that have not ended, by their ends. Here and below, `key` is the SHA-256 digest of a key in hexadecimal
+	// digits.
+	currentOf(key string, now time.Time) ([]keptChain, error)
 	// whyNotAdded returns the answer to a sequence that add would not keep, or an empty one if add may keep it. It is asked before a signature is verified.
 	whyNotAdded(key string, chain keptChain, now time.Time) (answer, error)
 	// add keeps a sequence for a key, if there is room, and returns the answer to the client: `kept`, `known` or `full`, or `failed` with an error. No
@@ -51,7 +52,7 @@ type chainKeeper interface {
 type folderChains struct {
 	// The configuration, with the folder and the limits.
 	chains
-	// Held while files are written or removed, so that one goroutine at a time does that. `of` waits for no disk.
+	// Held while files are written or removed, so that one goroutine at a time does that. currentOf waits for no disk.
 	writing sync.Mutex
 	// Guards what follows.
 	mutex sync.Mutex
@@ -91,11 +92,11 @@ func (k keptChain) hasEnded(now time.Time) bool {
 	return !now.Before(k.until)
 }
 
-// notEnded returns those of some sequences that have not ended, in their order.
+// notEnded returns those of the sequences in `all` that have not ended at `now`, in their order.
 func notEnded(all []keptChain, now time.Time) (current []keptChain) {
-	for _, each := range all {
-		if !each.hasEnded(now) {
-			current = append(current, each)
+	for _, chain := range all {
+		if !chain.hasEnded(now) {
+			current = append(current, chain)
 		}
 	}
 	return current
@@ -120,9 +121,9 @@ func (c *chains) check(isSigned bool) error {
 	if !isInFolder && !isInStore || c.Days < 0 || c.Each < 0 || c.Keys < 0 {
 		return errors.New(`"chains" needs "folder", which is /PATH, or "postgres", and no limit may be negative`)
 	}
-	for place, usual := range map[*int]int{&c.Days: usualDays, &c.Each: usualEach, &c.Keys: usualKeys} {
-		if *place == 0 {
-			*place = usual
+	for limit, usual := range map[*int]int{&c.Days: usualDays, &c.Each: usualEach, &c.Keys: usualKeys} {
+		if *limit == 0 {
+			*limit = usual
 		}
 	}
 	if c.Postgres != nil {
@@ -131,8 +132,8 @@ func (c *chains) check(isSigned bool) error {
 	return nil
 }
 
-// openChains opens the folder or the store of the sequences that clients have left, or returns nil if the configuration has none. `now` and `mayRemove`
-// are those of openFolderChains.
+// openChains opens the folder or the store of the sequences that clients have left, or returns nil if the configuration has none. mayRemove says whether
+// files of sequences that are not needed at `now` may be removed. It fails as openFolderChains does, or if the settings of the store are wrong.
 func openChains(c *config, now time.Time, mayRemove bool) (chainKeeper, error) {
 	switch {
 	case c.Chains == nil:
@@ -147,9 +148,9 @@ func openChains(c *config, now time.Time, mayRemove bool) (chainKeeper, error) {
 	return newStoredChains(c.Chains, reader), nil
 }
 
-// openFolderChains reads the sequences of a folder. If mayRemove, it removes the files that `read` returns. mayRemove is false for -test, which
-// changes no file. A file that the daemon has not written is left out. It fails if the folder is none or cannot be read, or if others than its owner
-// may write it.
+// openFolderChains reads the sequences of a folder into memory. If mayRemove, it removes the files that are not needed: those of sequences that have
+// ended and whose room is needed, and those that were not written whole. mayRemove is false for -test, which changes no file. A file that the daemon
+// has not written is left out. It fails if the path is no folder, if the folder cannot be read, or if others than its owner may write it.
 func openFolderChains(c *chains, now time.Time, mayRemove bool) (*folderChains, error) {
 	opened := &folderChains{chains: *c, byKey: map[string][]keptChain{}}
 	about, err := os.Stat(c.Folder)
@@ -167,8 +168,9 @@ func openFolderChains(c *chains, now time.Time, mayRemove bool) (*folderChains, 
 		// (what is no folder, or cannot be read, is not the daemon's)
 		files, _ := os.ReadDir(filepath.Join(c.Folder, folder.Name()))
 		for _, file := range files {
-			if over := opened.read(folder.Name(), file.Name(), now); mayRemove {
-				opened.remove(over...)
+			removable := opened.read(folder.Name(), file.Name(), now)
+			if mayRemove {
+				opened.remove(removable...)
 			}
 		}
 	}
@@ -177,17 +179,17 @@ func openFolderChains(c *chains, now time.Time, mayRemove bool) (*folderChains, 
 
 // read reads the file of a sequence into memory, and returns the files that can be removed. That is this file, if it was not written whole and is
 // older than mostPart, or if its sequence has ended and has no room, or ended over f.Days days ago: a clock that is ahead by less loses none. Or it
-// is the files that put returns. `key` is the name of the file's folder. Without room for a sequence that has not ended, or if the daemon has not
-// written it, the file is left out and stays.
-func (f *folderChains) read(key, name string, now time.Time) (over []keptFile) {
-	path, own := filepath.Join(f.Folder, key, name), []keptFile{{key, name}}
+// is the files of ended sequences whose room this one takes. `key` is the name of the file's folder. Without room for a sequence that has not ended,
+// or if the daemon has not written it, the file is left out and stays.
+func (f *folderChains) read(key, name string, now time.Time) (removable []keptFile) {
+	path, thisFile := filepath.Join(f.Folder, key, name), []keptFile{{key, name}}
 	about, err := os.Stat(path)
 	if err != nil {
 		return nil
 	}
 	if partName.MatchString(name) {
 		if now.Sub(about.ModTime()) > mostPart {
-			return own
+			return thisFile
 		}
 		return nil
 	}
@@ -200,17 +202,17 @@ func (f *folderChains) read(key, name string, now time.Time) (over []keptFile) {
 	// (no other one gives way to one that has ended)
 	isFree := hasRoom && len(ended) == 0
 	if chain.hasEnded(now) && !isFree || chain.hasEnded(now.AddDate(0, 0, -f.Days)) {
-		return own
+		return thisFile
 	}
 	if hasRoom {
-		return f.put(key, chain, now)
+		return f.keepInMemory(key, chain, now)
 	}
 	return nil
 }
 
-// put keeps a sequence in memory, in place of the same one if the key has that. Where room is needed, it takes sequences that have ended out of
-// memory, and returns their files, which the caller removes. `writing` is held, or no other goroutine has `f` yet.
-func (f *folderChains) put(key string, chain keptChain, now time.Time) []keptFile {
+// keepInMemory keeps a sequence in memory, in place of the same one if the key has that. Where room is needed, it takes sequences that have ended out
+// of memory, and returns their files, which the caller removes. `writing` is held, or no other goroutine has `f` yet.
+func (f *folderChains) keepInMemory(key string, chain keptChain, now time.Time) []keptFile {
 	f.mutex.Lock()
 	defer f.mutex.Unlock()
 	// (first, so that it is not among those that are returned: its file is now that of the new one)
@@ -252,16 +254,18 @@ func (f *folderChains) remove(files ...keptFile) {
 }
 
 // roomFor says whether a key can have one more sequence, of so many octets, and returns the files of those that have ended and must be removed for
-// it: none if there is room, and otherwise those of this key, and then of others, until there is. The mutex is held, or no other goroutine has `f`
-// yet.
+// it: none if there is room, and otherwise those of this key, and then of others, until there is. It removes nothing itself. The mutex is held, or no
+// other goroutine has `f` yet.
 func (f *folderChains) roomFor(key string, octets int, now time.Time) (ended []keptFile, hasRoom bool) {
+	// (each without the sequences in `ended`: how many this key has, how many keys there are, and the octets of all with the new one)
 	own, keys, total := len(f.byKey[key]), len(f.byKey), f.octets+octets
 	isRoom := func() bool { return own < f.Each && (own > 0 || keys < f.Keys) && total <= mostLeft }
-	leaveOut := func(name string, chains []keptChain) {
+	// (adds the ended sequences of one key to `ended`, one after the other, until there is room)
+	leaveOut := func(owner string, chains []keptChain) {
 		for place := 0; place < len(chains) && chains[place].hasEnded(now) && !isRoom(); place++ {
-			ended = append(ended, keptFile{name, chains[place].name})
+			ended = append(ended, keptFile{owner, chains[place].name})
 			total -= len(chains[place].text)
-			if name == key {
+			if owner == key {
 				own--
 			}
 			if place == len(chains)-1 {
@@ -271,21 +275,22 @@ func (f *folderChains) roomFor(key string, octets int, now time.Time) (ended []k
 	}
 	leaveOut(key, f.byKey[key])
 	// (first those keys of which all have ended: only they make room for another key)
-	for _, isWhole := range []bool{true, false} {
-		for name, chains := range f.byKey {
+	for _, haveAllEnded := range []bool{true, false} {
+		for owner, chains := range f.byKey {
+			// (a key that itself has f.Each gets no room by the sequences of others)
 			if isRoom() || own >= f.Each {
 				break
 			}
-			if name != key && chains[len(chains)-1].hasEnded(now) == isWhole {
-				leaveOut(name, chains)
+			if owner != key && chains[len(chains)-1].hasEnded(now) == haveAllEnded {
+				leaveOut(owner, chains)
 			}
 		}
 	}
 	return ended, isRoom()
 }
 
-// whyNotBeside returns `known` if a sequence in transport form is among the others of its key, `full` if these are as many as may be, and otherwise an
-// empty answer.
+// whyNotBeside returns why a sequence in transport form cannot be kept beside the others of its key: `known` if it is among them, `full` if they are as
+// many as a key may have, and otherwise an empty answer.
 func (c *chains) whyNotBeside(others []keptChain, text string) answer {
 	for _, other := range others {
 		if other.text == text {
@@ -326,8 +331,8 @@ func endOf(text string) (end time.Time, hasEnd bool) {
 	return end, hasEnd
 }
 
-// of returns the sequences of a key that have not ended. It never fails.
-func (f *folderChains) of(key string, now time.Time) ([]keptChain, error) {
+// currentOf returns the sequences of a key that have not ended, by their ends. It never fails.
+func (f *folderChains) currentOf(key string, now time.Time) ([]keptChain, error) {
 	f.mutex.Lock()
 	defer f.mutex.Unlock()
 	return notEnded(f.byKey[key], now), nil
@@ -358,7 +363,7 @@ func (f *folderChains) add(key string, chain keptChain, now time.Time) (answer, 
 	if err := f.write(key, chain); err != nil {
 		return answerFailed, err
 	}
-	f.remove(f.put(key, chain, now)...)
+	f.remove(f.keepInMemory(key, chain, now)...)
 	return answerKept, nil
 }
 
@@ -388,9 +393,9 @@ func (f *folderChains) write(key string, chain keptChain) error {
 	return err
 }
 
-// judgeAll sets the answer of a record by the certificates that its request shows. Where it shows none and the list alone grants nothing, each
-// sequence that is kept for its key is tried, until one grants the request. If none does, and one could not be decided by, the answer is `failed`, as
-// it is if the kept ones cannot be read. `path` is decoded.
+// judgeAll sets the answer of a record by the certificates that its request shows. Where it shows none and the list alone denies it, each sequence
+// that is kept for its key is tried, until one grants the request. If none does, and the decision by one of them failed, the answer is `failed`. It is
+// also `failed` if the kept sequences cannot be read. `path` is decoded.
 func (d *decider) judgeAll(result *record, key guard.ProvenKey, path string, inquiry *inquiry, now time.Time) {
 	// (each sequence is tried with the record as it is before the first decision)
 	before := *result
@@ -398,7 +403,7 @@ func (d *decider) judgeAll(result *record, key guard.ProvenKey, path string, inq
 	if inquiry.sequence != "" || result.Answer != answerUnknown || d.chains == nil {
 		return
 	}
-	chains, err := d.chains.of(result.Key, now)
+	chains, err := d.chains.currentOf(result.Key, now)
 	if err != nil {
 		*result = before.withReason(answerFailed, err)
 		return

@@ -72,7 +72,7 @@ func (s *site) leaves(t testing.TB, who person, sequence string) (int, answer) {
 // keeps says whether any sequence that a client has left is kept for a person's key.
 func (s *site) keeps(t testing.TB, who person) bool {
 	t.Helper()
-	chains, err := s.chains.of(hexDigest([]byte(who.key)), s.now())
+	chains, err := s.chains.currentOf(hexDigest([]byte(who.key)), s.now())
 	if err != nil {
 		t.Fatal(err)
 	}
@@ -311,7 +311,7 @@ func heldBy(t *testing.T, kept *folderChains) string {
 func TestClockAhead(t *testing.T) {
 	kept, now := newFolderChains(t, 1, 2), time.Now()
 	count := func(at time.Time) int {
-		current, _ := kept.of("a", at)
+		current, _ := kept.currentOf("a", at)
 		return len(current)
 	}
 	mustAdd(t, kept, "a", "a1", now, answerKept)
@@ -408,7 +408,7 @@ func TestEndedAtStart(t *testing.T) {
 				t.Fatal(err)
 			}
 			files, _ := filepath.Glob(filepath.Join(kept.Folder, "*", "*"))
-			if current, _ := started.of("b", now); len(current) != 1 || (len(files) == 1) != mayRemove {
+			if current, _ := started.currentOf("b", now); len(current) != 1 || (len(files) == 1) != mayRemove {
 				t.Errorf("%s: %v, %v", ended, current, files)
 			}
 			if mayRemove && heldBy(t, started) != "current" {
@@ -560,7 +560,7 @@ func TestKeptChainsEnd(t *testing.T) {
 		if err != nil {
 			t.Fatal(err)
 		}
-		if current, _ := opened.of(hexDigest([]byte(s.bob.key)), now); len(current) != row[1] {
+		if current, _ := opened.currentOf(hexDigest([]byte(s.bob.key)), now); len(current) != row[1] {
 			t.Error(row, current)
 		}
 	}
@@ -576,7 +576,7 @@ func TestKeptChainsEnd(t *testing.T) {
 	}
 }
 
-// TestEndedFiles keeps one sequence, the same a year later, when it has ended, and the same for another key, which takes the only room. `of` touches
+// TestEndedFiles keeps one sequence, the same a year later, when it has ended, and the same for another key, which takes the only room. currentOf touches
 // no file, and after each `add` there is one file, that of the key.
 func TestEndedFiles(t *testing.T) {
 	s := newSiteWithChains(t)
@@ -587,11 +587,11 @@ func TestEndedFiles(t *testing.T) {
 	kept.Keys = 1
 	for place, key := range []string{bobsKey, carolsKey} {
 		now := begun.AddDate(place+1, 0, 0)
-		if current, _ := kept.of(bobsKey, now); current != nil || len(s.filesOfChains()) != 1 {
+		if current, _ := kept.currentOf(bobsKey, now); current != nil || len(s.filesOfChains()) != 1 {
 			t.Error(current, s.filesOfChains())
 		}
 		mustAdd(t, kept, key, long, now, answerKept)
-		current, _ := kept.of(key, now)
+		current, _ := kept.currentOf(key, now)
 		if files := s.filesOfChains(); len(current) != 1 || len(files) != 1 || filepath.Base(filepath.Dir(files[0])) != key {
 			t.Error(current, files)
 		}
@@ -698,8 +698,8 @@ func TestChainSettings(t *testing.T) {
 	}
 }
 
-// TestDiskThatHangs leaves a sequence where the disk does not answer: its file is a FIFO that nobody reads. Meanwhile `of` returns what is kept for another
-// key, without waiting.
+// TestDiskThatHangs leaves a sequence where the disk does not answer: its file is a FIFO that nobody reads. Meanwhile currentOf returns what is kept
+// for another key, without waiting.
 func TestDiskThatHangs(t *testing.T) {
 	kept, err := openFolderChains(&chains{Folder: t.TempDir(), Days: 1, Each: 1, Keys: 9}, time.Now(), true)
 	if err != nil {
@@ -724,13 +724,13 @@ func TestDiskThatHangs(t *testing.T) {
 		time.Sleep(time.Millisecond)
 	}
 	go func() {
-		kept.of("b", time.Now())
+		kept.currentOf("b", time.Now())
 		close(returned)
 	}()
 	select {
 	case <-returned:
 	case <-time.After(time.Second):
-		t.Error("`of` waits for the disk")
+		t.Error("currentOf waits for the disk")
 	}
 	reader, err := os.OpenFile(path, os.O_RDONLY|syscall.O_NONBLOCK, 0)
 	if err != nil {

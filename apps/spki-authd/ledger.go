@@ -41,7 +41,8 @@ type file interface {
 // The mode of a new ledger, from which the daemon's umask takes rights away: its owner may write and its group may read.
 const modeOfLedger = 0o640
 
-// openLedger opens the ledger at a path, or makes it. `syncs` is syncNever, syncSeconds or syncEach. The errors are those of open.
+// openLedger opens the ledger at a path, or makes it. `syncs` is syncNever, syncSeconds or syncEach. It fails if it cannot, if that is no ordinary file, if
+// another daemon writes it, or if fsync fails for its folder.
 func openLedger(path, syncs string) (*ledger, error) {
 	opened := &ledger{path: path, syncs: syncs}
 	return opened, opened.open()
@@ -194,7 +195,8 @@ func (l *ledger) reopen() error {
 	return l.replace()
 }
 
-// replace opens the path, and closes the old file. Its errors are those of reopen.
+// replace opens the path, and closes the old file. If the path cannot be opened, the old file stays open. Another error says that the new file is open, and
+// that the last lines of the old one may not be on the disk.
 func (l *ledger) replace() error {
 	old := *l
 	if err := l.open(); err != nil {

@@ -28,25 +28,24 @@ var (
 	errSubject = fmt.Errorf("%w: the subject of the last one is not the key that has signed the request", errUnkept)
 )
 
-// isPut says whether leavingOf is to read a request, and not inquiryOf. A web server that names the client's method in a header asks by GET: from it each
-// PUT is read by leavingOf. Envoy asks by the client's method: from it only a PUT to the path of certificates is.
+// isPut says whether a request is read as one that leaves certificates, by leavingOf, and not as an inquiry, by inquiryOf. A web server that names the
+// client's method in a header asks by GET: from it each PUT is. Envoy asks by the client's method: from it only a PUT to the path of certificates is.
 func (c *config) isPut(request *http.Request) bool {
-	return request.Method == http.MethodPut && (c.Headers.Method != "" || c.isPlace(request))
+	return request.Method == http.MethodPut && (c.Headers.Method != "" || c.isForChains(request))
 }
 
-// isPlace says whether a request is for the path to which certificates are put.
-func (c *config) isPlace(request *http.Request) bool {
+// isForChains says whether a request is for the path to which certificates are put.
+func (c *config) isForChains(request *http.Request) bool {
 	return c.Chains != nil && request.RequestURI == c.Chains.Path
 }
 
-// leavingOf reads a request that leaves certificates, with its body. With an error it returns what it has read until then, for the log. The error is
-// errPlace if the target is not the path for certificates, errHost if the host is missing or not clear, or that of inquiryOf, bodyOf or
-// sequenceInBody.
+// leavingOf reads a request that leaves certificates, with its body. It fails with errSecret, errPlace if the target is not the path for certificates,
+// errTooLong, errHeader, errHost, errLength or errChain, and then returns what it has read until then, for the log.
 func (c *config) leavingOf(request *http.Request) (inquiry inquiry, err error) {
 	if err := c.checkServer(request); err != nil {
 		return inquiry, err
 	}
-	if !c.isPlace(request) {
+	if !c.isForChains(request) {
 		return inquiry, errPlace
 	}
 	if octetsOf(request.Header) > c.Limits.HeaderOctets {
@@ -94,8 +93,8 @@ func sequenceInBody(body []byte) (string, error) {
 }
 
 // keepCertificates keeps the certificates that a client leaves, and returns the record with the answer. `key` is the one that has signed the request, by
-// `proof`. Strangers can leave certificates too, of keys that they made. So these requests have nonces of their own, and no signature is verified where
-// the sequence is known or has no room.
+// `proof`. Strangers can leave certificates too, of keys that they made. So these requests have nonces of their own, and no signature of a certificate
+// is verified where the sequence is known or has no room.
 func (d *decider) keepCertificates(result record, key guard.ProvenKey, proof *httpsig.Proof, inquiry *inquiry) record {
 	result.Target = inquiry.target
 	if err := d.requests.leaving.Take(proof); err != nil {
@@ -122,7 +121,7 @@ func (d *decider) keepCertificates(result record, key guard.ProvenKey, proof *ht
 }
 
 // checkCertificates returns why a sequence is not kept for a key, or nil: a certificate is not signed or has ended early, or the subject of the last
-// one is not the key. It also fails as signaturesOf, and if a store is stale. The record gets the digests of the certificates.
+// one is not the key. It also fails as signaturesOf does, and if a store is stale. The record gets the digests of the certificates.
 func (d *decider) checkCertificates(result *record, key guard.ProvenKey, sequence string) error {
 	signatures, err := d.config.signaturesOf(sequence, key, d.now())
 	if err != nil {
@@ -130,7 +129,7 @@ func (d *decider) checkCertificates(result *record, key guard.ProvenKey, sequenc
 	}
 	certificates := newShownSequence(signatures)
 	result.Certificates = certificates.names
-	notEnded, err := certificates.notEnded(d.keeper.present.Load())
+	notEnded, err := certificates.countNotEnded(d.keeper.present.Load())
 	if err != nil {
 		return err
 	}

@@ -85,7 +85,7 @@ func (c *config) listen() (net.Listener, error) {
 		listener, err = c.openEntrance()
 	}
 	if err == nil {
-		err = widen(listener)
+		err = lengthenQueue(listener)
 	}
 	if err != nil {
 		return nil, closeAfter(listener, err)
@@ -93,7 +93,7 @@ func (c *config) listen() (net.Listener, error) {
 	if c.TLS == nil {
 		return listener, nil
 	}
-	return c.TLS.around(listener), nil
+	return c.TLS.wrap(listener), nil
 }
 
 // closeAfter closes a listener, if it is not nil, and returns the fault that it is given.
@@ -114,7 +114,7 @@ func (c *config) openEntrance() (net.Listener, error) {
 	if err != nil {
 		return nil, err
 	}
-	if err := c.setOwner(path); err != nil {
+	if err := c.setGroupAndMode(path); err != nil {
 		return nil, closeAfter(listener, err)
 	}
 	return listener, nil

@@ -17,36 +17,37 @@ var rooms = sync.Pool{New: func() any {
 }}
 
 // line returns the record as a line of JSON with its line feed, in `room`, which is overwritten, or in a new buffer if `room` is too small. The line has
-// the octets that encoding/json would write, but encoding/json takes four times as long.
+// the octets that encoding/json would write, but encoding/json takes four times as long. The last argument of addText and addNumber says whether an
+// empty field is written too.
 func (r *record) line(room []byte) []byte {
 	line := fields(room[:0])
-	line.text("time", r.Time, true)
-	line.text("id", r.ID, false)
-	line.text("host", r.Host, false)
-	line.text("address", r.Address, false)
-	line.text("answer", string(r.Answer), true)
-	line.number("status", int64(r.Status), true)
-	line.text("key", r.Key, false)
-	line.text("proof", r.Proof, false)
-	line.text("kept", r.Kept, false)
-	line.texts("request", r.Request)
-	line.number("entry", int64(r.Entry), false)
-	line.texts("certificates", r.Certificates)
-	line.number("cached", int64(r.Cached), false)
-	line.number("unverified", int64(r.Unverified), false)
-	line.text("list", r.List, false)
-	line.text("reason", r.Reason, false)
-	line.text("reasons", r.Reasons, false)
-	line.text("target", r.Target, false)
-	line.number("microseconds", r.Microseconds, true)
+	line.addText("time", r.Time, true)
+	line.addText("id", r.ID, false)
+	line.addText("host", r.Host, false)
+	line.addText("address", r.Address, false)
+	line.addText("answer", string(r.Answer), true)
+	line.addNumber("status", int64(r.Status), true)
+	line.addText("key", r.Key, false)
+	line.addText("proof", r.Proof, false)
+	line.addText("kept", r.Kept, false)
+	line.addTexts("request", r.Request)
+	line.addNumber("entry", int64(r.Entry), false)
+	line.addTexts("certificates", r.Certificates)
+	line.addNumber("cached", int64(r.Cached), false)
+	line.addNumber("unverified", int64(r.Unverified), false)
+	line.addText("list", r.List, false)
+	line.addText("reason", r.Reason, false)
+	line.addText("reasons", r.Reasons, false)
+	line.addText("target", r.Target, false)
+	line.addNumber("microseconds", r.Microseconds, true)
 	return append(line, "}\n"...)
 }
 
 // fields are the text of an object of JSON up to some field, without the brace that ends it.
 type fields []byte
 
-// name writes the name of the next field, behind a comma, or behind the brace that begins the object.
-func (f *fields) name(name string) {
+// addName writes the name of the next field, behind a comma, or behind the brace that begins the object.
+func (f *fields) addName(name string) {
 	begin := byte(',')
 	if len(*f) == 0 {
 		begin = '{'
@@ -54,39 +55,39 @@ func (f *fields) name(name string) {
 	*f = append(append(append(*f, begin, '"'), name...), '"', ':')
 }
 
-// text writes a field with a text. An empty text is left out, unless isNeeded.
-func (f *fields) text(name, value string, isNeeded bool) {
+// addText writes a field with a text. An empty text is left out, unless isNeeded.
+func (f *fields) addText(name, value string, isNeeded bool) {
 	if value != "" || isNeeded {
-		f.name(name)
-		f.string(value)
+		f.addName(name)
+		f.addString(value)
 	}
 }
 
-// texts writes a field with an array of texts, if there are any.
-func (f *fields) texts(name string, values []string) {
+// addTexts writes a field with an array of texts, if there are any.
+func (f *fields) addTexts(name string, values []string) {
 	if len(values) == 0 {
 		return
 	}
-	f.name(name)
+	f.addName(name)
 	before := byte('[')
 	for _, value := range values {
 		*f = append(*f, before)
-		f.string(value)
+		f.addString(value)
 		before = ','
 	}
 	*f = append(*f, ']')
 }
 
-// number writes a field with a number. Zero is left out, unless isNeeded.
-func (f *fields) number(name string, value int64, isNeeded bool) {
+// addNumber writes a field with a number. Zero is left out, unless isNeeded.
+func (f *fields) addNumber(name string, value int64, isNeeded bool) {
 	if value != 0 || isNeeded {
-		f.name(name)
+		f.addName(name)
 		*f = strconv.AppendInt(*f, value, 10)
 	}
 }
 
-// string writes a text as a JSON string. If a character of it may need an escape, encoding/json writes it.
-func (f *fields) string(value string) {
+// addString writes a text as a JSON string. If a character of it may need an escape, encoding/json writes it.
+func (f *fields) addString(value string) {
 	if isPlain(value) {
 		*f = append(append(append(*f, '"'), value...), '"')
 		return

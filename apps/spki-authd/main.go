@@ -105,8 +105,8 @@ func run(arguments []string, out, messages io.Writer) int {
 	return statusDone
 }
 
-// wordsOf reads the words of the command line, without the program's name. What is wrong in them is the error, and is written to `messages` too. For -help
-// it writes the help there, and fails with flag.ErrHelp.
+// wordsOf reads the words of the command line, without the program's name. The error says what is wrong in them, and is written to `messages` too. For
+// -help it writes the help there, and fails with flag.ErrHelp.
 func wordsOf(arguments []string, messages io.Writer) (words, error) {
 	var words words
 	flags := flag.NewFlagSet("spki-authd", flag.ContinueOnError)

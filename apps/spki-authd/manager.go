@@ -60,12 +60,12 @@ func inheritedSocket() (net.Listener, error) {
 // or checkMode does for its present group and mode.
 func (c *config) checkInherited(listener net.Listener) error {
 	address := listener.Addr()
-	wanted := unixScheme + address.String()
+	inherited := unixScheme + address.String()
 	if address.Network() != "unix" {
-		wanted = tlsScheme + address.String()
+		inherited = tlsScheme + address.String()
 	}
-	if c.Listen != wanted {
-		return fmt.Errorf(`the service manager hands over %s, and "listen" is %q`, wanted, c.Listen)
+	if c.Listen != inherited {
+		return fmt.Errorf(`the service manager hands over %s, and "listen" is %q`, inherited, c.Listen)
 	}
 	path := strings.TrimPrefix(c.Listen, unixScheme)
 	if path == c.Listen {

@@ -44,7 +44,7 @@ const (
 // method, another host, too many requests, too long a header, and a method or a version that the server does not have.
 var denials = map[int]bool{400: true, 401: true, 403: true, 405: true, 421: true, 429: true, 431: true, 501: true, 505: true}
 
-// verdictOf says what the status of an answer means. What is neither a denial nor 5xx counts as granted, also 301, 304, 404, 409, 412 and 416: a server
+// verdictOf says what the status of an answer means. One that is neither a denial nor 5xx counts as granted, also 301, 304, 404, 409, 412 and 416: a server
 // answers these after a yes.
 func verdictOf(status int) verdict {
 	switch {
@@ -94,51 +94,59 @@ func baseOf(address string) (*url.URL, error) {
 	return base, nil
 }
 
-// sendAll sends all of `tries` by an asker, and prints how often each status was the answer. It leaves an asker out, and prints why, if the server
-// lacks its protocol, or if it may fail and gets no first answer. It fails if any other asker gets none, and with errShown if one request is answered
-// by 429 again and again. Without -stopped it also fails with errShown if the first answer is 5xx, or if most requests have 5xx or no answer. A
-// request that the protocol cannot send is not counted.
-func (p *probe) sendAll(by asker) error {
-	first, err := by.send(p.base, tries[0])
-	if err != nil && by.mayFail && !errors.Is(err, errShown) {
-		fmt.Fprintf(p.out, "%s: left out, the server gives no answer: %v\n", by.name, err)
+// sendAll sends all requests of `tries` by an asker, and prints how often each status was the answer. It leaves an asker out, and prints why, if the server
+// lacks its protocol, or if it may fail and gets no first answer. It fails if another asker gets no first answer, and with errShown if a request is
+// answered by 429 again and again. Without -stopped it also fails with errShown if the first answer is 5xx, or if most requests have 5xx or no answer.
+func (p *probe) sendAll(asker asker) error {
+	first, err := asker.send(p.base, tries[0])
+	if err != nil && asker.mayFail && !errors.Is(err, errShown) {
+		fmt.Fprintf(p.out, "%s: left out, the server gives no answer: %v\n", asker.name, err)
 		return nil
 	}
 	if err != nil {
-		return fmt.Errorf("%s: %w", by.name, err)
+		return fmt.Errorf("%s: %w", asker.name, err)
 	}
-	if by.protocol != first.protocol {
-		fmt.Fprintf(p.out, "%s: left out, the server has no such protocol\n", by.name)
+	if asker.protocol != first.protocol {
+		fmt.Fprintf(p.out, "%s: left out, the server has no such protocol\n", asker.name)
 		return nil
 	}
 	if !p.isStopped && verdictOf(first.status) == isFailed {
-		return fmt.Errorf("%w: %s: %s is %d; does the daemon run?", errShown, by.name, tries[0].method, first.status)
+		return fmt.Errorf("%w: %s: %s is %d; does the daemon run?", errShown, asker.name, tries[0].method, first.status)
 	}
 	counts, sentBefore, failedBefore := map[string]int{}, p.sent, p.failed
-	p.note(by, first, counts)
+	p.note(asker, first, counts)
+	if err := p.sendOthers(asker, counts); err != nil {
+		return err
+	}
+	fmt.Fprintf(p.out, "%s: %s\n", asker.name, countsAsText(counts))
+	sent, failed := p.sent-sentBefore, p.failed-failedBefore+counts[noAnswer]
+	if !p.isStopped && 2*failed > sent {
+		return fmt.Errorf("%w: %s: %d of %d requests have 5xx or no answer; does the daemon run?", errShown, asker.name, failed, sent)
+	}
+	return nil
+}
+
+// sendOthers sends all requests of `tries` but the first by an asker, and counts the answers, also in `counts` by their statuses. A request that the
+// protocol cannot send is not counted. It fails with errShown if one request is answered by 429 again and again.
+func (p *probe) sendOthers(asker asker, counts map[string]int) error {
 	for _, each := range tries[1:] {
-		answer, err := by.send(p.base, each)
+		answer, err := asker.send(p.base, each)
 		switch {
 		case errors.Is(err, errNotSent):
 		case errors.Is(err, errShown):
-			return fmt.Errorf("%s: %w", by.name, err)
+			return fmt.Errorf("%s: %w", asker.name, err)
 		case err != nil:
 			p.sent++
 			counts[noAnswer]++
 		default:
-			p.note(by, answer, counts)
+			p.note(asker, answer, counts)
 		}
-	}
-	fmt.Fprintf(p.out, "%s: %s\n", by.name, countsAsText(counts))
-	sent, failed := p.sent-sentBefore, p.failed-failedBefore+counts[noAnswer]
-	if !p.isStopped && 2*failed > sent {
-		return fmt.Errorf("%w: %s: %d of %d requests have 5xx or no answer; does the daemon run?", errShown, by.name, failed, sent)
 	}
 	return nil
 }
 
 // note counts an answer, also in `counts` by its status, and prints its request if that was granted, in a line that begins with `granted: `.
-func (p *probe) note(by asker, answer probeAnswer, counts map[string]int) {
+func (p *probe) note(asker asker, answer probeAnswer, counts map[string]int) {
 	p.sent++
 	counts[fmt.Sprint(answer.status)]++
 	switch verdictOf(answer.status) {
@@ -146,7 +154,7 @@ func (p *probe) note(by asker, answer probeAnswer, counts map[string]int) {
 		p.failed++
 	case isGranted:
 		p.granted++
-		fmt.Fprintf(p.out, "granted: %s %s is %d: %s%s\n", answer.try.method, answer.target, answer.status, by.name, answer.hintToRemove())
+		fmt.Fprintf(p.out, "granted: %s %s is %d: %s%s\n", answer.try.method, answer.target, answer.status, asker.name, answer.hintToRemove())
 	}
 }
 
@@ -184,8 +192,8 @@ func countsAsText(counts map[string]int) string {
 	return strings.Join(names, ", ")
 }
 
-// header returns the headers of a try. `second` is the name of the second path, for methods that have one: COPY and MOVE. `Overwrite: F` has them keep what
-// is there.
+// header returns the headers of a try. `second` is the name of the second path, for methods that have one: COPY and MOVE. `Overwrite: F` keeps them from
+// replacing what is there.
 func (t try) header(base *url.URL, second string) http.Header {
 	header := http.Header{"User-Agent": {"spki-authd -probe"}}
 	for name, value := range t.more {

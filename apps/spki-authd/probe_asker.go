@@ -23,7 +23,7 @@ type try struct {
 	// Further headers, by their names.
 	more map[string]string
 	// Whether it would make a file if it were granted, whether it names a second path, and whether only HTTP/1.1 can send it for a path: CONNECT.
-	makes, hasSecond, isOld bool
+	makes, hasSecond, needsHTTP1 bool
 }
 
 // The body of what writes, and of a lock by WebDAV.
@@ -35,7 +35,7 @@ const (
 // tries are all requests: each method for a plain name, and names that a web server may have rules of their own for.
 var tries = append([]try{
 	{method: "GET"}, {method: "HEAD"}, {method: "POST", body: textBody, makes: true}, {method: "PUT", body: textBody, makes: true},
-	{method: "PATCH", body: textBody, makes: true}, {method: "DELETE"}, {method: "OPTIONS"}, {method: "TRACE"}, {method: "CONNECT", isOld: true},
+	{method: "PATCH", body: textBody, makes: true}, {method: "DELETE"}, {method: "OPTIONS"}, {method: "TRACE"}, {method: "CONNECT", needsHTTP1: true},
 	{method: "PROPFIND", more: map[string]string{"Depth": "0"}}, {method: "MKCOL", makes: true}, {method: "MKCOL", path: "{}/", makes: true},
 	{method: "COPY", hasSecond: true, makes: true}, {method: "MOVE", hasSecond: true, makes: true},
 	{method: "LOCK", body: lockBody, makes: true, more: map[string]string{"Depth": "0"}}, {method: "UNLOCK"}, {method: "REPORT"}, {method: "SEARCH"},
@@ -91,7 +91,7 @@ func askersOf(base *url.URL) ([]asker, error) {
 	if base.Scheme == "http" {
 		return []asker{newAsker("HTTP/1.1 without TLS", 1, nil)}, nil
 	}
-	strange, err := newStrange()
+	strange, err := newStrangeCertificate()
 	if err != nil {
 		return nil, err
 	}
@@ -99,11 +99,11 @@ func askersOf(base *url.URL) ([]asker, error) {
 		newAsker("HTTP/1.1, a strange key", 1, strange), newAsker("HTTP/2, a strange key", 2, strange)}, nil
 }
 
-// newAsker returns an asker for a protocol, 1 for HTTP/1.1 or 2 for HTTP/2. `own` is its certificate for TLS, or nil. It follows no redirect.
-func newAsker(name string, protocol int, own *tls.Certificate) asker {
+// newAsker returns an asker for a protocol, 1 for HTTP/1.1 or 2 for HTTP/2. `certificate` is its own for TLS, or nil. It follows no redirect.
+func newAsker(name string, protocol int, certificate *tls.Certificate) asker {
 	settings := &tls.Config{RootCAs: rootsOfSite, NextProtos: []string{"http/1.1"}}
-	if own != nil {
-		settings.Certificates = []tls.Certificate{*own}
+	if certificate != nil {
+		settings.Certificates = []tls.Certificate{*certificate}
 	}
 	transport := &http.Transport{TLSClientConfig: settings, DisableCompression: true, ForceAttemptHTTP2: protocol == 2}
 	if protocol == 2 {
@@ -115,11 +115,11 @@ func newAsker(name string, protocol int, own *tls.Certificate) asker {
 	}
 	client := &http.Client{Transport: transport, Timeout: timeForAnswer}
 	client.CheckRedirect = func(*http.Request, []*http.Request) error { return http.ErrUseLastResponse }
-	return asker{name, protocol, own != nil, client}
+	return asker{name, protocol, certificate != nil, client}
 }
 
-// newStrange makes a key that no server knows, and returns a certificate for TLS that this key has signed.
-func newStrange() (*tls.Certificate, error) {
+// newStrangeCertificate makes a key that no server knows, and returns a certificate for TLS that this key has signed.
+func newStrangeCertificate() (*tls.Certificate, error) {
 	private, err := ecdsa.GenerateKey(elliptic.P256(), rand.Reader)
 	if err != nil {
 		return nil, err
@@ -132,16 +132,16 @@ func newStrange() (*tls.Certificate, error) {
 }
 
 // send sends a request, for a path that nobody has asked for before, and returns the answer. While that is 429, it waits timeAgain and sends the request
-// for another path, up to mostAgain times, and fails with errShown then. It fails with errNotSent for what the protocol cannot send, and where there is no
-// answer.
-func (a asker) send(base *url.URL, each try) (probeAnswer, error) {
-	if each.isOld && a.protocol != 1 {
+// for another path, up to mostAgain times, and fails with errShown then. It fails with errNotSent for a request that the protocol cannot send, and as
+// sendOnce does where there is no answer.
+func (a asker) send(base *url.URL, attempt try) (probeAnswer, error) {
+	if attempt.needsHTTP1 && a.protocol != 1 {
 		return probeAnswer{}, errNotSent
 	}
 	for count := 0; ; count++ {
-		answer, err := a.sendOnce(base, each)
+		answer, err := a.sendOnce(base, attempt)
 		if err == nil && answer.status == http.StatusTooManyRequests && count == mostAgain {
-			err = fmt.Errorf("%w: each answer to %s is 429", errShown, each.method)
+			err = fmt.Errorf("%w: each answer to %s is 429", errShown, attempt.method)
 		}
 		if err != nil || answer.status != http.StatusTooManyRequests {
 			return answer, err
@@ -151,8 +151,8 @@ func (a asker) send(base *url.URL, each try) (probeAnswer, error) {
 }
 
 // sendOnce sends a request once, for a new path, and returns the answer without its body. It fails if there is no answer within timeForAnswer.
-func (a asker) sendOnce(base *url.URL, each try) (answer probeAnswer, err error) {
-	path := each.path
+func (a asker) sendOnce(base *url.URL, attempt try) (answer probeAnswer, err error) {
+	path := attempt.path
 	if path == "" {
 		path = "{}"
 	}
@@ -164,11 +164,11 @@ func (a asker) sendOnce(base *url.URL, each try) (answer probeAnswer, err error)
 	if err != nil {
 		return answer, err
 	}
-	request, err := http.NewRequest(each.method, target, strings.NewReader(each.body))
+	request, err := http.NewRequest(attempt.method, target, strings.NewReader(attempt.body))
 	if err != nil {
 		return answer, err
 	}
-	request.Header = each.header(base, second)
+	request.Header = attempt.header(base, second)
 	response, err := a.client.Do(request)
 	if err != nil {
 		return answer, err
@@ -176,7 +176,7 @@ func (a asker) sendOnce(base *url.URL, each try) (answer probeAnswer, err error)
 	// (some of the body is read, so that the connection can be used again)
 	_, _ = io.CopyN(io.Discard, response.Body, mostBody)
 	response.Body.Close()
-	return probeAnswer{each, request.URL.RequestURI(), response.StatusCode, response.ProtoMajor}, nil
+	return probeAnswer{attempt, request.URL.RequestURI(), response.StatusCode, response.ProtoMajor}, nil
 }
 
 // freshAddress returns the URL of a path below `base`, as baseOf returns it, with another random name for each `{}`. It fails only if no random octets

@@ -34,8 +34,8 @@ func newRateLimiter(perSecond int) *rateLimiter {
 	return &rateLimiter{perSecond: float64(perSecond), buckets: newRecentMap[string, *bucket](mostBuckets)}
 }
 
-// allows says whether a caller, by its key or its address, may make one more request at a moment, and counts that request if so. A clock that goes back
-// allows nothing more.
+// allows says whether a caller, by its key or its address, may make one more request at a moment, and counts that request if so. When the clock
+// goes back, the caller gets no further requests by that.
 func (r *rateLimiter) allows(caller string, now time.Time) bool {
 	if r.perSecond == 0 {
 		return true

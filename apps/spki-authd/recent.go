@@ -24,7 +24,7 @@ func (r *recentMap[K, V]) get(key K) (V, bool) {
 	}
 	value, isOld := r.old[key]
 	if isOld {
-		r.put(key, value)
+		r.addYoung(key, value)
 	}
 	return value, isOld
 }
@@ -33,11 +33,12 @@ func (r *recentMap[K, V]) get(key K) (V, bool) {
 func (r *recentMap[K, V]) add(key K, value V) {
 	r.mutex.Lock()
 	defer r.mutex.Unlock()
-	r.put(key, value)
+	r.addYoung(key, value)
 }
 
-// put puts a value into the young half, or into a new one if that is full. The mutex is held. If half is 0, it keeps nothing.
-func (r *recentMap[K, V]) put(key K, value V) {
+// addYoung adds a value to the young half, or to a new one if that is full: then the old half is dropped. The mutex is held. If half is 0, it keeps
+// nothing.
+func (r *recentMap[K, V]) addYoung(key K, value V) {
 	if r.half == 0 {
 		return
 	}

@@ -69,8 +69,8 @@ func (r record) withReason(answer answer, fault error) record {
 	return r
 }
 
-// noteSequence notes the list by which a question is decided, and the certificates of its sequence. `notEnded` is what sequence.notEnded has returned: if a
-// certificate has ended early, that is the reason, and those behind it are left out.
+// noteSequence notes the list by which a question is decided, and the certificates of its sequence. `notEnded` is how many of these precede the first that
+// has ended early, or the number of all. If one has ended, that is the reason, and those behind it are left out.
 func (r *record) noteSequence(list *list, sequence *shownSequence, notEnded int) {
 	r.List, r.numbers, r.Certificates = list.digest, list.numbers, sequence.names
 	if notEnded < len(sequence.names) {

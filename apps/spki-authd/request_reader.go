@@ -11,40 +11,40 @@ import (
 // A requestReader reads the requests of a connection, by net/http. It refuses one that net/http and others would read in two ways.
 type requestReader struct {
 	// Reads the connection.
-	all *bufio.Reader
-	// A copy of the lines of a request that do not fit in the buffer of `all`, up to the empty one, and the part of it that Read has not returned yet.
+	input *bufio.Reader
+	// A copy of the lines of a request that do not fit in the buffer of `input`, up to the empty one, and the part of it that Read has not returned yet.
 	lines, unread []byte
-	// Reads that request by Read: `unread`, and then its body from `all`. It is nil until there is such a request.
+	// Reads that request by Read: `unread`, and then its body from `input`. It is nil until there is such a request.
 	whole *bufio.Reader
 }
 
-// The octets of the buffer of `all`, which most requests fit in, and the most octets of a longer buffer that a connection keeps for its next request.
+// The octets of the buffer of `input`, which most requests fit in, and the most octets of a longer buffer that a connection keeps for its next request.
 const (
 	roomForRequest = 8192
 	mostKeptRoom   = 32_768
 )
 
-// newRequestReader returns what reads the requests of a connection.
+// newRequestReader returns a requestReader for a connection from which nothing was read yet.
 func newRequestReader(connection io.Reader) *requestReader {
-	return &requestReader{all: bufio.NewReaderSize(connection, roomForRequest)}
+	return &requestReader{input: bufio.NewReaderSize(connection, roomForRequest)}
 }
 
-// next reads the line and the headers of a request, whose body is read from it. It fails with errOther for a line `Content-Length:` without a number:
-// net/http drops that line, and others may read a body behind it. Another error is that of net/http or of the connection. net/http reads from the buffer
-// of `all` if the lines fit in that, and otherwise from a copy of the lines.
+// next reads the line and the headers of a request, and returns the request, through which its body is read. It fails with errNoRequest for a line
+// `Content-Length:` without a number: net/http drops that line, and others may read a body behind it. Another error is that of net/http or of the
+// connection. net/http reads from the buffer of `input` if the lines fit in that, and otherwise from a copy of the lines.
 func (r *requestReader) next() (*http.Request, error) {
 	isWhole, isClear, err := r.peekLines()
 	if err == nil && !isWhole {
 		isClear, err = r.readLines()
 	}
 	if err == nil && !isClear {
-		err = errOther
+		err = errNoRequest
 	}
 	if err != nil {
 		return nil, err
 	}
 	if isWhole {
-		return http.ReadRequest(r.all)
+		return http.ReadRequest(r.input)
 	}
 	r.unread = r.lines
 	if r.whole == nil {
@@ -54,13 +54,14 @@ func (r *requestReader) next() (*http.Request, error) {
 	return http.ReadRequest(r.whole)
 }
 
-// peekLines looks at the lines up to the first that is empty, and leaves them to be read. isWhole says whether they all fit in the buffer of `all`, and
+// peekLines looks at the lines up to the first that is empty, and leaves them to be read. isWhole says whether they all fit in the buffer of `input`, and
 // if so isClear says that none of them is isEmptyLength.
 func (r *requestReader) peekLines() (isWhole, isClear bool, err error) {
+	// (where the next line begins)
 	begin := 0
 	isClear = true
 	for {
-		text, _ := r.all.Peek(r.all.Buffered())
+		text, _ := r.input.Peek(r.input.Buffered())
 		for end := bytes.IndexByte(text[begin:], '\n'); end >= 0; end = bytes.IndexByte(text[begin:], '\n') {
 			line := text[begin : begin+end+1]
 			if isEmpty(line) {
@@ -69,10 +70,10 @@ func (r *requestReader) peekLines() (isWhole, isClear bool, err error) {
 			isClear = isClear && !isEmptyLength(line)
 			begin += len(line)
 		}
-		if len(text) == r.all.Size() {
+		if len(text) == r.input.Size() {
 			return false, false, nil
 		}
-		if _, err := r.all.Peek(len(text) + 1); err != nil {
+		if _, err := r.input.Peek(len(text) + 1); err != nil {
 			return false, false, err
 		}
 	}
@@ -81,7 +82,7 @@ func (r *requestReader) peekLines() (isWhole, isClear bool, err error) {
 // Read reads the copied lines of a request, and then what is behind them on the connection. So `whole` can read both by one io.Reader.
 func (r *requestReader) Read(into []byte) (int, error) {
 	if len(r.unread) == 0 {
-		return r.all.Read(into)
+		return r.input.Read(into)
 	}
 	count := copy(into, r.unread)
 	r.unread = r.unread[count:]
@@ -97,7 +98,7 @@ func (r *requestReader) readLines() (isClear bool, err error) {
 	begin := 0
 	isClear = true
 	for {
-		part, err := r.all.ReadSlice('\n')
+		part, err := r.input.ReadSlice('\n')
 		r.lines = append(r.lines, part...)
 		if errors.Is(err, bufio.ErrBufferFull) {
 			continue

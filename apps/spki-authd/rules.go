@@ -40,8 +40,8 @@ func checkRules(rules []rule) error {
 	return nil
 }
 
-// checkReached returns an error if one of the rules before this one fits all its requests, so that it is never used: a right to what it means would give
-// nothing, and a right to what the other one means would give more than the operator has written.
+// checkReached returns an error if one of the rules before this one fits all its requests, so that it is never used: a right to its Request would give
+// nothing, and a right to that of the other rule would give more than the operator has written.
 func (r rule) checkReached(before []rule) error {
 	for _, other := range before {
 		if (other.Host == "" || other.Host == r.Host) && strings.HasPrefix(r.Prefix, other.Prefix) {

@@ -74,24 +74,24 @@ func (d *daemon) listenAndServe() error {
 	return d.serve(listener)
 }
 
-// flush writes the answers that are no grants, and the events, that wait, if that does not last longer than the patience of their writers.
+// flush writes the waiting lines of events, and of answers other than grants. It waits for each of the two writers no longer than its patience.
 func (d *daemon) flush() {
 	d.other.flush()
 	d.messages.flush()
 }
 
-// closeLedger closes the log of grants. Its errors are those of withLedger.
+// closeLedger closes the log of grants. It fails as ledger.close does, or with errHangs if that does not end in time.
 func (d *daemon) closeLedger() error {
 	return d.withLedger(d.ledger.close)
 }
 
 // withLedger has the writer of grants call a function between two writes, and returns its error, or errHangs if that does not end in time.
 func (d *daemon) withLedger(call func() error) error {
-	done := make(chan error, 1)
-	if !d.granted.do(func() { done <- call() }) {
+	result := make(chan error, 1)
+	if !d.granted.do(func() { result <- call() }) {
 		return errHangs
 	}
-	return <-done
+	return <-result
 }
 
 // serve is the main loop. It tells the service manager that the daemon is ready. Other goroutines answer the requests of a listener, while it does
@@ -115,7 +115,7 @@ func (d *daemon) serve(listener net.Listener) error {
 		case <-d.signals.reopen:
 			_ = d.reopen()
 		case order := <-d.orders:
-			order.done <- order.call(d)
+			order.result <- order.call(d)
 		case <-d.signals.end:
 			return d.end(listener, connections)
 		}
@@ -175,8 +175,8 @@ func (d *daemon) statusLine() string {
 	return line
 }
 
-// tell writes an event: what the daemon did, such as `reloaded`, or did not do because of a fault, which may be nil. The event has the digests of the lists
-// and ended certificates that are in force now.
+// tell writes an event: what the daemon did, such as `reloaded`, or, if `fault` is not nil, what it did not do because of that. The event has the digests
+// of the lists and ended certificates that are in force now.
 func (d *daemon) tell(action string, fault error) {
 	present := d.keeper.present.Load()
 	message := event{

@@ -46,8 +46,8 @@ func newSequences(cache int) *sequences {
 	return &sequences{newRecentMap[string, *shownSequence](mostShown)}
 }
 
-// of returns a sequence that is kept, by its text as it was shown, or nil. For an empty text it returns emptySequence.
-func (s *sequences) of(text string) *shownSequence {
+// get returns a sequence that is kept, by its text as it was shown, or nil. For an empty text it returns emptySequence.
+func (s *sequences) get(text string) *shownSequence {
 	if text == "" {
 		return emptySequence
 	}
@@ -95,9 +95,9 @@ func newShownSequence(signatures []guard.Signature) *shownSequence {
 	return sequence
 }
 
-// notEnded returns how many certificates precede the first that has ended early, or the number of all. It fails if there are certificates and a store is
-// stale, since the store may know that one has ended.
-func (s *shownSequence) notEnded(present *access) (int, error) {
+// countNotEnded returns how many certificates precede the first that has ended early, or the number of all. It fails if there are certificates and a
+// store is stale, since the store may know that one has ended.
+func (s *shownSequence) countNotEnded(present *access) (int, error) {
 	if len(s.digests) > 0 {
 		if err := present.checkStoresFresh(); err != nil {
 			return 0, err

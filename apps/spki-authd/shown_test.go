@@ -58,7 +58,7 @@ func TestSequenceIsCanonicalFromTheSecondTimeOn(t *testing.T) {
 		if response := s.askAs(s.carol, "GET", "/web/docs/a/b", carols); response.StatusCode != 200 {
 			t.Errorf("%s: %d", begin, response.StatusCode)
 		}
-		if kept := s.sequences.of(carols); kept == nil || !strings.HasPrefix(string(kept.text), begin) {
+		if kept := s.sequences.get(carols); kept == nil || !strings.HasPrefix(string(kept.text), begin) {
 			t.Errorf("what is kept does not begin with %s", begin)
 		}
 	}
@@ -163,7 +163,7 @@ func TestKeptSequencesAreBounded(t *testing.T) {
 	}
 	for _, octets := range []int{5000, 7000} {
 		text := sequence(str(strings.Repeat("x", octets)))
-		if s.sequences.add(text, &shownSequence{}); (s.sequences.of(text) != nil) != (len(text) <= mostShownOctets) {
+		if s.sequences.add(text, &shownSequence{}); (s.sequences.get(text) != nil) != (len(text) <= mostShownOctets) {
 			t.Errorf("%d octets", len(text))
 		}
 	}

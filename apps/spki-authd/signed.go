@@ -97,7 +97,7 @@ func (d *decider) clientOf(inquiry *inquiry) (client, *httpsig.Proof, error) {
 	if inquiry.certificate == "" {
 		return client{}, nil, errNoCertificate
 	}
-	holder, err := d.keys.of(inquiry.certificate)
+	holder, err := d.keys.holderOf(inquiry.certificate)
 	return holder, nil, err
 }
 

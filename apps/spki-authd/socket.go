@@ -14,8 +14,8 @@ import (
 // The most connections that wait in the system's queue until they are accepted. The system also bounds that by net.core.somaxconn.
 const mostWaiting = 4096
 
-// openSocket opens a Unix socket at a path. Only the daemon's user and root can write to it: so the control socket stays, and for the web server's socket
-// setOwner sets another group and mode. It removes a socket that an ended daemon has left there.
+// openSocket opens a Unix socket at a path. Only the daemon's user and root can write to it. The control socket stays so, and for the web server's socket
+// setGroupAndMode sets another group and mode. It removes a socket that an ended daemon has left there.
 func openSocket(path string) (net.Listener, error) {
 	if err := removeStale(path); err != nil {
 		return nil, err
@@ -26,9 +26,9 @@ func openSocket(path string) (net.Listener, error) {
 	return net.Listen("unix", path)
 }
 
-// widen sets the length of a listener's queue to mostWaiting. Go takes the length from /proc/sys, and 128 where that is hidden, as by ProcSubset=pid of the
-// daemon's unit. A client that finds the queue full is refused. A listener without a file descriptor stays as it is.
-func widen(listener net.Listener) error {
+// lengthenQueue sets the length of a listener's queue to mostWaiting. Go takes the length from /proc/sys, and 128 where that is hidden, as by
+// ProcSubset=pid of the daemon's unit. A client that finds the queue full is refused. A listener without a file descriptor stays as it is.
+func lengthenQueue(listener net.Listener) error {
 	raw, isSystem := listener.(syscall.Conn)
 	if !isSystem {
 		return nil
@@ -45,9 +45,9 @@ func widen(listener net.Listener) error {
 	return err
 }
 
-// removeStale removes a socket that an ended daemon has left: one that refuses connections. Nothing else is removed: it fails if what is there is no
-// socket, if another daemon answers there, and also if that cannot be told, as where the queue of the other one is full. Without a file at the path
-// it does nothing.
+// removeStale removes a socket that an ended daemon has left: one that refuses connections. Nothing else is removed: it fails if the file is no socket, if
+// another daemon answers there, or if connecting fails otherwise, as where the queue of another daemon is full. Without a file at the path it does
+// nothing.
 func removeStale(path string) error {
 	about, err := os.Lstat(path)
 	if errors.Is(err, fs.ErrNotExist) {
@@ -70,8 +70,8 @@ func removeStale(path string) error {
 	return os.Remove(path)
 }
 
-// setOwner sets the group and the mode of the web server's socket, as `socket_group` and `socket_mode` say.
-func (c *config) setOwner(path string) error {
+// setGroupAndMode sets the group and the mode of the web server's socket, as `socket_group` and `socket_mode` say.
+func (c *config) setGroupAndMode(path string) error {
 	if c.SocketGroup != "" {
 		number, err := c.groupOfSocket()
 		if err != nil {
@@ -99,8 +99,8 @@ func (c *config) groupOfSocket() (int, error) {
 	if err != nil || os.Geteuid() == 0 || number == os.Getegid() {
 		return number, err
 	}
-	own, err := os.Getgroups()
-	for _, each := range own {
+	groups, err := os.Getgroups()
+	for _, each := range groups {
 		if each == number {
 			return number, nil
 		}

@@ -112,8 +112,8 @@ func (s *storeOf) isSocket() bool {
 	return strings.HasPrefix(s.Host, "/")
 }
 
-// stale returns how old the state of the store may be, so that the daemon still decides by it.
-func (s *storeOf) stale() time.Duration {
+// mostAge returns how old the state of the store may be, so that the daemon still decides by it: `stale_seconds`.
+func (s *storeOf) mostAge() time.Duration {
 	return time.Duration(s.StaleSeconds) * time.Second
 }
 
@@ -147,7 +147,8 @@ func (c *config) nameLists() {
 }
 
 // read reads the list of a scope from its file. A list in a store is opened by the first call, which begins to poll the store. If the store does not
-// answer, that is no error here: requests are answered with 503 until it does. The list that is returned has no scope yet.
+// answer, that is no error here: requests are answered with 503 until it does. It fails if the file cannot be read or is refused, or if the settings of
+// the store are wrong. The list that is returned has no scope yet.
 func (s *scope) read(policy guard.Policy, c *config) (*list, error) {
 	if s.Source.store == nil {
 		return readList(s.List, policy, c.Limits)
@@ -158,7 +159,7 @@ func (s *scope) read(policy guard.Policy, c *config) (*list, error) {
 		if err != nil {
 			return nil, err
 		}
-		if options.opened, err = newStore(options, reader, c.open, time.Now); err != nil {
+		if options.opened, err = newStore(options, reader, c.openList, time.Now); err != nil {
 			return nil, err
 		}
 		go options.opened.poll()

@@ -110,7 +110,7 @@ func (d *decider) test(out io.Writer) error {
 	}
 	if d.chains != nil {
 		// (where a store has the chains, it must answer for any key)
-		_, err := d.chains.of(hexDigest(nil), d.now())
+		_, err := d.chains.currentOf(hexDigest(nil), d.now())
 		return err
 	}
 	return nil

@@ -110,7 +110,8 @@ var (
 	errHostile = errors.New("a row of the store is not one entry: `spki-store check` says which")
 )
 
-// newStore returns a store that was not polled yet. `open` opens a list of entries in canonical form, one behind the other. `now` is the clock.
+// newStore returns a store that was not polled yet. `open` opens a list of entries in canonical form, one behind the other. `now` is the clock. It fails
+// as `open` does.
 func newStore(options *storeOf, reader reader, open func(list []byte) (*guard.Guard, error), now func() time.Time) (*store, error) {
 	empty, err := open(nil)
 	if err != nil {
@@ -146,14 +147,14 @@ func (s *store) list(question *guard.Question) (*list, error) {
 	return opened, nil
 }
 
-// keyOf returns the key whose entries a question needs: that of the first listed signature, or the client's key if no signature is listed. It fails
-// as readFirst does.
+// keyOf returns the key, in canonical form, whose entries a question needs: that of the first listed signature, or the client's key if no signature is
+// listed. It fails with the library's refusal of the question, or with errBusy.
 func (s *store) keyOf(question *guard.Question) ([]byte, error) {
 	text := string(question.Sequence)
 	first, isKnown := s.firsts.get(text)
 	if !isKnown {
 		var err error
-		if first, err = s.readFirst(question); err != nil {
+		if first, err = s.firstKeyIn(question); err != nil {
 			return nil, err
 		}
 		if len(text) <= mostShownOctets {
@@ -161,14 +162,15 @@ func (s *store) keyOf(question *guard.Question) ([]byte, error) {
 		}
 	}
 	if first == "" {
+		// (no signature is listed)
 		return []byte(question.Key.Text()), nil
 	}
 	return []byte(first), nil
 }
 
-// readFirst returns the key by which the first listed signature of a question is made, or an empty text if none is listed. It fails with the library's
+// firstKeyIn returns the key by which the first listed signature of a question is made, or an empty text if none is listed. It fails with the library's
 // refusal, or with errBusy.
-func (s *store) readFirst(question *guard.Question) (first string, err error) {
+func (s *store) firstKeyIn(question *guard.Question) (first string, err error) {
 	if err := library.enter(); err != nil {
 		return "", err
 	}
@@ -218,6 +220,7 @@ func (s *store) listOf(rows entryRows) (*list, int, error) {
 		}
 		size += len(text)
 	}
+	// (s.open puts the entries into `(3:acl ..)`)
 	if len(rows.texts) > mostRows || size > mostList-len("(3:acl)") {
 		return nil, 0, errMany
 	}
@@ -286,7 +289,7 @@ func (s *store) checkFresh() error {
 		return fmt.Errorf("store: %w", s.fault)
 	}
 	age, err := s.polled.age(s.now())
-	if err == nil && age > s.options.stale() {
+	if err == nil && age > s.options.mostAge() {
 		err = fmt.Errorf("%w: its last beat is %v old", errStale, age.Round(time.Millisecond))
 	}
 	if err != nil && s.fault != nil {

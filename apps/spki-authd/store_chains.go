@@ -32,9 +32,9 @@ func newStoredChains(c *chains, reader reader) *storedChains {
 	return &storedChains{c, reader, newRecentMap[string, readChains](mostCached)}
 }
 
-// of returns the sequences of a key that have not ended, by their ends. What the store has returned is used again for cachedFor, unless the clock
-// goes back. It fails if the store does not answer.
-func (s *storedChains) of(key string, now time.Time) ([]keptChain, error) {
+// currentOf returns the sequences of a key that have not ended, by their ends. What the store has returned is used again for cachedFor, unless the
+// clock goes back. It fails if the store does not answer.
+func (s *storedChains) currentOf(key string, now time.Time) ([]keptChain, error) {
 	cached, isCached := s.cache.get(key)
 	if age := now.Sub(cached.at); !isCached || age < 0 || age > cachedFor {
 		var err error
@@ -47,10 +47,11 @@ func (s *storedChains) of(key string, now time.Time) ([]keptChain, error) {
 	return notEnded(cached.chains, now), nil
 }
 
-// whyNotAdded returns `known` or `full` for a sequence that has no place beside those that `of` returns for its key, and otherwise an empty answer: add
-// may then still refuse it. What `of` returns may be cached, and only the store knows whether there is room for one more key. It fails as `of` does.
+// whyNotAdded returns `known` or `full` for a sequence that has no place beside those that currentOf returns for its key, and otherwise an empty answer:
+// add may then still refuse it. What currentOf returns may be cached, and only the store knows whether there is room for one more key. It fails if the
+// store does not answer.
 func (s *storedChains) whyNotAdded(key string, chain keptChain, now time.Time) (answer, error) {
-	others, err := s.of(key, now)
+	others, err := s.currentOf(key, now)
 	return s.whyNotBeside(others, chain.text), err
 }
 

@@ -13,7 +13,7 @@ type patient struct {
 	patience time.Duration
 }
 
-// Read reads what comes, and fails if nothing comes for p.patience.
+// Read reads the octets that arrive, and fails if none arrives within p.patience.
 func (p *patient) Read(octets []byte) (int, error) {
 	if err := p.SetReadDeadline(time.Now().Add(p.patience)); err != nil {
 		return 0, err

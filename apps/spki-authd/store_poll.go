@@ -13,9 +13,9 @@ func (s *store) poll() {
 	}
 }
 
-// pollOnce reads what has changed since the last poll. If that cannot be told, as at the first poll or after a failover to a server that lacks
-// changes, or if too much has changed, it drops all lists that are kept, and reads all ended certificates again. After an error the state that was
-// polled last stays.
+// pollOnce reads what has changed since the last poll. Where the changes are not known, as at the first poll or after a failover to a server that lacks
+// some, or where they are too many, it drops all lists that are kept, and reads all ended certificates again. After an error the state that was polled
+// last stays.
 func (s *store) pollOnce() error {
 	before, begun := s.lastPolled(), s.now()
 	var result pollResult
@@ -38,13 +38,13 @@ func (s *store) pollOnce() error {
 		s.reader.renew()
 		return err
 	}
-	s.take(result, begun, follows)
+	s.noteResult(result, begun, follows)
 	return nil
 }
 
-// take notes the result of a poll that was begun at a moment. `follows` says that these are the changes since the poll before. Otherwise the result has all
-// ended certificates, and replaces what was polled before. The mutex is held.
-func (s *store) take(result pollResult, begun time.Time, follows bool) {
+// noteResult notes the result of a poll that was begun at a moment. `follows` says that these are the changes since the poll before. Otherwise the result
+// has all ended certificates, and replaces what was polled before. The mutex is held.
+func (s *store) noteResult(result pollResult, begun time.Time, follows bool) {
 	s.fault = nil
 	if !follows {
 		s.kept.clear()
@@ -97,7 +97,7 @@ func (a *access) digestNow() string {
 	return a.digest
 }
 
-// storeFamilies are the metrics of a store: the name, the kind and the help for exposition.family, and the function that returns the value.
+// storeFamilies are the metrics of a store: the name, the kind and the help for exposition.writeFamily, and the function that returns the value.
 var storeFamilies = []struct {
 	name, kind, help string
 	valueOf          func(s *store) any
@@ -109,8 +109,8 @@ var storeFamilies = []struct {
 	{"store_rows_failed_total", "counter", "Decisions that failed since their rows could not be read.", func(s *store) any { return s.countsNow().failures }},
 }
 
-// stores writes the metrics of all stores. The label `list` is the number of the list in the configuration, from 1. Without a store it writes nothing.
-func (e *exposition) stores(present *access) {
+// writeStores writes the metrics of all stores. The label `list` is the number of the list in the configuration, from 1. Without a store it writes nothing.
+func (e *exposition) writeStores(present *access) {
 	for _, family := range storeFamilies {
 		isBegun := false
 		for place, each := range present.lists {
@@ -118,10 +118,10 @@ func (e *exposition) stores(present *access) {
 				continue
 			}
 			if !isBegun {
-				e.family(family.name, family.kind, family.help)
+				e.writeFamily(family.name, family.kind, family.help)
 				isBegun = true
 			}
-			e.value(family.name, fmt.Sprintf("{list=\"%d\"}", place+1), family.valueOf(each.store))
+			e.writeValue(family.name, fmt.Sprintf("{list=\"%d\"}", place+1), family.valueOf(each.store))
 		}
 	}
 }

@@ -76,7 +76,7 @@ func openReader(options *storeOf, patience time.Duration) (reader, error) {
 	for count := 0; count < options.Connections; count++ {
 		opened.slots <- nil
 	}
-	// (a row more than mostRows shows listOf that there are too many; `since` says what mostChanges+2 is for)
+	// (one row more than mostRows shows listOf that there are too many. mostChanges+2 is for the change $1 itself, and for one more than a poll takes)
 	for ask, text := range map[int]string{
 		askRows: "SELECT " + stateColumns + ", e.number, e.text FROM " + stateTables + " LEFT JOIN LATERAL (" + rowsOf(sha1.Size, 1) + " UNION ALL " +
 			rowsOf(sha256.Size, 2) + " UNION ALL " + rowsOf(sha512.Size, 3) + fmt.Sprintf(" LIMIT %d) e ON true ORDER BY e.number", mostRows+1),
@@ -88,7 +88,7 @@ func openReader(options *storeOf, patience time.Duration) (reader, error) {
 		askChains: "SELECT text, (extract(epoch FROM until) * 1000000)::bigint FROM @.chains WHERE key = $1 ORDER BY until, digest",
 		askKeep:   "SELECT @.keep($1, $2, $3, $4, $5)",
 	} {
-		// (the name of the schema was checked)
+		// (`@` is the schema, whose name was checked)
 		opened.texts[ask] = strings.ReplaceAll(text, "@", options.Schema)
 	}
 	return opened, nil
@@ -150,8 +150,8 @@ func (p *pool) take() (*link, error) {
 	return &link{Conn: opened, times: times}, nil
 }
 
-// ask runs the statement with a number such as askRows, and calls a function with each of its rows. The row's values are valid during that call alone. After
-// an error, also one of the function, the connection is closed.
+// ask runs the statement with a number such as askRows and these values of its parameters, and calls a function with each of its rows. The row's values are
+// valid during that call alone. After an error, also one of the function, the connection is closed.
 func (p *pool) ask(number int, use func(row []driver.Value) error, values ...driver.Value) error {
 	link, err := p.take()
 	if err != nil {
@@ -195,7 +195,8 @@ func (l *link) ask(number int, text string, use func(row []driver.Value) error, 
 	return err
 }
 
-// stateIn returns the state that a row begins with, in stateColumns. It has no token yet. It fails with errVersion if the store has another version.
+// stateIn returns the state that a row begins with, in stateColumns. It has no token yet. It fails with errVersion if the store has another version, or
+// if one of these columns is no number.
 func stateIn(row []driver.Value) (storeState, error) {
 	var numbers [4]int64
 	for place := range numbers {
@@ -267,7 +268,7 @@ func (p *pool) since(number int64) (result pollResult, err error) {
 	return result, requireState(hasState, err)
 }
 
-// note adds a change. `kind` is `end`, and `octets` the digest of an ended certificate, or `octets` is the digest of the key whose entries have changed.
+// note adds a change. If `kind` is `end`, `octets` is the digest of an ended certificate. Otherwise it is the digest of a key whose entries have changed.
 func (r *pollResult) note(kind driver.Value, octets []byte) {
 	if text, isText := kind.(string); isText && text == "end" && len(octets) == len(digest{}) {
 		r.ended = append(r.ended, *(*digest)(octets))

@@ -322,7 +322,7 @@ func TestStoredChains(t *testing.T) {
 	asks("without the entries for the issuer", 503, "")
 	s.table.fault = nil
 	other := newStoredChains(limits, s.table)
-	if chains, err := other.of(hexDigest([]byte(s.bob.key)), s.now()); err != nil || len(chains) != 1 || chains[0].text != bobs {
+	if chains, err := other.currentOf(hexDigest([]byte(s.bob.key)), s.now()); err != nil || len(chains) != 1 || chains[0].text != bobs {
 		t.Errorf("%v %v", chains, err)
 	}
 	s.table.fault = errors.New("the server is gone")
@@ -331,7 +331,7 @@ func TestStoredChains(t *testing.T) {
 	leaves("shown, and not kept", answerFailed)
 	s.table.fault, s.table.keepAnswer, s.table.kept = nil, answerYes, map[digest][]keptChain{}
 	leaves("an answer that the store never gives", answerFailed)
-	if chains, err := other.of(hexDigest([]byte(s.bob.key)), s.now().AddDate(1, 0, 0)); err != nil || chains != nil {
+	if chains, err := other.currentOf(hexDigest([]byte(s.bob.key)), s.now().AddDate(1, 0, 0)); err != nil || chains != nil {
 		t.Errorf("a year later: %v %v", chains, err)
 	}
 }
@@ -390,7 +390,7 @@ func TestStoreConfigs(t *testing.T) {
 	if err != nil {
 		t.Fatal(err)
 	}
-	if settings := config.Source.store; settings.Schema != "spki" || settings.stale() != 10*time.Second || !strings.Contains(settings.settings(), "sslmode=disable") {
+	if settings := config.Source.store; settings.Schema != "spki" || settings.mostAge() != 10*time.Second || !strings.Contains(settings.settings(), "sslmode=disable") {
 		t.Errorf("%+v", settings)
 	}
 	if config, err = parseConfig([]byte(withStore(`"host": "db", "root": "/a'b", "database": "d", "user": "u"`))); err != nil ||

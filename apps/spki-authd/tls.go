@@ -52,9 +52,9 @@ func (t *tlsOf) use(certificate *tls.Certificate) {
 	}
 }
 
-// around returns a listener that speaks TLS, 1.2 or later, on the connections of another one. It offers HTTP/1.1 alone, as a requestReader reads no
+// wrap returns a listener that speaks TLS, 1.2 or later, on the connections of another one. It offers HTTP/1.1 alone, as a requestReader reads no
 // HTTP/2.
-func (t *tlsOf) around(listener net.Listener) net.Listener {
+func (t *tlsOf) wrap(listener net.Listener) net.Listener {
 	present := func(*tls.ClientHelloInfo) (*tls.Certificate, error) { return t.present.Load(), nil }
 	return tls.NewListener(listener, &tls.Config{MinVersion: tls.VersionTLS12, GetCertificate: present, NextProtos: []string{"http/1.1"}})
 }

@@ -73,7 +73,8 @@ const looksInPatience = 20
 
 var errHangs = errors.New("the log takes no line in time")
 
-// newWriter returns a writer, whose goroutine it starts. `eachSecond` may be nil.
+// newWriter returns a writer to a sink, whose goroutine it starts. Callers wait for a line no longer than `patience`. The goroutine calls eachSecond each
+// second, unless that is nil.
 func newWriter(to sink, patience time.Duration, eachSecond func()) *writer {
 	started := &writer{to: to, patience: patience, commands: make(chan func()), wakes: make(chan struct{}, 1), eachSecond: eachSecond}
 	started.watchdog = time.AfterFunc(patience, started.endLate)
@@ -108,11 +109,12 @@ func (w *writer) offer(line []byte) {
 	}
 }
 
-// add adds a line to the last batch that waits, or to a new one, and returns that batch. isKept is that of the batch. The mutex is held.
+// add adds a line to the last batch that waits, or to a new one, and returns that batch. isKept says whether the line is still to be written when its
+// caller has stopped waiting: a batch has only lines with the same isKept. The mutex is held.
 func (w *writer) add(line []byte, isKept bool) *batch {
 	last := len(w.waiting) - 1
 	if last < 0 || w.waiting[last].isFull || w.waiting[last].isKept != isKept {
-		w.waiting = append(w.waiting, &batch{lines: w.newRoom(), isKept: isKept, begun: time.Now(), done: make(chan struct{})})
+		w.waiting = append(w.waiting, &batch{lines: w.emptyBuffer(), isKept: isKept, begun: time.Now(), done: make(chan struct{})})
 		last++
 		w.watch()
 		w.wake()
@@ -125,8 +127,8 @@ func (w *writer) add(line []byte, isKept bool) *batch {
 	return present
 }
 
-// newRoom returns an empty buffer for lines: a new one, or one that was used before. The mutex is held.
-func (w *writer) newRoom() []byte {
+// emptyBuffer returns an empty buffer for lines: a new one, or one that was used before. The mutex is held.
+func (w *writer) emptyBuffer() []byte {
 	last := len(w.rooms) - 1
 	if last < 0 {
 		return make([]byte, 0, roomForLines)
@@ -152,8 +154,8 @@ func (w *writer) watch() {
 	}
 }
 
-// endLate ends the waiting of callers whose lines are late, and drops late batches of lines of write. A line of write that comes from now on is in a later
-// batch, so it has its whole time.
+// endLate ends the waiting of callers whose lines are late, and drops late batches that are not kept, which are those of write. A waiting batch that is not
+// kept takes no further line: so a line that is added from now on has its whole time. The timer calls it.
 func (w *writer) endLate() {
 	w.mutex.Lock()
 	defer w.mutex.Unlock()
@@ -178,8 +180,8 @@ func (w *writer) endLate() {
 	}
 }
 
-// giveUp ends the waiting for a batch, by errHangs, and says whether the batch is still to be written. Lines of write count as failed from then on. The
-// mutex is held.
+// giveUp ends the waiting for a late batch, with errHangs, and says whether the batch is still to be written. The first time, the lines of one that is not
+// kept count as failed. The mutex is held.
 func (w *writer) giveUp(late *batch) (isKept bool) {
 	w.isStuck.Store(true)
 	if !late.isKept && !late.isDone {
