@@ -109,11 +109,11 @@ class CommandTest(unittest.TestCase):
         self.assertEqual(status, wanted, text)
         return text
 
-    def ssh_key(self, name, kind="ed25519", passphrase=""):
+    def make_ssh_key(self, name, kind="ed25519", passphrase=""):
         """Makes a key of OpenSSH in the folder: the files NAME and NAME.pub. `kind` is one of TYPES."""
         run_checked("ssh-keygen", "-q", *TYPES[kind], "-N", passphrase, "-C", name, "-f", self.at(name))
 
-    def pem_key(self, name, kind, *encryption):
+    def make_pem_key(self, name, kind, *encryption):
         """Makes a private key in PEM in the folder. `kind` is one of test_go.KINDS, and `encryption` are options of openssl."""
         run_checked("openssl", "genpkey", "-algorithm", *test_go.KINDS[kind], *encryption, "-out", self.at(name))
 
@@ -132,7 +132,7 @@ class OfKeys(CommandTest):
     def test_keys_of_openssh_are_read_and_written(self):
         """The public, the private and the converted key give the same SPKI key. Converted back, it has the fingerprint of the first."""
         for kind in TYPES:
-            self.ssh_key(kind, kind)
+            self.make_ssh_key(kind, kind)
             public = self.cert("key", f"{kind}.pub")
             self.assertEqual(public, self.cert("key", kind))
             self.write("key.sexp", public)
@@ -143,8 +143,8 @@ class OfKeys(CommandTest):
     @needs_ssh
     def test_the_key_that_ssh_keygen_shows(self):
         """The key of a line is the one that ssh-keygen shows, and none in its comment or options. A file with a line and a PEM block has two keys."""
-        self.ssh_key("bob")
-        self.ssh_key("mallory")
+        self.make_ssh_key("bob")
+        self.make_ssh_key("mallory")
         bob, mallory = (b" ".join(octets_in(self.at(f"{name}.pub")).split()[:2]) for name in ("bob", "mallory"))
         shown = run_checked("ssh-keygen", "-l", "-f", self.at("bob.pub")).split()[1]
         for line in (b"%b bob, was %b" % (bob, mallory), b'command="x %b y" %b bob' % (mallory, bob), b"cert-authority,no-pty %b" % bob,
@@ -160,7 +160,7 @@ class OfKeys(CommandTest):
         """A private and a public key in PEM give the same SPKI key, and that gives the public key in PEM back."""
         from cryptography.hazmat.primitives.serialization import Encoding, PublicFormat
         for kind in test_go.KINDS:
-            self.pem_key("key.pem", kind)
+            self.make_pem_key("key.pem", kind)
             public_pem = run_checked("openssl", "pkey", "-in", self.at("key.pem"), "-pubout")
             self.write("public.pem", public_pem)
             public = self.cert("key", "public.pem")
@@ -171,7 +171,7 @@ class OfKeys(CommandTest):
     @needs.needs("openssl")
     def test_pkcs1_is_read(self):
         """A private key of RSA in PKCS #1, its older form of PEM, gives the same SPKI key as in the newer form."""
-        self.pem_key("key.pem", "rsa")
+        self.make_pem_key("key.pem", "rsa")
         run_checked("openssl", "rsa", "-traditional", "-in", self.at("key.pem"), "-out", self.at("old.pem"))
         self.assertIn(b"BEGIN RSA PRIVATE KEY", octets_in(self.at("old.pem")))
         self.assertEqual(self.cert("key", "old.pem"), self.cert("key", "key.pem"))
@@ -188,7 +188,7 @@ class OfKeys(CommandTest):
     @needs_ssh
     def test_numbers_have_the_form_of_libgcrypt(self):
         """The 2,048 bits of n are 256 octets. A zero octet precedes them, since the first bit would be a sign."""
-        self.ssh_key("key", "rsa")
+        self.make_ssh_key("key", "rsa")
         key = value_in(self.cert("key", "key.pub").encode()).value
         self.assertEqual([number[0] for number in key[1][1:]], [b"n", b"e"])
         self.assertEqual((len(key[1][1][1]), key[1][1][1][0], key[1][2][1]), (257, 0, b"\1\0\1"))
@@ -245,7 +245,7 @@ class OfKeys(CommandTest):
 
     @needs_ssh
     def test_key_as_json(self):
-        self.ssh_key("a")
+        self.make_ssh_key("a")
         row, = json.loads(self.cert("key", "--json", "a.pub"))
         self.assertEqual((row["algorithm"], row["hash"]), ("Ed25519", self.cert("key", "--hash", "a").strip()))
 
@@ -274,7 +274,7 @@ class OfPassphrases(CommandTest):
     @needs.needs("openssl")
     def test_the_passphrase_of_a_signing_key_is_asked_for(self):
         """With a wrong passphrase nothing is signed. A passphrase is not shown on the terminal."""
-        self.pem_key("key.pem", "ed25519", "-aes-256-cbc", "-pass", "pass:sesame")
+        self.make_pem_key("key.pem", "ed25519", "-aes-256-cbc", "-pass", "pass:sesame")
         self.write("b.sexp", sexp.laid_out(keys.FileSigner(keys.new_private("ed25519")).key))
         words = ("sign", "--by", "key.pem", "--to", "b.sexp", "--tag", TAG, "--days", "30", "-o", "c.sexp")
         status, output = self.run_on_terminal(words, b"open")
@@ -287,7 +287,7 @@ class OfPassphrases(CommandTest):
     @needs.needs("openssl")
     def test_encrypted_keys_are_refused_without_a_terminal(self):
         """Without a terminal, where the passphrase is typed, no encrypted key is read, and none is made."""
-        self.pem_key("key.pem", "ed25519", "-aes-256-cbc", "-pass", "pass:sesame")
+        self.make_pem_key("key.pem", "ed25519", "-aes-256-cbc", "-pass", "pass:sesame")
         done = subprocess.run([sys.executable, COMMAND, "key", "key.pem"], cwd=self.room, stdin=subprocess.DEVNULL, capture_output=True,
                               text=True, start_new_session=True)
         self.assertEqual((done.returncode, done.stdout), (2, ""))
@@ -302,7 +302,7 @@ class OfPassphrases(CommandTest):
         status, output = self.run_on_terminal(("key", "new", "made"), b"sesame")
         self.assertEqual(status, 0, output)
         self.assertTrue(run_checked("ssh-keygen", "-y", "-P", "sesame", "-f", self.at("made")).startswith(b"ssh-ed25519"))
-        self.ssh_key("theirs", passphrase="sesame")
+        self.make_ssh_key("theirs", passphrase="sesame")
         status, output = self.run_on_terminal(("key", "theirs"), b"sesame")
         self.assertIn("(public-key", output)
 
@@ -312,8 +312,8 @@ class OfCertificates(CommandTest):
     """`spki-cert sign`, `name`, `entry` and `show`, with keys of Alice and Bob."""
     def setUp(self):
         super().setUp()
-        self.ssh_key("alice")
-        self.ssh_key("bob")
+        self.make_ssh_key("alice")
+        self.make_ssh_key("bob")
 
     def sign(self, *words, by="alice", to="bob.pub", tag=TAG, wanted=0, **more):
         """Runs `spki-cert sign`, with more options in `words`. It must end with the status `wanted`. Returns what it writes. `more` are settings of
@@ -322,7 +322,7 @@ class OfCertificates(CommandTest):
 
     def test_each_kind_of_key_signs(self):
         for kind in TYPES:
-            self.ssh_key(kind, kind)
+            self.make_ssh_key(kind, kind)
             self.sign("--days", "30", "--force", "-o", "c.sexp", by=kind)
             each, = self.verify("c.sexp")
             self.assertEqual(each.terms.tag, value_in(TAG.encode()).value)
@@ -333,7 +333,7 @@ class OfCertificates(CommandTest):
         socket = {"SSH_AUTH_SOCK": start_agent(self)}
         self.assertIn("does not hold it", self.sign("--days", "30", by="alice.pub", wanted=2, **socket))
         for kind in TYPES:
-            self.ssh_key(kind, kind)
+            self.make_ssh_key(kind, kind)
             run_checked("ssh-add", "-q", self.at(kind), env={**os.environ, **socket})
             os.remove(self.at(kind))
             self.sign("--days", "30", "--force", "-o", "c.sexp", by=f"{kind}.pub", **socket)
@@ -640,7 +640,7 @@ class OfAnswers(CommandTest):
         """The first commands of each page grant a request to somebody who has a clone and a key of OpenSSH. The library is the one that is tested. A
         page without such commands passes."""
         os.mkdir(self.at(".ssh"))
-        self.ssh_key(".ssh/id_ed25519")
+        self.make_ssh_key(".ssh/id_ed25519")
         for page in ("docs/CERTIFICATES.md", "README.md"):
             lines = test_guide.lines_of_first_certificate(text_of(page))
             with self.subTest(page):
@@ -679,7 +679,7 @@ class OfAnswers(CommandTest):
     def test_ask_says_why(self):
         """`ask` says in words why a right is granted or denied. A case that it saves gets the same answer, and it picks certificates."""
         for name in ("alice", "bob", "carol"):
-            self.ssh_key(name)
+            self.make_ssh_key(name)
         self.write("acl.sexp", f"(acl (entry {self.cert('key', 'alice.pub')} (propagate) (tag {TAG})))")
         asks = ("ask", "--acl", "acl.sexp", "--key", "carol.pub", "--labels", ".", "--cert", "chain.sexp")
         request = ("--", "packages", "read", "/web/x")
@@ -717,7 +717,7 @@ class OfAnswers(CommandTest):
     def test_why_certificates_do_not_join(self):
         """What `ask` says if a certificate defines another name than the entry's subject, has another issuer, or is valid at another time."""
         for name in ("alice", "bob", "carol"):
-            self.ssh_key(name)
+            self.make_ssh_key(name)
         alice = self.cert("key", "alice.pub")
         self.write("acl.sexp", f"(acl (entry (name {alice} builders) (propagate) (tag {TAG}) (not-after \"2027-01-01_00:00:00\")))")
         asks = ("ask", "--acl", "acl.sexp", "--key", "carol.pub", "--labels", ".", "--cert", "c.sexp", "--", "packages", "read", "/web/x")

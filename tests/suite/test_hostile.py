@@ -160,24 +160,24 @@ def first_run():
 def most_work():
     """Yields the texts that need the most work known: a name, the command, the text, and what the answer begins with."""
     scripts = (os.path.join(BENCH, f"{name}.py") for name in ("check", "convert", "intersect", "chains", "linear"))
-    check, convert, intersect, long, linear = map(loaded, scripts)
+    check, convert, intersect, long_chains, linear = map(loaded, scripts)
     for make in (check.many_entries, check.many_structures, check.many_certificates, check.many_members, check.lists_in_lists,
                  check.one_string, check.no_value):
         text, answer = make(MOST_OCTETS)
         yield make.__name__, "check", text, answer
-    for make in (long.by_keys, long.by_hashes, long.through_names):
-        yield make.__name__, "check", make(long.LENGTHS[-1]), b"yes entry 1\n"
+    for make in (long_chains.by_keys, long_chains.by_hashes, long_chains.through_names):
+        yield make.__name__, "check", make(long_chains.LENGTHS[-1]), b"yes entry 1\n"
     for shape in linear.SHAPES:
         yield shape.name, "check", shape.text(MOST_OCTETS)[1], b"no\n"
     yield linear.large_tag_and_set.__name__, "check", linear.large_tag_and_set(1, linear.BEHIND_LARGE, linear.MEMBERS), b"no\n"
-    for what, text, answer in long.widest():
+    for what, text, answer in long_chains.widest():
         yield what, "check", text, answer
         yield what, "explain", text, b"entry 1 "
         yield what, "reduce", text, b"entry 1 "
     for what, tag in (("(*)", check.STAR), ("a", check.string("a"))):
         for command, answer in (("check", b"no\n"), ("explain", b"entry 1 NotTheKey\n"), ("reduce", b"entry 1 (five ")):
-            yield f"ten {what} behind a large tag", command, long.behind_a_large_tag(10, tag), answer
-    for what, text in long.large_tags():
+            yield f"ten {what} behind a large tag", command, long_chains.behind_a_large_tag(10, tag), answer
+    for what, text in long_chains.large_tags():
         for command, answer in (("check", b"no\n"), ("explain", b"entry 1 NotTheKey\n")):
             yield what, command, text, answer
     for make in convert.SHAPES:

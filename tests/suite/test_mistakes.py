@@ -479,8 +479,8 @@ class Child:
     """`spki-cert` in a forked child of this process."""
 
     def __init__(self, room, words, settings, stdin="/dev/null", stdout=None, before=lambda: None):
-        """Starts it with these words, in the folder `room`, with the environment `settings`. `stdin` is a path, and `stdout` a function that opens a
-        file: None is a stream that is closed. `before` is called in the child first. The status is 99 if something raises an exception."""
+        """Starts `spki-cert` with these words, in the folder `room`, with the environment `settings`. `stdin` is a path, and `stdout` a function that
+        opens a file: None is a stream that is closed. `before` is called in the child first. The status is 99 if something raises an exception."""
         self.errors = tempfile.TemporaryFile()
         self.process = os.fork()
         if self.process == 0:

@@ -67,7 +67,7 @@ class Page:
         self.process.wait()
         self.process.stdout.close()
 
-    def reply(self, method, path, body=None, **headers):
+    def send(self, method, path, body=None, **headers):
         """Sends a request to the page's server. Returns the status, the headers and the octets of the reply."""
         connection = http.client.HTTPConnection(self.address.hostname, self.address.port, timeout=SECONDS)
         with contextlib.closing(connection):
@@ -79,7 +79,7 @@ class Page:
         """The server's answer, an object of JSON, to a question of the kind `name`, such as `tags`, with these fields. Its status must be 200."""
         question = {"withCase": True, **question}  # (so the answer to a `question` has the case)
         headers = {"Origin": self.origin, "Content-Type": "application/json"}
-        status, _, octets = self.reply("POST", self.address.path + name, json.dumps(question), **headers)
+        status, _, octets = self.send("POST", self.address.path + name, json.dumps(question), **headers)
         if status != 200:
             raise AssertionError(f"status {status}")
         return json.loads(octets)
@@ -350,7 +350,7 @@ class Answers(OfPage):
     def test_markup_in_a_question_is_answered_by_json(self) -> None:
         headers = {"Origin": self.page.origin, "Content-Type": "application/json"}
         for name in (*BOXES, "at"):
-            status, sent, _ = self.page.reply("POST", self.page.address.path + "question", json.dumps({**STORY, name: MARKUP}), **headers)
+            status, sent, _ = self.page.send("POST", self.page.address.path + "question", json.dumps({**STORY, name: MARKUP}), **headers)
             self.assertEqual((status, sent.get_content_type()), (200, "application/json"))
 
 
@@ -407,7 +407,7 @@ class Requests(OfPage):
         """The status of a POST to the server, by default as the page sends it. A header's name has `_` for `-`, and one that is None is left out."""
         usual = {"Origin": self.page.origin, "Content-Type": "application/json"}
         sent = {name.replace("_", "-"): value for name, value in {**usual, **headers}.items() if value is not None}
-        return self.page.reply("POST", path or self.page.address.path + "question", body, **sent)[0]
+        return self.page.send("POST", path or self.page.address.path + "question", body, **sent)[0]
 
     def test_questions_from_the_page_itself(self) -> None:
         self.assertEqual(self.post(), 200)
@@ -422,17 +422,17 @@ class Requests(OfPage):
 
     def test_another_host_is_refused(self) -> None:
         for host in ("example.org", f"example.org:{self.page.address.port}", "127.0.0.1", ""):
-            self.assertEqual(self.page.reply("GET", self.page.address.path, Host=host)[0], 421, host)
+            self.assertEqual(self.page.send("GET", self.page.address.path, Host=host)[0], 421, host)
 
     def test_another_token_is_refused(self) -> None:
         for path in ("/", "/question", "//", "/x/", self.page.address.path[:-2] + "/", self.page.address.path[:-1]):
-            self.assertEqual(self.page.reply("GET", path)[0], 403, path)
+            self.assertEqual(self.page.send("GET", path)[0], 403, path)
             self.assertEqual(self.post(path), 403, path)
 
     def test_only_files_of_the_page(self) -> None:
         """GET gives only files of page/, and no job, such as `question`. POST does only jobs."""
         for name in ("../server.py", "..%2fserver.py", "/etc/passwd", "page.js/", "question", "./page.js"):
-            self.assertEqual(self.page.reply("GET", self.page.address.path + name)[0], 404, name)
+            self.assertEqual(self.page.send("GET", self.page.address.path + name)[0], 404, name)
         self.assertEqual(self.post(self.page.address.path + "no-such-job"), 404)
 
     def test_bodies_that_are_refused(self) -> None:
@@ -447,7 +447,7 @@ class Requests(OfPage):
 
     def test_headers_of_every_reply(self) -> None:
         for path in (self.page.address.path, self.page.address.path + "page.js", "/", self.page.address.path + "none"):
-            headers = self.page.reply("GET", path)[1]
+            headers = self.page.send("GET", path)[1]
             self.assertIn("default-src 'none'", headers["Content-Security-Policy"])
             self.assertIn("require-trusted-types-for 'script'", headers["Content-Security-Policy"])
             self.assertEqual((headers["X-Content-Type-Options"], headers["X-Frame-Options"]), ("nosniff", "DENY"))

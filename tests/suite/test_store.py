@@ -295,7 +295,7 @@ class Schema(OfStore):
             self.assertEqual(self.store.rows("SELECT number, what FROM {changes} ORDER BY number"),
                              [(1, "add"), (2, "add"), (3, "remove"), (4, "end")])
 
-    def account(self, name: str, role: str) -> Store:
+    def make_account(self, name: str, role: str) -> Store:
         """Makes an account of PostgreSQL with a role: `reader`, `writer`, `adder` or `keeper`. Returns the store as this account uses it."""
         account = f"{self.schema}_{name}"
         self.store.connection.execute(f"CREATE ROLE {account} LOGIN IN ROLE {self.schema}_{role}".encode())
@@ -305,7 +305,7 @@ class Schema(OfStore):
 
     def test_an_adder_removes_only_its_own_entries(self) -> None:
         """An `adder` can remove only what the same account has added, and a `writer` any entry. The log has the accounts."""
-        ann, ben, carl = (self.account(*words) for words in (("ann", "adder"), ("ben", "adder"), ("carl", "writer")))
+        ann, ben, carl = (self.make_account(*words) for words in (("ann", "adder"), ("ben", "adder"), ("carl", "writer")))
         first, second = ann.add(A), ben.add(ZEROS)
         with contextlib.redirect_stdout(io.StringIO()), contextlib.redirect_stderr(io.StringIO()) as errors:
             self.assertEqual(commands.remove(ann, argparse.Namespace(numbers=[second])), 1)
@@ -322,7 +322,7 @@ class Schema(OfStore):
     def test_a_keeper_keeps_certificates_within_limits(self) -> None:
         """An account of the role `keeper`, which keeps certificates of clients, can do so by one function alone, within limits: here for at most 2
         keys, and at most 2 texts of each. A text whose time has ended is removed."""
-        kim, reader = self.account("kim", "keeper"), self.account("rob", "reader")
+        kim, reader = self.make_account("kim", "keeper"), self.make_account("rob", "reader")
         keep = f"SELECT {self.schema}.keep(%s, %s, now() + '1 h', 2, 2)"
 
         def keep_text(key: int, text: bytes) -> str:
