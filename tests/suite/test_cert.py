@@ -130,7 +130,7 @@ class OfKeys(CommandTest):
     """`spki-cert key`, which converts keys of OpenSSH and PEM to keys of SPKI, and makes new ones."""
     @needs_ssh
     def test_keys_of_openssh_are_read_and_written(self):
-        """The public, the private and the converted key give the same SPKI key. Converted back, it has the fingerprint of the first."""
+        """The public, the private and the converted key give the same SPKI key. Converted back to OpenSSH, it has the fingerprint of the first."""
         for kind in TYPES:
             self.make_ssh_key(kind, kind)
             public = self.cert("key", f"{kind}.pub")
@@ -539,7 +539,7 @@ def seconds_of_children_since(before):
 
 class OfTags(CommandTest):
     """`tag_words.lacks`, which says why a tag does not contain a request. It returns None if the tag contains it."""
-    def test_the_difference_is_that_of_the_model(self):
+    def test_lacks_agrees_with_the_model(self):
         """On random tags and requests `lacks` finds no difference exactly where the model says that the tag contains the request."""
         rng, counts = random.Random("spki-cert"), {True: 0, False: 0}
         for _ in range(3000):

@@ -111,7 +111,7 @@ def rows_apart(program, answered):
 
 def questions_by_hand():
     """Yields questions on the case of examples/delegation.sexp, with the wanted answers, worked out by hand: its rows are apart, changed, or not
-    readable. `bare` is the case without its rows. Each question has a name, the text of a case, and a text of rows."""
+    readable. `bare` is the case without its rows. Each question has a name, the number of the call, the text of a case, and a text of rows."""
     case = text_of("examples/delegation.sexp").encode()
     at, end = case.index(b"(accepted"), case.index(b"\n (sequence")
     rows, bare = case[at:end], case[:at] + NO_ROWS + case[end:]

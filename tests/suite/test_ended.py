@@ -223,7 +223,7 @@ class Ends(TestOfEnding):
         self.check_unchanged(before, "the file is there")
 
     def test_mode_owner_and_comments_stay(self) -> None:
-        """The mode, the lines with their comments, and where root runs the test the owner stay as they are. One line is new, and the last one."""
+        """The mode, the lines with their comments, and for root the owner stay as they are. One line is added, and the last one is another."""
         self.write(ENDED, sealed("# M\xfcller \udcff", f"{A} # \x01 \xe9"))
         os.chmod(self.at(ENDED), 0o640)
         if os.geteuid() == 0:

@@ -92,7 +92,7 @@ def line_of_reason(reason):
 
 
 def lines_of(command, case):
-    """The lines that a command of the program writes of the text of a case, without their ends."""
+    """The lines, without line feeds, that a command of the program writes about the text of a case."""
     return run(built.program(), command, case.encode())[1].decode().splitlines()
 
 
@@ -303,7 +303,7 @@ class Answers(OfPage):
         self.assertFalse(answer["signatures"][0]["counts"])
 
     def test_what_is_no_question(self) -> None:
-        """The server answers whatever JSON object it is sent. It refuses a field that is no list of the right type, and names both."""
+        """The server answers whatever JSON object it is sent. It refuses a field that is no list of the right type, and names field and type."""
         for question in ({}, {"acl": 5, "request": "x", "refused": "x"}, {"request": [1, None]}, {"acl": "(" * 100_000}, {"acl": "\ud800"}):
             self.assertEqual(self.page.ask("question", **question)["kind"], "refused")
         for name, kind, values in (("request", "a list of strings", (5, "x", {}, [*STORY["request"], 5])),
@@ -324,7 +324,7 @@ class Answers(OfPage):
         self.assertIn(self.page.ask("question", request=nested).get("notice"), (None, "The text is too large for this page."))
 
     def test_what_looks_like_a_certificate(self) -> None:
-        """Lists in a tag and in the labels, which have the heads of an entry or a certificate and nothing behind them, get an answer too."""
+        """A list in a tag that begins as an entry or a certificate, and is none, gets an answer. So does a label that is no text in UTF-8."""
         for tag in ("(entry)", "(cert)", "(cert (subject))", "(cert (comment x))"):
             answer = self.page.ask("question", **{**STORY, "acl": f"(acl (entry {STORY['key']} (tag {tag})))"})
             self.assertEqual((answer.get("kind"), answer.get("notice")), ("no", None), tag)
