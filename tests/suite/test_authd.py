@@ -368,8 +368,7 @@ class Started(OfDaemon):
             settings = json.loads(text_of(daemon.config))
             for group, wanted in (("root", 1), ("", 0)):
                 Daemon.write(daemon.config, json.dumps({**settings, "socket_group": group}))
-                words = [*as_other, program, "-test", "-config", daemon.config]
-                done = subprocess.run(words, stdout=subprocess.PIPE, stderr=subprocess.PIPE, text=True)
+                done = subprocess.run([*as_other, program, "-test", "-config", daemon.config], capture_output=True, text=True)
                 self.assertEqual((done.returncode, "is not in it" in done.stderr), (wanted, bool(wanted)), done.stderr)
 
 

@@ -86,18 +86,19 @@ class OfWriting(TestWithKeys):
             self.changes_nothing(*words, message=message)
 
     def test_no_secret_is_written_over_or_shown(self):
-        """The secrets are private keys that are cut off or of a form that is not read, as words also those that are read. `ended` is kept too."""
-        from cryptography.hazmat.primitives import serialization
-        from cryptography.hazmat.primitives.serialization import pkcs12
+        """No file with a secret is written over, and no output has a part of one. The secrets are private keys in forms that spki-cert does not read,
+        or cut off, and as words of a command also keys that it reads. The file of ended certificates is not written over either."""
+        from cryptography.hazmat.primitives.serialization import Encoding, NoEncryption, PrivateFormat, pkcs12
         # (a seed is a secret in base64. Alone in a file it is a text of one string, which `check` accepts if it does not begin with a digit)
         seed = b"0"
         while seed[:1].isdigit():
             private = keys.new_private("ed25519")
-            octets = private.private_bytes(serialization.Encoding.Raw, serialization.PrivateFormat.Raw, serialization.NoEncryption())
+            octets = private.private_bytes(Encoding.Raw, PrivateFormat.Raw, NoEncryption())
             seed = base64.b64encode(octets)
         text = b"(private-key (ecc (curve Ed25519) (flags eddsa) (q #00#) (d #%s#)" % octets.hex().encode()
-        der = private.private_bytes(serialization.Encoding.DER, serialization.PrivateFormat.PKCS8, serialization.NoEncryption())
-        p12 = pkcs12.serialize_key_and_certificates(b"x", private, None, None, serialization.NoEncryption())
+        der = private.private_bytes(Encoding.DER, PrivateFormat.PKCS8, NoEncryption())
+        p12 = pkcs12.serialize_key_and_certificates(b"x", private, None, None, NoEncryption())
+        parts = seed.decode()[:20], octets.hex()[:20]  # (of the secret, as an output might have them; one in braces has its own base64)
         forms = {"der": der, "p12": p12, "jwk": b'{"kty": "OKP", "d": "%s"}' % seed, "utf-16": text.decode().encode("utf-16"),
                  "ssh2": b"---- BEGIN SSH2 ENCRYPTED PRIVATE KEY ----\n%s\n" % seed, "sexp": text, "age": b"# made\nAGE-SECRET-KEY-1" + seed,
                  "wireguard": b"[Interface]\nPrivateKey = " + seed, "wg": seed + b"\n", "braces": b"{%s" % base64.b64encode(text)}
@@ -107,10 +108,10 @@ class OfWriting(TestWithKeys):
                           ("entry", "--to", "bob.pub", "--tag", TAG, "--acl", name)):
                 with self.subTest(words):
                     output = self.cert(*words, wanted=0 if words == ("check", "wg") else 2)
-                    for shown in (seed.decode()[:20], octets.hex()[:20], "\\x", base64.b64encode(text).decode()[-20:]):
+                    for shown in (*parts, "\\x", base64.b64encode(text).decode()[-20:]):
                         self.assertNotIn(shown, output)
             self.changes_nothing("key", "bob.pub", "--force", "-o", name, message="is not written over")
-            self.check_not_shown(secret.decode(errors="surrogateescape").strip("\0\n"), seed.decode()[:20], octets.hex()[:20])
+            self.check_not_shown(secret.decode(errors="surrogateescape").strip("\0\n"), *parts)
         for name, (whole, _) in self.pairs.items():
             self.check_not_shown(whole.decode(), *whole.decode().split("\n")[1:-2])
         self.cert("end", "--ended", "ended")
@@ -358,8 +359,8 @@ class OfChains(TestWithKeys):
 
     def sequence(self, issuer, subject, number):
         """The value of a sequence with one certificate for `(packages)`. `issuer` and `subject` are names in `pairs`, `number` is its comment."""
-        private, to = (keys.read_private(self.pairs[issuer][0], lambda: b""), keys.read_public(self.pairs[subject][1], lambda: b""))
-        signer = keys.FileSigner(private)
+        signer = keys.FileSigner(keys.read_private(self.pairs[issuer][0], lambda: b""))
+        to = keys.read_public(self.pairs[subject][1], lambda: b"")
         certificate = [b"cert", [b"issuer", signer.key], [b"subject", to], [b"propagate"], [b"tag", [b"packages"]], [b"comment", b"%d" % number]]
         signature = [b"signature", keys.hash_of(certificate), signer.key, signer.sign(sexp.canonical(certificate))]
         return [b"sequence", certificate, signature]
