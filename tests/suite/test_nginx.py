@@ -177,7 +177,7 @@ class Sites(OfSite):
         with contextlib.ExitStack() as stack:
             full = stack.enter_context(socket.socket(socket.AF_UNIX))
             full.bind(self.site.at("run/socket"))
-            # (a queue for 0 has room for one connection, so two fill it)
+            # (a queue for 0 has room for one connection, which fills it: the second one below makes sure of that)
             full.listen(0)
             for _ in range(2):
                 waiting = stack.enter_context(socket.socket(socket.AF_UNIX))
