@@ -299,8 +299,7 @@ class Started(OfDaemon):
         for is_other, reason in ((False, "mode is 0666"), (True, "hands over")):
             with managed(self.daemon_program, self.access_list) as manager:
                 if is_other:
-                    text = text_of(manager.daemon.config).replace(manager.daemon.socket, f"{manager.daemon.socket}2")
-                    Daemon.write(manager.daemon.config, text)
+                    Daemon.write(manager.daemon.config, text_of(manager.daemon.config).replace(manager.daemon.socket, f"{manager.daemon.socket}2"))
                 else:
                     os.chmod(manager.daemon.socket, 0o666)
                 words = ["sh", "-c", 'exec 3<&0; LISTEN_PID=$$ LISTEN_FDS=1 exec "$@"', "sh", self.daemon_program, "-config", manager.daemon.config]
@@ -336,8 +335,7 @@ class Started(OfDaemon):
         as long as that of any other daemon: 4,096, or the limit if that is lower."""
         with self.daemon() as daemon:
             other = os.path.join(os.path.dirname(daemon.config), "other")
-            text = text_of(daemon.config).replace(daemon.socket, other).replace(daemon.grants, f"{other}.log")
-            Daemon.write(f"{other}.json", text)
+            Daemon.write(f"{other}.json", text_of(daemon.config).replace(daemon.socket, other).replace(daemon.grants, f"{other}.log"))
             words = [*needs.APART, "sh", "-c", f"{needs.HIDES} && exec {self.daemon_program} -config {other}.json"]
             process = subprocess.Popen(words, stdout=subprocess.DEVNULL, stderr=subprocess.PIPE)
             try:

@@ -194,6 +194,7 @@ class OfWriting(TestWithKeys):
             self.assertIn("was read already", self.cert("key", "-", "-", wanted=2))
 
     def test_a_file_system_without_links_gets_a_file(self):
+        """A new file gets its name by `os.link`, which replaces no file. Where that fails, it gets it otherwise, and no temporary file is left."""
         with mock.patch.object(os, "link", side_effect=PermissionError(1, "Operation not permitted")):
             self.sign("-o", "c.sexp")
             self.assertIn("is there already", self.sign("-o", "c.sexp", wanted=2))

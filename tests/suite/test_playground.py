@@ -225,6 +225,7 @@ class Answers(OfPage):
         self.assertIn("one string with spaces", self.page.ask("tags", first="(packages)", second="(*)", request=["packages read"])["hint"])
 
     def test_the_remark_on_what_was_pasted(self) -> None:
+        """What a row of PASTED has gets a remark with these words, at this first character and with the number of its line."""
         for box, old, new, marked, why in PASTED:
             with self.subTest(new):
                 text = STORY[box].replace(old, new, 1) if old else new
