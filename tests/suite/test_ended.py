@@ -9,6 +9,7 @@ import hashlib
 import io
 import itertools
 import os
+import pathlib
 import re
 import stat
 import subprocess
@@ -56,8 +57,7 @@ def make_unusable(kind: str, path: str) -> None:
     elif kind in ("device", "nowhere"):
         os.symlink("/dev/null" if kind == "device" else "not-there", path)
     else:
-        with open(path, "xb") as file:
-            file.write(b"#" * (ending.MOST_ENDED + 1) if kind == "long" else sealed(A))
+        pathlib.Path(path).write_bytes(b"#" * (ending.MOST_ENDED + 1) if kind == "long" else sealed(A))
     if kind == "read-only":
         os.chmod(path, 0o444)
     elif kind == "two names":
@@ -101,16 +101,14 @@ class TestOfEnding(unittest.TestCase):
     @classmethod
     def octets(cls, name: str) -> bytes:
         """The octets of a file in the folder."""
-        with open(cls.at(name), "rb") as file:
-            return file.read()
+        return pathlib.Path(cls.at(name)).read_bytes()
 
     @classmethod
     def write(cls, name: str, octets: bytes) -> None:
         """Writes a new file in the folder, in the place of an old one."""
-        with contextlib.suppress(FileNotFoundError):
-            os.unlink(cls.at(name))
-        with open(cls.at(name), "xb") as file:
-            file.write(octets)
+        path = pathlib.Path(cls.at(name))
+        path.unlink(missing_ok=True)
+        path.write_bytes(octets)
 
     @classmethod
     def run_here(cls, *words: str) -> tuple[int, str]:
@@ -254,6 +252,7 @@ class Ends(TestOfEnding):
     def test_changed_before_the_lock(self) -> None:
         """If another writer replaces the file after it was opened and before it is locked, what the other one wrote is not lost."""
         def change_and_lock(handle: int, how: int) -> None:
+            """In place of `fcntl.flock`: replaces the file before it is locked the first time."""
             if self.digests_in_file() == []:
                 self.write(ENDED, sealed(A))
             flock(handle, how)
@@ -373,7 +372,7 @@ class Adopts(TestOfEnding):
 
     def test_adopt_accepts_files_of_people(self) -> None:
         """`--adopt` accepts digests in capitals or with spaces around them, other ends of lines, and a last line that is wrong or missing. It writes
-        the file as the command itself does. `lines` are those before the new last line."""
+        the file as the command itself does. `lines` are those before the new last line. A line with a digest alone has 65 octets."""
         for name, octets, lines in (
                 ("old", f"#old\n\n{A.upper()}\n {B} #  x\n{C}#\xfc\n".encode(), ["#old", "", A, f"{B} # x", f"{C} # \xfc"]),
                 ("nothing in a comment", f"{A} #\n#\n{B}\t# \n".encode(), [A, "#", B]), ("no end of line", A.encode(), [A]),
@@ -385,7 +384,7 @@ class Adopts(TestOfEnding):
                 self.assertEqual((self.octets(ENDED), f"digests: {len(self.digests_in_file())}\n" in output), (sealed(*lines), True), output)
 
     def test_adopt_of_a_cut_file_needs_yes(self) -> None:
-        """What was probably cut is accepted only with `--yes`."""
+        """What was probably cut is accepted only with `--yes`. A line with a digest alone has 65 octets."""
         rows: list[tuple[str, bytes, list[str]]] = [
             ("empty", b"", []), ("comments", b"# x\n", ["# x"]), ("a line less", sealed(A, B)[65:], [B]),
             ("a line more", A.encode() + b"\n" + sealed(B), [A, B]), ("a cut last line", sealed(A, B)[:-9], [A, B])]

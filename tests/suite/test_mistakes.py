@@ -603,6 +603,7 @@ class OfSignals(TestWithKeys):
         (ready, is_ready), (hang, release) = os.pipe(), os.pipe()
 
         def before():
+            """Has the child wait when it reads its input or writes its output."""
             os.close(release)
             # (a shell starts what runs in the background with SIGINT and SIGQUIT ignored, and the child inherits that)
             signal.signal(number, signal.SIG_DFL)
