@@ -381,11 +381,11 @@ class Example(unittest.TestCase):
                "ben PUT /web/new.txt: 403", "ben GET /secret/plan.txt: 403", "eve GET /web/new.txt: 403"]
 
     def test_lines_of_the_example(self) -> None:
+        """run.sh writes the lines ANSWERS, beside those that begin with `#`, and ends with status 0."""
         with tempfile.TemporaryDirectory() as room:
             settings = {**os.environ, "SPKI_AUTHD": served.build_daemon_into(room), "PORT": str(served.free_port()), "TMPDIR": room}
-            done = subprocess.run([os.path.join(served.EXAMPLE, "run.sh")], env=settings, stdout=subprocess.PIPE, stderr=subprocess.PIPE, text=True,
-                                  timeout=served.SECONDS, cwd=TESTS)
+            script = os.path.join(served.EXAMPLE, "run.sh")
+            done = subprocess.run([script], env=settings, capture_output=True, text=True, timeout=served.SECONDS, cwd=TESTS)
             answers = [line for line in done.stdout.splitlines() if not line.startswith("#")]
             self.assertEqual((done.returncode, answers), (0, self.ANSWERS), done.stderr)
-            # (it leaves nothing beside the daemon that was built for it)
-            self.assertEqual(os.listdir(room), ["spki-authd"])
+            self.assertEqual(os.listdir(room), ["spki-authd"], "it leaves nothing beside the daemon that was built for it")
