@@ -39,7 +39,7 @@ class Timed(InChromium):
     def to_the_answer(self, question):
         """The median of the seconds from a keystroke to the answer. `question` is a dictionary, whose `acl` and `sequence` are put into the page."""
         for name in ("acl", "sequence"):
-            self.put(name, question[name])
+            self.paste(name, question[name])
         # (until the page has answered to these texts)
         time.sleep(2)
         return statistics.median(self.browser.execute_async_script(KEYSTROKE) for _ in range(RUNS))

@@ -96,16 +96,13 @@ class OfDaemon(test_go.OfGo):
 
     def ask_often(self, path: str, times: int, headers: dict[str, str], target: str = "/") -> list[int]:
         """Sends a GET request `times` times on one connection to the socket with this path. Returns the statuses of the answers."""
-        connection = OverSocket(path)
         statuses = []
-        try:
+        with contextlib.closing(OverSocket(path)) as connection:
             for _ in range(times):
                 connection.request("GET", target, headers=headers)
                 response = connection.getresponse()
                 response.read()
                 statuses.append(response.status)
-        finally:
-            connection.close()
         return statuses
 
     @staticmethod
@@ -130,7 +127,7 @@ class Log(OfDaemon):
             self.assertEqual(self.lines(daemon.log), [])
 
     @needs.needs("prlimit")
-    def test_full_disk(self) -> None:
+    def test_nothing_is_granted_on_a_full_disk(self) -> None:
         """The daemon's files may have 5,000 octets, fewer than 40 lines have. Once the log of grants is full, each request gets 503, `-health` ends
         with 1, and each line in the log is whole. Once there is room again, requests are granted again."""
         with self.daemon("prlimit", "--fsize=5000") as daemon:
@@ -190,7 +187,7 @@ class Log(OfDaemon):
             status, output = output_of(self.daemon_program, "-config", other, seconds=SECONDS)
             self.assertEqual((status, "another daemon writes this log" in output), (1, True), output)
 
-    def test_fifo(self) -> None:
+    def test_fifo_in_place_of_the_ended_certificates(self) -> None:
         """A FIFO in the place of the file of ended certificates is refused at a reload and by `-test`, and hangs nothing."""
         with self.daemon() as daemon:
             fifo = os.path.join(os.path.dirname(daemon.config), "fifo")
@@ -201,7 +198,7 @@ class Log(OfDaemon):
                 self.assertEqual((status, "no ordinary file" in errors), (1, True))
                 self.assertEqual(self.ask_often(daemon.socket, 1, self.headers()), [200])
 
-    def test_query_strings(self) -> None:
+    def test_query_strings_are_not_logged(self) -> None:
         """What a client writes after a `?` may be a password, and is in no log."""
         with self.daemon() as daemon:
             for target in ("/web/a?key=hunter2", "//?key=hunter2", "/web/../a?key=hunter2", "/web/\\?hunter2", "/none?hunter2", "/web/a b?hunter2"):
@@ -256,12 +253,8 @@ def ended_daemon(room: str, program: str, access_list: str) -> Daemon:
 @contextlib.contextmanager
 def managed(program: str, access_list: str) -> Iterator[Manager]:
     """A context with a manager, whose daemon has run once and ended."""
-    with tempfile.TemporaryDirectory() as room:
-        manager = Manager(ended_daemon(room, program, access_list))
-        try:
-            yield manager
-        finally:
-            manager.close()
+    with tempfile.TemporaryDirectory() as room, contextlib.closing(Manager(ended_daemon(room, program, access_list))) as manager:
+        yield manager
 
 
 @needs.needs("openssl", "import cryptography")
@@ -300,14 +293,13 @@ class Started(OfDaemon):
             self.assertEqual(set(statuses), {200})
             self.assertEqual(len(self.lines(manager.daemon.grants)), len(statuses))
 
-    def test_another_socket(self) -> None:
+    def test_a_wrong_socket_is_refused(self) -> None:
         """The daemon refuses to start if the socket that is handed over is not the one that its configuration names, or if everyone may write to it.
         A shell hands it over as systemd does: as the open file 3, which LISTEN_PID and LISTEN_FDS announce."""
         for is_other, reason in ((False, "mode is 0666"), (True, "hands over")):
             with managed(self.daemon_program, self.access_list) as manager:
                 if is_other:
-                    text = text_of(manager.daemon.config).replace(manager.daemon.socket, f"{manager.daemon.socket}2")
-                    Daemon.write(manager.daemon.config, text)
+                    Daemon.write(manager.daemon.config, text_of(manager.daemon.config).replace(manager.daemon.socket, f"{manager.daemon.socket}2"))
                 else:
                     os.chmod(manager.daemon.socket, 0o666)
                 words = ["sh", "-c", 'exec 3<&0; LISTEN_PID=$$ LISTEN_FDS=1 exec "$@"', "sh", self.daemon_program, "-config", manager.daemon.config]
@@ -338,26 +330,25 @@ class Started(OfDaemon):
                 process.wait()
 
     @needs.needs("unshare", "ss")
-    def test_queue(self) -> None:
+    def test_length_of_the_queue(self) -> None:
         """A daemon from which systemd's setting ProcSubset=pid hides /proc/sys cannot read the system's limit for queues of connections. Its queue is
         as long as that of any other daemon: 4,096, or the limit if that is lower."""
         with self.daemon() as daemon:
             other = os.path.join(os.path.dirname(daemon.config), "other")
-            text = text_of(daemon.config).replace(daemon.socket, other).replace(daemon.grants, f"{other}.log")
-            Daemon.write(f"{other}.json", text)
+            Daemon.write(f"{other}.json", text_of(daemon.config).replace(daemon.socket, other).replace(daemon.grants, f"{other}.log"))
             words = [*needs.APART, "sh", "-c", f"{needs.HIDES} && exec {self.daemon_program} -config {other}.json"]
             process = subprocess.Popen(words, stdout=subprocess.DEVNULL, stderr=subprocess.PIPE)
             try:
                 assert process.stderr is not None
                 self.assertIn(b"started", process.stderr.readline())
-                self.assertEqual(self.queue(other), self.queue(daemon.socket))
-                self.assertEqual(self.queue(other), min(4096, int(text_of("/proc/sys/net/core/somaxconn"))))
+                self.assertEqual(self.queue_length(other), self.queue_length(daemon.socket))
+                self.assertEqual(self.queue_length(other), min(4096, int(text_of("/proc/sys/net/core/somaxconn"))))
             finally:
                 process.kill()
                 process.communicate()
 
     @staticmethod
-    def queue(path: str) -> int:
+    def queue_length(path: str) -> int:
         """How many connections the system lets wait at the socket with this path: the fourth column of `ss -xl`."""
         listed = subprocess.run(["ss", "-xl"], stdout=subprocess.PIPE, text=True, check=True).stdout
         return next(int(line.split()[3]) for line in listed.splitlines() if f" {path} " in line)
@@ -375,8 +366,7 @@ class Started(OfDaemon):
             settings = json.loads(text_of(daemon.config))
             for group, wanted in (("root", 1), ("", 0)):
                 Daemon.write(daemon.config, json.dumps({**settings, "socket_group": group}))
-                words = [*as_other, program, "-test", "-config", daemon.config]
-                done = subprocess.run(words, stdout=subprocess.PIPE, stderr=subprocess.PIPE, text=True)
+                done = subprocess.run([*as_other, program, "-test", "-config", daemon.config], capture_output=True, text=True)
                 self.assertEqual((done.returncode, "is not in it" in done.stderr), (wanted, bool(wanted)), done.stderr)
 
 
@@ -428,8 +418,8 @@ class BehindNginx(OfDaemon):
             process.wait()
 
     @staticmethod
-    def certificate(room: str, name: str) -> None:
-        """Makes a key and a TLS certificate of it for the name spki-authd. Writes them to `name`.key and to `name`."""
+    def make_certificate(room: str, name: str) -> None:
+        """Makes a key and a self-signed TLS certificate for the name spki-authd. Writes them to the files `name`.key and `name` in the folder."""
         words = ["openssl", "req", "-x509", "-newkey", "ed25519", "-nodes", "-subj", "/CN=spki-authd", "-addext", "subjectAltName=DNS:spki-authd",
                  "-keyout", os.path.join(room, f"{name}.key"), "-out", os.path.join(room, name)]
         subprocess.run(words, check=True, stderr=subprocess.DEVNULL)
@@ -440,7 +430,7 @@ class BehindNginx(OfDaemon):
         with tempfile.TemporaryDirectory() as room:
             os.chmod(room, 0o755)
             for name in ("crt", "other"):
-                self.certificate(room, name)
+                self.make_certificate(room, name)
             at = f"127.0.0.1:{served.free_port()}"
             Daemon.write(os.path.join(room, "secret"), SECRET)
             os.chmod(os.path.join(room, "secret"), 0o600)
@@ -460,14 +450,14 @@ class BehindNginx(OfDaemon):
     @contextlib.contextmanager
     def impostor(self, room: str, at: str) -> Iterator[list[bytes]]:
         """A context with a server at `at`, a host and a port. It shows another certificate than the daemon's, answers 200 to all, and adds what it
-        receives to the list. `web_servers.Impostor` chooses its port, and notes only the secret of a request."""
+        receives to the list. (`web_servers.Impostor` does not do: it chooses its port, and notes only the secret of a request.)"""
         context = ssl.SSLContext(ssl.PROTOCOL_TLS_SERVER)
         context.load_cert_chain(os.path.join(room, "other"), os.path.join(room, "other.key"))
         received: list[bytes] = []
         host, _, port = at.rpartition(":")
         listener = socket.create_server((host, int(port)))
 
-        def serves() -> None:
+        def serve() -> None:
             with contextlib.suppress(OSError):
                 while True:
                     client = listener.accept()[0]
@@ -475,7 +465,7 @@ class BehindNginx(OfDaemon):
                         received.append(connection.recv(65536))
                         connection.sendall(b"HTTP/1.1 200 OK\r\nContent-Length: 0\r\n\r\n")
 
-        thread = threading.Thread(target=serves)
+        thread = threading.Thread(target=serve)
         thread.start()
         try:
             yield received
@@ -488,7 +478,7 @@ class BehindNginx(OfDaemon):
         """The daemon is started again and again, while clients ask nginx, which keeps connections to it. No request fails."""
         with tempfile.TemporaryDirectory() as room, managed(self.daemon_program, self.access_list) as manager:
             os.chmod(room, 0o755)
-            self.certificate(room, "crt")  # (NGINX names it, though no TLS is used here)
+            self.make_certificate(room, "crt")  # (NGINX names it, though no TLS is used here)
             process = manager.start()
             with self.nginx(room, f"unix:{manager.daemon.socket}", "http") as web:
                 with asked_by_many(lambda: self.ask_often(web, 20, {}, "/web/a")) as statuses:
@@ -505,7 +495,7 @@ class Units(unittest.TestCase):
     """The files of systemd."""
 
     @needs.needs("systemd-analyze")
-    def test_verified(self) -> None:
+    def test_systemd_accepts_the_units(self) -> None:
         """systemd accepts both files. They name /bin/true here in the place of the daemon, which need not be installed."""
         with tempfile.TemporaryDirectory() as room:
             for path in UNITS:
@@ -514,13 +504,13 @@ class Units(unittest.TestCase):
             self.assertEqual(output_of("systemd-analyze", "verify", *names), (0, ""))
 
     @needs.needs("systemd-analyze")
-    def test_exposure(self) -> None:
+    def test_systemd_rates_the_exposure_as_low(self) -> None:
         """systemd rates what the service may do beyond its work at 6 or less, from 0 to 100."""
         status, output = output_of("systemd-analyze", "security", "--offline=yes", "--threshold=6", UNITS[0])
         self.assertEqual(status, 0, output[-300:])
 
     def test_what_must_be_set(self) -> None:
-        """The lines of the units that prevent faults. Without some of them somebody had to start the service by hand after some failed starts, a
+        """The units have the lines that prevent faults. Without some of them somebody had to start the service by hand after some failed starts, a
         reload could not fail, and the runtime folder was removed with the socket in it."""
         service, unit = (text_of(path).splitlines() for path in UNITS)
         for line in ("StartLimitIntervalSec=0", "Type=notify", "ExecReload=/usr/local/bin/spki-authd -reload -config /etc/spki-authd/config.json",

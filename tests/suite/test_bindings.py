@@ -6,10 +6,10 @@ asked about the others in two ways: as texts; and, where one of them allows it, 
 accepts what the case's rows do. `decide`, `explain` and `reduce` must give the lines of `check`, `explain` and `reduce` on the case. A case that is
 refused, but not as too large, is asked without its rows: a guard takes none, so it has no fault of them.
 
-Runs the tests of the Python module, mypy over its types, and of the crate its tests, those in its documents, clippy and the formatter. The
-examples `decide.c`, `decide.rs` and `decide.py`, which docs/GUIDE.md quotes, must grant and deny, by real keys and signatures. The header
-for C++ is called by `owned.cpp`. Threads in C++ and Rust run under helgrind. The module is installed by pip with the library inside. The
-crate must refuse a folder without a library. All must have the version of the file VERSION."""
+Runs the tests of the Python module, mypy over its types, and of the crate its tests, those in its documents, clippy and the formatter. The examples
+`decide.c`, `decide.rs` and `decide.py`, which docs/GUIDE.md quotes, must grant and deny, by real keys and signatures. The header for C++ is called by
+`owned.cpp`. Threads in C++ and Rust run under helgrind. The module is installed by pip with the library inside. The crate must refuse a folder
+without a library. All must have the version of the file VERSION."""
 import functools
 import glob
 import hashlib
@@ -143,8 +143,8 @@ def faults_of_answers(asked, answers):
 
 
 def text_of_reasons(reasons):
-    """The lines of `explain`, without the last line feed, for the reasons that the module gives. Each reason has the
-    number of an entry or None, that of an item or None, and a word."""
+    """The lines of `explain`, without the last line feed, for the reasons that the module gives. Each reason has the number of an entry or None, that
+    of an item or None, and a word."""
     lines = [" ".join(filter(None, (entry and f"entry {entry}", item and f"item {item}", word))) for entry, item, word in reasons]
     return "\n".join(lines or ["no entries"])
 
@@ -207,7 +207,7 @@ def cargo(folder, words, octets=None):
 class Version(unittest.TestCase):
     """The version of the bindings."""
 
-    def test_version(self):
+    def test_each_part_has_the_version_of_the_file(self):
         """The crates, the modules for Python and Go and the header have the version of the file VERSION. What the bindings demand of a library is its
         first two numbers."""
         line = r'^version = "(.*)"$'
@@ -225,7 +225,7 @@ class Version(unittest.TestCase):
 class Words(unittest.TestCase):
     """The words and numbers that the bindings have of the library."""
 
-    def test_words(self):
+    def test_rust_and_python_have_the_same_words(self):
         """The crate and the package have the same words in one order, but for capitals: causes, faults and parts. A macro adds `Other` in Rust."""
         rust, python = text_of("bindings/rust/src/words.rs"), text_of("bindings/python/spki/_words.py")
         kinds = re.findall(r"^    (Cause|Fault|Part) \{\n(.*?)^    \}$", rust, re.MULTILINE | re.DOTALL)
@@ -306,14 +306,14 @@ class Binding(built.OfLibrary):
 class InPython(Binding):
     """The module in Python."""
 
-    def test_module(self):
+    def test_tests_of_the_module_pass(self):
         """The tests of the module pass. There are some, and none is skipped but for what this machine lacks."""
         done = subprocess.run([sys.executable, "-m", "unittest", "--quiet"], cwd=PYTHON, timeout=SECONDS, capture_output=True, text=True)
         skips = "" if needs.has("import cryptography", "import setuptools") else r"(?: \(skipped=\d+\))?"
         self.assertRegex(done.stderr, rf"\nRan [1-9]\d* tests? in \S+\n\nOK{skips}\n\Z")
 
     @needs.needs("mypy")
-    def test_types(self):
+    def test_mypy_finds_no_fault(self):
         words = ["mypy", "--strict", "--cache-dir", os.devnull, "spki", "spki_http", "spki_verify",
                  *(os.path.join("examples", name) for name in ("decide.py", "asynchronous.py"))]
         done = subprocess.run(words, cwd=PYTHON, timeout=SECONDS, capture_output=True, text=True)
@@ -336,7 +336,7 @@ class InPython(Binding):
         self.check_decisions(sys.executable, os.path.join(PYTHON, "examples", "asynchronous.py"))
 
     @needs.needs("import pip", "import setuptools", "import wheel")
-    def test_pip(self):
+    def test_pip_installs_the_module(self):
         """pip installs the folder without a network, and the module takes the library that is inside. If SPKI_LIBRARY names no file, pip fails."""
         with tempfile.TemporaryDirectory() as room:
             source, target = os.path.join(room, "source"), os.path.join(room, "target")
@@ -434,11 +434,11 @@ class InRust(Binding):
         self.assertEqual(done.returncode, 0, f"cargo {' '.join(words)}: {(done.stdout + done.stderr).decode(errors='replace')[-4000:]}")
         return done.stdout
 
-    def test_crate(self):
-        """The tests of the crate pass."""
+    def test_tests_of_the_crates_pass(self):
+        """The tests of the crates in the workspace pass, also those in their documents."""
         self.cargo("test", "--quiet", "--workspace")
 
-    def test_package(self):
+    def test_crates_are_packed(self):
         """spki-sys and spki are packed and built from their packages, without a network: so spki takes spki-sys by its path."""
         with tempfile.TemporaryDirectory() as room:
             for name, *words in (["spki-sys"], ["spki", "--config", 'patch.crates-io.spki-sys.path="spki-sys"']):
@@ -467,7 +467,7 @@ class InRust(Binding):
         self.assertEqual(fault, "", fault)
 
     @needs.needs("/usr/share/cargo/registry/serde_json-1.*")
-    def test_serde(self):
+    def test_tests_of_the_crate_for_serde_pass(self):
         """The tests of the crate for serde pass, with the crates that Debian has."""
         with tempfile.TemporaryDirectory() as room:
             crates = shutil.copytree(RUST, os.path.join(room, "rust"), ignore=shutil.ignore_patterns("out", ".cargo"))
@@ -497,7 +497,7 @@ class InRust(Binding):
                          env={**others, **CARGO, "CARGO_TARGET_DIR": room, **settings})
 
     def test_folders_without_a_library(self):
-        """If a folder is relative or lacks the library, or pkg-config is missing or lacks it, a message ends the build. Others are taken."""
+        """If a folder is relative or lacks the library, or pkg-config is missing or lacks it, a message ends the build. Other folders are linked."""
         with tempfile.TemporaryDirectory() as room, tempfile.TemporaryDirectory() as empty:
             for settings, words in (({"SPKI_LIB_DIR": empty}, f"there is no libspki_c.a or libspki_c.so in {empty}"),
                                     ({"SPKI_LIB_DIR": empty, "SPKI_SHARED": "1"}, f"there is no libspki_c.so in {empty}"),
@@ -522,7 +522,7 @@ class InRust(Binding):
                 self.assertEqual(status == 0, is_built, f"{version}: {output}")
 
     @needs.needs("pkg-config")
-    def test_another_target(self):
+    def test_library_for_another_target(self):
         """For another target, as here ARM, a library of its system is linked. Variables of pkg-config name it, with or without the target at the ends
         of their names. Without these the build fails, and does not take the host's library. Here the build script of cargo is run by itself."""
         with tempfile.TemporaryDirectory() as room:

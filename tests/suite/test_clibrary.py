@@ -82,7 +82,7 @@ def questions_of_files(program):
                     texts[os.path.relpath(file.name, EXAMPLES)] = file.read()
     asked = [(f"{command} {name}", number, text, b"") for name, text in sorted(texts.items()) for number, command in enumerate(COMMANDS)]
     with ThreadPoolExecutor(os.cpu_count()) as pool:
-        wanted = pool.map(lambda each: as_library(each[1], run(program, COMMANDS[each[1]], each[2])), asked)
+        wanted = pool.map(lambda question: as_library(question[1], run(program, COMMANDS[question[1]], question[2])), asked)
         return list(zip(asked, wanted))
 
 
@@ -111,7 +111,7 @@ def rows_apart(program, answered):
 
 def questions_by_hand():
     """Yields questions on the case of examples/delegation.sexp, with the wanted answers, worked out by hand: its rows are apart, changed, or not
-    readable. `bare` is the case without its rows. Each question has a name, the text of a case, and a text of rows."""
+    readable. `bare` is the case without its rows. Each question has a name, the number of the call, the text of a case, and a text of rows."""
     case = text_of("examples/delegation.sexp").encode()
     at, end = case.index(b"(accepted"), case.index(b"\n (sequence")
     rows, bare = case[at:end], case[:at] + NO_ROWS + case[end:]
@@ -243,8 +243,8 @@ class OfC(built.OfLibrary):
         cls.linking = {"static": [cls.library], "shared": [cls.shared, rpath_to(cls.shared)]}
 
     def compile(self, source, library, *more):
-        """Compiles a program of tests/programs/ with a library, `static` or `shared`, and the options `more`: none or
-        SANITIZED. Returns its path. It is compiled once for each of these."""
+        """Compiles a program of tests/programs/ with a library, `static` or `shared`, and the options `more`: none or SANITIZED. Returns its path. It
+        is compiled once for each library and number of options."""
         program = os.path.join(self.room, f"{source}-{library}-{len(more)}")
         if not os.path.exists(program):
             words = [f"{self.prefix}gcc" if self.prefix else "cc", *STRICT, *more, "-o", program, os.path.join(TESTS, "programs", source)]
@@ -253,7 +253,7 @@ class OfC(built.OfLibrary):
         return program
 
     def check_answers(self, questions, library, *more, by=(), threads=2, refusals=0):
-        """`clibrary.c` must give the wanted answers to questions, whose number is printed, in its own thread and then in so many others. For each
+        """`clibrary.c` must give the wanted answers to questions, whose number is printed, in its own thread and then in `threads` others. For each
         question it refuses the first `refusals` requests for memory in turn. `library` is `static` or `shared`, `more` are options of the compiler,
         and `by` is a command that runs the program."""
         print(f"{len(questions)} questions")
@@ -308,11 +308,11 @@ class Links(OfC):
                 self.assertTrue(is_compiled(*words, *WARNINGS, *flags, "-o", program, source, "-x", "none", *more))
                 self.assertEqual(subprocess.run([program], timeout=SECONDS).returncode, 0)
 
-    def test_c11(self):
+    def test_programs_in_c_are_linked(self):
         self.check_linking("cc", "-std=c11")
 
     @needs.needs("g++")
-    def test_cpp17(self):
+    def test_programs_in_cpp_are_linked(self):
         self.check_linking("g++", "-std=c++17", "-x", "c++")
 
 
@@ -320,29 +320,29 @@ class Answers(OfC):
     """`clibrary.c`: the answers of the static library to each kind of question, also where memory is refused, and of the shared one to short
     questions."""
 
-    def test_files(self):
+    def test_questions_of_files(self):
         self.check_answers(all_questions(self.program).files, "static", threads=THREADS, refusals=REFUSALS)
 
-    def test_tables(self):
+    def test_questions_of_tables(self):
         self.check_answers(all_questions(self.program).tables, "static", threads=THREADS, refusals=REFUSALS)
 
-    def test_rows_apart(self):
+    def test_questions_with_rows_apart(self):
         self.check_answers(all_questions(self.program).apart, "static", threads=THREADS, refusals=REFUSALS)
 
     def test_questions_by_hand(self):
         self.check_answers(list(questions_by_hand()), "static", threads=THREADS, refusals=REFUSALS)
 
-    def test_shared(self):
+    def test_short_questions_to_the_shared_library(self):
         self.check_answers(short_questions(self.program), "shared")
 
 
 class UnderAddressSanitizer(OfC):
     """The answers to short questions of each library, under AddressSanitizer."""
 
-    def test_static(self):
+    def test_answers_of_the_static_library(self):
         self.check_answers(short_questions(self.program), "static", *SANITIZED, refusals=REFUSALS)
 
-    def test_shared(self):
+    def test_answers_of_the_shared_library(self):
         self.check_answers(short_questions(self.program), "shared", *SANITIZED)
 
 
@@ -406,7 +406,7 @@ int main(void)
     CERT = ("(cert (issuer (public-key (test a))) (subject (public-key (test {}))) {}(tag (*)))"
             "(signature (hash sha256 #{}#) (public-key (test a)) sig)")
 
-    def test_sample(self):
+    def test_sample_of_the_header(self):
         """The sample compiles with PARTS in it, without the remarks behind its code, and grants: 39 certificates by a are for a, the last for b."""
         lines = self.SAMPLE.search(text_of("crates/spki_c/spki.h"))[1].splitlines()
         sample = "\n".join(re.sub(r"(\.\.\.\)?|;) {2,}\w.*", r"\1", line[7:]) for line in lines)
@@ -429,9 +429,9 @@ class Until(OfC):
     # The seconds at which a question can be asked, but for the last, 9999-12-31_23:59:59: each has a next one.
     ASKED = range(253_402_300_799)
 
-    def test_rows(self):
-        """until.c prints GRANTED, and the last second of the yes. If a question can be asked at this second and at the
-        next one, 1 and 0 follow: the first of these answers is a yes, the second is none."""
+    def test_last_second_of_a_yes(self):
+        """until.c prints GRANTED, and the last second of the yes. If a question can be asked at this second and at the next one, 1 and 0 follow: the
+        answer at the first of them is a yes, and the other is not."""
         program = os.path.join(self.room, "until")
         self.assertTrue(is_compiled("cc", *STRICT, "-o", program, os.path.join(TESTS, "programs", "until.c"), self.library))
         for name, *limits, moment, until in ROWS:
@@ -450,11 +450,11 @@ class Swapped(OfC):
         self.assertTrue(is_compiled("cc", *STRICT, "-o", program, os.path.join(TESTS, "programs", "swapped.c"), self.library))
         self.assertEqual(output_of(*by, program, seconds=SECONDS), (0, ""))
 
-    def test_threads(self):
+    def test_a_guard_is_changed_under_threads(self):
         self.check_swapping()
 
     @needs.needs("valgrind")
-    def test_threads_under_helgrind(self):
+    def test_a_guard_is_changed_under_helgrind(self):
         self.check_swapping(*HELGRIND)
 
 
@@ -507,7 +507,7 @@ class Fuzzed(OfC):
         done = subprocess.run(words, stdout=subprocess.PIPE, stderr=subprocess.STDOUT, text=True, errors="replace", timeout=2 * SECONDS)
         self.assertEqual(done.returncode, 0, done.stdout[-4000:])
 
-    def test_corpus(self):
+    def test_corpus_as_it_is(self):
         """The files of fuzz/corpus/, without any change."""
         self.check_fuzzing("-runs=0")
 
@@ -529,14 +529,14 @@ class OnArm(OfC):
     def libraries(cls):
         return built.arm(), built.arm().removesuffix(".a") + ".so"
 
-    def test_symbols(self):
+    def test_symbols_of_both_libraries(self):
         self.check_symbols(self.library)
         self.check_symbols(self.shared, "--dynamic")
 
-    def test_static(self):
+    def test_answers_of_the_static_library(self):
         self.check_answers(short_questions(self.program), "static", refusals=REFUSALS)
 
-    def test_shared(self):
+    def test_answers_of_the_shared_library(self):
         self.check_answers(short_questions(self.program), "shared")
 
     def test_guards_of_static(self):

@@ -9,6 +9,7 @@ import hashlib
 import io
 import itertools
 import os
+import pathlib
 import re
 import stat
 import subprocess
@@ -48,7 +49,7 @@ def digests_by_model(text: bytes) -> list[str]:
 
 def make_unusable(kind: str, path: str) -> None:
     """Makes at a path what `spki-cert end` must not use as its file: no ordinary file, or one that cannot be used.
-    `kind` names it, as the rows of `test_places` do."""
+    `kind` names it, as the rows of `test_unusable_files` do."""
     if kind == "fifo":
         os.mkfifo(path)
     elif kind == "folder":
@@ -56,8 +57,7 @@ def make_unusable(kind: str, path: str) -> None:
     elif kind in ("device", "nowhere"):
         os.symlink("/dev/null" if kind == "device" else "not-there", path)
     else:
-        with open(path, "xb") as file:
-            file.write(b"#" * (ending.MOST_ENDED + 1) if kind == "long" else sealed(A))
+        pathlib.Path(path).write_bytes(b"#" * (ending.MOST_ENDED + 1) if kind == "long" else sealed(A))
     if kind == "read-only":
         os.chmod(path, 0o444)
     elif kind == "two names":
@@ -65,13 +65,13 @@ def make_unusable(kind: str, path: str) -> None:
 
 
 def state_of(path: str) -> list[int]:
-    """What differs if a file or a link is replaced, or a file written: number, mode, size, count of names, times."""
+    """What differs if a file or a link is replaced, or a file written: inode, mode, size, count of names, times."""
     state = os.lstat(path)
     return [state.st_ino, state.st_mode, state.st_size, state.st_nlink, state.st_mtime_ns, state.st_ctime_ns]
 
 
 @needs.needs("import cryptography")
-class Case(unittest.TestCase):
+class TestOfEnding(unittest.TestCase):
     """A test in a folder with the keys `ann` and `ben`. `first` is a sequence of one certificate, by Ann for Ben. `own` is one of Ben's for Ann.
     `second` is a sequence with both, and `cert` the certificate of `first` alone. `digests` are those of the two certificates."""
 
@@ -101,16 +101,14 @@ class Case(unittest.TestCase):
     @classmethod
     def octets(cls, name: str) -> bytes:
         """The octets of a file in the folder."""
-        with open(cls.at(name), "rb") as file:
-            return file.read()
+        return pathlib.Path(cls.at(name)).read_bytes()
 
     @classmethod
     def write(cls, name: str, octets: bytes) -> None:
         """Writes a new file in the folder, in the place of an old one."""
-        with contextlib.suppress(FileNotFoundError):
-            os.unlink(cls.at(name))
-        with open(cls.at(name), "xb") as file:
-            file.write(octets)
+        path = pathlib.Path(cls.at(name))
+        path.unlink(missing_ok=True)
+        path.write_bytes(octets)
 
     @classmethod
     def run_here(cls, *words: str) -> tuple[int, str]:
@@ -129,8 +127,8 @@ class Case(unittest.TestCase):
         self.assertEqual(status, wanted, output)
         return output
 
-    def rows(self) -> list[str]:
-        """The digests in the file of ended certificates, whose last line must be right."""
+    def digests_in_file(self) -> list[str]:
+        """The digests in the file of ended certificates, in its order. Its last line must be right."""
         lines = self.octets(ENDED).decode().splitlines()
         self.assertEqual(self.octets(ENDED), sealed(*lines[:-1]))
         return [line[:64] for line in lines if re.match("[0-9a-f]{64}", line)]
@@ -141,14 +139,14 @@ class Case(unittest.TestCase):
         self.assertEqual([name for name in os.listdir(self.room) if name.startswith(".")], [], output)
 
 
-class Ends(Case):
+class Ends(TestOfEnding):
     """What gets into the file."""
 
     def setUp(self) -> None:
         self.write(ENDED, sealed())
 
-    def test_which_certificate(self) -> None:
-        """What is ended: the last certificate of a file, with `--place` the one at a place, a certificate that is no
+    def test_which_certificate_is_ended(self) -> None:
+        """What is ended is the last certificate of a file, with `--place` the one at a place, a certificate that is no
         sequence, or a digest, which gets a remark. Comments in certificates change nothing."""
         first, second = self.digests
         for words, wanted in ((["second"], [second]), (["first"], [first]), (["cert"], [first]), (["second", "--place", "1"], [first]),
@@ -157,19 +155,19 @@ class Ends(Case):
             with self.subTest(words=words):
                 self.write(ENDED, sealed())
                 output = self.end(*words)
-                self.assertEqual((self.rows(), f"digests added: {len(wanted)};" in output), (wanted, True), output)
+                self.assertEqual((self.digests_in_file(), f"digests added: {len(wanted)};" in output), (wanted, True), output)
                 self.assertEqual("--digest is compared with no certificate" in output, "--digest" in words)
 
-    def test_forms(self) -> None:
+    def test_one_digest_in_each_form(self) -> None:
         """A certificate has the same digest in each form of S-expressions: `own` in the advanced one, and the last of `second` in braces."""
         for name, octets in (("advanced", self.octets("own")), ("braces", self.run_here("show", "--braces", "second")[1].encode())):
             with self.subTest(name=name):
                 self.write(ENDED, sealed())
                 self.write("form", octets)
                 self.end("form")
-                self.assertEqual(self.rows(), [self.digests[1]])
+                self.assertEqual(self.digests_in_file(), [self.digests[1]])
 
-    def test_reasons(self) -> None:
+    def test_reasons_are_one_visible_line(self) -> None:
         """A reason is one line of visible ASCII behind the digest and the date, whatever is given, of 200 characters at most."""
         for reason, wanted in (("laptop stolen", " laptop stolen"), ("", ""), (f"x\n{A}\nend 0 {B}", f" x {A} end 0 {B}"),
                                ("a\rb\x1b[2Jc\x85d\0e", " a b [2Jc\\x85d e"),
@@ -179,9 +177,9 @@ class Ends(Case):
                 self.end("second", "--reason", reason)
                 line = self.octets(ENDED).decode().splitlines()[0]
                 self.assertRegex(line, rf"^{self.digests[1]} # \d{{4}}-\d\d-\d\d{re.escape(wanted)}$")
-                self.assertEqual(self.rows(), [self.digests[1]])
+                self.assertEqual(self.digests_in_file(), [self.digests[1]])
 
-    def test_twice(self) -> None:
+    def test_ending_twice(self) -> None:
         """A certificate that has ended already is reported, and not written again."""
         self.end("first")
         before = self.octets(ENDED)
@@ -189,7 +187,7 @@ class Ends(Case):
         self.assertIn("it had ended before\ndigests added: 0", output)
         self.check_unchanged(before, output)
         self.assertIn("digests added: 1;", self.end("first", "second"))
-        self.assertEqual(self.rows(), self.digests)
+        self.assertEqual(self.digests_in_file(), self.digests)
 
     def test_undo(self) -> None:
         """`--undo` takes out all digests that are named, and names the command for the daemon; or none, with status 1, if one is not there."""
@@ -216,14 +214,14 @@ class Ends(Case):
         digests it has."""
         os.unlink(self.at(ENDED))
         self.assertIn("made; digests: 0", self.end())
-        self.assertEqual((self.rows(), stat.S_IMODE(os.stat(self.at(ENDED)).st_mode)), ([], 0o644))
+        self.assertEqual((self.digests_in_file(), stat.S_IMODE(os.stat(self.at(ENDED)).st_mode)), ([], 0o644))
         self.end("first")
         before = self.octets(ENDED)
         self.assertIn("whole; digests: 1", self.end())
         self.check_unchanged(before, "the file is there")
 
     def test_mode_owner_and_comments_stay(self) -> None:
-        """The mode, the lines with their comments, and where root runs the test the owner stay as they are. One line is new, and the last one."""
+        """The mode, the lines with their comments, and for root the owner stay as they are. One line is added, and the last one is another."""
         self.write(ENDED, sealed("# M\xfcller \udcff", f"{A} # \x01 \xe9"))
         os.chmod(self.at(ENDED), 0o640)
         if os.geteuid() == 0:
@@ -235,35 +233,36 @@ class Ends(Case):
         self.assertTrue(self.octets(ENDED).startswith("# M\xfcller \udcff\n".encode("utf-8", "surrogateescape") + f"{A} # \x01 \xe9\n".encode()))
         self.assertEqual(self.octets(ENDED).count(b"\n"), 4)
 
-    def test_link(self) -> None:
+    def test_link_to_the_file(self) -> None:
         """A symbolic link stays, and what it names is replaced."""
         self.write("real", sealed())
         os.unlink(self.at(ENDED))
         os.symlink("real", self.at(ENDED))
         self.end("first")
         self.assertTrue(os.path.islink(self.at(ENDED)))
-        self.assertEqual(self.rows(), [self.digests[0]])
+        self.assertEqual(self.digests_in_file(), [self.digests[0]])
 
     def test_writers_at_once(self) -> None:
         """Each of several writers adds its digest, and none is lost."""
         running = [subprocess.Popen([sys.executable, COMMAND, "end", "--ended", ENDED, "--digest", f"{number:064x}"], cwd=self.room,
                                     stdout=subprocess.DEVNULL) for number in range(WRITERS)]
         self.assertEqual([each.wait() for each in running], [0] * WRITERS)
-        self.assertEqual(sorted(self.rows()), [f"{number:064x}" for number in range(WRITERS)])
+        self.assertEqual(sorted(self.digests_in_file()), [f"{number:064x}" for number in range(WRITERS)])
 
     def test_changed_before_the_lock(self) -> None:
         """If another writer replaces the file after it was opened and before it is locked, what the other one wrote is not lost."""
         def change_and_lock(handle: int, how: int) -> None:
-            if self.rows() == []:
+            """In place of `fcntl.flock`: replaces the file before it is locked the first time."""
+            if self.digests_in_file() == []:
                 self.write(ENDED, sealed(A))
             flock(handle, how)
 
         flock = fcntl.flock
         with mock.patch("fcntl.flock", change_and_lock):
             self.end("first")
-        self.assertEqual(self.rows(), [A, self.digests[0]])
+        self.assertEqual(self.digests_in_file(), [A, self.digests[0]])
 
-    def test_locked(self) -> None:
+    def test_file_that_stays_locked(self) -> None:
         """While another program keeps the file locked, the command waits at most SECONDS_TO_LOCK, here 0, and then fails."""
         with files.locked(self.at(ENDED)), mock.patch.object(files, "SECONDS_TO_LOCK", 0):
             output = self.end("first", wanted=2)
@@ -291,13 +290,13 @@ class Ends(Case):
                 contextlib.redirect_stderr(errors):
             self.assertEqual(commands.main(), 3)
         self.assertNotIn("nothing was written", errors.getvalue())
-        self.assertEqual(self.rows(), self.digests[:1])
+        self.assertEqual(self.digests_in_file(), self.digests[:1])
 
 
-class Refuses(Case):
+class Refuses(TestOfEnding):
     """What ends with a status that is not 0, and changes nothing."""
 
-    def test_arguments(self) -> None:
+    def test_wrong_arguments(self) -> None:
         """Words that do not name a certificate, or that do not go together, are refused."""
         self.write(ENDED, sealed(A))
         self.write("none", b"(sequence)")
@@ -319,7 +318,7 @@ class Refuses(Case):
                 self.assertIn(text, output)
                 self.check_unchanged(sealed(A), output)
 
-    def test_files(self) -> None:
+    def test_files_that_are_not_whole(self) -> None:
         """A file that is not as it was written is refused by each command but --adopt, with what differs and what to do."""
         good = sealed("# M\xfcller", f"{A} # 2026-01-01 x", "", B)
         lines = good.split(b"\n")
@@ -347,7 +346,7 @@ class Refuses(Case):
                 self.assertIn("--adopt", output)
                 self.check_unchanged(octets, output)
 
-    def test_places(self) -> None:
+    def test_unusable_files(self) -> None:
         """What is no ordinary file that can be written, or too long, or has two names, is refused and stays. A FIFO is not waited for."""
         rows = [("fifo", "no ordinary file"), ("device", "no ordinary file"), ("folder", "no ordinary file"), ("read-only", "its mode 444"),
                 ("two names", "2 names"), ("long", "more than 16777216 octets"), ("nowhere", "not there; `spki-cert end --ended")]
@@ -368,12 +367,12 @@ class Refuses(Case):
         self.assertEqual(self.run_here("end", "--ended", "no/folder")[0], 2)
 
 
-class Adopts(Case):
+class Adopts(TestOfEnding):
     """How a file that people have written or changed becomes whole."""
 
-    def test_accepted(self) -> None:
+    def test_adopt_accepts_files_of_people(self) -> None:
         """`--adopt` accepts digests in capitals or with spaces around them, other ends of lines, and a last line that is wrong or missing. It writes
-        the file as the command itself does. `lines` are those before the new last line."""
+        the file as the command itself does. `lines` are those before the new last line. A line with a digest alone has 65 octets."""
         for name, octets, lines in (
                 ("old", f"#old\n\n{A.upper()}\n {B} #  x\n{C}#\xfc\n".encode(), ["#old", "", A, f"{B} # x", f"{C} # \xfc"]),
                 ("nothing in a comment", f"{A} #\n#\n{B}\t# \n".encode(), [A, "#", B]), ("no end of line", A.encode(), [A]),
@@ -382,10 +381,10 @@ class Adopts(Case):
             with self.subTest(name=name):
                 self.write(ENDED, octets)
                 output = self.end("--adopt")
-                self.assertEqual((self.octets(ENDED), f"digests: {len(self.rows())}\n" in output), (sealed(*lines), True), output)
+                self.assertEqual((self.octets(ENDED), f"digests: {len(self.digests_in_file())}\n" in output), (sealed(*lines), True), output)
 
-    def test_doubtful(self) -> None:
-        """What was probably cut is accepted only with `--yes`."""
+    def test_adopt_of_a_cut_file_needs_yes(self) -> None:
+        """What was probably cut is accepted only with `--yes`. A line with a digest alone has 65 octets."""
         rows: list[tuple[str, bytes, list[str]]] = [
             ("empty", b"", []), ("comments", b"# x\n", ["# x"]), ("a line less", sealed(A, B)[65:], [B]),
             ("a line more", A.encode() + b"\n" + sealed(B), [A, B]), ("a cut last line", sealed(A, B)[:-9], [A, B])]
@@ -398,7 +397,7 @@ class Adopts(Case):
                 self.end("--adopt", "--yes")
                 self.assertEqual(self.octets(ENDED), sealed(*lines))
 
-    def test_refused(self) -> None:
+    def test_adopt_refuses_other_lines(self) -> None:
         """A line that is neither a digest nor a comment is refused, also with `--yes`."""
         for octets in (A.encode() + b"\n" + B[:30].encode(), b"see sha256 of the release\n", sealed(A) + sealed(B), b"\x00", A.encode() + b" x\n"):
             with self.subTest(octets=octets):
@@ -409,10 +408,10 @@ class Adopts(Case):
 
 
 @needs.needs(*needs.LIBRARY, "import cryptography")
-class OfLibrary(Case):
+class OfLibrary(TestOfEnding):
     """The digests are those of what the library lists to be verified, which the daemon looks up."""
 
-    def test_messages(self) -> None:
+    def test_digests_of_the_messages_of_the_library(self) -> None:
         # (a program that prints the SHA-256 of each message that the library lists for a sequence, in the file of its first argument)
         asks = ("import hashlib, sys, spki; guard = spki.Guard(b'(acl)');"
                 "key = spki.ProvenKey.assume(spki.canonical(open(sys.argv[2], 'rb').read()));"
@@ -424,7 +423,7 @@ class OfLibrary(Case):
         self.assertEqual((status, output.split()), (0, self.digests))
         self.write(ENDED, sealed())
         self.end("first", "second")
-        self.assertEqual(self.rows(), output.split())
+        self.assertEqual(self.digests_in_file(), output.split())
 
 
 class Page(unittest.TestCase):

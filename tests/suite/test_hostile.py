@@ -140,7 +140,7 @@ def of_limits():
 
 
 def examples_of(*sources, most=MOST_OCTETS * 2):
-    """The examples that these functions yield whose text has at most `most` octets and whose command the program has."""
+    """The examples that these functions yield whose text has at most `most` octets, by default all, and whose command the program has."""
     return [example for source in sources for example in source() if example.command in COMMANDS and len(example.text) <= most]
 
 
@@ -160,24 +160,24 @@ def first_run():
 def most_work():
     """Yields the texts that need the most work known: a name, the command, the text, and what the answer begins with."""
     scripts = (os.path.join(BENCH, f"{name}.py") for name in ("check", "convert", "intersect", "chains", "linear"))
-    check, convert, intersect, long, linear = map(loaded, scripts)
+    check, convert, intersect, long_chains, linear = map(loaded, scripts)
     for make in (check.many_entries, check.many_structures, check.many_certificates, check.many_members, check.lists_in_lists,
                  check.one_string, check.no_value):
         text, answer = make(MOST_OCTETS)
         yield make.__name__, "check", text, answer
-    for make in (long.by_keys, long.by_hashes, long.through_names):
-        yield make.__name__, "check", make(long.LENGTHS[-1]), b"yes entry 1\n"
+    for make in (long_chains.by_keys, long_chains.by_hashes, long_chains.through_names):
+        yield make.__name__, "check", make(long_chains.LENGTHS[-1]), b"yes entry 1\n"
     for shape in linear.SHAPES:
         yield shape.name, "check", shape.text(MOST_OCTETS)[1], b"no\n"
     yield linear.large_tag_and_set.__name__, "check", linear.large_tag_and_set(1, linear.BEHIND_LARGE, linear.MEMBERS), b"no\n"
-    for what, text, answer in long.widest():
+    for what, text, answer in long_chains.widest():
         yield what, "check", text, answer
         yield what, "explain", text, b"entry 1 "
         yield what, "reduce", text, b"entry 1 "
     for what, tag in (("(*)", check.STAR), ("a", check.string("a"))):
         for command, answer in (("check", b"no\n"), ("explain", b"entry 1 NotTheKey\n"), ("reduce", b"entry 1 (five ")):
-            yield f"ten {what} behind a large tag", command, long.behind_a_large_tag(10, tag), answer
-    for what, text in long.large_tags():
+            yield f"ten {what} behind a large tag", command, long_chains.behind_a_large_tag(10, tag), answer
+    for what, text in long_chains.large_tags():
         for command, answer in (("check", b"no\n"), ("explain", b"entry 1 NotTheKey\n")):
             yield what, command, text, answer
     for make in convert.SHAPES:
@@ -232,9 +232,9 @@ def cut_short(program, command, text, lengths):
 
 
 def failing_in_turn(program, example, call, error, wanted):
-    """Runs of an example in which each call of `read` or `write` (`call`) is for one octet, and the Nth is refused, for
-    each N until none is: it fails with the error `error`, or if this is 0 returns no octet. `wanted(example, N)` is how
-    such a run must end. Returns the number of runs, of refusals, and the faults."""
+    """Runs of an example in which each call of `read` or `write` (`call`) is for one octet, and the Nth is refused, for each N until none is: it
+    fails with the error `error`, a number such as EIO, or if this is 0 returns no octet. `wanted(example, N)` is how such a run must end. Returns the
+    number of runs, of refusals, and the faults."""
     refusals, faults = 0, []
     for number in count(1):
         ended = program.run(example.command, example.text, step=1, **{call: number, "with": error})
@@ -270,8 +270,8 @@ def ended_early(example, number):
 
 
 def interrupted_for_ever(program, example, call, asks, wanted):
-    """A run in which each read or each write (`call`) fails with EINTR. It must call `asks` times, and then end as
-    `wanted`. Returns the number of runs, of refusals, and the faults."""
+    """A run in which each read or each write (`call`) fails with EINTR. It must call `asks` times, and then end as `wanted`. Returns the number of
+    runs, of refusals, and the faults."""
     ended = program.run(example.command, example.text, step=1, **{call: "1..", "with": EINTR})
     right = ended.answer == wanted and ended.asked[call] == asks
     return 1, ended.refused, [] if right else [f"{example}: {call} interrupted for ever: {ended}, {ended.asked[call]} asks"]
@@ -290,8 +290,8 @@ def with_small_stack(program, example):
 
 
 def in_less_memory(program, example):
-    """Runs with each of LIMITS, in MiB, as the address space of the program: each must give the right answer or MEMORY.
-    Returns the number of runs, of those with MEMORY, and the faults."""
+    """Runs with each of LIMITS, in MiB, as the address space of the program: each must give the right answer or MEMORY. Returns the number of runs,
+    of those with MEMORY, and the faults."""
     refusals, faults = 0, []
     wanted = example.answer or program.run(example.command, example.text).answer
     for mebibytes in LIMITS:
@@ -325,8 +325,8 @@ def with_valgrind(program, example, plan):
 
 
 def run_task(function, program, *words):
-    """Calls the function of a task with the program and the task's words. Returns the number of runs, of refusals, and
-    the faults, as the function does. An OSError is a fault."""
+    """Calls the function of a task with the program and the task's words. Returns the number of runs, of refusals, and the faults, as the function
+    does. An OSError is a fault."""
     try:
         return function(program, *words)
     except OSError as fault:
@@ -343,14 +343,14 @@ def memory_refused(behind):
 
 
 def calls_refused():
-    """Tasks that refuse requests for memory of single calls of the libraries."""
+    """Tasks that refuse requests for memory of single calls of the libraries: one request, or all from one on."""
     for row in test_calls.examples():
         for behind in ("", ".."):
             yield call_refused, row, behind
 
 
 def truncation():
-    """Tasks that cut texts short at each octet, 100 lengths a task, and those that put whitespace behind a case."""
+    """Tasks that cut texts short at each octet, 100 lengths a task, and tasks that put whitespace behind a case, which is still read."""
     commands = [(command, text) for command in COMMANDS for text in first_run()]
     for command, text in commands + [("check", text) for text in three_certificates()]:
         for start in range(0, len(text), 100):
@@ -395,8 +395,8 @@ def long_answers():
 
 
 def pipes_and_files():
-    """Tasks with pipes without a reader, pipes that do not block, files that are full, and texts that come octet by octet. By `dies` a
-    run begins with the usual effect of SIGPIPE, the signal of a pipe without a reader, which would end it: it must report a write fault even so."""
+    """Tasks with pipes without a reader, pipes that do not block, files that are full, and texts that come octet by octet. If `dies` is true a run
+    begins with the usual effect of SIGPIPE, the signal of a pipe without a reader, which would end it: it must report a write fault even so."""
     long = b"(" + b"3:abc" * 200000 + b")"
     whole = first_run()[0]
     for dies in (False, True):
@@ -463,7 +463,7 @@ LONGEST = ("less_and_less_memory", "small_stack", "under_valgrind", "most_work")
 
 @needs.needs("cc")
 class Hostile(built.OfProgram):
-    """The parts, each with several processes."""
+    """The parts, each with several processes: a test for each is added below."""
 
     @classmethod
     def setUpClass(cls):

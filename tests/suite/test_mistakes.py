@@ -16,7 +16,7 @@ from unittest import mock
 
 from harness import built, needs
 from rows import mistakes
-from suite.test_cert import COMMAND, TAG, Case, octets_in
+from suite.test_cert import COMMAND, TAG, CommandTest, octets_in
 from spki_cert_tool import arguments, asking, certificates, commands, ending, files, keys, sexp
 from spki_cert_tool.places import value_in
 
@@ -32,8 +32,8 @@ def key_pair(kind="ed25519"):
     return keys.file_of(private, b""), keys.openssh_line(private.public_key())
 
 
-class Room(Case):
-    """A folder with the keys of alice, bob and carol, a list acl.sexp with an entry for alice, her certificate `to-bob`, and an empty folder."""
+class TestWithKeys(CommandTest):
+    """A test in a folder with keys of alice, bob and carol, a list acl.sexp with an entry for alice, her certificate `to-bob`, an empty folder."""
 
     @classmethod
     def setUpClass(cls):
@@ -67,7 +67,7 @@ class Room(Case):
         return {name: octets_in(self.at(name)) for name in os.listdir(self.room) if stat.S_ISREG(os.lstat(self.at(name)).st_mode)}
 
 
-class OfWriting(Room):
+class OfWriting(TestWithKeys):
     """No key and no input is written over, and a command that fails leaves the file as it is."""
 
     def test_no_key_and_no_input_is_written_over(self):
@@ -86,18 +86,19 @@ class OfWriting(Room):
             self.changes_nothing(*words, message=message)
 
     def test_no_secret_is_written_over_or_shown(self):
-        """The secrets are private keys in forms that spki-cert does not read, or not whole; as words also keys that it reads. `ended` is kept too."""
-        from cryptography.hazmat.primitives import serialization
-        from cryptography.hazmat.primitives.serialization import pkcs12
+        """No file with a secret is written over, and no output has a part of one. The secrets are private keys in forms that spki-cert does not read,
+        or cut off, and as words of a command also keys that it reads. The file of ended certificates is not written over either."""
+        from cryptography.hazmat.primitives.serialization import Encoding, NoEncryption, PrivateFormat, pkcs12
         # (a seed is a secret in base64. Alone in a file it is a text of one string, which `check` accepts if it does not begin with a digit)
         seed = b"0"
         while seed[:1].isdigit():
             private = keys.new_private("ed25519")
-            octets = private.private_bytes(serialization.Encoding.Raw, serialization.PrivateFormat.Raw, serialization.NoEncryption())
+            octets = private.private_bytes(Encoding.Raw, PrivateFormat.Raw, NoEncryption())
             seed = base64.b64encode(octets)
         text = b"(private-key (ecc (curve Ed25519) (flags eddsa) (q #00#) (d #%s#)" % octets.hex().encode()
-        der = private.private_bytes(serialization.Encoding.DER, serialization.PrivateFormat.PKCS8, serialization.NoEncryption())
-        p12 = pkcs12.serialize_key_and_certificates(b"x", private, None, None, serialization.NoEncryption())
+        der = private.private_bytes(Encoding.DER, PrivateFormat.PKCS8, NoEncryption())
+        p12 = pkcs12.serialize_key_and_certificates(b"x", private, None, None, NoEncryption())
+        parts = seed.decode()[:20], octets.hex()[:20]  # (of the secret, as an output might have them; one in braces has its own base64)
         forms = {"der": der, "p12": p12, "jwk": b'{"kty": "OKP", "d": "%s"}' % seed, "utf-16": text.decode().encode("utf-16"),
                  "ssh2": b"---- BEGIN SSH2 ENCRYPTED PRIVATE KEY ----\n%s\n" % seed, "sexp": text, "age": b"# made\nAGE-SECRET-KEY-1" + seed,
                  "wireguard": b"[Interface]\nPrivateKey = " + seed, "wg": seed + b"\n", "braces": b"{%s" % base64.b64encode(text)}
@@ -107,18 +108,18 @@ class OfWriting(Room):
                           ("entry", "--to", "bob.pub", "--tag", TAG, "--acl", name)):
                 with self.subTest(words):
                     output = self.cert(*words, wanted=0 if words == ("check", "wg") else 2)
-                    for shown in (seed.decode()[:20], octets.hex()[:20], "\\x", base64.b64encode(text).decode()[-20:]):
+                    for shown in (*parts, "\\x", base64.b64encode(text).decode()[-20:]):
                         self.assertNotIn(shown, output)
             self.changes_nothing("key", "bob.pub", "--force", "-o", name, message="is not written over")
-            self.no_word_is_shown(secret.decode(errors="surrogateescape").strip("\0\n"), seed.decode()[:20], octets.hex()[:20])
+            self.check_not_shown(secret.decode(errors="surrogateescape").strip("\0\n"), *parts)
         for name, (whole, _) in self.pairs.items():
-            self.no_word_is_shown(whole.decode(), *whole.decode().split("\n")[1:-2])
+            self.check_not_shown(whole.decode(), *whole.decode().split("\n")[1:-2])
         self.cert("end", "--ended", "ended")
         self.changes_nothing("key", "bob.pub", "--force", "-o", "ended", message="the file of ended certificates is there already")
 
-    def no_word_is_shown(self, secret, *parts):
+    def check_not_shown(self, secret, *parts):
         """A command that gets the text `secret` as a word must not write any of these parts of it. A secret in base64 alone is recognized only where
-        a command takes the name of a file. No word of a command line can have an octet 0."""
+        a command takes the name of a file. No word of a command line can have an octet 0, so then nothing is tried."""
         as_file = [("key", secret), ("show", secret), ("key", "alice.pub", secret), ("ask", "--acl", secret, "--key", "bob.pub", "--", "x"),
                    ("sign", "--by", secret, "--to", "bob.pub", "--tag", TAG), ("sign", "--by", "alice", "--to", secret, "--tag", TAG, "--days", "1")]
         as_word = [(secret,), ("entry", "--to", "bob.pub", "--tag", secret), ("entry", "--to", "bob.pub", "--tag", f"x {secret}"),
@@ -139,7 +140,7 @@ class OfWriting(Room):
         self.assertIn("is not there", self.sign("-o", "none/c.sexp", wanted=2))
 
     def test_a_file_that_is_there_needs_force(self):
-        """By `--force` it is written also through a link, and keeps its mode, but not if the mode lets nobody write."""
+        """By `--force` the file is written over, also through a link, and keeps its mode. It is not if its mode lets nobody write."""
         self.write("c.sexp", "before")
         os.chmod(self.at("c.sexp"), 0o640)
         self.assertIn("--force writes over it", self.sign("-o", "c.sexp", wanted=2))
@@ -153,7 +154,7 @@ class OfWriting(Room):
             self.check_not_written("sign", "--by", "alice", "--to", "bob.pub", "--tag", TAG, "--days", "1", "--force", "-o", "c.sexp")
 
     def check_not_written(self, *words):
-        """A command must refuse to write c.sexp, and leave it as it is."""
+        """A command must refuse, by the mode of c.sexp, to write this file, and leave it as it is."""
         before = os.stat(self.at("c.sexp"))
         self.assertIn("is not to be written", self.cert(*words, wanted=2))
         self.assertEqual(before, os.stat(self.at("c.sexp")))
@@ -174,14 +175,14 @@ class OfWriting(Room):
             self.changes_nothing(*words, message="its mode 444")
 
     def test_edits_at_the_same_time_are_all_kept(self):
-        """Each waits for the lock of the list, which then is the word `acl` and four entries."""
+        """Each of four edits waits for the lock of the list. Afterwards the list is the word `acl` and four entries."""
         children = [subprocess.Popen([sys.executable, COMMAND, "entry", "--to", "bob.pub", "--tag", f"(packages a{number})", "--acl", "new.sexp"],
                                      cwd=self.room, stdout=subprocess.DEVNULL) for number in range(4)]
         self.assertEqual([child.wait(SECONDS) for child in children], [0] * 4)
         self.assertEqual(len(value_in(octets_in(self.at("new.sexp"))).value), 5)
 
     def test_a_dash_is_a_stream(self):
-        """For a file that is read `-` is standard input, which is read once. For one that is written it is standard output."""
+        """In place of a file to read, `-` is standard input, which is read once. In place of one to write it is standard output."""
         for words, name in [(("key", "-"), "bob.pub"), (("show", "-"), "to-bob"), (("check", "-"), "acl.sexp"),
                             (("key", "-o", "-", "bob.pub"), "bob.pub"),
                             (("sign", "--by", "-", "--to", "bob.pub", "--tag", TAG, "--days", "1"), "alice"),
@@ -193,18 +194,19 @@ class OfWriting(Room):
             self.assertIn("was read already", self.cert("key", "-", "-", wanted=2))
 
     def test_a_file_system_without_links_gets_a_file(self):
+        """A new file gets its name by `os.link`, which replaces no file. Where that fails, it gets it otherwise, and no temporary file is left."""
         with mock.patch.object(os, "link", side_effect=PermissionError(1, "Operation not permitted")):
             self.sign("-o", "c.sexp")
             self.assertIn("is there already", self.sign("-o", "c.sexp", wanted=2))
         self.verify("c.sexp")
-        self.assertEqual([it for it in os.listdir(self.room) if it.startswith(".")], [])
+        self.assertEqual([name for name in os.listdir(self.room) if name.startswith(".")], [])
 
     def test_a_disk_that_is_full_leaves_the_file(self):
         self.write("c.sexp", "before")
         for call in ("fsync", "fchmod", "replace"):
             with self.subTest(call), mock.patch.object(os, call, side_effect=OSError(28, "No space left on device")):
                 self.assertIn("the file is as before", self.sign("--force", "-o", "c.sexp", wanted=3))
-            self.assertEqual((octets_in(self.at("c.sexp")), [it for it in os.listdir(self.room) if it.startswith(".")]), (b"before", []))
+            self.assertEqual((octets_in(self.at("c.sexp")), [name for name in os.listdir(self.room) if name.startswith(".")]), (b"before", []))
 
     def test_a_folder_that_cannot_be_synced_is_reported(self):
         """The file is written then, and the status is 3. It is no fault if the folder may not be read, or if the file system does not sync folders.
@@ -220,16 +222,16 @@ class OfWriting(Room):
             self.verify(f"{number}.sexp")
 
     def test_a_temporary_file_that_stays_is_named(self):
-        """The message also says whether the file is written. Afterwards no signal is blocked."""
+        """A temporary file that cannot be deleted is named, and whether the other file is written. Afterwards no signal is blocked."""
         for syncs, state in ((None, "written"), (OSError(28, "No space left on device"), "as before")):
-            name, left = f"{state}.sexp", f"its temporary file {re.escape(os.path.realpath(self.room))}/\\.spki-cert-\\w+"
+            name, other = f"{state}.sexp", f"its temporary file {re.escape(os.path.realpath(self.room))}/\\.spki-cert-\\w+"
             with self.subTest(state), mock.patch.object(os, "unlink", side_effect=OSError(5, "Input/output error")), \
                     mock.patch.object(os, "fsync", side_effect=syncs):
-                self.assertRegex(self.sign("-o", name, wanted=3), f"{name}: the file is {state}, and {left} cannot be deleted: Input/output error")
+                self.assertRegex(self.sign("-o", name, wanted=3), f"{name}: the file is {state}, and {other} cannot be deleted: Input/output error")
             self.assertEqual((os.path.exists(self.at(name)), signal.pthread_sigmask(signal.SIG_BLOCK, [])), (syncs is None, set()))
 
     def open_unless(self, error):
-        """A function for use instead of `os.open`, which raises `error` for the folder of the test. If it is None, each path is opened."""
+        """A function for use instead of `os.open`, which raises `error` for the folder of the test. If `error` is None, it opens each path."""
         folder, opens = os.path.realpath(self.room), os.open
 
         def open_or_fail(path, *words, **named):
@@ -241,7 +243,7 @@ class OfWriting(Room):
 
 
 @needs.needs(*needs.LIBRARY)
-class OfTheLibrary(Room):
+class OfTheLibrary(TestWithKeys):
     """No answer of the library is written over a file that the command reads."""
 
     def setUp(self):
@@ -260,7 +262,7 @@ class OfTheLibrary(Room):
         self.changes_nothing(*signs, "--chain", "to-bob", "--force", "-o", "to-bob", message="reads this file")
 
 
-class OfArguments(Room):
+class OfArguments(TestWithKeys):
     """The words of a command mean what is written, and nothing else."""
 
     def test_no_option_is_abbreviated(self):
@@ -285,7 +287,7 @@ class OfArguments(Room):
                 self.assertNotIn("c.sexp", os.listdir(self.room))
 
 
-class OfKeyFiles(Room):
+class OfKeyFiles(TestWithKeys):
     """Files of keys that people have."""
 
     def test_the_option_key_chooses_one_of_several_keys(self):
@@ -348,7 +350,7 @@ class OfKeyFiles(Room):
             self.assertIn(f"{name}: {kind}", self.cert("check", name))
 
 
-class OfChains(Room):
+class OfChains(TestWithKeys):
     """The search for chains: the certificates that lead from an entry to a key."""
 
     def sequences(self, count):
@@ -357,9 +359,9 @@ class OfChains(Room):
         return [*own, self.sequence("bob", "carol", 0), value_in(octets_in(self.at("to-bob"))).value]
 
     def sequence(self, issuer, subject, number):
-        """The value of a sequence with one certificate. `issuer` and `subject` are names in `pairs`, and `number` is the certificate's comment."""
-        private, to = (keys.read_private(self.pairs[issuer][0], lambda: b""), keys.read_public(self.pairs[subject][1], lambda: b""))
-        signer = keys.FileSigner(private)
+        """The value of a sequence with one certificate for `(packages)`. `issuer` and `subject` are names in `pairs`, `number` is its comment."""
+        signer = keys.FileSigner(keys.read_private(self.pairs[issuer][0], lambda: b""))
+        to = keys.read_public(self.pairs[subject][1], lambda: b"")
         certificate = [b"cert", [b"issuer", signer.key], [b"subject", to], [b"propagate"], [b"tag", [b"packages"]], [b"comment", b"%d" % number]]
         signature = [b"signature", keys.hash_of(certificate), signer.key, signer.sign(sexp.canonical(certificate))]
         return [b"sequence", certificate, signature]
@@ -436,7 +438,7 @@ class OfTheRightOfAChain(OfChains):
             self.assertFalse(os.path.exists(self.at("c.sexp")))
             self.sign_behind("--anyway")
 
-    def test_a_right_that_ends_earlier_warns(self):
+    def test_a_chain_that_ends_earlier_or_lacks_the_request_warns(self):
         words = ("sign", "--by", "bob", "--to", "carol.pub", "--tag", "(packages read)", "--chain", "to-bob", "--days", "40", "-o", "c.sexp")
         self.assertIn("item 1 of the chain ends earlier", self.cert(*words, wanted=4))
         self.cert(*words, "--yes")
@@ -455,7 +457,7 @@ class OfTheRightOfAChain(OfChains):
                 self.assertEqual("item 1 of the chain ends earlier" in output, warns, output)
 
     def test_certificates_of_a_key_for_itself_are_no_burden(self):
-        """Many such certificates do not keep the search from the right chain. Where it stops at a bound of steps or chains, a line says so."""
+        """Many such certificates do not keep the search from the right chain. If the search stops at a bound of steps or chains, a line says so."""
         os.mkdir(self.at("many"))
         for number, sequence in enumerate(self.sequences(12)):
             self.write(f"many/{number}", sexp.laid_out(sequence))
@@ -479,8 +481,8 @@ class Child:
     """`spki-cert` in a forked child of this process."""
 
     def __init__(self, room, words, settings, stdin="/dev/null", stdout=None, before=lambda: None):
-        """Starts it with these words, in the folder `room`, with the environment `settings`. `stdin` is a path, and `stdout` a function that opens a
-        file: None is a stream that is closed. `before` is called in the child first. The status is 99 if something raises an exception."""
+        """Starts `spki-cert` with these words, in the folder `room`, with the environment `settings`. `stdin` is a path, and `stdout` a function that
+        opens a file: None is a stream that is closed. `before` is called in the child first. The status is 99 if something raises an exception."""
         self.errors = tempfile.TemporaryFile()
         self.process = os.fork()
         if self.process == 0:
@@ -505,7 +507,7 @@ class Child:
                 os._exit(99)
 
     def wait(self):
-        """Waits until the command has ended. Returns its status, or a signal's number below 0, and what it has written to standard error."""
+        """Waits until the command has ended. Returns its status, or minus the number of the signal that ended it, and its standard error as text."""
         status = os.waitstatus_to_exitcode(os.waitpid(self.process, 0)[1])
         self.errors.seek(0)
         with self.errors:
@@ -513,11 +515,11 @@ class Child:
 
 
 def writing_to(path, encoding="utf-8"):
-    """Returns a function that opens the file of a path for writing. It can be the `stdout` of a `Child`."""
+    """Returns a function without arguments that opens the file of a path for writing: the `stdout` of a `Child`."""
     return lambda: open(path, "w", encoding=encoding)
 
 
-class OfStreams(Room):
+class OfStreams(TestWithKeys):
     """What commands say if a stream is closed, full or of another encoding. `EACH` has the words of a command line for each."""
 
     EACH = {"key": ("key", "alice.pub"), "key new": ("key", "new", "--no-passphrase", "new"), "check": ("check", "acl.sexp"),
@@ -561,7 +563,7 @@ class OfStreams(Room):
             self.assertIn("the input ended where", self.cert("key", "new", "new", wanted=2))
 
 
-class OfSignals(Room):
+class OfSignals(TestWithKeys):
     """Signals that a command gets while it waits. With the words of `WAITING` a command waits for its input, or for its output to be read."""
 
     WAITING = {"key": ("key", "-"), "sign": ("sign", "--by", "-", "--to", "bob.pub", "--tag", TAG, "--days", "1", "-o", "c.sexp"),
@@ -601,6 +603,7 @@ class OfSignals(Room):
         (ready, is_ready), (hang, release) = os.pipe(), os.pipe()
 
         def before():
+            """Has the child wait when it reads its input or writes its output."""
             os.close(release)
             # (a shell starts what runs in the background with SIGINT and SIGQUIT ignored, and the child inherits that)
             signal.signal(number, signal.SIG_DFL)
@@ -636,10 +639,10 @@ class OfSignals(Room):
             status, errors = Child(self.room, words, self.settings, before=before).wait()
             self.assertEqual((status, errors), (3, "spki-cert: ended by SIGTERM\n"))
             self.verify(f"{call}.sexp")
-        self.assertEqual([it for it in os.listdir(self.room) if it.startswith(".")], [])
+        self.assertEqual([name for name in os.listdir(self.room) if name.startswith(".")], [])
 
 
-class OfRandomWords(Room):
+class OfRandomWords(TestWithKeys):
     """Whatever words, files and streams a command gets, it ends with a status of the manual and loses no file."""
 
     # Options behind which a command has a file that it writes, and for each command the words behind which it has one that it reads. For a command
@@ -665,13 +668,13 @@ class OfRandomWords(Room):
         self.write("c.sexp", "(acl)")
         self.write("c.key", self.cert("key", "bob.pub"))
         os.symlink("acl.sexp", self.at("link"))
-        # (the files from which `wild` makes its octets)
+        # (the octets from which `random_octets` makes others)
         self.sources = [octets_in(self.at(name)) for name in ("alice", "alice.pub", "acl.sexp", "to-bob", "keys")]
         # (a quick run has no library: then the commands that ask it say so)
         if not built.IS_ALONE and os.path.exists(os.environ.get("SPKI_TEST_LIBRARY", built.LIBRARY)):
             self.settings["SPKI_LIBRARY"] = built.shared()
 
-    def words(self, rng):
+    def random_words(self, rng):
         """Random words of a command line. One in five has any options and values of a command, and the others are a likely one. Then `--force` may be
         added, up to three words are replaced or inserted, and a file that is written may become a file that the command names, or any value."""
         options_of = arguments.commands_with_options()
@@ -689,7 +692,7 @@ class OfRandomWords(Room):
             words[rng.choice(outputs)] = rng.choice([word for word in words if os.path.isfile(self.at(word))] or self.VALUES)
         return words
 
-    def wild(self, rng):
+    def random_octets(self, rng):
         """Random octets for a file: in four of five cases those of one of `sources`, else any. Then some may be replaced, left out or added."""
         octets = bytearray(rng.choice(self.sources) if rng.random() < 0.8 else rng.randbytes(rng.randrange(200)))
         for _ in range(rng.randrange(5)):
@@ -701,7 +704,7 @@ class OfRandomWords(Room):
         """Commands with random words, files and streams, in children of this process. `check_run` says what must hold."""
         rng, before = random.Random(SEED), self.contents()
         for number in range(RUNS):
-            words, wild = self.words(rng), {name: self.wild(rng) for name in ("wild", "wild.pub", "wild.sexp")}
+            words, wild = self.random_words(rng), {name: self.random_octets(rng) for name in ("wild", "wild.pub", "wild.sexp")}
             for name, octets in wild.items():
                 self.write(name, octets)
             stdin = rng.choice(("/dev/null", self.at("alice"), self.at("acl.sexp"), self.at("wild"), None))
@@ -711,10 +714,10 @@ class OfRandomWords(Room):
                 self.check_run(words, status, errors, {**before, **wild})
 
     def test_nothing_is_lost_by_the_program(self):
-        """The same, with the program itself. A start of it takes longer, so these are fewer."""
+        """As `test_nothing_is_lost`, but each run is a new process of the program. That takes longer, so the runs are fewer."""
         rng, before = random.Random(SEED + " starts"), self.contents()
         for number in range(STARTS):
-            words, wild = self.words(rng), {"wild": self.wild(rng)}
+            words, wild = self.random_words(rng), {"wild": self.random_octets(rng)}
             self.write("wild", wild["wild"])
             done = subprocess.run([sys.executable, COMMAND, *words], cwd=self.room, env=self.settings, stdin=subprocess.DEVNULL,
                                   stdout=subprocess.DEVNULL, stderr=subprocess.PIPE, start_new_session=True, timeout=SECONDS)
@@ -723,7 +726,7 @@ class OfRandomWords(Room):
 
     def check_run(self, words, status, errors, before):
         """A command must have ended without a traceback, a changed input, a lost key or a half file. Restores files of `before`, removes others."""
-        after, may_change = self.contents(), {words[place + 1] for place, word in enumerate(words[:-1]) if word in self.OUTPUTS}
+        after, may_change = self.contents(), {value for option, value in zip(words, words[1:]) if option in self.OUTPUTS}
         if "link" in may_change:
             may_change.add("acl.sexp")
         changed = {name for name in before if after.get(name) != before[name]}

@@ -44,8 +44,8 @@ class OfSite(unittest.TestCase):
 class Attacks(OfSite):
     """The requests from which the attacks of test_attacks.py are made, and an attack in the handshake of TLS."""
 
-    def lines(self) -> int:
-        """How many lines the logs of nginx and of the daemon have."""
+    def count_lines(self) -> int:
+        """How many lines the logs of nginx and of the daemon have together."""
         return sum(self.site.text(name).count("\n") for name in LOGS)
 
     def test_what_is_granted(self) -> None:
@@ -59,11 +59,11 @@ class Attacks(OfSite):
         """A client that has another key than that of the certificate that it shows gets no connection."""
         files = map(self.site.at, ("keys/ann.crt", "keys/eve.crt", "keys/eve"))
         words = ("go", "run", os.path.join(TESTS, "programs", "foreign.go"), f"127.0.0.1:{self.site.port}", *files)
-        before = self.lines()
+        before = self.count_lines()
         output = output_of(*words, seconds=served.SECONDS)[1]
         self.assertNotIn("HTTP/1.1 2", output)
         self.assertIn("tls:", output)
-        waits_for("a line in a log", lambda: self.lines() > before)
+        waits_for("a line in a log", lambda: self.count_lines() > before)
         self.check_ann()
 
 
@@ -122,18 +122,18 @@ class Sites(OfSite):
         self.addCleanup(lambda: self.restart_nginx("", ""))
 
     def restart_nginx(self, of_all: str, of_server: str, without: str = "no such line") -> None:
-        """Starts nginx again with the lines `of_all` outside of its server and `of_server` in it, and without those that `without` matches."""
+        """Starts nginx again with the lines `of_all` outside its server and `of_server` in it, without those that the pattern `without` matches."""
         for name, place, lines in (("loopback.conf", "include files.conf;", of_all), ("files.conf", "server_name localhost;", of_server)):
             more = lines.replace("{room}", self.site.room)
             self.site.write(f"etc/{name}", re.sub(f"(?m)^ *{without}$", "", self.own_lines[name]).replace(place, f"{more}\n{place}", 1))
         self.site.restart_server()
 
     def check_denied(self, asked: list[Asked], must: set[int]) -> None:
-        """No request may be granted: each must be answered with one of the statuses `must`."""
+        """No request may be granted or have an effect: each must be answered with one of the statuses `must`."""
         for request in asked:
             self.assertEqual(faults_of(self.site, request, must), [])
 
-    def test_denied(self) -> None:
+    def test_lines_of_other_sites_grant_nothing(self) -> None:
         """No lines of other sites turn a denial into a grant, and Ann still gets what she may."""
         for name, of_all, of_server in SITES:
             self.restart_nginx(of_all, of_server)
@@ -142,7 +142,7 @@ class Sites(OfSite):
                 self.check_denied(ASKED, DENIED)
                 self.check_ann()
 
-    def test_included(self) -> None:
+    def test_server_side_includes_are_not_run(self) -> None:
         """nginx runs no server-side include (SSI) in a file that Ann writes: by one she could get a file that she may not read."""
         self.restart_nginx("ssi on; ssi_types *;", "")
         page = '<!--#include virtual="/secret/plan.txt" -->'
@@ -150,7 +150,7 @@ class Sites(OfSite):
         answer = self.site.answer("ann", b"GET /web/page.html HTTP/1.1\r\nHost: localhost\r\nConnection: close\r\n\r\n")
         self.assertTrue(answer.endswith(page.encode()), answer)
 
-    def test_one_lock(self) -> None:
+    def test_the_second_lock_denies_alone(self) -> None:
         """Where the first lock, lines of the example, is broken, the second one denies: nginx has the folder of the files only after a yes of the
         daemon. nginx answers for a folder itself, by the error page that Ann may read, so `/web/` is left out."""
         for name, of_all, line in LOCKS:
@@ -158,7 +158,7 @@ class Sites(OfSite):
             with self.subTest(name):
                 self.check_denied([(who, method, path) for who, method, path in ASKED if path != "/web/"], DENIED | UNDECIDED)
 
-    def test_daemon_stopped(self) -> None:
+    def test_nothing_is_granted_without_the_daemon(self) -> None:
         """While no daemon answers, nothing is granted, not even to Ann. No status may be 401, by which only the daemon denies."""
         self.check_ann()
         self.site.stop_daemon()
@@ -177,7 +177,7 @@ class Sites(OfSite):
         with contextlib.ExitStack() as stack:
             full = stack.enter_context(socket.socket(socket.AF_UNIX))
             full.bind(self.site.at("run/socket"))
-            # (a queue for 0 has room for one connection, so two fill it)
+            # (a queue for 0 has room for one connection, which fills it: the second one below makes sure of that)
             full.listen(0)
             for _ in range(2):
                 waiting = stack.enter_context(socket.socket(socket.AF_UNIX))
@@ -285,21 +285,21 @@ class Limits(OfSite):
         lines = [json.loads(line) for name in ("authd", "grants") for line in self.site.text(f"log/{name}.log").splitlines()]
         return sorted(lines, key=lambda line: str(line["time"]))
 
-    def with_limits(self, **limits: int) -> None:
-        """Starts the daemon again with these `limits` in its configuration, or without any."""
+    def restart_with_limits(self, **limits: int) -> None:
+        """Starts the daemon again with these `limits` in its configuration. Without arguments it has its usual limits again."""
         self.site.daemon.terminate()
         self.site.daemon.wait(served.SECONDS)
         config = json.loads(self.site.text("etc/authd.json"))
         self.site.write("etc/authd.json", json.dumps({**config, "limits": limits}))
         self.site.start_daemon()
 
-    def test_rate(self) -> None:
+    def test_rate_of_requests(self) -> None:
         """Past the rate a client sees 429, and the daemon is not asked."""
         self.check_ann()
         before, count = len(self.lines()), 400  # (more than files.conf lets through: a burst of 100, and 50 a second)
         request = "GET /web/index.html HTTP/1.1\r\nHost: localhost\r\n"
-        answers = self.site.answer_at_once("ann", f"{request}\r\n".encode() * (count - 1) + f"{request}Connection: close\r\n\r\n".encode())
-        codes = statuses(answers)
+        requests = f"{request}\r\n".encode() * (count - 1) + f"{request}Connection: close\r\n\r\n".encode()
+        codes = statuses(self.site.answer_at_once("ann", requests))
         self.assertEqual((len(codes), set(codes)), (count, {200, 429}))
         self.assertEqual(len(self.lines()) - before, codes.count(200))
         self.check_ann()
@@ -311,6 +311,7 @@ class Limits(OfSite):
         requests = f"{request}\r\n".encode() * (count - 1) + f"{request}Connection: close\r\n\r\n".encode()
 
         def is_limited() -> bool:
+            """Asks, and says whether some requests were granted and the others past the rate."""
             before, codes = len(self.lines()), statuses(self.site.answer_at_once("ben", requests))
             self.assertEqual((len(codes), len(self.lines()) - before), (count, codes.count(200)))
             return set(codes) == {200, 429}
@@ -335,9 +336,9 @@ class Limits(OfSite):
         self.assertEqual(output_of(*command)[0], 1)
         self.site.start_daemon()
 
-    def test_connections(self) -> None:
+    def test_all_connections_in_use(self) -> None:
         """If all connections are in use, a client waits until the daemon closes one on which nothing is sent."""
-        self.with_limits(connections=1, seconds=1)
+        self.restart_with_limits(connections=1, seconds=1)
         try:
             with socket.socket(socket.AF_UNIX) as silent:
                 silent.connect(self.site.at("run/socket"))
@@ -345,11 +346,11 @@ class Limits(OfSite):
                 self.check_ann()
                 self.assertEqual((silent.recv(1), len(self.lines())), (b"", before + 1))
         finally:
-            self.with_limits()
+            self.restart_with_limits()
 
-    def test_seconds(self) -> None:
+    def test_request_that_does_not_end(self) -> None:
         """A request that does not end in time gets no answer, and a line in the log."""
-        self.with_limits(seconds=1)
+        self.restart_with_limits(seconds=1)
         try:
             with socket.socket(socket.AF_UNIX) as slow:
                 slow.connect(self.site.at("run/socket"))
@@ -358,7 +359,7 @@ class Limits(OfSite):
             self.assertEqual(self.lines()[-1]["reason"], "the request did not end in time")
             self.check_ann()
         finally:
-            self.with_limits()
+            self.restart_with_limits()
 
     def test_daemon_that_hangs(self) -> None:
         """Where the daemon does not answer, a client sees 500 after proxy_read_timeout."""
@@ -379,12 +380,12 @@ class Example(unittest.TestCase):
                "ben GET /web/new.txt: 401", "robot PUT /web/out/main.js: 204", "robot GET /web/out/main.js: 401", "ben GET /web/new.txt: 200",
                "ben PUT /web/new.txt: 403", "ben GET /secret/plan.txt: 403", "eve GET /web/new.txt: 403"]
 
-    def test_run(self) -> None:
+    def test_lines_of_the_example(self) -> None:
+        """run.sh writes the lines ANSWERS, beside those that begin with `#`, and ends with status 0."""
         with tempfile.TemporaryDirectory() as room:
             settings = {**os.environ, "SPKI_AUTHD": served.build_daemon_into(room), "PORT": str(served.free_port()), "TMPDIR": room}
-            done = subprocess.run([os.path.join(served.EXAMPLE, "run.sh")], env=settings, stdout=subprocess.PIPE, stderr=subprocess.PIPE, text=True,
-                                  timeout=served.SECONDS, cwd=TESTS)
+            script = os.path.join(served.EXAMPLE, "run.sh")
+            done = subprocess.run([script], env=settings, capture_output=True, text=True, timeout=served.SECONDS, cwd=TESTS)
             answers = [line for line in done.stdout.splitlines() if not line.startswith("#")]
             self.assertEqual((done.returncode, answers), (0, self.ANSWERS), done.stderr)
-            # (it leaves nothing beside the daemon that was built for it)
-            self.assertEqual(os.listdir(room), ["spki-authd"])
+            self.assertEqual(os.listdir(room), ["spki-authd"], "it leaves nothing beside the daemon that was built for it")

@@ -54,7 +54,7 @@ class Page:
     """A playground that runs."""
 
     def __init__(self, engine, seconds):
-        """Starts it. `engine`, `program` or `library`, decides there. A question may take so many seconds."""
+        """Starts the playground. `engine` says what decides there: `program` or `library`. A question may take so many seconds."""
         words = [sys.executable, FOLDER, "--no-browser", "--engine", engine, "--seconds", str(seconds)]
         settings = {"SPKI_PROGRAM": built.program(), **({"SPKI_LIBRARY": built.shared()} if engine == "library" else {})}
         self.process: Any = subprocess.Popen(words, stdout=subprocess.PIPE, text=True, env={**os.environ, **settings})
@@ -67,7 +67,7 @@ class Page:
         self.process.wait()
         self.process.stdout.close()
 
-    def reply(self, method, path, body=None, **headers):
+    def send(self, method, path, body=None, **headers):
         """Sends a request to the page's server. Returns the status, the headers and the octets of the reply."""
         connection = http.client.HTTPConnection(self.address.hostname, self.address.port, timeout=SECONDS)
         with contextlib.closing(connection):
@@ -79,7 +79,7 @@ class Page:
         """The server's answer, an object of JSON, to a question of the kind `name`, such as `tags`, with these fields. Its status must be 200."""
         question = {"withCase": True, **question}  # (so the answer to a `question` has the case)
         headers = {"Origin": self.origin, "Content-Type": "application/json"}
-        status, _, octets = self.reply("POST", self.address.path + name, json.dumps(question), **headers)
+        status, _, octets = self.send("POST", self.address.path + name, json.dumps(question), **headers)
         if status != 200:
             raise AssertionError(f"status {status}")
         return json.loads(octets)
@@ -92,11 +92,11 @@ def line_of_reason(reason):
 
 
 def lines_of(command, case):
-    """The lines that a command of the program writes of the text of a case, without their ends."""
+    """The lines, without line feeds, that a command of the program writes about the text of a case."""
     return run(built.program(), command, case.encode())[1].decode().splitlines()
 
 
-def hostile():
+def hostile_question():
     """A question whose explanation takes long: 40 entries, each with a tag of 500 patterns, and certificates, one of 500 strings and 150 others."""
     key = "(public-key (test a))"
     large = f"(* set {'(* prefix x) ' * 500})"
@@ -115,7 +115,7 @@ def long_question():
 
 
 class OfPage(built.OfProgram):
-    """Tests of a page that runs. Each class has one, in which `engine`, `program` or `library`, decides. A question may take `seconds` there."""
+    """Tests of a page that runs, one for each class. `engine` says what decides there: `program` or `library`. A question may take `seconds`."""
 
     engine, seconds = "program", SECONDS
     page: Any
@@ -149,15 +149,15 @@ class Answers(OfPage):
                  "NoDelegation", "NoValidity", "NoTag")
         self.assertEqual([sum(example["wanted"].endswith(f" {word}") for example in EXAMPLES) for word in words], [1] * len(words))
 
-    def test_the_case_is_of_what_was_typed(self) -> None:
-        """The case of an answer has what was typed, signatures that the page made up, the accepted ones, and the policy. Refusals are left out."""
+    def test_the_case_has_what_was_typed(self) -> None:
+        """The case of an answer has what was typed, signatures that the page made up, the accepted ones, and the policy. A refusal has no case."""
         for question in (example["question"] for example in EXAMPLES if not example["wanted"].startswith("refused")):
             answer = self.page.ask("question", **question)
             _, acl, accepted, sequence, key, request, at, *policy = read(run(built.program(), "canonical", answer["case"].encode())[1])
             typed = {name: read(run(built.program(), "canonical", question[name].encode())[1]) for name in ("acl", "sequence", "key")}
             shown = [item for item in sequence if item[0] != b"signature" or item in typed["sequence"]]
             self.assertEqual((acl, shown, key[1], request[1], at[1]),
-                             (typed["acl"], typed["sequence"], typed["key"], [it.encode() for it in question["request"]], question["at"].encode()))
+                             (typed["acl"], typed["sequence"], typed["key"], [*map(str.encode, question["request"])], question["at"].encode()))
             self.assertEqual((accepted[0], policy), (b"accepted", [[b"policy", b"strict"]] if question["strict"] else []))
 
     def test_a_whole_case_has_the_answer_of_the_program(self) -> None:
@@ -194,7 +194,7 @@ class Answers(OfPage):
         self.assertEqual(text[place["begin"]:place["end"]], "(subjekt")
 
     def test_places_are_counted_as_a_page_counts(self) -> None:
-        """In units of UTF-16, as JavaScript counts: the key in the comment is two of them."""
+        """A place is counted in units of UTF-16, as JavaScript counts: the character U+1F511 in the comment is two of them."""
         text = STORY["acl"].replace("(propagate)", '(comment "\U0001f511 \u00fc") (taag x)')
         place = self.page.ask("question", **{**STORY, "acl": text})["faults"]["acl"]["places"][0]
         units = text.encode("utf-16-le")[2 * place["begin"]:2 * place["end"]]
@@ -214,8 +214,8 @@ class Answers(OfPage):
             why = self.page.ask("question", **{**STORY, "at": moment})["faults"]["at"]["places"][0]["why"]
             self.assertEqual(why, f"{says}; choose a date and a time of day, in UTC")
 
-    def test_a_request_on_one_line(self) -> None:
-        """A request that is one string with spaces, where several words were meant, is denied with a hint."""
+    def test_a_request_of_one_string_with_spaces_gets_a_hint(self) -> None:
+        """A request on one line is one string with spaces, where several words were meant. It is denied with a hint."""
         for answer in (self.page.ask("question", **{**STORY, "request": ["packages read /builds/web/index.html"]}),
                        self.page.ask("case", text=text_of("examples/guide/granted.sexp").replace("(packages read /builds", '"packages read /builds')
                                      .replace('index.html)', 'index.html"'))):
@@ -225,6 +225,7 @@ class Answers(OfPage):
         self.assertIn("one string with spaces", self.page.ask("tags", first="(packages)", second="(*)", request=["packages read"])["hint"])
 
     def test_the_remark_on_what_was_pasted(self) -> None:
+        """What a row of PASTED has gets a remark with these words, at this first character and with the number of its line."""
         for box, old, new, marked, why in PASTED:
             with self.subTest(new):
                 text = STORY[box].replace(old, new, 1) if old else new
@@ -232,7 +233,7 @@ class Answers(OfPage):
                 self.assertEqual((text[place["begin"]:place["end"]][:1], text.count("\n", 0, place["begin"]) + 1), (marked, place["line"]))
                 self.assertIn(why, place["why"])
 
-    def test_a_certificate_has_one_number(self) -> None:
+    def test_certificates_are_numbered_as_they_were_typed(self) -> None:
         """`item` and `line` count the items of the case, in which the page has added signatures. `certificate` and `shown` count what was typed: the
         certificates, or all items for one that is none."""
         example = next(example for example in EXAMPLES if example["wanted"] == "entry 1 item 3 NoDelegation")
@@ -253,8 +254,8 @@ class Answers(OfPage):
     def test_a_question_that_is_too_long(self) -> None:
         self.assertEqual(self.page.ask("question", **{**STORY, "request": ["x" * 65_537]})["line"], "refused question TooLong")
 
-    def test_times(self) -> None:
-        """The spans of time in which the answer is the same, and where each begins and ends."""
+    def test_the_times_of_an_answer(self) -> None:
+        """`times` gives the spans of time in which the answer is the same, and where each begins and ends."""
         times = self.page.ask("times", **STORY)
         limit = {"word": "after", "moment": "2026-06-30 23:59:59"}
         self.assertEqual(times["spans"], [{"answer": "yes entry 1", "begin": None, "end": limit}, {"answer": "no", "begin": limit}])
@@ -268,8 +269,8 @@ class Answers(OfPage):
             text = f'(acl (entry {STORY["key"]} (tag ({word} "{date}"))))'
             self.assertEqual(self.page.ask("times", **{**STORY, "acl": text})["spans"], [{"answer": "no", "begin": None}])
 
-    def test_tags(self) -> None:
-        """Whether each of two tags and their intersection contain a request. A mistake in a tag has its place."""
+    def test_what_tags_contain(self) -> None:
+        """`tags` says whether each of two tags and their intersection contain a request. A mistake in a tag has its place."""
         answer = self.page.ask("tags", first="(packages (* set read write))", second="(packages read (* prefix /a/))", request=["packages", "write"])
         self.assertEqual((answer["first"]["contains"], answer["second"]["contains"], answer["both"]["contains"]), (True, False, False))
         self.assertEqual(answer["both"]["text"], "(packages read (* prefix /a/))")
@@ -281,7 +282,7 @@ class Answers(OfPage):
         self.assertRegex(first.get("line", ""), "TooDeep$")
         self.assertNotIn("requestLine", first)
 
-    def test_forms(self) -> None:
+    def test_the_three_forms_of_a_text(self) -> None:
         text = '(a "b c" #6 4# |ZQ==| [x]3:fgh)'
         answer = self.page.ask("forms", text=text)
         self.assertEqual([answer[name] for name in ("canonical", "advanced", "transport")],
@@ -297,12 +298,13 @@ class Answers(OfPage):
         self.assertEqual(answer["labelFaults"][0]["line"], 2)
 
     def test_a_signature_that_does_not_count(self) -> None:
+        """`refused` has the numbers, from 0, of the signatures that do not count."""
         answer = self.page.ask("question", **{**STORY, "refused": [0]})
         self.assertEqual((answer["line"], line_of_reason(answer["reasons"][0])), ("no", "item 1 NotAccepted"))
         self.assertFalse(answer["signatures"][0]["counts"])
 
     def test_what_is_no_question(self) -> None:
-        """The server answers whatever JSON object it is sent. It refuses a field that is no list of the right type, and names both."""
+        """The server answers whatever JSON object it is sent. It refuses a field that is no list of the right type, and names field and type."""
         for question in ({}, {"acl": 5, "request": "x", "refused": "x"}, {"request": [1, None]}, {"acl": "(" * 100_000}, {"acl": "\ud800"}):
             self.assertEqual(self.page.ask("question", **question)["kind"], "refused")
         for name, kind, values in (("request", "a list of strings", (5, "x", {}, [*STORY["request"], 5])),
@@ -323,7 +325,7 @@ class Answers(OfPage):
         self.assertIn(self.page.ask("question", request=nested).get("notice"), (None, "The text is too large for this page."))
 
     def test_what_looks_like_a_certificate(self) -> None:
-        """Lists in a tag and in the labels, which have the heads of an entry or a certificate and nothing behind them, get an answer too."""
+        """A list in a tag that begins as an entry or a certificate, and is none, gets an answer. So does a label that is no text in UTF-8."""
         for tag in ("(entry)", "(cert)", "(cert (subject))", "(cert (comment x))"):
             answer = self.page.ask("question", **{**STORY, "acl": f"(acl (entry {STORY['key']} (tag {tag})))"})
             self.assertEqual((answer.get("kind"), answer.get("notice")), ("no", None), tag)
@@ -346,11 +348,11 @@ class Answers(OfPage):
             self.assertEqual(sum(line.startswith("certificate ") for line in lines), drawn)
             self.assertEqual([line for line in lines if line.endswith("drawn")], left_out)
 
-    def test_text_stays_text(self) -> None:
+    def test_markup_in_a_question_is_answered_by_json(self) -> None:
+        headers = {"Origin": self.page.origin, "Content-Type": "application/json"}
         for name in (*BOXES, "at"):
-            answer = self.page.reply("POST", self.page.address.path + "question", json.dumps({**STORY, name: MARKUP}), Origin=self.page.origin,
-                                     **{"Content-Type": "application/json"})
-            self.assertEqual((answer[0], answer[1].get_content_type()), (200, "application/json"))
+            status, sent, _ = self.page.send("POST", self.page.address.path + "question", json.dumps({**STORY, name: MARKUP}), **headers)
+            self.assertEqual((status, sent.get_content_type()), (200, "application/json"))
 
 
 @needs.needs(*needs.LIBRARY)
@@ -361,41 +363,42 @@ class AnswersOfLibrary(Answers):
 
 
 class Hostile(OfPage):
-    """A text whose explanation takes minutes."""
+    """What the server does with a question whose explanation takes minutes."""
 
     seconds = HOSTILE_SECONDS
 
     def field_of_answer(self, word, **question):
-        """The field `word` of the answer to a question, which is asked until an answer has it, at most TRIES times: the machine may be slow."""
+        """The field `word` of the answer to a question. It is asked again, at most TRIES times, while that is missing: the machine may be slow."""
         for _ in range(TRIES):
             answer = self.page.ask("question", **question)
             if word in answer:
                 return answer[word]
         self.fail(f"the answer has no {word}: {answer}")
 
-    def test_is_stopped(self) -> None:
-        answer = self.page.ask("question", **hostile(), page="a")
+    def test_a_hostile_question_is_stopped(self) -> None:
+        """It is answered by a notice, and then the page answers the next question."""
+        answer = self.page.ask("question", **hostile_question(), page="a")
         self.assertRegex(answer["notice"], "took longer than 2 seconds|has no explanation here")
         # (either the answer took too long, and there is none, or its explanation did)
         self.assertNotEqual(answer["notice"].startswith("The answer"), "kind" in answer)
         self.assertEqual(self.field_of_answer("line", **STORY, page="a"), "yes entry 1")
 
-    def test_gives_way_to_the_next_question(self) -> None:
-        """A new question of a page ends its earlier one that is not answered yet. Who asked that gets what there is of its answer."""
+    def test_a_new_question_ends_the_earlier_one(self) -> None:
+        """A new question of a page ends its earlier one that is not answered yet. The earlier one gets the parts of its answer that are there."""
         with ThreadPoolExecutor(1) as pool:
-            before = pool.submit(self.page.ask, "question", **hostile(), page="b")
+            before = pool.submit(self.page.ask, "question", **hostile_question(), page="b")
             self.assertEqual(self.field_of_answer("line", **STORY, page="b"), "yes entry 1")
             self.assertIsInstance(before.result(), dict)
 
 
 @needs.needs(*needs.LIBRARY)
 class HostileToLibrary(Hostile):
-    """A text whose explanation takes minutes, where the library decides. A guard intersects nothing, so the decision comes without explanation."""
+    """The same where the library decides. A guard intersects no tags, so the decision comes, though without an explanation."""
 
     engine = "library"
 
-    def test_has_a_decision(self) -> None:
-        self.assertIn(self.field_of_answer("kind", **hostile()), ("yes", "no"))
+    def test_a_hostile_question_has_a_decision(self) -> None:
+        self.assertIn(self.field_of_answer("kind", **hostile_question()), ("yes", "no"))
 
 
 class Requests(OfPage):
@@ -405,35 +408,35 @@ class Requests(OfPage):
         """The status of a POST to the server, by default as the page sends it. A header's name has `_` for `-`, and one that is None is left out."""
         usual = {"Origin": self.page.origin, "Content-Type": "application/json"}
         sent = {name.replace("_", "-"): value for name, value in {**usual, **headers}.items() if value is not None}
-        return self.page.reply("POST", path or self.page.address.path + "question", body, **sent)[0]
+        return self.page.send("POST", path or self.page.address.path + "question", body, **sent)[0]
 
     def test_questions_from_the_page_itself(self) -> None:
         self.assertEqual(self.post(), 200)
         self.assertEqual(self.post(Origin=f"http://localhost:{self.page.address.port}", Host=f"localhost:{self.page.address.port}"), 200)
 
-    def test_another_origin(self) -> None:
+    def test_another_origin_is_refused(self) -> None:
         port = self.page.address.port
         others = (f"http://127.0.0.1:{port + 1}", f"https://127.0.0.1:{port}", f"http://127.0.0.1.example:{port}")
         for origin in ("http://example.org", "null", None, *others):
             self.assertEqual(self.post(Origin=origin), 403, origin)
         self.assertEqual(self.post(Sec_Fetch_Site="cross-site"), 403)
 
-    def test_another_host(self) -> None:
+    def test_another_host_is_refused(self) -> None:
         for host in ("example.org", f"example.org:{self.page.address.port}", "127.0.0.1", ""):
-            self.assertEqual(self.page.reply("GET", self.page.address.path, Host=host)[0], 421, host)
+            self.assertEqual(self.page.send("GET", self.page.address.path, Host=host)[0], 421, host)
 
-    def test_another_token(self) -> None:
+    def test_another_token_is_refused(self) -> None:
         for path in ("/", "/question", "//", "/x/", self.page.address.path[:-2] + "/", self.page.address.path[:-1]):
-            self.assertEqual(self.page.reply("GET", path)[0], 403, path)
+            self.assertEqual(self.page.send("GET", path)[0], 403, path)
             self.assertEqual(self.post(path), 403, path)
 
     def test_only_files_of_the_page(self) -> None:
         """GET gives only files of page/, and no job, such as `question`. POST does only jobs."""
         for name in ("../server.py", "..%2fserver.py", "/etc/passwd", "page.js/", "question", "./page.js"):
-            self.assertEqual(self.page.reply("GET", self.page.address.path + name)[0], 404, name)
+            self.assertEqual(self.page.send("GET", self.page.address.path + name)[0], 404, name)
         self.assertEqual(self.post(self.page.address.path + "no-such-job"), 404)
 
-    def test_bodies(self) -> None:
+    def test_bodies_that_are_refused(self) -> None:
         """A body of over 1 MiB is refused by its length, before it is sent; also one without a length, of no type of JSON, or that is no object."""
         for length in (str((1 << 20) + 1), "9" * 30):
             self.assertEqual(self.post(body="", Content_Length=length), 413)
@@ -445,7 +448,7 @@ class Requests(OfPage):
 
     def test_headers_of_every_reply(self) -> None:
         for path in (self.page.address.path, self.page.address.path + "page.js", "/", self.page.address.path + "none"):
-            headers = self.page.reply("GET", path)[1]
+            headers = self.page.send("GET", path)[1]
             self.assertIn("default-src 'none'", headers["Content-Security-Policy"])
             self.assertIn("require-trusted-types-for 'script'", headers["Content-Security-Policy"])
             self.assertEqual((headers["X-Content-Type-Options"], headers["X-Frame-Options"]), ("nosniff", "DENY"))
@@ -463,7 +466,7 @@ class Requests(OfPage):
 
 
 class Faults(unittest.TestCase):
-    """What the server does if an answer fails, or a connection. It runs in this process, and its jobs do what `ask` is given."""
+    """What the server does if an answer fails, or a connection. It runs in this process, and its workers do what `ask` is given."""
 
     def setUp(self) -> None:
         """Starts the server at a free port. A mock stands for the workers, which answer questions."""
@@ -476,7 +479,7 @@ class Faults(unittest.TestCase):
         self.addCleanup(self.server.shutdown)
 
     def ask(self, outcome):
-        """Asks a question. Returns the first line that the server sends, or "", and what it prints. `outcome` is the answer, or an error to raise."""
+        """Asks a question. Returns the first line that the server sends, or "", and what it prints. The workers answer by `outcome`, or raise it."""
         self.server.workers.answer.side_effect = [outcome]
         host = self.server.hosts[0][0]
         with contextlib.redirect_stderr(io.StringIO()) as printed, socket.create_connection(self.server.server_address, SECONDS) as connection:
@@ -485,7 +488,7 @@ class Faults(unittest.TestCase):
             sent = connection.makefile("rb").read()
         return sent.split(b"\r\n")[0].decode(), printed.getvalue()
 
-    def test_what_fails_is_printed(self) -> None:
+    def test_a_fault_is_printed_and_a_lost_connection_is_not(self) -> None:
         """A fault gets status 500, and is printed. A connection that breaks or takes too long is not."""
         for error, line, message in [
                 (KeyError("lost"), "HTTP/1.1 500 Internal Server Error", "KeyError: 'lost'"),
@@ -495,7 +498,7 @@ class Faults(unittest.TestCase):
                 first, printed = self.ask(error)
                 self.assertEqual((first, printed.count("Traceback"), message in printed), (line, int(bool(message)), True), printed)
 
-    def test_a_thread_that_does_not_start(self) -> None:
+    def test_a_thread_that_does_not_start_keeps_no_place(self) -> None:
         """If the thread for a connection cannot start, the connection is closed. Its place, the only one here, is free for the next one."""
         self.server.room = threading.BoundedSemaphore(1)
         with mock.patch.object(threading.Thread, "start", side_effect=RuntimeError("can't start new thread")):
@@ -544,21 +547,21 @@ class InChromium(OfPage):
         """The text of an element of the page, by its id."""
         return self.browser.execute_script("return document.getElementById(arguments[0]).textContent.trim().replace(/\\s+/g, ' ')", name)
 
-    def put(self, name, text):
-        """Puts a text into the box with this id, as if it were pasted."""
-        self.browser.execute_script("const it = document.getElementById(arguments[0]); it.value = arguments[1];"
-                                    "it.dispatchEvent(new Event('input', {bubbles: true}))", name, text)
+    def paste(self, name, text):
+        """Replaces the text of the box with this id, as if `text` were pasted."""
+        self.browser.execute_script("const box = document.getElementById(arguments[0]); box.value = arguments[1];"
+                                    "box.dispatchEvent(new Event('input', {bubbles: true}))", name, text)
 
-    def choose(self, tab):
+    def open_tab(self, tab):
         """Opens a tab of the page: `question`, `case`, `tags` or `forms`."""
         self.browser.execute_script("document.getElementById(`tab-${arguments[0]}`).click()", tab)
 
-    def keys(self, *keys):
+    def press(self, *keys):
         """Presses keys, which go to the element that has the focus."""
         from selenium.webdriver.common.action_chains import ActionChains
         ActionChains(self.browser, duration=0).send_keys(*keys).perform()
 
-    def focus(self):
+    def focused(self):
         """The id of the element that has the focus, or its text if it has no id."""
         return self.browser.execute_script("return document.activeElement.id || document.activeElement.textContent")
 
@@ -567,8 +570,8 @@ class InChromium(OfPage):
         its own number there: item 1 of a sequence is certificate 1, item 2 its signature, and item 3 certificate 2."""
         for place, example in enumerate(EXAMPLES):
             with self.subTest(example["name"]):
-                self.browser.execute_script("const it = document.getElementById('example'); it.value = arguments[0];"
-                                            "it.dispatchEvent(new Event('change'))", str(place))
+                self.browser.execute_script("const list = document.getElementById('example'); list.value = arguments[0];"
+                                            "list.dispatchEvent(new Event('change'))", str(place))
                 wanted = example["wanted"]
                 if not wanted.startswith("refused"):
                     answer = lines_of("check", self.page.ask("question", **example["question"])["case"])[0]
@@ -578,15 +581,15 @@ class InChromium(OfPage):
                 self.until("return document.getElementById('line').textContent === arguments[0]", wanted)
 
     def test_typing_a_mistake_underlines_its_place(self) -> None:
-        self.browser.execute_script("const it = document.getElementById('acl'); it.focus(); const at = it.value.indexOf('propagate') + 4;"
-                                    "it.setSelectionRange(at, at)")
-        self.keys("x")
+        self.browser.execute_script("const box = document.getElementById('acl'), at = box.value.indexOf('propagate') + 4;"
+                                    "box.focus(); box.setSelectionRange(at, at)")
+        self.press("x")
         self.until("return document.querySelector('[data-box=acl] mark')?.textContent === '(propxagate'")
         self.assertEqual(self.text_shown("kind"), "Refused")
         self.assertIn("is `propagate` meant?", self.text_shown("acl-fault"))
         self.assertEqual(self.browser.execute_script("return document.getElementById('acl').getAttribute('aria-invalid')"), "true")
         from selenium.webdriver.common.keys import Keys
-        self.keys(Keys.BACKSPACE)
+        self.press(Keys.BACKSPACE)
         self.until("return document.getElementById('kind').textContent === 'Yes' && !document.querySelector('[data-box=acl] mark')")
 
     def test_text_stays_text_in_every_box(self) -> None:
@@ -601,8 +604,8 @@ class InChromium(OfPage):
                 ("case", "case", MARKUP), ("tags", "first-tag", MARKUP), ("tags", "second-tag", f'"{quoted}"'), ("tags", "words", MARKUP),
                 ("forms", "value", MARKUP), ("forms", "value", f'"{quoted}"')]:
             with self.subTest(f"{name} {text[:40]}"):
-                self.choose(tab)
-                self.put(name, text)
+                self.open_tab(tab)
+                self.paste(name, text)
                 # (time for the page to show the answer)
                 time.sleep(0.25)
                 marked = "document.querySelectorAll('img, script:not([src]), [onerror]').length"
@@ -614,24 +617,24 @@ class InChromium(OfPage):
         from selenium.webdriver.common.keys import Keys
         reached: list[str] = []
         while "slider" not in reached and len(reached) < 60:
-            self.keys(Keys.TAB)
-            reached.append(self.focus())
+            self.press(Keys.TAB)
+            reached.append(self.focused())
         wanted = ["Skip to the answer", "tab-question", "example", "link", "acl", "sequence", "all", "key", "request", "at", "now", "slider"]
         self.assertEqual([element for element in wanted if element not in reached], [])
         self.browser.execute_script("document.getElementById('request').focus()")
         ActionChains(self.browser).key_down(Keys.CONTROL).send_keys("a").key_up(Keys.CONTROL).perform()
-        self.keys("packages", Keys.ENTER, "write", Keys.ENTER, "/builds/x")
+        self.press("packages", Keys.ENTER, "write", Keys.ENTER, "/builds/x")
         self.until("return document.getElementById('line').textContent === 'no, entry 1 TagLacks'")
         self.assertIn("does not contain this request", self.text_shown("spoken"))
         self.browser.execute_script("document.getElementById('tab-question').focus()")
-        self.keys(Keys.ARROW_RIGHT, Keys.ARROW_RIGHT)
-        self.assertEqual(self.focus(), "tab-tags")
+        self.press(Keys.ARROW_RIGHT, Keys.ARROW_RIGHT)
+        self.assertEqual(self.focused(), "tab-tags")
         self.until("return document.getElementById('both').textContent === '(packages read (* prefix /builds/web/))'")
 
     def test_everything_has_a_name(self) -> None:
         """In each tab, each element that can be used has a name for screen readers."""
         for tab in ("question", "case", "tags", "forms"):
-            self.choose(tab)
+            self.open_tab(tab)
             self.browser.execute_script("document.querySelectorAll('details').forEach((it) => it.open = true)")
             nodes = self.browser.execute_cdp_cmd("Accessibility.getFullAXTree", {})["nodes"]
             nameless = [node["role"]["value"] for node in nodes if not node.get("ignored") and node["role"]["value"] in
@@ -643,9 +646,9 @@ class InChromium(OfPage):
         self.until("return document.getElementById('span').textContent === 'The answer is yes until 2026-06-30 23:59:59.'")
         from selenium.webdriver.common.keys import Keys
         self.browser.execute_script("document.getElementById('slider').focus()")
-        self.keys(Keys.END)
+        self.press(Keys.END)
         self.until("return document.getElementById('line').textContent === 'no, entry 1 WindowLacks'")
-        self.keys(Keys.HOME)
+        self.press(Keys.HOME)
         self.until("return document.getElementById('kind').textContent === 'Yes'")
 
     def test_a_tick_says_that_a_signature_is_valid(self) -> None:
@@ -657,7 +660,7 @@ class InChromium(OfPage):
         self.until("return document.getElementById('kind').textContent === 'Yes'")
 
     def test_a_link_holds_the_question(self) -> None:
-        self.put("request", "packages\nwrite\n/builds/\u00fc")
+        self.paste("request", "packages\nwrite\n/builds/\u00fc")
         self.until("return document.getElementById('kind').textContent === 'No'")
         self.browser.find_element("id", "link").click()
         address = self.until("return location.hash && location.href")
@@ -670,7 +673,7 @@ class InChromium(OfPage):
         self.addCleanup(self.browser.execute_cdp_cmd, "Emulation.clearDeviceMetricsOverride", {})
         self.browser.execute_cdp_cmd("Emulation.setDeviceMetricsOverride", {"width": 360, "height": 700, "deviceScaleFactor": 1, "mobile": True})
         for tab in ("question", "case", "tags", "forms"):
-            self.choose(tab)
+            self.open_tab(tab)
             self.assertLessEqual(self.until("return document.documentElement.scrollWidth"), 360, tab)
 
     def test_the_whole_tag_is_there_on_hovering(self) -> None:
@@ -678,20 +681,20 @@ class InChromium(OfPage):
         self.until("return [...document.querySelectorAll('#picture title')].some((it) => it.textContent.includes('(* prefix /builds/web/)'))")
 
     def test_a_hostile_text_leaves_the_page_usable(self) -> None:
-        question = hostile()
-        self.put("acl", question["acl"])
-        self.put("sequence", question["sequence"])
+        question = hostile_question()
+        self.paste("acl", question["acl"])
+        self.paste("sequence", question["sequence"])
         # (time for the server to begin with this question)
         time.sleep(0.5)
-        self.put("acl", STORY["acl"])
-        self.put("sequence", STORY["sequence"])
+        self.paste("acl", STORY["acl"])
+        self.paste("sequence", STORY["sequence"])
         self.until("return document.getElementById('kind').textContent === 'Yes'")
 
     # ---- answers to another text
 
-    def instead_of_server(self, kind, answer):
-        """From now on the page gets `answer` to questions of a kind. It is an expression of JavaScript: a promise of a `Response`."""
-        self.browser.execute_script(f"const before = fetch; window.fetch = (kind, options) => kind === '{kind}' ? {answer} : before(kind, options)")
+    def replace_answers(self, kind, answer):
+        """From now on the page gets `answer`, and not the server's, to questions of a kind. It is a promise of a `Response`, in JavaScript."""
+        self.browser.execute_script(f"const before = fetch; window.fetch = (url, options) => url === '{kind}' ? {answer} : before(url, options)")
 
     def check_nothing_left(self):
         """Nothing of an earlier answer may be seen: no card, no time, no fault, and neither yes nor no."""
@@ -703,18 +706,18 @@ class InChromium(OfPage):
         self.assertEqual(self.browser.execute_script("return document.getElementById('verdict').dataset.kind"), "none")
 
     def test_an_answer_that_does_not_come(self) -> None:
-        self.instead_of_server("question", "new Promise(() => {})")
-        self.put("request", "packages\nwrite")
+        self.replace_answers("question", "new Promise(() => {})")
+        self.paste("request", "packages\nwrite")
         # (the parts of the earlier answer are marked as out of date)
         self.assertEqual(self.browser.execute_script("return document.querySelectorAll('.old').length > 3"), True)
         self.until("return document.getElementById('title').textContent === 'Waiting for the answer.'")
         self.check_nothing_left()
 
     def test_an_answer_that_was_stopped(self) -> None:
-        self.put("acl", STORY["acl"].replace("(propagate)", "(propagated)"))
+        self.paste("acl", STORY["acl"].replace("(propagate)", "(propagated)"))
         self.until("return document.getElementById('kind').textContent === 'Refused'")
-        self.instead_of_server("question", "Promise.resolve(new Response('{\"labelFaults\": [], \"notice\": \"It took too long.\"}'))")
-        self.put("acl", STORY["acl"])
+        self.replace_answers("question", "Promise.resolve(new Response('{\"labelFaults\": [], \"notice\": \"It took too long.\"}'))")
+        self.paste("acl", STORY["acl"])
         self.until("return document.getElementById('verdict').textContent.includes('It took too long.')")
         self.assertEqual(self.text_shown("kind"), "No answer")
         self.check_nothing_left()
@@ -723,9 +726,9 @@ class InChromium(OfPage):
         """`replies` has functions that answer the questions to the server, in their order. An answer to the first text is not shown once the second
         is typed. The last answer is shown, though its title is `an earlier answer` too."""
         answer = '{"kind": "no", "line": "no", "title": "an earlier answer", "reasons": [], "chain": null}'
-        self.instead_of_server("question", f"new Promise((done) => (window.replies ??= []).push(() => done(new Response('{answer}'))))")
-        self.put("request", "packages\nwrite")
-        self.put("request", "packages\nread")
+        self.replace_answers("question", f"new Promise((done) => (window.replies ??= []).push(() => done(new Response('{answer}'))))")
+        self.paste("request", "packages\nwrite")
+        self.paste("request", "packages\nread")
         self.browser.execute_script("replies[0]()")
         self.until("return replies.length === 2 || document.getElementById('title').textContent === 'Waiting for the answer.'")
         self.assertNotIn("an earlier answer", self.text_shown("verdict"))
@@ -734,10 +737,10 @@ class InChromium(OfPage):
 
     def test_a_paste_over_the_limit(self) -> None:
         """A text of over 1 MiB gets no answer, and nothing of the earlier one is left. After a shorter text no answer is marked as out of date."""
-        self.put("acl", f"(acl {'(entry (public-key (test a)) (tag (*)))' * 30_000})")
+        self.paste("acl", f"(acl {'(entry (public-key (test a)) (tag (*)))' * 30_000})")
         self.until("return document.getElementById('title').textContent.includes('too long for this page')")
         self.check_nothing_left()
-        self.put("acl", STORY["acl"])
+        self.paste("acl", STORY["acl"])
         self.until("return document.getElementById('kind').textContent === 'Yes' && !document.querySelector('main > :not(.wide) .old, .verdict.old')")
 
     def test_a_server_that_has_ended(self) -> None:
@@ -746,11 +749,11 @@ class InChromium(OfPage):
         self.browser.get(page.address.geturl())
         self.until("return document.getElementById('span').textContent")  # (the text of the times, which are asked for apart)
         page.end()
-        self.put("request", "packages\nwrite")
+        self.paste("request", "packages\nwrite")
         self.until("return document.getElementById('title').textContent.includes('The server does not answer')")
         self.check_nothing_left()
         for tab, card in (("tags", "tags-card"), ("forms", "forms-card")):
-            self.choose(tab)
+            self.open_tab(tab)
             self.until("return document.getElementById(arguments[0]).textContent.includes('The server does not answer')", card)
             self.assertNotRegex(self.text_shown(card), "contains it|packages|3:fgh")
         # (the browser logs each connection that is refused)
@@ -760,9 +763,9 @@ class InChromium(OfPage):
 class Starting(built.OfProgram):
     """The page right after a clone, and after `tests/run --quick`."""
 
-    def test_starts_or_says_how(self) -> None:
-        """In a copy of the sources without anything built, it ends with status 2 and names the command. With the program that `tests/run --quick`
-        leaves, it starts."""
+    def test_the_page_starts_or_names_the_command_to_build(self) -> None:
+        """In a copy of the sources without anything built, the page ends with status 2 and names the command. With the program that `tests/run
+        --quick` leaves, it starts."""
         with tempfile.TemporaryDirectory() as room:
             for name in ("apps/playground", "apps/spki-cert", "bindings/python", "examples/guide"):
                 shutil.copytree(os.path.join(TOP, name), os.path.join(room, name))
@@ -809,6 +812,6 @@ class Starting(built.OfProgram):
                 started.terminate()
             self.assertEqual(lines[1], "libspki_c.so decides; ctrl-c ends the page\n")
 
-    def test_the_command_is_right(self) -> None:
+    def test_the_command_to_build_runs_a_quick_module(self) -> None:
         """The command that the page names, `tests/run --quick words`, runs a module that `--quick` has."""
         self.assertIn('"test_words"', re.findall(r"^QUICK = (.*)$", text_of("tests/run"), re.MULTILINE)[0])

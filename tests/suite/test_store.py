@@ -82,7 +82,7 @@ class OfStore(built.OfLibrary):
         return out.getvalue() + fault.getvalue()
 
     def start_beat(self, address: str, *before: str) -> subprocess.Popen[bytes]:
-        """Starts `spki-store beat`, which is killed after the test. `address` has settings of libpq. `before` are words before the command."""
+        """Starts `spki-store beat`, which is killed after the test. `address` has settings of libpq. `before` is a command that runs it, as words."""
         process = subprocess.Popen([*before, STORE, "--database", address, "--schema", self.schema, "beat"], stderr=subprocess.DEVNULL)
         self.addCleanup(process.wait)
         self.addCleanup(process.kill)
@@ -96,7 +96,7 @@ class OfStore(built.OfLibrary):
 class Command(OfStore):
     """The command `spki-store`."""
 
-    def test_one_after_another(self) -> None:
+    def test_commands_one_after_another(self) -> None:
         """Entries are imported, added, removed, compared, checked, listed in the log and exported."""
         path = self.file(b"(acl (entry (public-key (test a)) (tag (*)))" + ZEROS.replace(b"(5:", b" (5:", 1) + b")", "list.sexp")
         self.assertEqual(self.spki_store(0, "import", path), "entries added: 2\n")
@@ -121,7 +121,7 @@ class Command(OfStore):
         self.assertEqual(pathlib.Path(to).read_bytes(), b"(3:acl" + ZEROS + key_entry(b"b", b"(8:packages4:read)") + b")")
         self.assertIn("not written over", self.spki_store(2, "export", to))
 
-    def test_faults(self) -> None:
+    def test_wrong_arguments_change_nothing(self) -> None:
         """A text that is no entry or list, and a wrong digest, remark, file, schema or server end the command with status 2 or 3 and change nothing.
         A server that only PGHOST names is found."""
         for text in (b"(entry (public-key (test a)))", b"(entry (public-key (test a)) (tag (*))) x", b"", b"(acl)", b"(entry (tag (*)))"):
@@ -139,7 +139,7 @@ class Command(OfStore):
         self.assertEqual(self.spki_store(0, "log"), "")
 
     @needs.needs("openssl", "import cryptography")
-    def test_entry_of_spki_cert(self) -> None:
+    def test_spki_cert_adds_an_entry(self) -> None:
         """`spki-cert entry --store` has `spki-store` add one entry: none without a server, if the tag lacks a request of `--try`, or with `--acl`."""
         store = Store(self.server.address)
         self.addCleanup(store.close)
@@ -155,7 +155,7 @@ class Command(OfStore):
             self.assertEqual((done.returncode, done.stdout), (status, b""), done.stderr)
         self.assertEqual(len(list(store.all())), 1)
 
-    def test_import_that_stops(self) -> None:
+    def test_import_goes_on_where_it_stopped(self) -> None:
         """An import of a list of over 1 MiB is stopped in its third transaction. The next import adds the rest, and nothing twice."""
         wanted = [key_entry(b"k%06d" % place, b"(8:packages4:read)") for place in range(23_000)]
         path, stopping = self.file(b"(3:acl" + b"".join(wanted) + b")"), Stopping(self.server.address, self.schema)
@@ -170,7 +170,7 @@ class Command(OfStore):
         self.assertIn("wrong 0", self.spki_store(0, "check"))
 
     def test_two_imports_at_once(self) -> None:
-        """An import adds nothing if another import of the same list has ended meanwhile: here where the first one would add."""
+        """An import adds nothing if another import of the same list ends meanwhile: here just before the first one adds its entries."""
         path = self.file(b"(3:acl" + A + b")")
         with mock.patch.object(self.store, "add_many", lambda _: self.spki_store(0, "import", path)), self.assertRaises(texts.Wrong):
             transfer.import_list(self.store, path, False)
@@ -238,7 +238,7 @@ class Schema(OfStore):
                 self.store.connection.execute(f"SET LOCAL ROLE {self.schema}_{role}")
             self.store.rows(text, *values)
 
-    def test_rows(self) -> None:
+    def test_the_database_computes_principals(self) -> None:
         """The database computes the principal of a row from its text: the SHA-256 digest of a key, or the digest of a hash. It refuses a text that is
         not one list in canonical form that begins with `entry` and a principal."""
         key = b"(10:public-key(4:test1:a))"
@@ -255,7 +255,7 @@ class Schema(OfStore):
             self.check_refused(psycopg.Error, "INSERT INTO {entries} (text) VALUES (%s)", bad)
 
     def test_statements_in_values(self) -> None:
-        """Text that looks like a statement is a value everywhere."""
+        """Text that looks like a statement of SQL is a value everywhere."""
         hostile = b"'); DROP SCHEMA public CASCADE; --"
         entry = key_entry(b"a", b"(%d:%s)" % (len(hostile), hostile))
         number = self.store.add(entry)
@@ -270,7 +270,7 @@ class Schema(OfStore):
         self.store.rows("INSERT INTO {entries} (text) VALUES (%s), (%s)", A, A.replace(b"(3:tag(1:*))", b""))
         self.assertEqual(self.spki_store(1, "check").splitlines()[-1], "entries checked: 2, wrong 1")
 
-    def test_roles(self) -> None:
+    def test_what_readers_and_writers_may_do(self) -> None:
         """A reader cannot write or see who changed what. A writer adds, removes and ends, but cannot change a row or the log, nor can the owner."""
         self.store.add(A)
         no_privilege = psycopg.errors.InsufficientPrivilege
@@ -295,17 +295,17 @@ class Schema(OfStore):
             self.assertEqual(self.store.rows("SELECT number, what FROM {changes} ORDER BY number"),
                              [(1, "add"), (2, "add"), (3, "remove"), (4, "end")])
 
-    def account(self, name: str, role: str) -> Store:
-        """Makes an account with a role. Returns the store as this account uses it."""
+    def make_account(self, name: str, role: str) -> Store:
+        """Makes an account of PostgreSQL with a role: `reader`, `writer`, `adder` or `keeper`. Returns the store as this account uses it."""
         account = f"{self.schema}_{name}"
         self.store.connection.execute(f"CREATE ROLE {account} LOGIN IN ROLE {self.schema}_{role}".encode())
         store = Store(f"host={self.server.folder} user={account} dbname=postgres", self.schema)
         self.addCleanup(store.close)
         return store
 
-    def test_rows_of_others(self) -> None:
+    def test_an_adder_removes_only_its_own_entries(self) -> None:
         """An `adder` can remove only what the same account has added, and a `writer` any entry. The log has the accounts."""
-        ann, ben, carl = (self.account(*words) for words in (("ann", "adder"), ("ben", "adder"), ("carl", "writer")))
+        ann, ben, carl = (self.make_account(*words) for words in (("ann", "adder"), ("ben", "adder"), ("carl", "writer")))
         first, second = ann.add(A), ben.add(ZEROS)
         with contextlib.redirect_stdout(io.StringIO()), contextlib.redirect_stderr(io.StringIO()) as errors:
             self.assertEqual(commands.remove(ann, argparse.Namespace(numbers=[second])), 1)
@@ -319,14 +319,14 @@ class Schema(OfStore):
         self.assertEqual([(who.rpartition("_")[2], change) for who, change in self.store.rows("SELECT who, what FROM {changes} ORDER BY number")],
                          [("ann", "add"), ("ben", "add"), ("ben", "remove"), ("carl", "remove"), ("carl", "add"), ("carl", "add")])
 
-    def test_chains(self) -> None:
-        """An account of the role `keeper`, which keeps certificates of clients, can do so by one function alone, within
-        limits. What has ended is removed. Here at most 2 keys have texts, and each at most 2."""
-        kim, reader = self.account("kim", "keeper"), self.account("rob", "reader")
+    def test_a_keeper_keeps_certificates_within_limits(self) -> None:
+        """An account of the role `keeper`, which keeps certificates of clients, can do so by one function alone, within limits: here for at most 2
+        keys, and at most 2 texts of each. A text whose time has ended is removed."""
+        kim, reader = self.make_account("kim", "keeper"), self.make_account("rob", "reader")
         keep = f"SELECT {self.schema}.keep(%s, %s, now() + '1 h', 2, 2)"
 
         def keep_text(key: int, text: bytes) -> str:
-            """What the function answers to a text of a client with a key, 32 octets `key`: `kept`, `known` or `full`."""
+            """What the function answers to a text of a client, the digest of whose key is 32 octets `key`: `kept`, `known` or `full`."""
             (word,), = kim.rows(keep, bytes([key]) * 32, text)
             return str(word)
         self.assertEqual([keep_text(1, b"a"), keep_text(1, b"a"), keep_text(1, b"b"), keep_text(1, b"c"), keep_text(2, b"a"), keep_text(3, b"a")],
@@ -343,7 +343,7 @@ class Schema(OfStore):
             reader.rows(keep, bytes(32), b"")
         self.assertRaises(psycopg.Error, keep_text, 3, bytes(9000))
 
-    def test_changes_in_order(self) -> None:
+    def test_changes_are_numbered_in_order(self) -> None:
         """A change waits for the end of another transaction with a change, so no lower number appears after a higher one."""
         other = Store(self.server.address, self.schema)
         self.addCleanup(other.close)
@@ -384,7 +384,7 @@ class WithDriver(OfDaemon):
         output = output_of("go-staticcheck", "-tags", "spki_postgres", ".", cwd=golang.DAEMON, env=settings, seconds=golang.SECONDS)
         self.assertEqual(output, (0, ""))
 
-    def test_questions(self) -> None:
+    def test_answers_while_the_store_changes(self) -> None:
         """Generated questions are asked while another client changes the store. Each answer is that of the guard of the whole list."""
         output = self.go("test", *WITH_DRIVER, "-count=1", "-run", "TestQuestionsToStore|TestTransact", "-v", ".", SPKI_STORE_HOST=self.server.folder,
                          SPKI_STORE_SEED=str(secrets.randbelow(1 << 32)), SPKI_STORE_SCHEMA=self.schema, SPKI_STORE_QUESTIONS=str(QUESTIONS))
@@ -401,8 +401,8 @@ class StoreDaemon:
     """A daemon with a list in PostgreSQL."""
 
     def __init__(self, room: str, program: str, server: databases.Server, schema: str, *before: str, chains: object = None, **more: str) -> None:
-        """Starts it, with its files in the folder `room`. `before` are words before its command. `chains` is its setting of this name, with which
-        clients can leave certificates. `more` are other settings of its list."""
+        """Starts the daemon, with its files in the folder `room`. `before` is a command that runs it, as words. `chains` is its setting of this name,
+        with which clients can leave certificates. `more` are other settings of its list."""
         os.makedirs(room, exist_ok=True)
         store = {"host": server.folder, "database": "postgres", "user": "postgres", "schema": schema, "stale_seconds": STALE, **more}
         with_chains = {"signatures": {"names": [SITE]}, "chains": chains} if chains else {}
@@ -445,8 +445,8 @@ class OfServed(OfDaemon):
         cls.people = {name: Person(room, name, "ed25519") for name in ("alice", "bob", "mallory")}
 
     def start_daemon(self, name: str, server: databases.Server, *before: str, chains: object = None, **more: str) -> StoreDaemon:
-        """Starts a daemon with the store of a server, in a folder of this name. It is killed after the test. `before` are words before its command,
-        `chains` its setting of this name, and `more` other settings of its list."""
+        """Starts a daemon with the store of a server, in a folder of this name. It is killed after the test. `before` is a command that runs it, as
+        words, `chains` its setting of this name, and `more` other settings of its list."""
         daemon = StoreDaemon(os.path.join(self.room, name), self.program, server, self.schema, *before, chains=chains, **more)
         self.addCleanup(daemon.kill)
         return daemon
@@ -467,7 +467,7 @@ class OfServed(OfDaemon):
 class Served(OfServed):
     """The daemon with the store of one server, which is also killed or hangs."""
 
-    def test_one_server(self) -> None:
+    def test_the_daemon_follows_the_store(self) -> None:
         """An entry that is added grants. One that is removed and a certificate that has ended do not. If the state of the store is stale, since there
         is no heartbeat or no server, each answer is 503."""
         alice, bob, mallory = (self.people[name] for name in ("alice", "bob", "mallory"))
@@ -502,7 +502,7 @@ class Served(OfServed):
         self.server.start()
         authd.wait_for_status(200, alice)
 
-    def test_kept_in_the_store(self) -> None:
+    def test_certificates_left_with_one_daemon_count_at_another(self) -> None:
         """Certificates that a client leaves with one daemon are used by another one."""
         self.start_beat(self.server.address)
         store = {"host": self.server.folder, "database": "postgres", "user": "postgres", "schema": self.schema}
@@ -574,7 +574,7 @@ class Asker(threading.Thread):
 class Heartbeat(OfStore):
     """The heartbeat, where another server takes the place of the primary."""
 
-    def number(self, server: databases.Server) -> int:
+    def last_beat(self, server: databases.Server) -> int:
         """The number of the last heartbeat that a server has."""
         with contextlib.closing(Store(server.address, self.schema)) as store:
             (number,), = store.rows("SELECT number FROM {heartbeat}")
@@ -587,22 +587,23 @@ class Heartbeat(OfStore):
             change_setting(self.server, "synchronous_standby_names", "ANY 1 (*)")
             self.addCleanup(change_setting, self.server, "synchronous_standby_names", "")
             self.start_beat(f"host={self.server.folder},{replica.folder} user=postgres dbname=postgres target_session_attrs=read-write")
-            waits_for("the replica has a beat", lambda: self.number(replica) > 1)
+            waits_for("the replica has a beat", lambda: self.last_beat(replica) > 1)
             change_setting(replica, "primary_conninfo", "host=/none")
             # (in this time the heartbeat tries again and again: its first beat waits at the primary, and those behind that give up)
             time.sleep(STALE + 3)
-            last = self.number(replica)
-            self.assertEqual(self.number(self.server), last)
+            last = self.last_beat(replica)
+            self.assertEqual(self.last_beat(self.server), last)
             with psycopg.connect(self.server.address) as connection:
                 (waiting,), = connection.execute("SELECT count(*) FROM pg_stat_activity WHERE application_name = 'spki-store'").fetchall()
             self.assertLessEqual(waiting, 4, "the beats that are left do not wait for ever")
             replica.promote()
             promoted = time.monotonic()
-            waits_for("the new primary has a beat", lambda: self.number(replica) > last)
+            waits_for("the new primary has a beat", lambda: self.last_beat(replica) > last)
             self.assertLess(time.monotonic() - promoted, 5)
 
-    def test_primary_that_is_gone(self) -> None:
-        """A host that accepts connections and answers nothing does not delay the beat to the other one by the 3 seconds of a connection."""
+    def test_a_silent_host_does_not_delay_the_beat(self) -> None:
+        """A host that accepts connections and answers nothing does not delay the beat to the other host by the 3 seconds that a connection may take.
+        libpq looks for the socket by its name, `.s.PGSQL.5432`."""
         silent = socket.socket(socket.AF_UNIX)
         self.addCleanup(silent.close)
         silent.bind(os.path.join(self.room, ".s.PGSQL.5432"))
@@ -624,13 +625,13 @@ class Heartbeat(OfStore):
         begun = time.monotonic()
         waits_for("a beat is made at the other host", is_made)
         self.assertLess(time.monotonic() - begun, 3)
-        self.assertGreater(self.number(self.server), 0)
+        self.assertGreater(self.last_beat(self.server), 0)
 
 
 class Replicated(OfServed):
     """Two replicas, each with a daemon. The primary is killed, and a replica takes its place."""
 
-    def test_failover(self) -> None:
+    def test_a_removed_entry_grants_nothing_after_a_failover(self) -> None:
         """Nobody is granted anything by an entry whose removal is older than `stale_seconds`, whatever dies."""
         with contextlib.ExitStack() as stack:
             replicas = [stack.enter_context(self.server.replica()) for _ in range(2)]
@@ -682,13 +683,13 @@ class Replicated(OfServed):
 
     @needs.needs("haproxy")
     def test_behind_haproxy(self) -> None:
-        """HAProxy asks only daemons that decide: not one whose replica is behind, nor one that is gone."""
-        alice, check = self.people["alice"], self.people["bob"]
+        """HAProxy asks only daemons that decide: not one whose replica is behind, nor one that is gone. It checks them by requests of `checker`."""
+        alice, checker = self.people["alice"], self.people["bob"]
         with self.server.replica() as replica, contextlib.ExitStack() as stack:
             self.start_beat(self.server.address)
             daemons = [self.start_daemon("behind", replica), self.start_daemon("direct", self.server)]
             front = os.path.join(self.room, "front")
-            config = self.file(PROXY.format(front=front, certificate=urllib.parse.quote(check.certificate).replace("%", "%%"),
+            config = self.file(PROXY.format(front=front, certificate=urllib.parse.quote(checker.certificate).replace("%", "%%"),
                                             one=daemons[0].daemon.socket, other=daemons[1].daemon.socket).encode(), "haproxy.cfg")
             process = subprocess.Popen(["haproxy", "-f", config], stdout=subprocess.DEVNULL, stderr=subprocess.DEVNULL)
             stack.enter_context(databases.killed_at_end(process))
@@ -700,7 +701,7 @@ class Replicated(OfServed):
                 return False
             self.add_entry(alice)
             waits_for("HAProxy asks nobody: the key of the check has no entry", lambda: are_all(503))
-            self.add_entry(check)
+            self.add_entry(checker)
             waits_for("HAProxy asks both", lambda: are_all(200))
             with psycopg.connect(replica.address, autocommit=True) as connection:
                 connection.execute("SELECT pg_wal_replay_pause()")
@@ -739,7 +740,7 @@ def follow(replica: databases.Server, primary: databases.Server) -> None:
 
 
 def change_setting(server: databases.Server, name: str, value: str) -> None:
-    """Changes a setting of a server that runs."""
+    """Changes a setting of a server that runs, which reads it anew."""
     with psycopg.connect(server.address, autocommit=True) as connection:
         connection.execute(sql.SQL("ALTER SYSTEM SET {} = {}").format(sql.Identifier(name), sql.Literal(value)))
         connection.execute("SELECT pg_reload_conf()")
