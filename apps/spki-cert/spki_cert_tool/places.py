@@ -159,7 +159,7 @@ def read_sequence(node: Node) -> None:
 
 
 def read_case(node: Node) -> None:
-    """Reads a case, part after part. Raises Wrong if it or a part of it is none."""
+    """Reads a case, part after part. Raises Wrong if its parts are not those of a case, or at the first part that is refused."""
     read_outline(node)
     acl, accepted, sequence, key, request, moment = node.rest[:6]
     read_list(acl)
@@ -248,11 +248,11 @@ def read_as(node: Node, word: str, fault: str) -> None:
         ALONE[node.head](node)
 
 
-def read_text(text: bytes, given: str = "") -> tuple[Diagnosis, Node]:
-    """What is wrong with a text, a `Diagnosis`, and its value, which is an empty list if the form of the text cannot be read. `given` is empty, or a
-    refusal that is to be explained, as `refused sequence 3 Shape` or `refused key Short`: its second word says as what the text is read."""
+def read_text(text: bytes, to_explain: str = "") -> tuple[Diagnosis, Node]:
+    """What is wrong with a text, a `Diagnosis`, and its value, which is an empty list if the form of the text cannot be read. `to_explain` is empty,
+    or a refusal that is to be explained, as `refused sequence 3 Shape` or `refused key Short`: its second word says as what the text is read."""
     # (the words after `refused`, each empty if it is missing)
-    word, fault, *_ = *given.split()[1:3], "", ""
+    word, fault, *_ = *to_explain.split()[1:3], "", ""
     # (`inner` is the text, or what is in its braces, and then `places` are the offsets of these octets in the text)
     node, inner, places = Node(0, members=[]), text, None
     try:
