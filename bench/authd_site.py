@@ -245,5 +245,5 @@ def processor_seconds(process):
 
 
 def reload(process):
-    """Tells the daemon, which is this process, to read its list again. Does not wait until it has."""
+    """Tells the daemon, whose process is given, to read its list again. Does not wait until it has."""
     process.send_signal(signal.SIGHUP)

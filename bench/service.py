@@ -80,16 +80,16 @@ class Driver:
         if subprocess.run(words).returncode:
             sys.exit(f"bench/service.c does not compile with {library}, which crates/spki_c/archive.py builds")
 
-    def file(self, name, octets):
+    def write(self, name, octets):
         """Writes a file with these octets, and returns its path."""
         path = os.path.join(self.folder, name)
         with open(path, "wb") as file:
             file.write(octets)
         return path
 
-    def question(self, name, text):
+    def write_question(self, name, text):
         """Writes a file with the parts of a case, as question.h reads it, and returns its path."""
-        return self.file(name, written_parts(text))
+        return self.write(name, written_parts(text))
 
     def instructions(self, way, path, calls=100):
         """The instructions of one call by a way of service.c (`ask`, `reopen` or `answer`) on a file."""
@@ -140,25 +140,25 @@ def many_entries(driver):
     """Yields (name of a limit, ratio): the instructions of decisions with 10,000 entries to those with one."""
     for subjects, subject_of in (("keys", by_key), ("hashes", digest)):
         for what, make in (("no certificate", case_without_certificates), ("three certificates", case_with_three)):
-            few, many = (driver.instructions("ask", driver.question("entries", make(count, subject_of))) for count in (1, ENTRIES))
+            few, many = (driver.instructions("ask", driver.write_question("entries", make(count, subject_of))) for count in (1, ENTRIES))
             print(f"{what}: 1 entry {few:,.0f} instructions, {ENTRIES:,} {subjects} {many:,.0f}", flush=True)
             yield f"10,000 {subjects}, {what}", many / few
 
 
 def opening_a_list(driver):
-    """Yields (name of a limit, ratio): the instructions of opening a list of 1 MiB to those of a decision of a case of it. The decision denies
-    entries of other keys by their subjects, and makes no index."""
+    """Yields (name of a limit, ratio): the instructions of opening a list of 1 MiB to those of a decision of a case of it. The decision passes
+    over the entries of other keys by their subjects, and makes no index."""
     empty = len(case([], [], asks=key("a")))
     text = case(other_entries((MOST_OCTETS - empty) // len(other_entries(1)[0])), [], asks=key("a"))
-    opening = driver.instructions("reopen", driver.file("list", parts_of(text)[0]), 2)
-    checking = driver.instructions("answer", driver.file("case", text), 2)
+    opening = driver.instructions("reopen", driver.write("list", parts_of(text)[0]), 2)
+    checking = driver.instructions("answer", driver.write("case", text), 2)
     print(f"opening a list of {len(parts_of(text)[0]):,} octets {opening:,.0f} instructions, SPKI_CHECK on a case of it {checking:,.0f}", flush=True)
     yield "opening 1 MiB", opening / checking
 
 
 def from_text(driver):
     """Yields (name of a limit, instructions) of a decision by three certificates from the text of a case."""
-    yield "instructions of a case", driver.instructions("answer", driver.file("case", by_keys(3)))
+    yield "instructions of a case", driver.instructions("answer", driver.write("case", by_keys(3)))
 
 
 def beside_macaroons(driver):
@@ -181,7 +181,7 @@ def beside_macaroons(driver):
 def beside_digests(driver):
     """Yields (name of a limit, ratio): a question by three certificates, opened, listed and decided, to the digests in it. Yields nothing without
     valgrind."""
-    path = driver.question("three", case_with_three(1))
+    path = driver.write_question("three", case_with_three(1))
     if shutil.which("valgrind") is None:
         print("valgrind is not there (Debian: valgrind): the digests are left out")
         return
@@ -219,7 +219,7 @@ def through_rust(driver):
     if shutil.which("cargo") is None or shutil.which("valgrind") is None:
         print("cargo or valgrind is not there (Debian: cargo, valgrind): the decision through Rust is left out")
         return
-    path = driver.question("three", case_with_three(1))
+    path = driver.write_question("three", case_with_three(1))
     ways = [[driver.program, "ask", path], [build_in_rust(driver), path]]
     calls, rust = (sum(of_one_call(counted_with_cache(blocks), words) for blocks in CACHES) / len(CACHES) for words in ways)
     few, many = (of_one_call(counted_allocations, words) for words in ways)
@@ -272,7 +272,7 @@ def time_through_python(driver, text):
 def through_python(driver):
     """Yields (name of a limit, µs): what a decision through Python takes more than the two calls in C."""
     what, text = "Python, µs more", case_with_three(1)
-    path, calls, python = driver.question("three", text), [], []
+    path, calls, python = driver.write_question("three", text), [], []
     for _ in turns(lambda: min(python) - min(calls) <= MOST[what]):
         calls.append(sum(driver.run("decide", path)))
         python.append(time_through_python(driver, text))
@@ -280,7 +280,7 @@ def through_python(driver):
     yield what, min(python) - min(calls)
 
 
-def question_of(text):
+def octets_of_question(text):
     """The number of octets of a case's question: of all parts but the list, which the service has."""
     return sum(map(len, parts_of(text)[1:]))
 
@@ -289,7 +289,7 @@ def widest_of(shape, most_certificates=MOST_OCTETS):
     """What the widest case of a shape is, in words, and the case: its list has at most 1 MiB, and its question at most 64 KiB and `most_certificates`
     certificates."""
     entries = shape.entries(MOST_OCTETS, QUESTION_MEMBERS)
-    certificates = min(most_certificates, largest_count(lambda count: question_of(shape.make(1, count, QUESTION_MEMBERS)), QUESTION_OCTETS))
+    certificates = min(most_certificates, largest_count(lambda count: octets_of_question(shape.make(1, count, QUESTION_MEMBERS)), QUESTION_OCTETS))
     return f"{shape.name}, {entries:,} and {certificates:,}", shape.make(entries, certificates, QUESTION_MEMBERS)
 
 
@@ -297,11 +297,11 @@ def ten_large_sets(entries, certificates, members):
     """The case of `large_tag`, but with ten entries for the first issuer in place of one, each with a set of its own. `entries` has no effect."""
     value = read(large_tag(1, certificates, members))
     sets = [group(string("*"), string("set"), string(f"b{place}"), *[string("a")] * (members - 1)) for place in range(10)]
-    value[1] = read(group(string("acl"), *[entry(key("k"), one) for one in sets]))
+    value[1] = read(group(string("acl"), *[entry(key("k"), tag) for tag in sets]))
     return canonical(value)
 
 
-def one_answer(driver, kind, path, enough):
+def measure_answer(driver, kind, path, enough):
     """The quickest of some runs that answer the question of a file: its status, the milliseconds, those of them that list the signatures, and
     the MiB. `kind` is `decide`, `explain` or `reduce`. More runs are made, up to MOST_TURNS, until one takes at most `enough` milliseconds."""
     runs = []
@@ -310,16 +310,16 @@ def one_answer(driver, kind, path, enough):
     return min(runs, key=lambda run: run[1])
 
 
-def one_question(driver, what, text):
-    """A dictionary of the milliseconds and the MiB of a question's answers, by `decide`, `explain` and `reduce`. `what` says in words what the case
-    `text` is. Prints them."""
-    path = driver.question("wide", text)
-    list_octets, question_octets = len(parts_of(text)[0]), question_of(text)
+def measure_question(driver, what, text):
+    """Measures the answers to a question, and prints what they take. Returns a dictionary of their milliseconds and MiB, by `decide`, `explain` and
+    `reduce`. `what` says in words what the case `text` is."""
+    path = driver.write_question("wide", text)
+    list_octets, question_octets = len(parts_of(text)[0]), octets_of_question(text)
     print(f"{what}: list of {list_octets:,} octets, question of {question_octets:,}")
     costs = {}
     for kind in ("decide", "explain", "reduce"):
         limit = MOST["a decision, ms" if kind == "decide" else "an explanation or a reduction, ms"]
-        status, milliseconds, listing, mebibytes = one_answer(driver, kind, path, limit)
+        status, milliseconds, listing, mebibytes = measure_answer(driver, kind, path, limit)
         costs[kind] = milliseconds, mebibytes
         print(f"    {kind}: {ANSWERS[status]}, {milliseconds:.1f} ms, of which {listing:.1f} list the signatures, {mebibytes:.1f} MiB", flush=True)
     return costs
@@ -353,8 +353,8 @@ def entry_for_name(count):
 def full_list(tag):
     """A case with a list of 1 MiB: as many entries for a tag as can be, all for the shortest key, which asks."""
     asker = group(string("public-key"), group(string("a")))
-    one = group(string("entry"), asker, group(string("tag"), tag))
-    return case([one] * ((MOST_OCTETS - len(group(string("acl")))) // len(one)), [], asks=asker)
+    one_entry = group(string("entry"), asker, group(string("tag"), tag))
+    return case([one_entry] * ((MOST_OCTETS - len(group(string("acl")))) // len(one_entry)), [], asks=asker)
 
 
 def lists_of_strings(members):
@@ -394,7 +394,7 @@ def by_default(driver):
     caller sets no limits. The guard that is measured has these limits of nodes, work and answers, and none of certificates."""
     limit, most = MOST["a decision by default, ms"], 0.0
     for shape, text in (widest_of(shape, USUAL_CERTIFICATES) for shape in wide_shapes()):
-        _, milliseconds, *_ = one_answer(driver, "decide", driver.question("usual", text), limit)
+        _, milliseconds, *_ = measure_answer(driver, "decide", driver.write_question("usual", text), limit)
         if milliseconds > most:
             most = milliseconds
             print(f"by default {shape}: {milliseconds:.1f} ms", flush=True)
@@ -412,7 +412,7 @@ def widest(driver):
               ("an entry for a name of 349,000 strings", entry_for_name(349_000)),
               ("an entry with a comment of 520,000 lists", only_entry([b"comment", *[[]] * 520_000]))]
     texts += map(lists_of_strings, (20, 100, 600))
-    costs = [one_question(driver, what, text) for what, text in texts]
+    costs = [measure_question(driver, what, text) for what, text in texts]
     for place, unit in enumerate(("ms", "MiB")):
         yield f"a decision, {unit}", max(each["decide"][place] for each in costs)
         yield f"an explanation or a reduction, {unit}", max(each[kind][place] for each in costs for kind in ("explain", "reduce"))
@@ -424,7 +424,8 @@ def in_transport_form(count):
 
 
 def in_a_chain(count, form=bytes):
-    """The parts of a question that shows a chain of so many certificates. `form` makes the sequence's text of its canonical form."""
+    """The parts of a question that shows a chain of so many certificates. `form` makes the sequence's text of its canonical form,
+    which by default stays as it is."""
     acl, sequence, asker, request, moment = parts_of(by_keys(count))
     return acl, form(sequence), asker, request, moment
 
@@ -475,7 +476,7 @@ def two_long_keys(count):
 
 
 def of_shape(make):
-    """Returns what makes the parts of a question of so many certificates, by a shape of linear.py with one entry."""
+    """Returns a function of a number of certificates, which makes the parts of a question with so many, by a shape of linear.py with one entry."""
     return lambda count: parts_of(make(1, count, QUESTION_MEMBERS))
 
 
@@ -488,10 +489,11 @@ WIDE = {"{:,} certificates in a chain": in_a_chain, "the same of {:,} in transpo
 
 
 def measure_opening(driver, program, what, make):
-    """Opens the largest question up to 1 MiB that `make` makes by a count, and prints it as `what`. Returns the octets of memory that are kept and
-    the most that are taken meanwhile, both divided by those of the question, and the ms."""
+    """Opens the largest question up to 1 MiB that `make` makes by a count, by `program`, which is that of opening.c, and prints what this takes.
+    `what` says what the question is, with a place for the count. Returns the octets of memory that are kept and the most that are taken meanwhile,
+    both divided by those of the question, and the ms."""
     count = largest_count(lambda count: sum(map(len, make(count)[1:])), MOST_OCTETS)
-    path = driver.file("opened", b"".join(b"%d\n%s" % (len(part), part) for part in make(count)))
+    path = driver.write("opened", b"".join(b"%d\n%s" % (len(part), part) for part in make(count)))
     octets, taken, kept, milliseconds = map(float, subprocess.run([program, path], stdout=subprocess.PIPE, check=True).stdout.split())
     print(f"{what.format(count)}: question of {octets:,.0f} octets, {taken:,.0f} octets of memory at most, {kept:,.0f} kept, {milliseconds:.1f} ms",
           flush=True)
@@ -516,7 +518,7 @@ def scaling_of_threads(driver):
     is how many times as far THREADS threads count as one, so about how many cores are free."""
     results = []
     for _ in range(TURNS):
-        one, many, counting, waits = driver.run("threads", THREADS, driver.question("three", case_with_three(1)))
+        one, many, counting, waits = driver.run("threads", THREADS, driver.write_question("three", case_with_three(1)))
         print(f"one thread {one:,.0f} decisions a second, {THREADS} threads {many:,.0f}; "
               f"{THREADS} threads count {counting:.2f} times as far as one")
         results.append((CORES * many / one / counting, waits))

@@ -108,13 +108,13 @@ def figures(server, what, count, library, **more):
 
 
 def resident(process):
-    """The memory of a process in MiB. Memory that n processes share counts by its nth part."""
+    """The memory in MiB of a process, given by its number. Memory that n processes share counts by its nth part."""
     with open(f"/proc/{process}/smaps_rollup", encoding="ascii") as file:
         return int(re.search(r"^Pss: +(\d+)", file.read(), re.M).group(1)) / 1024
 
 
 def processes_of(parent):
-    """The numbers of a process and of those that it has started."""
+    """The numbers of a process and of those that it has started, by its number."""
     words = ["ps", "-o", "pid=", "--ppid", str(parent)]
     return [parent, *map(int, subprocess.run(words, stdout=subprocess.PIPE, text=True, check=False).stdout.split())]
 
