@@ -99,8 +99,7 @@ class CommandParser(argparse.ArgumentParser):
 
 
 def count_of(text: str) -> int:
-    """The number from 1 to 999,999,999 that a word of the command line is. Raises ArgumentTypeError for another word; for a date it advises
-    --until."""
+    """The number in a word of the command line, from 1 to 999,999,999. Raises ArgumentTypeError for another word; for a date it advises --until."""
     if re.fullmatch(r"[0-9]{4}[-/.][0-9].*", text):
         raise argparse.ArgumentTypeError(f"{text} is a date, and a number is wanted; a date is given by --until {text[:10]}")
     if not re.fullmatch(r"[0-9]{1,9}", text) or int(text) == 0:

@@ -335,7 +335,7 @@ class Words:
 
 
 def subject_of(principal: Value, names: list[Value]) -> Value:
-    """The subject that a principal and the names behind it are, as a value: `(name PRINCIPAL NAME ..)`, or the principal if there are none."""
+    """The subject of a principal with the names behind it, as a value: `(name PRINCIPAL NAME ..)`, or the principal if there are no names."""
     return [b"name", principal, *names] if names else principal
 
 

@@ -232,7 +232,7 @@ Holder = tuple[bytes, ...]
 
 
 def holder_of(principal: Value, names: Iterable[Value], keys: Keys) -> Holder:
-    """The holder, as a tuple for comparing, that a principal and the names behind it are. A hash of one of `keys` is the same holder as this key."""
+    """The holder, as a tuple for comparing, of a principal with the names behind it. A hash of one of `keys` is the same holder as this key."""
     return keys.text_of(principal)[1], *map(canonical, names)
 
 

@@ -196,8 +196,8 @@ def undo(given: argparse.Namespace) -> int:
 
 
 def line_listed(row: re.Match[bytes]) -> str:
-    """The line that is printed for a digest, a match of ENDED: with its date and reason. A comment that begins with no date is all reason, and the
-    date is `-`."""
+    """The line that is printed for a digest, a match of ENDED: with its date and reason. If its comment begins with no date, all of
+    it is the reason, and the date is `-`."""
     comment = visible((row[2] or b"").decode(errors="backslashreplace"))
     dated = DATED.fullmatch(comment)
     date, reason = dated.groups() if dated else ("-", comment)

@@ -253,7 +253,7 @@ def split_string(octets: bytes) -> tuple[bytes, bytes]:
 
 
 def key_of_text(octets: bytes) -> Value:
-    """The SPKI key that a text is, in any of the three forms. Raises Wrong if it is none."""
+    """The SPKI key in a text, which may have any of the three forms. Raises Wrong for any other text."""
     from .structures import read_key
     node = value_in(octets)
     read_key(node)

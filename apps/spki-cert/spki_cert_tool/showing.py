@@ -34,7 +34,7 @@ class Labels:
         self.counts = Counter[str]()
 
     def add(self, key: Value, label: str) -> None:
-        """Adds a key. It is called by this label, unless it has one or this is empty. What cannot be seen in the label is escaped."""
+        """Adds a key, which gets this label unless it has one already or the label is empty. Invisible characters of the label are escaped."""
         self.keys.add(key)
         if label and digest_of(key) not in self.labels:
             shown = "".join(letter if letter.isprintable() else ascii(letter)[1:-1] for letter in label)

@@ -49,7 +49,7 @@ def digest_of(text: mmap.mmap | bytes) -> bytes:
 def import_list(store: Store, path: str, is_shown: bool) -> tuple[int, int]:
     """Adds the entries of the list in the file at `path`. Returns how many were added now, and how many before, by an import of this list that did
     not end. A transaction adds entries and notes how far the import is, so nothing is added twice. `is_shown` says whether to show the progress.
-    Raises Wrong for a list that was imported before or is being imported, or has something that is no entry: the entries before that stay."""
+    Raises Wrong for a list that was imported before or is being imported, or has something that is no entry: the transactions before that stay."""
     with open_list(path) as text:
         digest, offset, before = digest_of(text), 0, 0
         # (at most one row: how far an import of this list is)
