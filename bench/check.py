@@ -1,6 +1,7 @@
 #!/usr/bin/env python3
 """Times `spki check` on large cases, and prints how the time grows with the octets and how much memory it takes. A case is one text with an access
-list, certificates, which signatures are valid, and a question. Times are processor times, the least of some runs.
+list, certificates, which signatures are valid, and a question. Each kind of case is made by a function, with at most `size` octets, for three
+sizes. Times are processor times, the least of some runs.
 
 Build the program first (`rt run` in crates/spki). Usage: bench/check.py [PROGRAM]
 """
@@ -39,8 +40,6 @@ def entry(name, tag):
 
 STAR = group(string("*"))
 
-
-# Each of the next functions returns a text of at most `size` octets, and how the answer to it begins.
 
 def many_entries(size):
     """Returns a text and how its answer begins: a case with entries of other keys, and the asking key's entry at the end."""

@@ -1,8 +1,8 @@
 #!/usr/bin/env python3
-"""Times the three conversions of `spki` on large texts beside nettle's `sexp-conv` on the same texts, and prints how the
-time grows with the octets and how much memory it takes. Times are processor times, the least of some runs. Where `spki` takes over its
-limit of the time of `sexp-conv`, their instructions are compared too, and the lesser ratio counts: the times of runs of some milliseconds
-differ by a fifth from machine to machine.
+"""Times the three conversions of `spki` on large texts beside nettle's `sexp-conv` on the same texts, and prints how the time grows with the octets
+and how much memory it takes. Each kind of text is made by a function, with at most `size` octets, for three sizes. Times are processor times, the
+least of some runs. Where `spki` takes over its limit of the time of `sexp-conv`, their instructions are compared too, and the lesser ratio counts:
+the times of runs of some milliseconds differ by a fifth from machine to machine.
 
 Build the program first (`rt run` in crates/spki), and install `sexp-conv` (Debian: nettle-bin).
 Usage: bench/convert.py [PROGRAM]
@@ -34,8 +34,6 @@ def filled(size, piece):
     """A list of one piece over and over, in at most `size` octets."""
     return b"(" + piece * ((size - 2) // len(piece)) + b")"
 
-
-# Each of the next functions makes a text of at most `size` octets.
 
 def short_tokens(size):
     """Tokens of one octet."""

@@ -2,9 +2,10 @@
 """Times `spki check` on texts whose time must be linear in their octets. `slowest.py` searches for others. Each text is a case: an access list,
 certificates, which signatures are valid, and a question.
 
-Each text is made for three lengths. Times are processor times, the least of some runs. The ratio for 4 times the octets is that of times or
-that of instructions, whichever is less: short times differ by half from run to run, and a comparison of long octets has more instructions than
-its time shows. The limits are:
+Each text is made for three lengths, by a function of a number of entries, a number of certificates and the most members of a set or list, which
+may ignore some of them. Times are processor times, the least of some runs. The ratio for 4 times the octets is that of times or that of
+instructions, whichever is less: short times differ by half from run to run, and a comparison of long octets has more instructions than its time
+shows. The limits are:
 
 - At most 1 second at 1 MiB for each text except the last, and where it takes over 0.1 seconds, at most 5 times for 4 times the octets.
 - Many entries with many certificates take at most 1.5 times what the entries take with one certificate and the certificates with one entry.
@@ -64,8 +65,7 @@ def repeated(entries, cert, certificates, before=()):
                    [with_signature(octets, OWNER) for octets in before] + [with_signature(cert, OWNER)] * certificates)
 
 
-# Each of the next functions makes the cases of a shape, by a number of entries, a number of certificates, and the most members of a set or list.
-# Those that do not need a number take it too.
+# Each of the next functions makes the cases of a shape.
 
 def chain(entries, certificates, members):
     """A case of one entry and a chain of so many certificates by keys."""

@@ -180,7 +180,7 @@ def box(x: float, y: float, width: float, height: float, lines: list[str], kind:
 
 
 def text(x: float | str, y: float, line: str, of_class: str = "small left") -> Iterator[str]:
-    """A line of text as SVG, in a class of STYLE. It begins at `x`, and its letters stand on `y`."""
+    """A line of text as SVG, in classes of STYLE. It begins at `x`, or has its middle there without the class `left`. Its letters stand on `y`."""
     yield f'<text class="{of_class}" x="{x}" y="{y}">{escape(NO_XML.sub("?", line))}</text>'
 
 
