@@ -162,7 +162,7 @@ class Site:
         self.program = golang.build_daemon(self.library, self.path("spki-authd"), *flags)
         golang.go(BENCH, ["build", "-o", self.path("yes"), "yes.go"], self.library).check_returncode()
 
-    def config(self):
+    def write_config(self):
         """Writes the daemon's configuration, and returns its path."""
         rules = [{"prefix": "/", "methods": {"GET": "read"}, "request": ["files", "{method}", "{path}"]}]
         return self.write("config.json", json.dumps({
@@ -189,7 +189,7 @@ class Site:
 
     def start_daemon(self):
         """Starts the daemon, and returns its process."""
-        return self.start(self.program, "-config", self.config(), at=self.path("authd.socket"), **UNIT)
+        return self.start(self.program, "-config", self.write_config(), at=self.path("authd.socket"), **UNIT)
 
     def start_all(self):
         """Starts the daemon, the handler and nginx, and returns the daemon's process."""

@@ -156,7 +156,7 @@ def opening_a_list(driver):
     yield "opening 1 MiB", opening / checking
 
 
-def from_text(driver):
+def decision_from_text(driver):
     """Yields (name of a limit, instructions) of a decision by three certificates from the text of a case."""
     yield "instructions of a case", driver.instructions("answer", driver.write("case", by_keys(3)))
 
@@ -235,7 +235,7 @@ def by_instructions(driver):
     if not can_count():
         print("valgrind is not there (Debian: valgrind): what is compared by instructions is left out")
         return
-    for part in (many_entries, opening_a_list, from_text, beside_macaroons, beside_digests, through_rust):
+    for part in (many_entries, opening_a_list, decision_from_text, beside_macaroons, beside_digests, through_rust):
         yield from part(driver)
 
 
@@ -389,7 +389,7 @@ def wide_shapes():
     return (*SHAPES, LARGE_TAG, LARGE_TAG_AND_RANGE, LARGE_TAG_AND_SET, *ranges)
 
 
-def by_default(driver):
+def decisions_by_default(driver):
     """Yields (name of a limit, the most milliseconds) of a decision, for the texts of all shapes with as many certificates as a guard takes whose
     caller sets no limits. The guard that is measured has these limits of nodes, work and answers, and none of certificates."""
     limit, most = MOST["a decision by default, ms"], 0.0
@@ -401,7 +401,7 @@ def by_default(driver):
     yield "a decision by default, ms", most
 
 
-def widest(driver):
+def widest_answers(driver):
     """Yields (name of a limit, value): the most milliseconds and MiB of one answer. docs/PERFORMANCE.md says what a decision takes."""
     texts = [widest_of(shape) for shape in wide_shapes()]
     texts += [(f"large tags: {what}", text) for what, text in large_tags()]
@@ -451,7 +451,7 @@ def many_words(count):
     return acl, sequence, asker, group(*[string("a")] * count), moment
 
 
-def lists_of_one(count):
+def request_of_nested_lists(count):
     """The parts of a question for a request with 60 lists in one another, so many times."""
     acl, sequence, asker, _, moment = parts_of(by_keys(1))
     inner = string("x")
@@ -485,7 +485,7 @@ WIDE = {"{:,} certificates in a chain": in_a_chain, "the same of {:,} in transpo
         "{:,} times a certificate for the hash of one long key": of_shape(long_issuer), "{:,} for the hashes of two": two_long_keys,
         "a subject of {:,} names": long_subject,
         "a comment of {:,} empty lists": small_lists, "a request of {:,} strings": many_words,
-        "a request of {:,} times 60 lists in one another": lists_of_one}
+        "a request of {:,} times 60 lists in one another": request_of_nested_lists}
 
 
 def measure_opening(driver, program, what, make):
@@ -541,7 +541,7 @@ def main():
     library = os.path.abspath(sys.argv[1] if len(sys.argv) > 1 else LIBRARY)
     with tempfile.TemporaryDirectory() as folder:
         driver = Driver(folder, library)
-        parts = (by_instructions, through_python, opening_of_widest, by_default, widest, scaling_of_threads)
+        parts = (by_instructions, through_python, opening_of_widest, decisions_by_default, widest_answers, scaling_of_threads)
         values = [pair for part in parts for pair in part(driver)]
     # (a list, so that each value is printed)
     if not all([print_and_check(*pair) for pair in values]):

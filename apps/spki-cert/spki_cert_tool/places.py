@@ -66,7 +66,7 @@ BEGINS = rb"^\((?:acl|case|cert|entry|public-key|sequence)[\s()]"
 FLAGS = re.DOTALL | re.MULTILINE
 
 
-def foreign(text: bytes) -> str | None:
+def remark_on_foreign(text: bytes) -> str | None:
     """A remark on a text that is something known, but neither a key that is used nor an S-expression. None for any other text."""
     return next((why for pattern, why in FOREIGN if re.match(pattern, text.lstrip(), FLAGS)), None)
 
@@ -74,7 +74,7 @@ def foreign(text: bytes) -> str | None:
 def may_be_secret(text: bytes) -> bool:
     """Whether a text is perhaps a private key, in any form."""
     # (a text of FOREIGN may be one of another program, as of age or PuTTY)
-    return SECRET.search(text) is not None or foreign(text) is not None
+    return SECRET.search(text) is not None or remark_on_foreign(text) is not None
 
 
 def has_private_key(word: bytes) -> bool:
