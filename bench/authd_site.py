@@ -70,10 +70,10 @@ SERVER = """    server {{ listen 127.0.0.1:{port}; root {folder}; {ask}
 
 
 class Figures:
-    """What wrk has measured, by the line `figures` of its output: requests, their rate a second, percentiles in ms, and errors. Ends the whole bench
-    if there is no such line."""
+    """What wrk has measured: requests, their rate a second, percentiles in ms, and errors."""
 
     def __init__(self, output):
+        """Reads the line `figures` of the output of wrk. Ends the whole bench if there is no such line."""
         line = re.search(r"^figures (\d+) (\d+) (\d+) (\d+) (\d+)$", output, re.MULTILINE)
         if not line:
             sys.exit(f"wrk has failed: {output[-1000:]}")
@@ -110,6 +110,7 @@ class Site:
     path of the access list, and `running` has the processes that `end` ends."""
 
     def __init__(self, folder, library):
+        """Writes the page, the list and the certificates into `folder`. The daemon is to be built with the library at the path `library`."""
         self.folder, self.library, self.running = folder, library, []
         self.nginx = free_ports(PORTS)
         os.chmod(folder, 0o755)

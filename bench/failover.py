@@ -67,6 +67,7 @@ class Asker(threading.Thread):
     """Asks a daemon for all people again and again. `answers` has, of each request, when it began and ended, for whom it was, and its status."""
 
     def __init__(self, socket, people):
+        """`socket` is the path of that of the daemon, and `people` has each Person by a name."""
         super().__init__(daemon=True)
         self.socket, self.people, self.ends, self.answers = socket, list(people.items()), threading.Event(), []
 

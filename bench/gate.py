@@ -26,7 +26,7 @@ FIXED = ["rt", "selftest"]
 
 
 def words_of(process):
-    """The command line of a process, by its number."""
+    """The words of the command line of a process, by its number."""
     with open(f"/proc/{process}/cmdline", "rb") as file:
         return file.read().decode(errors="replace").split("\0")
 

@@ -75,6 +75,7 @@ class Driver:
     """The program of service.c, in a folder that has it and the texts that it reads."""
 
     def __init__(self, folder, library):
+        """Builds the program in `folder`, with the library at the path `library`. Ends the script if it does not compile."""
         self.folder, self.program, self.library = folder, os.path.join(folder, "service"), library
         words = ["cc", *FLAGS, "-I", os.path.join(TOP, "crates", "spki_c"), "-o", self.program, os.path.join(BENCH, "service.c"), library]
         if subprocess.run(words).returncode:
@@ -130,7 +131,7 @@ def case_with_three(entries, subject_of=by_key):
 
 
 def other_entries(count, subject_of=by_key):
-    """So many entries of keys that do not ask."""
+    """So many entries of keys that do not ask. `subject_of` makes the subject for a key."""
     return [entry(subject_of(key(f"other{place:06}"))) for place in range(count)]
 
 
@@ -214,8 +215,8 @@ spki = {{ path = "{TOP}/bindings/rust" }}
 
 def through_rust(driver):
     """Yields (name of a limit, value): the ratio of a decision through Rust to the calls in C, and how many blocks of memory it takes more. Yields
-    nothing without `cargo`. The same blocks cost up to 3 percent more or less as the C library keeps few or many that were freed. So the mean for
-    several numbers of them is taken."""
+    nothing without `cargo` or valgrind. The same blocks cost up to 3 percent more or less as the C library keeps few or many that were freed. So the
+    mean for several numbers of them is taken."""
     if shutil.which("cargo") is None or shutil.which("valgrind") is None:
         print("cargo or valgrind is not there (Debian: cargo, valgrind): the decision through Rust is left out")
         return

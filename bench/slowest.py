@@ -169,6 +169,7 @@ class Measure:
     """Runs calls, in a folder of its own."""
 
     def __init__(self, folder: str, program: str, library: str) -> None:
+        """`program` is the path of `spki`, `library` that of the library for C, and `folder` gets the files."""
         self.program, self.library, self.folder, self.file = program, library, folder, os.path.join(folder, "text")
 
     @cached_property

@@ -212,6 +212,7 @@ class Words:
     """Says an answer in words, with the labels of keys and in the form in which the files have strings."""
 
     def __init__(self, asked: Asked, answer: Answer) -> None:
+        """`answer` is that to the question `asked`."""
         self.asked, self.answer, self.labels = asked, answer, asked.labels
         self.entries, self.chain = entries_of(asked.access_list), certificates_in(answer.sequence)
         # (what the key that requests is called)

@@ -50,10 +50,11 @@ class Arrow(NamedTuple):
 
 
 class Drawing:
-    """The shapes and arrows that are drawn. A hash of one of `keys`, or of a key that `labels` know, is drawn as that key. `labels` say what keys are
-    called; for None they are written as they are. A line of a key, a request, a tag or a validity has at most `width` letters."""
+    """The shapes and arrows that are drawn."""
 
     def __init__(self, keys: Iterable[Value], labels: Labels | None, width: int) -> None:
+        """A hash of one of `keys`, or of a key that `labels` know, is drawn as that key. `labels` say what keys are called; for None they are written
+        as they are. A line of a key, a request, a tag or a validity has at most `width` letters."""
         keys_of_labels = labels.keys.by_hash.values() if labels is not None else ()
         self.keys, self.labels, self.width = Keys([*keys, *keys_of_labels]), labels, width
         # (by the names of the shapes: octets that tell them apart)

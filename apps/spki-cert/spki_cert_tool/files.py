@@ -364,6 +364,7 @@ def replace(place: str, octets: bytes, mode: int, before: os.stat_result | None)
         try:
             os.unlink(temporary)
         except FileNotFoundError:
+            # (it was renamed, or its name is still empty)
             pass
         except OSError as why:
             raise Failed(f"{place}: the file is {state}, and its temporary file {temporary} cannot be deleted: {why.strerror}") from None

@@ -302,7 +302,7 @@ def refusal(wrong: Wrong, places: list[int] | None) -> str:
     """The line by which the program `spki` refuses a text with this fault. `places` are the offsets of the octets in its braces, or None."""
     if wrong.kind.split()[-1] not in ("Bad", "Trailing"):
         return f"refused {wrong.kind}"
-    # (what is in braces is refused at the closing one)
+    # (a fault in braces is at the closing one)
     return f"refused {wrong.kind} {places[-1] if places else wrong.at}"
 
 

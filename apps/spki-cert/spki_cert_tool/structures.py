@@ -59,6 +59,7 @@ def list_reader(head: bytes | None, what: str, *readers: tuple[str, Reader]) -> 
     """Returns a reader of lists with this head, or any head for None, and exactly these members: each by what it is called, and its reader. The list
     is called `what` in a remark. The reader returns what that of the last member returns, and None without members."""
     def read_list(node: Node) -> object:
+        """Reads the list. Raises Wrong if it has another head or other members."""
         members, last_result = Members(node, head or node.head or b"", what), None
         for name, read in readers:
             last_result = read(members.next(name))

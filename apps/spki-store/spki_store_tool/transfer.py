@@ -20,10 +20,11 @@ PAUSE = 0.5
 
 
 class Progress:
-    """A line on standard error that says how far an import is, if `is_shown`. `octets` is the length of the list, and `entries_before` how many of
-    its entries an earlier import has added."""
+    """A line on standard error that says how far an import is."""
 
     def __init__(self, octets: int, entries_before: int, is_shown: bool) -> None:
+        """`octets` is the length of the list, and `entries_before` how many of its entries an earlier import has added. Unless `is_shown`, nothing is
+        written."""
         self.octets, self.entries_before, self.is_shown = octets, entries_before, is_shown
         # (when the import began, and when the line was last written, in seconds)
         self.begun, self.shown_at = time.monotonic(), 0.0
