@@ -321,7 +321,7 @@ def least_cost(measure: Measure, call: Call, recipe: Any) -> Cost:
 
 
 def faults_of(measure: Measure, call: Call, steps: int, seed: int) -> Iterator[str]:
-    """Measures a call, and prints its texts. Yields a line for each text that takes more than it may. The status of a call is printed alone."""
+    """Measures a call, and prints its texts. Yields a line for each text that takes more than it may. A call's status is only printed."""
     print(f"{call.what}: at most {call.seconds:g} s, {call.mebibytes:g} MiB", flush=True)
     for what, recipe in recipes_of(measure, call, steps, seed):
         if recipe is None:
