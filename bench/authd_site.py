@@ -70,10 +70,10 @@ SERVER = """    server {{ listen 127.0.0.1:{port}; root {folder}; {ask}
 
 
 class Figures:
-    """What wrk has measured, by the line `figures` of its output: requests, their rate a second, percentiles in ms, and errors. Ends the whole bench
-    if there is no such line."""
+    """What wrk has measured: requests, their rate a second, percentiles in ms, and errors."""
 
     def __init__(self, output):
+        """Reads the line `figures` of the output of wrk. Ends the whole bench if there is no such line."""
         line = re.search(r"^figures (\d+) (\d+) (\d+) (\d+) (\d+)$", output, re.MULTILINE)
         if not line:
             sys.exit(f"wrk has failed: {output[-1000:]}")
@@ -110,6 +110,7 @@ class Site:
     path of the access list, and `running` has the processes that `end` ends."""
 
     def __init__(self, folder, library):
+        """Writes the page, the list and the certificates into `folder`. The daemon is to be built with the library at the path `library`."""
         self.folder, self.library, self.running = folder, library, []
         self.nginx = free_ports(PORTS)
         os.chmod(folder, 0o755)
@@ -162,7 +163,7 @@ class Site:
         self.program = golang.build_daemon(self.library, self.path("spki-authd"), *flags)
         golang.go(BENCH, ["build", "-o", self.path("yes"), "yes.go"], self.library).check_returncode()
 
-    def config(self):
+    def write_config(self):
         """Writes the daemon's configuration, and returns its path."""
         rules = [{"prefix": "/", "methods": {"GET": "read"}, "request": ["files", "{method}", "{path}"]}]
         return self.write("config.json", json.dumps({
@@ -189,7 +190,7 @@ class Site:
 
     def start_daemon(self):
         """Starts the daemon, and returns its process."""
-        return self.start(self.program, "-config", self.config(), at=self.path("authd.socket"), **UNIT)
+        return self.start(self.program, "-config", self.write_config(), at=self.path("authd.socket"), **UNIT)
 
     def start_all(self):
         """Starts the daemon, the handler and nginx, and returns the daemon's process."""
@@ -245,5 +246,5 @@ def processor_seconds(process):
 
 
 def reload(process):
-    """Tells the daemon, which is this process, to read its list again. Does not wait until it has."""
+    """Tells the daemon, whose process is given, to read its list again. Does not wait until it has."""
     process.send_signal(signal.SIGHUP)

@@ -42,18 +42,18 @@ def largest_growth():
 def widest():
     """Yields (what it is, text, its answer): cases of at most 1 MiB with many entries, or with certificates for large tags."""
     # (1,024, 8 * 1,024 and 16 * 1,024 octets are more than what a case has besides)
-    one = len(entry(key("k00000")))
-    link = len(by_keys(2)) - len(by_keys(1))
+    entry_octets = len(entry(key("k00000")))
+    certificate_octets = len(by_keys(2)) - len(by_keys(1))
     half = MOST_OCTETS // 2
-    certificates, entries = (half - 1024) // link, half // one
+    certificates, entries = (half - 1024) // certificate_octets, half // entry_octets
     yield f"{entries} entries times {certificates} certificates", by_keys(certificates, entries=entries, asks=key("other")), b"no\n"
     tag = group(string("ftp"), *[string("x")] * (STRINGS - 1))
-    link = len(by_keys(2, tag)) - len(by_keys(1, tag))
-    certificates = (MOST_OCTETS - 8 * 1024) // link
+    certificate_octets = len(by_keys(2, tag)) - len(by_keys(1, tag))
+    certificates = (MOST_OCTETS - 8 * 1024) // certificate_octets
     yield f"{certificates} lists of {STRINGS + 1} nodes", by_keys(certificates, tag, asks=key("other")), b"no\n"
     tag = group(string("*"), string("set"), *[string(f"{place:03}") for place in range(STRINGS)])
-    link = len(by_keys(2, tag)) - len(by_keys(1, tag))
-    certificates = (MOST_OCTETS - 16 * 1024) // link
+    certificate_octets = len(by_keys(2, tag)) - len(by_keys(1, tag))
+    certificates = (MOST_OCTETS - 16 * 1024) // certificate_octets
     yield f"{certificates} sets of {STRINGS + 1} nodes", by_keys(certificates, tag, asks=key("other")), b"no\n"
 
 
@@ -96,10 +96,10 @@ def beside_openssl():
     """The seconds of a decision by three certificates, and those of the SHA-256 of the same octets by `openssl`, each a process and the least of 50
     runs."""
     text = by_keys(3)
-    decided = min(run(text, b"yes entry 1\n") for _ in range(50))
+    decision_seconds = min(run(text, b"yes entry 1\n") for _ in range(50))
     words = ["openssl", "dgst", "-sha256"]
-    hashed = min(processor_seconds(words, input=text, stdout=subprocess.DEVNULL, check=True)[1] for _ in range(50))
-    return decided, hashed
+    digest_seconds = min(processor_seconds(words, input=text, stdout=subprocess.DEVNULL, check=True)[1] for _ in range(50))
+    return decision_seconds, digest_seconds
 
 
 def main():
@@ -117,8 +117,8 @@ def main():
         memory = peak(PROGRAM, "check", text)
         print(f"a large tag of {what}, {len(text)} octets: {memory:.1f} MiB")
         most = max(most, memory)
-    decided, hashed = beside_openssl()
-    print(f"a chain of three certificates: {decided * 1000:.2f} ms, openssl {hashed * 1000:.2f} ms, ratio {decided / hashed:.2f}")
+    decision, digest = beside_openssl()
+    print(f"a chain of three certificates: {decision * 1000:.2f} ms, openssl {digest * 1000:.2f} ms, ratio {decision / digest:.2f}")
     print(f"most memory of a wide text or large tags: {most:.1f} MiB (at most {LIMIT_MEMORY})")
     if worst > LIMIT_RATIO or slowest > LIMIT_SECONDS or most > LIMIT_MEMORY:
         sys.exit(1)

@@ -1,6 +1,7 @@
 #!/usr/bin/env python3
 """Times `spki check` on large cases, and prints how the time grows with the octets and how much memory it takes. A case is one text with an access
-list, certificates, which signatures are valid, and a question. Times are processor times, the least of some runs.
+list, certificates, which signatures are valid, and a question. Each kind of case is made by a function, with at most `size` octets, for three
+sizes. Times are processor times, the least of some runs.
 
 Build the program first (`rt run` in crates/spki). Usage: bench/check.py [PROGRAM]
 """
@@ -40,13 +41,11 @@ def entry(name, tag):
 STAR = group(string("*"))
 
 
-# Each of the next functions returns a text of at most `size` octets, and how the answer to it begins.
-
 def many_entries(size):
     """Returns a text and how its answer begins: a case with entries of other keys, and the asking key's entry at the end."""
     empty = len(case([entry("a", STAR)], string("ftp")))
-    one = len(entry("b", STAR))
-    return case([entry("b", STAR)] * ((size - empty) // one) + [entry("a", STAR)], string("ftp")), b"yes entry"
+    entry_octets = len(entry("b", STAR))
+    return case([entry("b", STAR)] * ((size - empty) // entry_octets) + [entry("a", STAR)], string("ftp")), b"yes entry"
 
 
 def many_structures(size):
@@ -67,19 +66,19 @@ def many_certificates(size):
     cert = group(string("cert"), group(string("issuer"), key("a")), group(string("subject"), key("b")), group(string("tag"), STAR))
     pair = cert + group(string("signature"), group(string("hash"), string("sha256"), string("d" * 32)), key("a"), string("sig"))
 
-    def whole(items):
+    def case_with(items):
         """A case with these items in its sequence."""
         return group(
             string("case"), group(string("acl"), entry("a", STAR)), group(string("accepted")), group(string("sequence"), *items),
             group(string("key"), key("a")), group(string("request"), string("ftp")), group(string("at"), string("2024-01-01_00:00:00")))
 
-    return whole([pair] * ((size - len(whole([]))) // len(pair))), b"no"
+    return case_with([pair] * ((size - len(case_with([]))) // len(pair))), b"no"
 
 
 def many_members(size):
     """Returns a text and how its answer begins: a case with a request of many members."""
-    empty, one = len(case([entry("a", STAR)], group(string("ftp")))), len(string("x"))
-    return case([entry("a", STAR)], group(string("ftp"), *[string("x")] * ((size - empty) // one))), b"yes entry 1\n"
+    empty, member_octets = len(case([entry("a", STAR)], group(string("ftp")))), len(string("x"))
+    return case([entry("a", STAR)], group(string("ftp"), *[string("x")] * ((size - empty) // member_octets))), b"yes entry 1\n"
 
 
 def lists_in_lists(size):
@@ -92,7 +91,7 @@ def lists_in_lists(size):
 
 def one_string(size):
     """Returns a text and how its answer begins: a case with a request of one long string."""
-    # (16 octets more than the digits of the string's length need)
+    # (16 octets are more than the digits of the string's length need)
     empty = len(case([entry("a", STAR)], string("ftp"))) + 16
     return case([entry("a", STAR)], string(b"x" * (size - empty))), b"yes entry 1\n"
 

@@ -1,8 +1,8 @@
 #!/usr/bin/env python3
-"""Times the three conversions of `spki` on large texts beside nettle's `sexp-conv` on the same texts, and prints how the
-time grows with the octets and how much memory it takes. Times are processor times, the least of some runs. Where `spki` takes over its
-limit of the time of `sexp-conv`, their instructions are compared too, and the lesser ratio counts: the times of runs of some milliseconds
-differ by a fifth from machine to machine.
+"""Times the three conversions of `spki` on large texts beside nettle's `sexp-conv` on the same texts, and prints how the time grows with the octets
+and how much memory it takes. Each kind of text is made by a function, with at most `size` octets, for three sizes. Times are processor times, the
+least of some runs. Where `spki` takes over its limit of the time of `sexp-conv`, their instructions are compared too, and the lesser ratio counts:
+the times of runs of some milliseconds differ by a fifth from machine to machine.
 
 Build the program first (`rt run` in crates/spki), and install `sexp-conv` (Debian: nettle-bin).
 Usage: bench/convert.py [PROGRAM]
@@ -34,8 +34,6 @@ def filled(size, piece):
     """A list of one piece over and over, in at most `size` octets."""
     return b"(" + piece * ((size - 2) // len(piece)) + b")"
 
-
-# Each of the next functions makes a text of at most `size` octets.
 
 def short_tokens(size):
     """Tokens of one octet."""
@@ -123,12 +121,12 @@ class Text:
             return processor_seconds(command, stdin=reader, stdout=subprocess.DEVNULL, check=True)[1]
 
 
-def ours(form):
+def spki_command(form):
     """The command of `spki` that converts to a form."""
     return [PROGRAM, form]
 
 
-def theirs(form):
+def peer_command(form):
     """The command of `sexp-conv` that converts to a form."""
     return [PEER, "-s", form]
 
@@ -138,10 +136,10 @@ def measure(form, texts):
     programs run in turn, so that other work on the machine disturbs both alike."""
     times, peer_seconds = [], float("inf")
     for text in texts:
-        times.append(min(text.seconds(ours(form)) for _ in range(RUNS)))
+        times.append(min(text.seconds(spki_command(form)) for _ in range(RUNS)))
     for _ in range(RUNS):
-        times[-1] = min(times[-1], texts[-1].seconds(ours(form)))
-        peer_seconds = min(peer_seconds, texts[-1].seconds(theirs(form)))
+        times[-1] = min(times[-1], texts[-1].seconds(spki_command(form)))
+        peer_seconds = min(peer_seconds, texts[-1].seconds(peer_command(form)))
     return times, peer_seconds, peak(PROGRAM, form, texts[-1].octets)
 
 
@@ -152,7 +150,7 @@ def ratio_beside_peer(form, text, seconds, peer_seconds):
         return ratio
     count = choose_counter()
     # (a counter needs the whole path of the program)
-    commands = [[shutil.which(command[0]), *command[1:]] for command in (ours(form), theirs(form))]
+    commands = [[shutil.which(command[0]), *command[1:]] for command in (spki_command(form), peer_command(form))]
     own, of_peer = (counted(count, command, text.octets) for command in commands)
     return min(ratio, own / of_peer)
 
@@ -174,7 +172,7 @@ def main():
     slowest, steepest, largest = 0.0, 0.0, 0.0
     for make in SHAPES:
         texts = [Text(make(size)) for size in SIZES]
-        if texts[0].conversion_by(ours("canonical")) != texts[0].conversion_by(theirs("canonical")):
+        if texts[0].conversion_by(spki_command("canonical")) != texts[0].conversion_by(peer_command("canonical")):
             sys.exit(f"{make.__name__}: the canonical forms differ")
         for form in FORMS:
             times, peer_seconds, memory = measure(form, texts)

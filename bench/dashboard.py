@@ -36,7 +36,7 @@ def metrics(site):
     return {(name, labels): float(value) for name, labels, value in VALUE.findall(text)}
 
 
-def changes(site, seconds):
+def change_list(site, seconds):
     """Takes the issuer from the list after a quarter of `seconds`, has a broken list refused after a half, and puts the list back after three
     quarters. The daemon reads the list after each change."""
     with open(site.list, "rb") as file:
@@ -53,7 +53,7 @@ def changes(site, seconds):
 def sample(site, seconds):
     """Runs the load and the changes for so many seconds. Returns the metrics at each second, as `metrics` does."""
     threads = [threading.Thread(target=site.load, args=(site.nginx[2], seconds, CONNECTIONS, DELAY)),
-               threading.Thread(target=changes, args=(site, seconds))]
+               threading.Thread(target=change_list, args=(site, seconds))]
     for each in threads:
         each.start()
     samples = []

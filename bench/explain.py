@@ -52,7 +52,7 @@ def measure_many_entries(count):
     return worst
 
 
-def largest(entries):
+def largest_reductions(entries):
     """A case whose entries are each reduced to a tag of 998,001 strings: each of two sets has 999 equal ones."""
     tag = group(string("*"), string("set"), *[string("a")] * COPIES)
     keys = keys_of(1)
@@ -61,12 +61,12 @@ def largest(entries):
 
 def print_reductions():
     """Prints what `reduce` takes and writes for some of the largest entries, and how many fit into a text."""
-    one = len(largest(2)) - len(largest(1))
-    fit = (MOST_OCTETS - len(largest(0))) // one
+    entry_octets = len(largest_reductions(2)) - len(largest_reductions(1))
+    fit = (MOST_OCTETS - len(largest_reductions(0))) // entry_octets
     # (an entry's line has `a` and a space for each string, and some 70 octets more)
     line_octets = COPIES * COPIES * 2 + 70
     for entries in (1, 2, 4):
-        text = largest(entries)
+        text = largest_reductions(entries)
         seconds, memory = used(PROGRAM, "reduce", text)
         written = len(subprocess.run([PROGRAM, "reduce"], input=text, stdout=subprocess.PIPE, check=True).stdout)
         print(f"{entries} such entries, {len(text)} octets: {written} octets written in {seconds:.2f} s with {memory:.0f} MiB")
@@ -82,8 +82,8 @@ def most_memory_with_long_keys():
     # (about half the text: 100 octets are for what is around the string, and an empty string has two octets)
     for parts in ([string(b"\x01" * (MOST_OCTETS // 2 - 100))], [string("")] * 250_000):
         links = [(certificate(issuer, group(string("public-key"), group(string("rsa"), *parts))), issuer)]
-        one = len(case([entry(issuer)], links, asks=other)) - len(case([], links, asks=other))
-        entries = (MOST_OCTETS - len(case([], links, asks=other))) // one
+        entry_octets = len(case([entry(issuer)], links, asks=other)) - len(case([], links, asks=other))
+        entries = (MOST_OCTETS - len(case([], links, asks=other))) // entry_octets
         text = case([entry(issuer)] * entries, links, asks=other)
         # (`used` measures a refusal too)
         subprocess.run([PROGRAM, "reduce"], input=text, stdout=subprocess.DEVNULL, check=True)

@@ -67,6 +67,7 @@ class Asker(threading.Thread):
     """Asks a daemon for all people again and again. `answers` has, of each request, when it began and ended, for whom it was, and its status."""
 
     def __init__(self, socket, people):
+        """`socket` is the path of that of the daemon, and `people` has each Person by a name."""
         super().__init__(daemon=True)
         self.socket, self.people, self.ends, self.answers = socket, list(people.items()), threading.Event(), []
 
@@ -154,7 +155,7 @@ class Site:
         self.fail()
         failed = time.monotonic()
         time.sleep(wait)
-        if received(self.replicas[1]) > received(self.replicas[0]):
+        if octets_received(self.replicas[1]) > octets_received(self.replicas[0]):
             self.replicas.reverse()
             self.askers.reverse()
         begun = time.monotonic()
@@ -214,7 +215,7 @@ def execute(server, *statements):
         return rows.fetchone() if rows.description else None
 
 
-def received(replica):
+def octets_received(replica):
     """How many octets of the log of PostgreSQL a replica has received."""
     return execute(replica, "SELECT pg_wal_lsn_diff(pg_last_wal_receive_lsn(), '0/0')::bigint")[0]
 

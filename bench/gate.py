@@ -26,7 +26,7 @@ FIXED = ["rt", "selftest"]
 
 
 def words_of(process):
-    """The command line of a process, by its number."""
+    """The words of the command line of a process, by its number."""
     with open(f"/proc/{process}/cmdline", "rb") as file:
         return file.read().decode(errors="replace").split("\0")
 
@@ -66,14 +66,14 @@ def part_of(process, words):
     return crate, "tests" if "--test" in words else "proofs"
 
 
-class Sampled:
+class CheckTimes:
     """The processor time of each check that was seen. `seen` has its crate and part, and its ticks so far, by the number of its process and when that
     began."""
 
     def __init__(self):
         self.seen = {}
 
-    def look(self):
+    def note_running(self):
         """Notes the processor time of each check that runs now."""
         for process in filter(str.isdigit, os.listdir("/proc")):
             try:
@@ -123,12 +123,12 @@ def main():
     status, fixed = run_timed(FIXED)
     if status:
         sys.exit(f"{' '.join(FIXED)} fails, so there is nothing to compare with")
-    sampled, ended, begun = Sampled(), threading.Event(), time.monotonic()
+    times, ended, begun = CheckTimes(), threading.Event(), time.monotonic()
 
     def watch():
         """Looks each second, until the command has ended."""
         while not ended.wait(1.0):
-            sampled.look()
+            times.note_running()
 
     watching = threading.Thread(target=watch)
     watching.start()
@@ -137,7 +137,7 @@ def main():
     finally:
         ended.set()
         watching.join()
-    print(*table(sampled.minutes(), whole, (time.monotonic() - begun) / 60, fixed), sep="\n")
+    print(*table(times.minutes(), whole, (time.monotonic() - begun) / 60, fixed), sep="\n")
     return status
 
 

@@ -2,9 +2,10 @@
 """Times `spki check` on texts whose time must be linear in their octets. `slowest.py` searches for others. Each text is a case: an access list,
 certificates, which signatures are valid, and a question.
 
-Each text is made for three lengths. Times are processor times, the least of some runs. The ratio for 4 times the octets is that of times or
-that of instructions, whichever is less: short times differ by half from run to run, and a comparison of long octets has more instructions than
-its time shows. The limits are:
+Each text is made for three lengths, by a function of a number of entries, a number of certificates and the most members of a set or list, which
+may ignore some of them. Times are processor times, the least of some runs. The ratio for 4 times the octets is that of times or that of
+instructions, whichever is less: short times differ by half from run to run, and a comparison of long octets has more instructions than its time
+shows. The limits are:
 
 - At most 1 second at 1 MiB for each text except the last, and where it takes over 0.1 seconds, at most 5 times for 4 times the octets.
 - Many entries with many certificates take at most 1.5 times what the entries take with one certificate and the certificates with one entry.
@@ -64,8 +65,7 @@ def repeated(entries, cert, certificates, before=()):
                    [with_signature(octets, OWNER) for octets in before] + [with_signature(cert, OWNER)] * certificates)
 
 
-# Each of the next functions makes the cases of a shape, by a number of entries, a number of certificates, and the most members of a set or list.
-# Those that do not need a number take it too.
+# Each of the next functions makes the cases of a shape.
 
 def chain(entries, certificates, members):
     """A case of one entry and a chain of so many certificates by keys."""
@@ -128,6 +128,7 @@ def entries_in_turns(entries, certificates, members):
 
 def entries_with_own_tags(entries, certificates, members):
     """A case of entries for the first key of a chain by keys. Each entry has a tag that no other has, and that the certificates leave as it is."""
+    # (its list is empty, and is replaced by one with entries)
     text = by_keys(certificates, FTP, entries=0, asks=OTHER)
     listed = [entry(key("k00000"), group(string("ftp"), string(f"x{place:05}"))) for place in range(entries)]
     return text.replace(group(string("acl")), group(string("acl"), *listed), 1)
@@ -141,6 +142,7 @@ def entries_and_names(entries, certificates, members):
 def entries_and_two_words(entries, certificates, members):
     """A case of equal entries for a name of two words, `friends friend` of the first key. The chain of definitions resolves the first word, and
     nothing defines the second."""
+    # (its list is empty, and is replaced by one with entries)
     text = through_names(certificates, entries=0, asks=OTHER)
     listed = [entry(name(key("k00000"), "friends", "friend"))] * entries
     return text.replace(group(string("acl")), group(string("acl"), *listed), 1)
@@ -184,7 +186,7 @@ def large_tag_and_set(entries, certificates, members):
     return large_tag(entries, certificates, int(members / 3 ** 0.5), SET_OF_TWO)
 
 
-def between(place):
+def narrower_range(place):
     """A range that lies within that of the place before."""
     return group(*map(string, ("*", "range", "alpha", "g", f"a{10_000 + place}", "l", f"a{99_999 - place}")))
 
@@ -198,14 +200,14 @@ def after_large(large, tags):
 def narrowed_ranges(entries, certificates, members):
     """A case of two sets whose intersection has the most ranges, and certificates for ranges, each of which lies within the one before it: so each
     changes both limits of all ranges."""
-    return after_large(a_set(RANGE, members), map(between, range(certificates)))
+    return after_large(a_set(RANGE, members), map(narrower_range, range(certificates)))
 
 
 def ranges_and_sets_of_two(entries, certificates, members):
     """A case of two sets whose intersection has many ranges, and certificates for sets of two: a range within that of the certificate before, and one
     that has nothing in common with the others. Such a set has 3 nodes, so the two have fewer members, as in `large_tag_and_set`."""
     low, high = (group(*map(string, ("*", "range", "alpha", word, "b"))) for word in ("l", "g"))
-    sets = (group(string("*"), string("set"), between(place), high) for place in range(certificates))
+    sets = (group(string("*"), string("set"), narrower_range(place), high) for place in range(certificates))
     return after_large(a_set(low, int(members / 3 ** 0.5)), sets)
 
 

@@ -36,13 +36,13 @@ static int decides(void)
 /* Decides the question that is open already, and returns whether the answer is yes. */
 static int grants(void)
 {
-    return decided(&held) == SPKI_YES;
+    return decide(&held) == SPKI_YES;
 }
 
 /* Opens the question and decides it, and returns whether the answer is yes. */
 static int opens_and_grants(void)
 {
-    return list_signed(&held) == SPKI_DONE && grants();
+    return open_and_mark(&held) == SPKI_DONE && grants();
 }
 
 /* Makes the macaroon with three caveats, and writes its text to `macaroon`. */
@@ -116,6 +116,6 @@ int main(int count, char **words)
     fclose(file);
     mint();
     held = held_in(words[2], &highest);
-    if (list_signed(&held) != SPKI_DONE) return 1;
+    if (open_and_mark(&held) != SPKI_DONE) return 1;
     return count == 3 ? print_times() : repeat(strtoul(words[3], NULL, 10), strtol(words[4], NULL, 10));
 }

@@ -31,7 +31,7 @@ def written_parts(text):
     return b"".join(b"%d\n%s" % (len(part), part) for part in parts_of(text))
 
 
-def is_there():
+def has_libmacaroons():
     """Whether libmacaroons is installed."""
     return subprocess.run(["cc", "-E", "-"], input=b"#include <macaroons.h>\n", capture_output=True).returncode == 0
 
@@ -39,7 +39,7 @@ def is_there():
 def build(folder, library=LIBRARY):
     """Builds macaroons.c in a folder, and writes the files that it reads there. Returns the words that start it, or None if libmacaroons is not
     installed. Ends the script if it does not compile."""
-    if not is_there():
+    if not has_libmacaroons():
         return None
     program, case, parts = (os.path.join(folder, name) for name in ("macaroons", "case", "parts"))
     for path, octets in ((case, by_keys(3)), (parts, written_parts(by_keys(3)))):

@@ -27,8 +27,8 @@ int main(int count, char **words)
     size_t octets = question->sequence.length + question->key.text.length + question->request.length + question->moment.length;
     begin_counting();
     double begun = processor_ms();
-    enum spki_status status = list_signed(&held);
+    enum spki_status status = open_and_mark(&held);
     double took = processor_ms() - begun;
     printf("%zu %zu %zu %.2f\n", octets, most_taken(), taken, took);
-    return status == SPKI_DONE && decided(&held) != SPKI_MISUSED ? 0 : 4;
+    return status == SPKI_DONE && decide(&held) != SPKI_MISUSED ? 0 : 4;
 }

@@ -1,5 +1,5 @@
 /* A guard and a question, read from a file that service.py, slowest.py or macaroons.py writes: the access list, the sequence, the key, the request
- * and the moment, each as its number of octets on a line and the octets. `list_signed` marks every signature as valid. For the benches' programs. */
+ * and the moment, each as its number of octets on a line and the octets. `open_and_mark` marks all signatures as valid. For the benches' programs. */
 #ifndef QUESTION_H
 #define QUESTION_H
 
@@ -48,7 +48,7 @@ static spki_guard *open_guard(struct spki_text list, const struct spki_limits *l
 
 /* Closes the question that is open, opens it again, lists the signatures and marks them, as a service does that finds all of them valid. Returns
  * the status of opening it. */
-static inline enum spki_status list_signed(struct held *held)
+static inline enum spki_status open_and_mark(struct held *held)
 {
     struct spki_signed signature;
     size_t needed;
@@ -63,7 +63,7 @@ static inline enum spki_status list_signed(struct held *held)
 typedef enum spki_status answering(const spki_asked *, void *, size_t, size_t *);
 
 /* The status of a call that answers the opened question. */
-static inline enum spki_status answered(struct held *held, answering *call)
+static inline enum spki_status answer_by(struct held *held, answering *call)
 {
     size_t needed;
     return call(held->asked, held->buffer, held->room, &needed);
@@ -76,12 +76,12 @@ static inline enum spki_status decision_of(const spki_asked *asked, void *buffer
 }
 
 /* Decides the opened question. Returns the status. */
-static inline enum spki_status decided(struct held *held)
+static inline enum spki_status decide(struct held *held)
 {
-    return answered(held, decision_of);
+    return answer_by(held, decision_of);
 }
 
-/* Reads a file, and opens its guard. The question is not opened yet: see `list_signed`. Ends the program with status 2 if it cannot, or with 3 if
+/* Reads a file, and opens its guard. The question is not opened yet: see `open_and_mark`. Ends the program with status 2 if it cannot, or with 3 if
  * the list is refused. */
 static struct held held_in(const char *path, const struct spki_limits *limits)
 {

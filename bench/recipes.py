@@ -112,8 +112,8 @@ class Recipe:
     def list_text(self) -> bytes:
         """The access list."""
         entries = self.entries
-        one = group(string("entry"), subject_of(entries.names), group(string("propagate")), group(string("tag"), entries.tag.text()))
-        return group(string("acl"), *[one] * entries.count)
+        entry = group(string("entry"), subject_of(entries.names), group(string("propagate")), group(string("tag"), entries.tag.text()))
+        return group(string("acl"), *[entry] * entries.count)
 
     def certificates(self) -> Iterator[bytes]:
         """The certificates, in order. Each continues from the subject of the one before, or of the entries."""
@@ -228,10 +228,10 @@ class Form:
     def text(self) -> bytes:
         """The octets of the text."""
         octets = self.octets
-        one = {"token": b"m" * octets + b" ", "canonical": b"%d:" % octets + b"\1" * octets, "quoted": b'"' + b'\\"' * octets + b'"',
-               "escaped": b'"' + b"\\x01" * octets + b'"', "hexadecimal": b"#" + b"01" * octets + b"#", "base64": b"|" + b"AQEB" * octets + b"|",
-               "hinted": b"[1:h]%d:" % octets + b"m" * octets, "empty": b"0:", "lists": b"()"}[self.kind]
-        inner = b"(" * self.depth + one * self.count + b")" * self.depth
+        piece = {"token": b"m" * octets + b" ", "canonical": b"%d:" % octets + b"\1" * octets, "quoted": b'"' + b'\\"' * octets + b'"',
+                 "escaped": b'"' + b"\\x01" * octets + b'"', "hexadecimal": b"#" + b"01" * octets + b"#", "base64": b"|" + b"AQEB" * octets + b"|",
+                 "hinted": b"[1:h]%d:" % octets + b"m" * octets, "empty": b"0:", "lists": b"()"}[self.kind]
+        inner = b"(" * self.depth + piece * self.count + b")" * self.depth
         text = b"(" + inner * self.lists + b")"
         return b"{%s}" % base64.b64encode(text) if self.is_braced else text
 

@@ -111,8 +111,8 @@ def after_loss(chance, count, kept, daemons):
     caches = [Cache(kept) for _ in range(daemons)]
     lost = daemons // 3
 
-    def asks(is_whole):
-        """Whether a request by chance finds its key kept. `is_whole`: no daemon is lost."""
+    def finds_kept(is_whole):
+        """Makes a request by chance. Returns whether its key was kept. `is_whole`: no daemon is lost."""
         key = rank_of(count, SKEW, chance.random())
         # (the numbers 1 and 2 give each key two daemons that do not depend on each other)
         place = hash((key, 1)) % daemons
@@ -120,10 +120,11 @@ def after_loss(chance, count, kept, daemons):
             place = lost + hash((key, 2)) % (daemons - lost)
         return caches[place].has(key)
 
+    # (the caches fill first)
     for _ in range(1_000_000):
-        asks(True)
-    before = sum(asks(True) for _ in range(50_000)) / 50_000
-    return before, [sum(asks(False) for _ in range(50_000)) / 50_000 for _ in range(10)]
+        finds_kept(True)
+    before = sum(finds_kept(True) for _ in range(50_000)) / 50_000
+    return before, [sum(finds_kept(False) for _ in range(50_000)) / 50_000 for _ in range(10)]
 
 
 def print_row(how, what, value):

@@ -13,7 +13,7 @@
  * service reopen LIST CALLS     CALLS guards of a list
  * service answer CASE CALLS     CALLS decisions of a case, each from its text
  *
- * To list the signatures is to open the question, to list them and to mark them: `list_signed` of question.h.
+ * To list the signatures is to open the question, to list them and to mark them: `open_and_mark` of question.h.
  * Ends with 2 for other words or a file that cannot be read, 3 for a list that is refused, 4 for another answer than is timed, and 5 if a thread
  * cannot be started. */
 #define _GNU_SOURCE
@@ -64,8 +64,8 @@ static void decide_file(const char *path)
     struct held held = held_in(path, &highest);
     double listing = 0, deciding = 0;
     for (int round = 0; round < ROUNDS; round++) {
-        keep_least(&listing, time_of(list_signed, &held, SPKI_DONE));
-        keep_least(&deciding, time_of(decided, &held, SPKI_YES));
+        keep_least(&listing, time_of(open_and_mark, &held, SPKI_DONE));
+        keep_least(&deciding, time_of(decide, &held, SPKI_YES));
     }
     printf("%.2f %.2f\n", listing, deciding);
 }
@@ -107,13 +107,13 @@ static void forget_peak(void)
     }
 }
 
-/* `spki_asked_explain` as a call that `answered` of question.h takes: returns the status alone. */
+/* `spki_asked_explain` as a call that `answer_by` of question.h takes: returns the status alone. */
 static enum spki_status status_of_explanation(const spki_asked *asked, void *buffer, size_t room, size_t *needed)
 {
     return spki_asked_explain(asked, buffer, room, needed).status;
 }
 
-/* `spki_asked_reduce` as a call that `answered` of question.h takes: returns the status alone. */
+/* `spki_asked_reduce` as a call that `answer_by` of question.h takes: returns the status alone. */
 static enum spki_status status_of_reduction(const spki_asked *asked, void *buffer, size_t room, size_t *needed)
 {
     return spki_asked_reduce(asked, buffer, room, needed).status;
@@ -142,10 +142,10 @@ static void ask_widest(const char *kind, const char *path)
     forget_peak();
     long before = memory("VmRSS:");
     double begun = time_by(CLOCK_PROCESS_CPUTIME_ID);
-    enum spki_status status = list_signed(&held);
+    enum spki_status status = open_and_mark(&held);
     double listed = time_by(CLOCK_PROCESS_CPUTIME_ID) - begun;
     if (status == SPKI_DONE)
-        status = answered(&held, call);
+        status = answer_by(&held, call);
     double took = time_by(CLOCK_PROCESS_CPUTIME_ID) - begun;
     printf("%d %.2f %.2f %.2f\n", status, took / 1e3, listed / 1e3, (memory("VmHWM:") - before) / 1024.0);
 }
@@ -169,7 +169,7 @@ static void *decide_on(void *number)
     size_t thread = (size_t)number;
     long count = 0, before = waits();
     while (!atomic_load_explicit(&stop, memory_order_relaxed))
-        if (list_signed(&of_threads[thread]) == SPKI_DONE && decided(&of_threads[thread]) == SPKI_YES)
+        if (open_and_mark(&of_threads[thread]) == SPKI_DONE && decide(&of_threads[thread]) == SPKI_YES)
             count++;
     tallies[thread].count = count;
     tallies[thread].waits = waits() - before;
@@ -240,7 +240,7 @@ static void ask(const char *path, long calls)
 {
     struct held held = held_in(path, &highest);
     for (long i = 0; i < calls; i++)
-        if (list_signed(&held) != SPKI_DONE || decided(&held) != SPKI_YES)
+        if (open_and_mark(&held) != SPKI_DONE || decide(&held) != SPKI_YES)
             exit(4);
 }
 

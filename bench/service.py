@@ -75,21 +75,22 @@ class Driver:
     """The program of service.c, in a folder that has it and the texts that it reads."""
 
     def __init__(self, folder, library):
+        """Builds the program in `folder`, with the library at the path `library`. Ends the script if it does not compile."""
         self.folder, self.program, self.library = folder, os.path.join(folder, "service"), library
         words = ["cc", *FLAGS, "-I", os.path.join(TOP, "crates", "spki_c"), "-o", self.program, os.path.join(BENCH, "service.c"), library]
         if subprocess.run(words).returncode:
             sys.exit(f"bench/service.c does not compile with {library}, which crates/spki_c/archive.py builds")
 
-    def file(self, name, octets):
+    def write(self, name, octets):
         """Writes a file with these octets, and returns its path."""
         path = os.path.join(self.folder, name)
         with open(path, "wb") as file:
             file.write(octets)
         return path
 
-    def question(self, name, text):
+    def write_question(self, name, text):
         """Writes a file with the parts of a case, as question.h reads it, and returns its path."""
-        return self.file(name, written_parts(text))
+        return self.write(name, written_parts(text))
 
     def instructions(self, way, path, calls=100):
         """The instructions of one call by a way of service.c (`ask`, `reopen` or `answer`) on a file."""
@@ -130,7 +131,7 @@ def case_with_three(entries, subject_of=by_key):
 
 
 def other_entries(count, subject_of=by_key):
-    """So many entries of keys that do not ask."""
+    """So many entries of keys that do not ask. `subject_of` makes the subject for a key."""
     return [entry(subject_of(key(f"other{place:06}"))) for place in range(count)]
 
 
@@ -140,25 +141,25 @@ def many_entries(driver):
     """Yields (name of a limit, ratio): the instructions of decisions with 10,000 entries to those with one."""
     for subjects, subject_of in (("keys", by_key), ("hashes", digest)):
         for what, make in (("no certificate", case_without_certificates), ("three certificates", case_with_three)):
-            few, many = (driver.instructions("ask", driver.question("entries", make(count, subject_of))) for count in (1, ENTRIES))
+            few, many = (driver.instructions("ask", driver.write_question("entries", make(count, subject_of))) for count in (1, ENTRIES))
             print(f"{what}: 1 entry {few:,.0f} instructions, {ENTRIES:,} {subjects} {many:,.0f}", flush=True)
             yield f"10,000 {subjects}, {what}", many / few
 
 
 def opening_a_list(driver):
-    """Yields (name of a limit, ratio): the instructions of opening a list of 1 MiB to those of a decision of a case of it. The decision denies
-    entries of other keys by their subjects, and makes no index."""
+    """Yields (name of a limit, ratio): the instructions of opening a list of 1 MiB to those of a decision of a case of it. The decision passes
+    over the entries of other keys by their subjects, and makes no index."""
     empty = len(case([], [], asks=key("a")))
     text = case(other_entries((MOST_OCTETS - empty) // len(other_entries(1)[0])), [], asks=key("a"))
-    opening = driver.instructions("reopen", driver.file("list", parts_of(text)[0]), 2)
-    checking = driver.instructions("answer", driver.file("case", text), 2)
+    opening = driver.instructions("reopen", driver.write("list", parts_of(text)[0]), 2)
+    checking = driver.instructions("answer", driver.write("case", text), 2)
     print(f"opening a list of {len(parts_of(text)[0]):,} octets {opening:,.0f} instructions, SPKI_CHECK on a case of it {checking:,.0f}", flush=True)
     yield "opening 1 MiB", opening / checking
 
 
-def from_text(driver):
+def decision_from_text(driver):
     """Yields (name of a limit, instructions) of a decision by three certificates from the text of a case."""
-    yield "instructions of a case", driver.instructions("answer", driver.file("case", by_keys(3)))
+    yield "instructions of a case", driver.instructions("answer", driver.write("case", by_keys(3)))
 
 
 def beside_macaroons(driver):
@@ -181,7 +182,7 @@ def beside_macaroons(driver):
 def beside_digests(driver):
     """Yields (name of a limit, ratio): a question by three certificates, opened, listed and decided, to the digests in it. Yields nothing without
     valgrind."""
-    path = driver.question("three", case_with_three(1))
+    path = driver.write_question("three", case_with_three(1))
     if shutil.which("valgrind") is None:
         print("valgrind is not there (Debian: valgrind): the digests are left out")
         return
@@ -214,12 +215,12 @@ spki = {{ path = "{TOP}/bindings/rust" }}
 
 def through_rust(driver):
     """Yields (name of a limit, value): the ratio of a decision through Rust to the calls in C, and how many blocks of memory it takes more. Yields
-    nothing without `cargo`. The same blocks cost up to 3 percent more or less as the C library keeps few or many that were freed. So the mean for
-    several numbers of them is taken."""
+    nothing without `cargo` or valgrind. The same blocks cost up to 3 percent more or less as the C library keeps few or many that were freed. So the
+    mean for several numbers of them is taken."""
     if shutil.which("cargo") is None or shutil.which("valgrind") is None:
         print("cargo or valgrind is not there (Debian: cargo, valgrind): the decision through Rust is left out")
         return
-    path = driver.question("three", case_with_three(1))
+    path = driver.write_question("three", case_with_three(1))
     ways = [[driver.program, "ask", path], [build_in_rust(driver), path]]
     calls, rust = (sum(of_one_call(counted_with_cache(blocks), words) for blocks in CACHES) / len(CACHES) for words in ways)
     few, many = (of_one_call(counted_allocations, words) for words in ways)
@@ -235,7 +236,7 @@ def by_instructions(driver):
     if not can_count():
         print("valgrind is not there (Debian: valgrind): what is compared by instructions is left out")
         return
-    for part in (many_entries, opening_a_list, from_text, beside_macaroons, beside_digests, through_rust):
+    for part in (many_entries, opening_a_list, decision_from_text, beside_macaroons, beside_digests, through_rust):
         yield from part(driver)
 
 
@@ -272,7 +273,7 @@ def time_through_python(driver, text):
 def through_python(driver):
     """Yields (name of a limit, µs): what a decision through Python takes more than the two calls in C."""
     what, text = "Python, µs more", case_with_three(1)
-    path, calls, python = driver.question("three", text), [], []
+    path, calls, python = driver.write_question("three", text), [], []
     for _ in turns(lambda: min(python) - min(calls) <= MOST[what]):
         calls.append(sum(driver.run("decide", path)))
         python.append(time_through_python(driver, text))
@@ -280,7 +281,7 @@ def through_python(driver):
     yield what, min(python) - min(calls)
 
 
-def question_of(text):
+def octets_of_question(text):
     """The number of octets of a case's question: of all parts but the list, which the service has."""
     return sum(map(len, parts_of(text)[1:]))
 
@@ -289,7 +290,7 @@ def widest_of(shape, most_certificates=MOST_OCTETS):
     """What the widest case of a shape is, in words, and the case: its list has at most 1 MiB, and its question at most 64 KiB and `most_certificates`
     certificates."""
     entries = shape.entries(MOST_OCTETS, QUESTION_MEMBERS)
-    certificates = min(most_certificates, largest_count(lambda count: question_of(shape.make(1, count, QUESTION_MEMBERS)), QUESTION_OCTETS))
+    certificates = min(most_certificates, largest_count(lambda count: octets_of_question(shape.make(1, count, QUESTION_MEMBERS)), QUESTION_OCTETS))
     return f"{shape.name}, {entries:,} and {certificates:,}", shape.make(entries, certificates, QUESTION_MEMBERS)
 
 
@@ -297,11 +298,11 @@ def ten_large_sets(entries, certificates, members):
     """The case of `large_tag`, but with ten entries for the first issuer in place of one, each with a set of its own. `entries` has no effect."""
     value = read(large_tag(1, certificates, members))
     sets = [group(string("*"), string("set"), string(f"b{place}"), *[string("a")] * (members - 1)) for place in range(10)]
-    value[1] = read(group(string("acl"), *[entry(key("k"), one) for one in sets]))
+    value[1] = read(group(string("acl"), *[entry(key("k"), tag) for tag in sets]))
     return canonical(value)
 
 
-def one_answer(driver, kind, path, enough):
+def measure_answer(driver, kind, path, enough):
     """The quickest of some runs that answer the question of a file: its status, the milliseconds, those of them that list the signatures, and
     the MiB. `kind` is `decide`, `explain` or `reduce`. More runs are made, up to MOST_TURNS, until one takes at most `enough` milliseconds."""
     runs = []
@@ -310,16 +311,16 @@ def one_answer(driver, kind, path, enough):
     return min(runs, key=lambda run: run[1])
 
 
-def one_question(driver, what, text):
-    """A dictionary of the milliseconds and the MiB of a question's answers, by `decide`, `explain` and `reduce`. `what` says in words what the case
-    `text` is. Prints them."""
-    path = driver.question("wide", text)
-    list_octets, question_octets = len(parts_of(text)[0]), question_of(text)
+def measure_question(driver, what, text):
+    """Measures the answers to a question, and prints what they take. Returns a dictionary of their milliseconds and MiB, by `decide`, `explain` and
+    `reduce`. `what` says in words what the case `text` is."""
+    path = driver.write_question("wide", text)
+    list_octets, question_octets = len(parts_of(text)[0]), octets_of_question(text)
     print(f"{what}: list of {list_octets:,} octets, question of {question_octets:,}")
     costs = {}
     for kind in ("decide", "explain", "reduce"):
         limit = MOST["a decision, ms" if kind == "decide" else "an explanation or a reduction, ms"]
-        status, milliseconds, listing, mebibytes = one_answer(driver, kind, path, limit)
+        status, milliseconds, listing, mebibytes = measure_answer(driver, kind, path, limit)
         costs[kind] = milliseconds, mebibytes
         print(f"    {kind}: {ANSWERS[status]}, {milliseconds:.1f} ms, of which {listing:.1f} list the signatures, {mebibytes:.1f} MiB", flush=True)
     return costs
@@ -353,8 +354,8 @@ def entry_for_name(count):
 def full_list(tag):
     """A case with a list of 1 MiB: as many entries for a tag as can be, all for the shortest key, which asks."""
     asker = group(string("public-key"), group(string("a")))
-    one = group(string("entry"), asker, group(string("tag"), tag))
-    return case([one] * ((MOST_OCTETS - len(group(string("acl")))) // len(one)), [], asks=asker)
+    one_entry = group(string("entry"), asker, group(string("tag"), tag))
+    return case([one_entry] * ((MOST_OCTETS - len(group(string("acl")))) // len(one_entry)), [], asks=asker)
 
 
 def lists_of_strings(members):
@@ -389,19 +390,19 @@ def wide_shapes():
     return (*SHAPES, LARGE_TAG, LARGE_TAG_AND_RANGE, LARGE_TAG_AND_SET, *ranges)
 
 
-def by_default(driver):
+def decisions_by_default(driver):
     """Yields (name of a limit, the most milliseconds) of a decision, for the texts of all shapes with as many certificates as a guard takes whose
     caller sets no limits. The guard that is measured has these limits of nodes, work and answers, and none of certificates."""
     limit, most = MOST["a decision by default, ms"], 0.0
     for shape, text in (widest_of(shape, USUAL_CERTIFICATES) for shape in wide_shapes()):
-        _, milliseconds, *_ = one_answer(driver, "decide", driver.question("usual", text), limit)
+        _, milliseconds, *_ = measure_answer(driver, "decide", driver.write_question("usual", text), limit)
         if milliseconds > most:
             most = milliseconds
             print(f"by default {shape}: {milliseconds:.1f} ms", flush=True)
     yield "a decision by default, ms", most
 
 
-def widest(driver):
+def widest_answers(driver):
     """Yields (name of a limit, value): the most milliseconds and MiB of one answer. docs/PERFORMANCE.md says what a decision takes."""
     texts = [widest_of(shape) for shape in wide_shapes()]
     texts += [(f"large tags: {what}", text) for what, text in large_tags()]
@@ -412,7 +413,7 @@ def widest(driver):
               ("an entry for a name of 349,000 strings", entry_for_name(349_000)),
               ("an entry with a comment of 520,000 lists", only_entry([b"comment", *[[]] * 520_000]))]
     texts += map(lists_of_strings, (20, 100, 600))
-    costs = [one_question(driver, what, text) for what, text in texts]
+    costs = [measure_question(driver, what, text) for what, text in texts]
     for place, unit in enumerate(("ms", "MiB")):
         yield f"a decision, {unit}", max(each["decide"][place] for each in costs)
         yield f"an explanation or a reduction, {unit}", max(each[kind][place] for each in costs for kind in ("explain", "reduce"))
@@ -424,7 +425,8 @@ def in_transport_form(count):
 
 
 def in_a_chain(count, form=bytes):
-    """The parts of a question that shows a chain of so many certificates. `form` makes the sequence's text of its canonical form."""
+    """The parts of a question that shows a chain of so many certificates. `form` makes the sequence's text of its canonical form,
+    which by default stays as it is."""
     acl, sequence, asker, request, moment = parts_of(by_keys(count))
     return acl, form(sequence), asker, request, moment
 
@@ -450,7 +452,7 @@ def many_words(count):
     return acl, sequence, asker, group(*[string("a")] * count), moment
 
 
-def lists_of_one(count):
+def request_of_nested_lists(count):
     """The parts of a question for a request with 60 lists in one another, so many times."""
     acl, sequence, asker, _, moment = parts_of(by_keys(1))
     inner = string("x")
@@ -475,7 +477,7 @@ def two_long_keys(count):
 
 
 def of_shape(make):
-    """Returns what makes the parts of a question of so many certificates, by a shape of linear.py with one entry."""
+    """Returns a function of a number of certificates, which makes the parts of a question with so many, by a shape of linear.py with one entry."""
     return lambda count: parts_of(make(1, count, QUESTION_MEMBERS))
 
 
@@ -484,14 +486,15 @@ WIDE = {"{:,} certificates in a chain": in_a_chain, "the same of {:,} in transpo
         "{:,} times a certificate for the hash of one long key": of_shape(long_issuer), "{:,} for the hashes of two": two_long_keys,
         "a subject of {:,} names": long_subject,
         "a comment of {:,} empty lists": small_lists, "a request of {:,} strings": many_words,
-        "a request of {:,} times 60 lists in one another": lists_of_one}
+        "a request of {:,} times 60 lists in one another": request_of_nested_lists}
 
 
 def measure_opening(driver, program, what, make):
-    """Opens the largest question up to 1 MiB that `make` makes by a count, and prints it as `what`. Returns the octets of memory that are kept and
-    the most that are taken meanwhile, both divided by those of the question, and the ms."""
+    """Opens the largest question up to 1 MiB that `make` makes by a count, by `program`, which is that of opening.c, and prints what this takes.
+    `what` says what the question is, with a place for the count. Returns the octets of memory that are kept and the most that are taken meanwhile,
+    both divided by those of the question, and the ms."""
     count = largest_count(lambda count: sum(map(len, make(count)[1:])), MOST_OCTETS)
-    path = driver.file("opened", b"".join(b"%d\n%s" % (len(part), part) for part in make(count)))
+    path = driver.write("opened", b"".join(b"%d\n%s" % (len(part), part) for part in make(count)))
     octets, taken, kept, milliseconds = map(float, subprocess.run([program, path], stdout=subprocess.PIPE, check=True).stdout.split())
     print(f"{what.format(count)}: question of {octets:,.0f} octets, {taken:,.0f} octets of memory at most, {kept:,.0f} kept, {milliseconds:.1f} ms",
           flush=True)
@@ -516,7 +519,7 @@ def scaling_of_threads(driver):
     is how many times as far THREADS threads count as one, so about how many cores are free."""
     results = []
     for _ in range(TURNS):
-        one, many, counting, waits = driver.run("threads", THREADS, driver.question("three", case_with_three(1)))
+        one, many, counting, waits = driver.run("threads", THREADS, driver.write_question("three", case_with_three(1)))
         print(f"one thread {one:,.0f} decisions a second, {THREADS} threads {many:,.0f}; "
               f"{THREADS} threads count {counting:.2f} times as far as one")
         results.append((CORES * many / one / counting, waits))
@@ -539,7 +542,7 @@ def main():
     library = os.path.abspath(sys.argv[1] if len(sys.argv) > 1 else LIBRARY)
     with tempfile.TemporaryDirectory() as folder:
         driver = Driver(folder, library)
-        parts = (by_instructions, through_python, opening_of_widest, by_default, widest, scaling_of_threads)
+        parts = (by_instructions, through_python, opening_of_widest, decisions_by_default, widest_answers, scaling_of_threads)
         values = [pair for part in parts for pair in part(driver)]
     # (a list, so that each value is printed)
     if not all([print_and_check(*pair) for pair in values]):

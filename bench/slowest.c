@@ -34,7 +34,7 @@ static enum spki_status ask(struct held *held, size_t every)
 }
 
 /* Whether two words are equal. */
-static bool is(const char *word, const char *other)
+static bool equals(const char *word, const char *other)
 {
     return !strcmp(word, other);
 }
@@ -47,19 +47,19 @@ static enum spki_status time_call(struct held *held, const char *call, const str
     size_t needed;
     spki_guard *guard = NULL;
     enum spki_status status = SPKI_DONE;
-    bool is_opened_before = is(call, "explain") || is(call, "reduce");
+    bool is_opened_before = equals(call, "explain") || equals(call, "reduce");
     if (is_opened_before)
         status = ask(held, every);
     begin_counting();
     double begun = used();
-    if (is(call, "list"))
+    if (equals(call, "list"))
         status = spki_guard_open(held->list.octets, held->list.length, SPKI_STRICT, limits, &guard, held->buffer, held->room, &needed);
     else if (!is_opened_before)
         status = ask(held, every);
-    if (status == SPKI_DONE && is(call, "decide"))
+    if (status == SPKI_DONE && equals(call, "decide"))
         status = spki_asked_decide(held->asked, held->buffer, held->room, &needed).status;
     else if (status == SPKI_DONE && is_opened_before)
-        status = (is(call, "explain") ? spki_asked_explain : spki_asked_reduce)(held->asked, held->buffer, held->room, &needed).status;
+        status = (equals(call, "explain") ? spki_asked_explain : spki_asked_reduce)(held->asked, held->buffer, held->room, &needed).status;
     *took = used() - begun;
     spki_asked_close(held->asked);
     held->asked = NULL;
@@ -72,7 +72,7 @@ int main(int count, char **words)
     if (count != 5)
         return 2;
     static const struct spki_limits usual = SPKI_USUAL_LIMITS;
-    const struct spki_limits *limits = is(words[2], "highest") ? &highest : &usual;
+    const struct spki_limits *limits = equals(words[2], "highest") ? &highest : &usual;
     struct held held = held_in(words[4], limits);
     /* The buffer is as large as an answer may be. */
     free(held.buffer);
@@ -83,7 +83,7 @@ int main(int count, char **words)
     enum spki_status status = SPKI_DONE;
     double least = 0, all = 0, took;
     for (int run = 0; run < RUNS && all < ENOUGH; run++) {
-        status = time_call(&held, words[1], limits, is(words[3], "half") ? 2 : 1, &took);
+        status = time_call(&held, words[1], limits, equals(words[3], "half") ? 2 : 1, &took);
         least = run && least < took ? least : took;
         all += took;
     }

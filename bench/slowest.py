@@ -99,12 +99,12 @@ def rows() -> list[str]:
 
 
 def ranges(members: int = 314) -> Link:
-    """A certificate for a set of ranges without limits."""
+    """A certificate for a set of so many ranges without limits."""
     return Link(Tag("set", members, of="range"))
 
 
-def equal(members: int) -> Link:
-    """A certificate for a set of equal strings."""
+def equal_strings(members: int) -> Link:
+    """A certificate for a set of so many equal strings."""
     return Link(Tag("set", members))
 
 
@@ -144,8 +144,9 @@ NAMED = [
           Recipe(links=(Link(Tag("prefix", octets=10, lists=3)), *(ranges(98),) * 3, Link(Tag("range"), 3)), grown=0, grows="octets"), 1_100, 8_000),
     Named("an entry with a long prefix, two certificates for sets of 998 ranges", UNPRINTED,
           Recipe(Entries(Tag("prefix", lists=3), grows="octets"), (ranges(998),) * 2), 64 * KIB),
-    Named("30 entries for a string, two certificates for sets of 998 of it", COMMANDS, Recipe(Entries(Tag("string")), (equal(998),) * 2), 1_650),
-    Named("two sets of 998 equal strings", ("spki intersect",), Recipe(Entries(Tag("set", 998)), (equal(998),)), 3_100),
+    Named("30 entries for a string, two certificates for sets of 998 of it", COMMANDS,
+          Recipe(Entries(Tag("string")), (equal_strings(998),) * 2), 1_650),
+    Named("two sets of 998 equal strings", ("spki intersect",), Recipe(Entries(Tag("set", 998)), (equal_strings(998),)), 3_100),
     Named("two sets of 500 equal strings of 1,000 octets", ("spki intersect",),
           Recipe(Entries(Tag("set", 500, octets=1000)), (Link(Tag("set", 500, octets=1000)),))),
     Named("entries, a certificate for a long name, in 128 KiB", COMMANDS, Recipe(links=(Link(),), grows="names"), 64 * KIB, 64 * KIB)]
@@ -168,6 +169,7 @@ class Measure:
     """Runs calls, in a folder of its own."""
 
     def __init__(self, folder: str, program: str, library: str) -> None:
+        """`program` is the path of `spki`, `library` that of the library for C, and `folder` gets the files."""
         self.program, self.library, self.folder, self.file = program, library, folder, os.path.join(folder, "text")
 
     @cached_property
@@ -191,7 +193,7 @@ class Measure:
             raise TooSlow
         return done
 
-    def guard(self, call: Call, recipe: Recipe, seconds: float) -> Cost:
+    def cost_of_guard(self, call: Call, recipe: Recipe, seconds: float) -> Cost:
         """What a guard's call takes on the parts of a recipe. Raises ChildProcessError if the driver fails, as for a list that is refused."""
         self.write(b"".join(b"%d\n%s" % (len(part), part) for part in recipe.parts()))
         done = self.run([self.driver, call.word, call.limits, call.marks, self.file], seconds, stdout=subprocess.PIPE)
@@ -200,7 +202,7 @@ class Measure:
         status, milliseconds, octets = done.stdout.split()
         return Cost(int(status), float(milliseconds) / 1000, int(octets) / MIB)
 
-    def command(self, word: str, text: bytes, seconds: float) -> Cost:
+    def cost_of_command(self, word: str, text: bytes, seconds: float) -> Cost:
         """What a command of the program, named by a word, takes on a text. Its memory is measured apart: it is 0 here."""
         self.write(text)
         before = resource.getrusage(resource.RUSAGE_CHILDREN)
@@ -209,7 +211,7 @@ class Measure:
         after = resource.getrusage(resource.RUSAGE_CHILDREN)
         return Cost(done.returncode, after.ru_utime + after.ru_stime - before.ru_utime - before.ru_stime, 0.0)
 
-    def written(self, word: str) -> int:
+    def octets_written(self, word: str) -> int:
         """How many octets a command writes of the text in the file."""
         with open(self.file, "rb") as source, subprocess.Popen([self.program, word], stdin=source, stdout=subprocess.PIPE) as writing:
             counting = subprocess.run(["wc", "-c"], stdin=writing.stdout, stdout=subprocess.PIPE)
@@ -220,12 +222,12 @@ class Measure:
         of a command. The recipe is a Form for a conversion."""
         try:
             if call.limits:
-                return self.guard(call, recipe, seconds)
+                return self.cost_of_guard(call, recipe, seconds)
             text = text_for(call, recipe)
-            cost = self.command(call.word, text, seconds)
+            cost = self.cost_of_command(call.word, text, seconds)
             if not is_whole:
                 return cost
-            return cost._replace(mebibytes=used(self.program, call.word, text)[1], written=self.written(call.word))
+            return cost._replace(mebibytes=used(self.program, call.word, text)[1], written=self.octets_written(call.word))
         except TooSlow:
             return Cost(-1, float("inf"), 0.0)
 
@@ -262,22 +264,22 @@ def found_size(call: Call, recipe: Any, list_octets: int, question_octets: int) 
     return sized(call, recipe, list_octets, question_octets, MOST_ENTRIES if call.is_by_entry else MANY)
 
 
-def searched(measure: Measure, call: Call, first: Any, chance: random.Random, steps: int) -> Iterator[tuple[float, Any]]:
-    """Searches from a first recipe. Yields each that took more time for an octet than those before: the seconds for an octet, and the recipe
-    before it was made as large."""
+def search(measure: Measure, call: Call, first: Any, chance: random.Random, steps: int) -> Iterator[tuple[float, Any]]:
+    """Searches from a first recipe, by so many steps. Yields each recipe that took more time for an octet than those before: the seconds for an
+    octet, and the recipe before it was made as large."""
     change: Any = changed_form if call.word in FORMED else changed
-    at, most = first, 0.0
+    slowest, most = first, 0.0
     for step in range(steps + 1):
         # (mostly one change, and sometimes two that help only together)
-        candidate = at if step == 0 else change(chance, at)
+        candidate = slowest if step == 0 else change(chance, slowest)
         candidate = change(chance, candidate) if step and chance.random() < 0.3 else candidate
         recipe = found_size(call, candidate, SEARCHED_LIST, SEARCHED_QUESTION if call.word != "question" else SEARCHED_LIST)
         if recipe is None:
             continue
-        # (a short text takes what does not depend on its octets)
+        # (a short text mostly takes what does not depend on its octets, so it counts as a longer one)
         by_octet = measure.cost_of(call, recipe).seconds / max(size_of(call, recipe), SEARCHED_QUESTION)
         if by_octet > most:
-            at, most = candidate, by_octet
+            slowest, most = candidate, by_octet
             yield by_octet, candidate
 
 
@@ -290,7 +292,7 @@ def recipes_of(measure: Measure, call: Call, steps: int, seed: int) -> Iterator[
     chance, slowest = random.Random(f"{seed} {call.what}"), list[tuple[float, Any]]()
     begins: list[Any] = [Form()] * STARTS if call.word in FORMED else [named.recipe for named in of_call] + [Recipe()] * STARTS
     for first in begins if steps else []:
-        slowest += [*searched(measure, call, first, chance, steps // len(begins))][-1:]
+        slowest += [*search(measure, call, first, chance, steps // len(begins))][-1:]
     for _, recipe in sorted(slowest, key=lambda found: -found[0])[:IN_FULL]:
         yield "found", found_size(call, recipe, MIB, MIB)
 
@@ -319,7 +321,7 @@ def least_cost(measure: Measure, call: Call, recipe: Any) -> Cost:
 
 
 def faults_of(measure: Measure, call: Call, steps: int, seed: int) -> Iterator[str]:
-    """Measures a call, and prints its texts. Yields a line for each text that takes more than it may. The status of a call is printed alone."""
+    """Measures a call, and prints its texts. Yields a line for each text that takes more than it may. A call's status is only printed."""
     print(f"{call.what}: at most {call.seconds:g} s, {call.mebibytes:g} MiB", flush=True)
     for what, recipe in recipes_of(measure, call, steps, seed):
         if recipe is None:

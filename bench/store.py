@@ -95,7 +95,7 @@ def restart_cold(server):
     server.start()
 
 
-def figures(server, what, count, library, **more):
+def figures_of_test(server, what, count, library, **more):
     """Runs a test of the daemon on a store of so many entries: `what` is single, load, cold or served, and `more` are further variables of its
     environment. Returns the lines that it prints, by their names. Ends the script if it fails."""
     test = "TestStoreServed" if what == "served" else "TestStoreFigures"
@@ -108,13 +108,13 @@ def figures(server, what, count, library, **more):
 
 
 def resident(process):
-    """The memory of a process in MiB. Memory that n processes share counts by its nth part."""
+    """The memory in MiB of a process, given by its number. Memory that n processes share counts by its nth part."""
     with open(f"/proc/{process}/smaps_rollup", encoding="ascii") as file:
         return int(re.search(r"^Pss: +(\d+)", file.read(), re.M).group(1)) / 1024
 
 
 def processes_of(parent):
-    """The numbers of a process and of those that it has started."""
+    """The numbers of a process and of those that it has started, by its number."""
     words = ["ps", "-o", "pid=", "--ppid", str(parent)]
     return [parent, *map(int, subprocess.run(words, stdout=subprocess.PIPE, text=True, check=False).stdout.split())]
 
@@ -154,8 +154,9 @@ def ask_by_people(server, library, count, program, number, rate, share=0.0):
             sockets.append(socket)
             if cgroup:
                 cgroup.take(process.pid)
-        lines = figures(server, "served", count, library, SPKI_STORE_SOCKETS=",".join(sockets), SPKI_STORE_DAEMONS=",".join(map(str, daemons)),
-                        SPKI_STORE_RATE=str(rate), SPKI_STORE_SERVER=str(server.process.pid), SPKI_STORE_SECONDS=str(SECONDS))
+        lines = figures_of_test(
+            server, "served", count, library, SPKI_STORE_SOCKETS=",".join(sockets), SPKI_STORE_DAEMONS=",".join(map(str, daemons)),
+            SPKI_STORE_RATE=str(rate), SPKI_STORE_SERVER=str(server.process.pid), SPKI_STORE_SECONDS=str(SECONDS))
         return lines["served"], resident(daemons[0]), sum(map(resident, processes_of(server.process.pid)))
 
 
@@ -254,12 +255,12 @@ def measure(count, library):
     """Prints the figures of a store with so many entries. Returns the first number of each by its name: of hit, miss and cold that is the median
     in µs."""
     with server_with_store(count) as (server, store):
-        lines = figures(server, "single", count, library) | figures(server, "load", count, library)
+        lines = figures_of_test(server, "single", count, library) | figures_of_test(server, "load", count, library)
         print(f"{count:>10,} entries: {adds_a_second(store):.0f} adds a second", flush=True)
         store.close()
         print_served(server, library, count)
         restart_cold(server)
-        lines |= figures(server, "cold", count, library)
+        lines |= figures_of_test(server, "cold", count, library)
         for name, text in lines.items():
             print(f"{count:>10,} entries: {name} {text}", flush=True)
         return {name: float(text.split()[1]) for name, text in lines.items()}

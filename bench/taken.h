@@ -13,7 +13,7 @@ void *__real_realloc(void *block, size_t size);
 void __real_free(void *block);
 
 /* Adds a block, which may be null, to what is taken. Returns it. */
-static void *counted(void *block)
+static void *add_block(void *block)
 {
     taken += malloc_usable_size(block);
     if (taken > most)
@@ -24,7 +24,7 @@ static void *counted(void *block)
 /* What --wrap calls in place of malloc, and the next functions in place of realloc and free. */
 void *__wrap_malloc(size_t size)
 {
-    return counted(__real_malloc(size));
+    return add_block(__real_malloc(size));
 }
 
 /* Counts the old block until the new one is there: while it is copied, both are taken. */
@@ -34,7 +34,7 @@ void *__wrap_realloc(void *block, size_t size)
     void *other = __real_realloc(block, size);
     if (!other)
         return NULL;
-    counted(other);
+    add_block(other);
     taken -= before;
     return other;
 }

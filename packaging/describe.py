@@ -37,7 +37,7 @@ def text_of(name: str) -> str:
         return file.read()
 
 
-def moment() -> datetime:
+def time_of_sources() -> datetime:
     """The time of the sources, SOURCE_DATE_EPOCH. Raises KeyError if it is not set."""
     return datetime.fromtimestamp(int(os.environ["SOURCE_DATE_EPOCH"]), timezone.utc)
 
@@ -66,7 +66,7 @@ def changelog(maintainer: str) -> str:
     """The changelog in Debian's form. The maintainer is given as `NAME <ADDRESS>`. A release without a date has the time of the sources."""
     entries = []
     for version, date, text in releases(text_of("CHANGELOG.md"), text_of("VERSION").strip()):
-        when = datetime.fromisoformat(date).replace(tzinfo=timezone.utc) if DATE.fullmatch(date) else moment()
+        when = datetime.fromisoformat(date).replace(tzinfo=timezone.utc) if DATE.fullmatch(date) else time_of_sources()
         lines = [textwrap.fill(item, WIDTH, initial_indent="  * ", subsequent_indent="    ", break_on_hyphens=False) for item in items(text)]
         entries.append("\n".join([f"spki ({version}) unstable; urgency=medium\n", *lines, f"\n -- {maintainer}  {format_datetime(when)}\n"]))
     return "\n".join(entries)
@@ -147,7 +147,7 @@ def contents(maintainer: str, paths: list[str]) -> str:
     version, digest = text_of("VERSION").strip(), hashlib.sha256(json.dumps(packages).encode()).hexdigest()
     whole = {"spdxVersion": "SPDX-2.3", "dataLicense": "CC0-1.0", "SPDXID": "SPDXRef-DOCUMENT", "name": f"spki-{version}",
              "documentNamespace": f"https://spdx.org/spdxdocs/spki-{version}-{digest}",
-             "creationInfo": {"created": f"{moment():%Y-%m-%dT%H:%M:%SZ}", "creators": ["Tool: packages.sh", str(packages[0]["supplier"])]},
+             "creationInfo": {"created": f"{time_of_sources():%Y-%m-%dT%H:%M:%SZ}", "creators": ["Tool: packages.sh", str(packages[0]["supplier"])]},
              "packages": packages, "files": [file for _, files, _ in descriptions for file in files], "relationships": relations}
     return json.dumps(whole, indent=1) + "\n"
 

@@ -45,7 +45,7 @@ def ask_agent(kind: int, body: bytes, wanted: int, refusal: str) -> bytes:
 
 
 def keys_of_agent() -> list[bytes]:
-    """The public keys that the agent holds, as SSH encodes them. Raises BadKey."""
+    """The public keys that the agent holds, as SSH encodes them. Raises BadKey as `ask_agent` does, or if one is cut off."""
     body = ask_agent(REQUEST_IDENTITIES, b"", IDENTITIES, "ssh-agent does not say which keys it holds")
     count, rest, blobs = int.from_bytes(body[:4], "big"), body[4:], []
     for _ in range(count):
@@ -56,10 +56,10 @@ def keys_of_agent() -> list[bytes]:
 
 
 class AgentSigner:
-    """Signs by an SPKI key that the agent holds."""
+    """Signs by an SPKI key that the agent holds. `key` is the public key, and `blob` the same as SSH encodes it."""
 
     def __init__(self, key: Value) -> None:
-        """Raises BadKey if the agent does not hold the key, which is a public one, if SSH has no such key, or if there is no agent."""
+        """`key` is a public key. Raises BadKey if SSH has no such key, if no agent answers, or if the agent does not hold the key."""
         public = public_of(key)
         if public is None:
             raise BadKey("a key in a form that ssh-agent does not know")
@@ -68,7 +68,8 @@ class AgentSigner:
             raise BadKey("this is a public key, and ssh-agent does not hold it: add the private key by ssh-add, or give its file")
 
     def sign(self, message: bytes) -> Value:
-        """The value `(sig-val ..)` of a signature of these octets. Whether it is valid is not tested. Raises BadKey."""
+        """The value `(sig-val ..)` of a signature of these octets. Whether it is valid is not tested. Raises BadKey as `ask_agent` does, and for
+        a signature that is cut off, is by an algorithm that is not used, or has a number that is too large."""
         # (the flag is for RSA: OpenSSH's agent ignores it for other keys)
         body = ssh_string(self.blob) + ssh_string(message) + struct.pack(">I", RSA_SHA2_256)
         answer = ask_agent(SIGN_REQUEST, body, SIGN_RESPONSE, "ssh-agent refuses to sign by this key")

@@ -8,7 +8,7 @@ from collections.abc import Sequence
 from typing import IO, Any, NoReturn
 
 from . import __version__
-from .files import DAY_ENDS, Refused, moment_of, put
+from .files import DAY_ENDS, Refused, moment_of, write_output
 from .forms import suggestion
 from .keys import KINDS
 
@@ -34,7 +34,7 @@ class Once(argparse._StoreAction):
     """The action of an option with one value, which may be given once. To argparse alone, the last of several values would count."""
 
     def __call__(self, parser: argparse.ArgumentParser, namespace: argparse.Namespace, values: Any, option: str | None = None) -> None:
-        """Stores the value. Raises Refused, by `parser.error`, for an option that was given before, even if by its default value."""
+        """Stores the value. Raises Refused, by `parser.error`, for an option that was given before, also if that was its default value."""
         options_given = vars(namespace).setdefault("options_given", set())
         if option and self.dest in options_given:
             parser.error(f"{option} is given twice")
@@ -59,6 +59,7 @@ class CommandParser(argparse.ArgumentParser):
         options = [name[2:] for action in self._actions for name in action.option_strings if name.startswith("--")]
         commands = [name for action in self._actions if isinstance(action, argparse._SubParsersAction) for name in action.choices]
         for word in itertools.takewhile(lambda word: word != "--", args or []):
+            # (to argparse a word with a space in it is no option)
             if not commands and word.startswith("--") and " " not in word:
                 self.refuse_unknown_option(word, options)
             if commands and not word.startswith("-"):
@@ -89,17 +90,16 @@ class CommandParser(argparse.ArgumentParser):
         self.error(f"{word}: no such option{others}{near}")
 
     def _print_message(self, message: str, file: IO[str] | None = None) -> None:
-        """Writes the text of --help or --version to standard output: argparse calls this for it. Its own method may hide that writing failed."""
-        put(message)
+        """Writes the text of --help or --version to standard output. argparse calls this: its own version may hide that writing failed."""
+        write_output(message)
 
     def error(self, message: str) -> NoReturn:
-        """Raises Refused for words that argparse refuses, which calls this. Its own method prints the message and exits."""
+        """Raises Refused for words that argparse refuses. argparse calls this: its own version prints the message and exits."""
         raise Refused(f"{message.removeprefix('argument ')} ({self.prog} --help)")
 
 
 def count_of(text: str) -> int:
-    """The number from 1 to 999,999,999 that a word of the command line is. Raises ArgumentTypeError for another word; for a date it advises
-    --until."""
+    """The number in a word of the command line, from 1 to 999,999,999. Raises ArgumentTypeError for another word; for a date it advises --until."""
     if re.fullmatch(r"[0-9]{4}[-/.][0-9].*", text):
         raise argparse.ArgumentTypeError(f"{text} is a date, and a number is wanted; a date is given by --until {text[:10]}")
     if not re.fullmatch(r"[0-9]{1,9}", text) or int(text) == 0:
@@ -114,7 +114,7 @@ def not_empty(text: str) -> str:
     return text
 
 
-def plain(text: str) -> str:
+def one_line(text: str) -> str:
     """A word of the command line as it is. Raises ArgumentTypeError if it is empty, or has line breaks or other control characters."""
     if re.search("[\0-\x1f\x7f]", text):
         raise argparse.ArgumentTypeError("this has line breaks or other controls in it")
@@ -131,7 +131,7 @@ OPTIONS: dict[str, dict[str, Any]] = {
     "files": {"metavar": "FILE", "nargs": "+"},
     "key files": {"metavar": "FILE", "nargs": "+", "help": "a key"},
     "end files": {"metavar": "FILE", "nargs": "*", "help": "a sequence, whose last certificate is meant, or a certificate"},
-    "file": {**FILE, "type": plain, "help": "the private key to make; the public key is FILE.pub"},
+    "file": {**FILE, "type": one_line, "help": "the private key to make; the public key is FILE.pub"},
     "paths": {"metavar": "PATH", "nargs": "+"},
     "words": {"metavar": "WORD", "nargs": "*", "help": "the strings of the request"},
     "--hash": {**FLAG, "help": "write the hash of the key, which may name it"},
@@ -148,16 +148,16 @@ OPTIONS: dict[str, dict[str, Any]] = {
     "--key": {"metavar": "N", "type": count_of, "dest": "number", "help": "which key of a file of public keys, if it has several"},
     "--by": {"metavar": "KEY", "required": True, "type": not_empty, "help": "who signs: a private key, or a public key that ssh-agent holds"},
     "--to": {"metavar": "KEY", "type": not_empty, "help": "the subject: a file with its key, or an S-expression as '(hash sha256 #..#)'"},
-    "--named": {"metavar": "NAME", **MANY, "type": plain, "help": "a name of --to, instead of the key itself, or without --to of the issuer"},
-    "--name": {"metavar": "NAME", "required": True, "type": plain, "help": "the name that the issuer gives to the subject"},
+    "--named": {"metavar": "NAME", **MANY, "type": one_line, "help": "a name of --to, instead of the key itself, or without --to of the issuer"},
+    "--name": {"metavar": "NAME", "required": True, "type": one_line, "help": "the name that the issuer gives to the subject"},
     "--tag": {"metavar": "TAG", "type": not_empty, "help": "the requests that are allowed, as '(packages read (* prefix /web/))'"},
     "--propagate": {**FLAG, "help": "the subject may delegate the right"},
     "--try": {"metavar": "WORD", "nargs": "+", **MANY, "dest": "tries", "help": "a request that the tag is to contain, by its words"},
     "--from": {**DATE, "dest": "begins", "help": "valid from this day or moment on"},
     "--days": {"metavar": "N", "type": count_of, "help": "valid for so many days from now"},
     "--until": {**DATE, "type": lambda text: moment_of(not_empty(text), DAY_ENDS), "help": "valid until this day or moment, in UTC"},
-    "--comment": {"metavar": "TEXT", "type": plain, "help": "a comment, which grants nothing"},
-    f"{NEW_KEY} --comment": {"metavar": "TEXT", "type": plain, "help": "what the key is called; the name of the file if it is not given"},
+    "--comment": {"metavar": "TEXT", "type": one_line, "help": "a comment, which grants nothing"},
+    f"{NEW_KEY} --comment": {"metavar": "TEXT", "type": one_line, "help": "what the key is called; the name of the file if it is not given"},
     "--yes": {**FLAG, "help": "make it although it is probably a mistake"},
     "end --yes": {**FLAG, "help": "with --adopt: take also a file that has no digests, or another number of them than its last line says"},
     "--chain": {**FILE, "help": "the sequence by which the issuer has the right: it is verified, and written in front"},
@@ -256,6 +256,7 @@ def parser_of_commands() -> argparse.ArgumentParser:
             adder = command.add_mutually_exclusive_group() if "|" in group else command
             for option in group.split("|"):
                 shorter = ["-o"] if option == "--output" else []
+                # (what OPTIONS has under the name of the command comes first, as `ask --acl`)
                 adder.add_argument(*shorter, option, **OPTIONS.get(f"{name} {option}", OPTIONS.get(option, {})))
     return parser
 

@@ -15,8 +15,8 @@ from dataclasses import dataclass, field, replace
 from functools import cached_property
 from typing import TYPE_CHECKING
 
-from .certificates import (Keys, Signed, Steps, Terms, certificates_in, chains, entries_of, fault_of_signature, keys_in, members, only, sequence_of,
-                           string_of)
+from .certificates import (Keys, Signed, Steps, Terms, certificates_in, chains, entries_of, fault_of_signature, first_member, keys_in, members,
+                           sequence_of, string_of)
 from .certificates import field as field_of
 from .files import Refused, now
 from .forms import Parser, suggestion
@@ -93,8 +93,9 @@ class Answer:
         """The reason that is said in words, or None if there are no entries."""
         return furthest(self.reasons)
 
-    def left(self, entry: int) -> Value:
+    def remaining_right(self, entry: int) -> Value:
         """The right `(five ..)` that is left of an entry, by its number from 1, at the end of the chain. The chain must join to its end."""
+        # (its line is `entry N (five ..)`)
         return Parser(self.reduced[entry - 1].split(" ", 2)[2].encode()).whole().value
 
 
@@ -139,9 +140,10 @@ def answer_of(guard: Guard, asked: Asked, sequence: Value) -> Answer:
 
 
 def best_answer(asked: Asked) -> Answer:
-    """The answer that `ask` says: the first one that grants. It asks about the sequence that is given, as it is, or an empty one unless exactly one
-    is given; and then about each chain that `sequences_to` finds. If none grants, the answer is that of the sequence given, if it has certificates,
-    else that of the chain that goes furthest, or of the empty sequence if there is no chain. Raises Refused."""
+    """The answer that the command `ask` prints: the first one that grants. The library is asked about the only sequence that is given, as it is, or
+    about an empty one if none or several are given, and then about each chain that `sequences_to` finds. If none grants, the answer is that of the
+    only sequence, if it has certificates, else that of the chain that goes furthest, or of the empty sequence if there is no chain. Raises Refused
+    as `guard_of` and `answer_of` do."""
     with guard_of(asked) as guard:
         sequence_given = asked.sequences[0] if len(asked.sequences) == 1 else [b"sequence"]
         answer_as_given = answer_of(guard, asked, sequence_given)
@@ -185,7 +187,7 @@ def sequences_to(asked: Asked, steps: Steps) -> Iterator[Value]:
 
 
 def keys_at_hand(asked: Asked) -> Keys:
-    """The keys that hashes may name: the one that requests, those of the sequences that are given, and those with labels."""
+    """The keys that hashes may name: the one that requests, those of the sequences that are given, and those that the labels know."""
     return Keys([asked.key, *(key for sequence in asked.sequences for key in keys_in(sequence)), *asked.labels.keys.by_hash.values()])
 
 
@@ -210,10 +212,11 @@ class Words:
     """Says an answer in words, with the labels of keys and in the form in which the files have strings."""
 
     def __init__(self, asked: Asked, answer: Answer) -> None:
+        """`answer` is that to the question `asked`."""
         self.asked, self.answer, self.labels = asked, answer, asked.labels
         self.entries, self.chain = entries_of(asked.access_list), certificates_in(answer.sequence)
         # (what the key that requests is called)
-        self.asker = self.labels.of(asked.key)
+        self.asker = self.labels.label_of(asked.key)
 
     def lines(self) -> Iterator[str]:
         """Yields the lines that say the answer: the decision, the chain, what grants or stops the request, and what the search for chains did
@@ -244,11 +247,11 @@ class Words:
 
     def statement_of(self, terms: Terms) -> str:
         """What an entry or a certificate says, in one line."""
-        subject = self.labels.of_subject(terms.subject)
+        subject = self.labels.label_of_subject(terms.subject)
         if terms.name is not None:
-            return f"{self.labels.of(terms.issuer)} calls {subject} {on_one_line(terms.name)}, {terms.window}"
+            return f"{self.labels.label_of(terms.issuer)} calls {subject} {on_one_line(terms.name)}, {terms.window}"
         delegates = ", and may delegate it" if terms.delegates else ""
-        return f"{self.labels.of(terms.issuer)} lets {subject} {on_one_line(terms.tag or b'')}{delegates}, {terms.window}"
+        return f"{self.labels.label_of(terms.issuer)} lets {subject} {on_one_line(terms.tag or b'')}{delegates}, {terms.window}"
 
     def lines_of_cause(self, chosen: Reason) -> Iterator[str]:
         """Yields the lines that say what the word of a reason means in these files: that its entry grants the request, or why it does not."""
@@ -282,7 +285,7 @@ class Words:
         whom a certificate at hand defines it. If none does, it mentions one that defines the same string for another issuer, or else a string that
         is spelt nearly so: the name was perhaps mistyped. `chosen` is the reason NotTheKey."""
         principal, names = self.holder(chosen)
-        holder = self.labels.of_subject(subject_of(principal, names))
+        holder = self.labels.label_of_subject(subject_of(principal, names))
         if not names:
             yield f"the right ends at {holder}, and {self.asker} is another key"
             return
@@ -290,11 +293,12 @@ class Words:
         definitions = [signed.terms for sequence in self.asked.sequences for signed in certificates_in(sequence) if signed.terms.name is not None]
         same = [terms for terms in definitions if terms.name == name and keys.are_one(terms.issuer, principal)]
         if same:
-            yield f"the right ends at {holder}, and that is a name, which a certificate at hand defines for {self.labels.of_subject(same[0].subject)}"
+            owner = self.labels.label_of_subject(same[0].subject)
+            yield f"the right ends at {holder}, and that is a name, which a certificate at hand defines for {owner}"
             return
         similar = ([terms for terms in definitions if terms.name == name]
                    or [terms for terms in definitions if suggestion(name, [terms.name or b""]) != ""])
-        other = "".join(f"; there is {on_one_line(terms.name or b'')} of {self.labels.of(terms.issuer)}, which is another name"
+        other = "".join(f"; there is {on_one_line(terms.name or b'')} of {self.labels.label_of(terms.issuer)}, which is another name"
                         for terms in similar[:1])
         yield f"the right ends at {holder}, and that is a name, and no certificate says who it is{other}"
 
@@ -318,8 +322,8 @@ class Words:
         """Why a certificate stops the chain, in words, by the cause in a reason. A cause in FAULTS is about its signature alone."""
         if chosen.word in FAULTS:
             return FAULTS[chosen.word]
-        issuer, (principal, names) = self.labels.of(item.terms.issuer), self.holder(chosen)
-        holder = self.labels.of_subject(subject_of(principal, names))
+        issuer, (principal, names) = self.labels.label_of(item.terms.issuer), self.holder(chosen)
+        holder = self.labels.label_of_subject(subject_of(principal, names))
         perhaps_meant = suggestion(item.terms.name, [string_of(name) or b"" for name in names[:1]])
         if chosen.word == "NoTag":
             tags = [terms.tag for _, terms in self.links_of(chosen)] + [item.terms.tag]
@@ -332,7 +336,7 @@ class Words:
 
 
 def subject_of(principal: Value, names: list[Value]) -> Value:
-    """The subject that a principal and the names behind it are, as a value: `(name PRINCIPAL NAME ..)`, or the principal if there are none."""
+    """The subject of a principal with the names behind it, as a value: `(name PRINCIPAL NAME ..)`, or the principal if there are no names."""
     return [b"name", principal, *names] if names else principal
 
 
@@ -350,7 +354,7 @@ def asked_of_case(case: Value, labels: Labels) -> Asked:
 
 def what_cannot_be_given(chain: Value, certificate: Value, key: Value, label: str) -> list[str]:
     """What its issuer cannot give of a certificate that is to be signed, in words. The issuer has `key`, is called `label`, and has the right by a
-    chain, which is a sequence. An empty list if all can be given. Raises Refused."""
+    chain, which is a sequence. An empty list if all can be given. Raises Refused if the library refuses the chain, or cannot be loaded."""
     certificates = certificates_in(chain)
     if not certificates:
         return ["the chain has no certificate"]
@@ -369,8 +373,8 @@ def what_cannot_be_given(chain: Value, certificate: Value, key: Value, label: st
 
 
 def tag_after(subject: Value, sequence: Value, certificate: Value, key: Value, labels: Labels) -> tuple[Value, list[str]]:
-    """The tag that remains after a sequence whose access list would give everything to a subject, and an empty list. Or an empty string and why none
-    remains, in the words of `ask`. The certificate, which `key` issues, counts as signed. Raises Refused."""
+    """The tag that is left at the end of a sequence, if an access list gives everything to `subject`, and an empty list. If none is left: an empty
+    string, and why, in the words of `ask`. The certificate, which `key` issues, counts as signed. Raises Refused as `guard_of` and `answer_of` do."""
     access_list: Value = [b"acl", [b"entry", subject, [b"propagate"], [b"tag", [b"*"]]]]
     # (any request and moment: the tag that remains does not depend on them)
     asked = Asked(access_list, key, b"", now(), labels, [sequence], unsigned=canonical(certificate))
@@ -378,4 +382,4 @@ def tag_after(subject: Value, sequence: Value, certificate: Value, key: Value, l
         answer = answer_of(guard, asked, sequence)
     if answer.chosen is not None and answer.chosen.word not in JOINED:
         return b"", [line.strip() for line in Words(asked, answer).lines_of_cause(answer.chosen)]
-    return only(field_of(answer.left(1), b"tag")) or b"", []
+    return first_member(field_of(answer.remaining_right(1), b"tag")) or b"", []

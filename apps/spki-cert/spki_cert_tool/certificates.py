@@ -34,8 +34,8 @@ def field(value: Value, head: bytes) -> Value | None:
     return next((member for member in members(value) if headed(member, head)), None)
 
 
-def only(value: Value | None) -> Value | None:
-    """The first member of a field after its head. None if it has none, or the field is None, as `field` returns it where there is none."""
+def first_member(value: Value | None) -> Value | None:
+    """The first member of a field after its head. None if it has none, or if the field is None, as `field` returns it where there is none."""
     return members(value)[0] if value is not None and members(value) else None
 
 
@@ -94,15 +94,15 @@ def terms_of(value: Value) -> Terms:
     The readers of `structures` must have accepted the value."""
     issuer, name, subject = None, None, members(value)[0]
     if headed(value, b"cert"):
-        issuer, subject = only(field(value, b"issuer")) or b"", only(field(value, b"subject")) or b""
+        issuer, subject = first_member(field(value, b"issuer")) or b"", first_member(field(value, b"subject")) or b""
         if headed(issuer, b"name"):
             issuer, name = members(issuer)[0], string_of(members(issuer)[1])
         if headed(subject, b"name") and not headed(members(subject)[0], b"public-key", b"hash"):
             subject = [b"name", issuer, *members(subject)]
     valid = field(value, b"valid") or b""
-    begins, ends = (string_of(only(field(value, head) or field(valid, head))) for head in (b"not-before", b"not-after"))
+    begins, ends = (string_of(first_member(field(value, head) or field(valid, head))) for head in (b"not-before", b"not-after"))
     comments = map(string_of, members(field(value, b"comment") or b""))
-    return Terms(value, issuer, name, subject, only(field(value, b"tag")), begins, ends, field(value, b"propagate") is not None,
+    return Terms(value, issuer, name, subject, first_member(field(value, b"tag")), begins, ends, field(value, b"propagate") is not None,
                  " ".join(comment.decode(errors="replace") for comment in comments if comment is not None))
 
 
@@ -232,7 +232,7 @@ Holder = tuple[bytes, ...]
 
 
 def holder_of(principal: Value, names: Iterable[Value], keys: Keys) -> Holder:
-    """The holder, as a tuple for comparing, that a principal and the names behind it are. A hash of one of `keys` is the same holder as this key."""
+    """The holder, as a tuple for comparing, of a principal with the names behind it. A hash of one of `keys` is the same holder as this key."""
     return keys.text_of(principal)[1], *map(canonical, names)
 
 

@@ -75,7 +75,7 @@ def remarks_on(path: str, moment: bytes, is_given: bool = True) -> tuple[str | N
 
 
 def remarks_on_key_file(path: str, octets: bytes) -> tuple[str, list[Remark]]:
-    """What a file is, in words, that has keys of OpenSSH or PEM, or a private key, and the remarks on it. That a key is encrypted is none."""
+    """What a file with keys of OpenSSH or PEM, or with a private key, is, in words, and the remarks on it. An encrypted key alone needs no remark."""
     has_private = is_private(octets)
     pieces = [octets] if has_private else pieces_of(octets)
     on_keys, kind, lines, end = list[Remark](), "a file of keys", Lines(octets), 0

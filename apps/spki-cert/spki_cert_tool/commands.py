@@ -16,8 +16,8 @@ from typing import NoReturn
 from .arguments import NEW_KEY, completion, parser_of_commands
 from .certificates import headed, members, terms_of
 from .ending import end
-from .files import (DONE, FAILED, NO, READ, REFUSED, TERMINAL, UNCONFIRMED, Refused, key_at, locked, now, octets_of, passphrase_for, put,
-                    remark_on_mode, say, signer_at, target_of, tell, text_at, value_headed, value_of, value_of_word, write)
+from .files import (DONE, FAILED, NO, READ, REFUSED, TERMINAL, UNCONFIRMED, Refused, key_at, locked, now, octets_of, passphrase_for, remark_on_mode,
+                    say, signer_at, target_of, tell, text_at, value_headed, value_of, value_of_word, write, write_output)
 from .forms import Wrong
 from .keys import BadKey, file_of, hash_of, kind_of, new_private, openssh_line, principal_of
 from .making import (certificate_of, fields_of, list_with, list_without, signed_sequence, text_of, warnings_of, warnings_of_certificate,
@@ -63,7 +63,7 @@ def new_key(given: argparse.Namespace) -> int:
     comment = os.fsencode(given.comment or os.path.basename(path))
     write((path, file_of(private, passphrase, given.pem)), mode=0o600)
     write((f"{path}.pub", openssh_line(private.public_key()) + b" " + comment + b"\n"))
-    put(f"made {path}, which is secret, and {path}.pub\n")
+    write_output(f"made {path}, which is secret, and {path}.pub\n")
     return DONE
 
 
@@ -218,7 +218,7 @@ def show(given: argparse.Namespace) -> int:
     labels, moment = labels_of(given), given.at or now()
     values = [(path, value_headed(path, (b"acl", b"cert", b"sequence", b"case"), NOT_SHOWN)) for path in given.files]
     if given.braces:
-        put(b"".join(b"{%s}\n" % base64.b64encode(canonical(value)) for _, value in values))
+        write_output(b"".join(b"{%s}\n" % base64.b64encode(canonical(value)) for _, value in values))
         return DONE
     if given.svg:
         from .drawing import svg_of

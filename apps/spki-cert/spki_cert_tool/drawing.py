@@ -6,6 +6,7 @@ what right is left at its end. Other entries are left out. Long texts are broken
 """
 from __future__ import annotations
 
+import itertools
 import re
 import textwrap
 from collections.abc import Callable, Iterable, Iterator
@@ -49,10 +50,11 @@ class Arrow(NamedTuple):
 
 
 class Drawing:
-    """The shapes and arrows that are drawn. A hash of one of `keys`, or of a key that has a label, is drawn as that key. `labels` say what keys are
-    called; for None they are written as they are. A line of a key, a request, a tag or a validity has at most `width` letters."""
+    """The shapes and arrows that are drawn."""
 
     def __init__(self, keys: Iterable[Value], labels: Labels | None, width: int) -> None:
+        """A hash of one of `keys`, or of a key that `labels` know, is drawn as that key. `labels` say what keys are called; for None they are written
+        as they are. A line of a key, a request, a tag or a validity has at most `width` letters."""
         keys_of_labels = labels.keys.by_hash.values() if labels is not None else ()
         self.keys, self.labels, self.width = Keys([*keys, *keys_of_labels]), labels, width
         # (by the names of the shapes: octets that tell them apart)
@@ -63,42 +65,43 @@ class Drawing:
         """A text in lines of at most `width` letters: one empty line for an empty text."""
         return textwrap.wrap(text, self.width, break_on_hyphens=False) or [""]
 
-    def shape_of(self, subject: Value) -> bytes:
+    def add_subject(self, subject: Value) -> bytes:
         """Adds the shape of a subject, unless it is there. Returns the name of the shape, which is the same for a known key and its hashes."""
         principal, *names = members(subject) if headed(subject, b"name") else [subject]
         shape_name = canonical([self.keys.text_of(principal)[1], *names])
         lines = [f"{' '.join(on_one_line(name) for name in names)} of"] if names else []
-        lines += [self.labels.of(principal)] if self.labels is not None else self.in_lines(on_one_line(principal))
+        lines += [self.labels.label_of(principal)] if self.labels is not None else self.in_lines(on_one_line(principal))
         self.shapes.setdefault(shape_name, Shape(lines))
         return shape_name
 
-    def arrow(self, begin: bytes, end: bytes, colour: str, *lines: str) -> None:
+    def add_arrow(self, begin: bytes, end: bytes, colour: str, *lines: str) -> None:
         """Adds an arrow between two shapes by their names, in RED, GREEN or BLACK, with those of the lines that are not empty."""
         self.arrows.append(Arrow(begin, end, [line for line in lines if line], colour))
 
-    def terms(self, value: Value) -> list[str]:
+    def lines_of_terms(self, value: Value) -> list[str]:
         """The lines that say what a certificate or an entry gives: its tag, its validity, and whether it may be passed on."""
         parts = [field(value, head) for head in (b"tag", b"valid", b"not-before", b"not-after", b"propagate")]
         return [line for part in parts if part for line in self.in_lines(on_one_line(part))]
 
-    def entries(self, access_list: Value, only: int | None = None) -> None:
+    def add_entries(self, access_list: Value, only: int | None = None) -> None:
         """Adds the access list, with an arrow for each of its entries, or for the one with the number `only`, from 1."""
         self.shapes[b"list"] = Shape(["access list"], "blue")
         for number, entry in enumerate(entries_of(access_list), 1):
             if only in (None, number):
-                self.arrow(b"list", self.shape_of(entry.subject), BLACK, f"entry {number}", *self.terms(entry.value))
+                self.add_arrow(b"list", self.add_subject(entry.subject), BLACK, f"entry {number}", *self.lines_of_terms(entry.value))
 
-    def links(self, sequence: Value, stops: int | None = None, cause: str = "") -> None:
-        """Adds an arrow for each certificate of a sequence, or up to item `stops`. That one is red: it stops the chain, for a cause of MEANINGS."""
+    def add_certificates(self, sequence: Value, stops: int | None = None, cause: str = "") -> None:
+        """Adds an arrow for each certificate of a sequence. If item number `stops` stops the chain, its arrow is the last one, red, and says the
+        `cause`, a key of MEANINGS."""
         for number, item in enumerate(members(sequence), 1):
             if headed(item, b"cert") and number <= (stops or number):
                 terms = terms_of(item)
                 title = [f"item {number} {cause}:", MEANINGS[cause]] if number == stops else [f"item {number}"]
                 issuer = [b"name", terms.issuer or b"", terms.name] if terms.name is not None else terms.issuer or b""
                 colour = RED if number == stops else BLACK
-                self.arrow(self.shape_of(issuer), self.shape_of(terms.subject), colour, *title, *self.terms(item))
+                self.add_arrow(self.add_subject(issuer), self.add_subject(terms.subject), colour, *title, *self.lines_of_terms(item))
 
-    def ends(self, case: Value, entry: int, word: str, left: Value) -> None:
+    def add_request(self, case: Value, entry: int, word: str, left: Value) -> None:
         """Adds the request, and the arrow to it from the subject of `left`, the right `(five ..)` that the chain leaves of entry number `entry`.
         `word` is `grants`, or a cause of MEANINGS for which it does not grant. For NotTheKey it adds an arrow from the key that asks to the request
         too."""
@@ -107,9 +110,9 @@ class Drawing:
         title = [f"yes entry {entry}"] if word == "grants" else [f"{word}:", MEANINGS[word]]
         self.shapes[b"request"] = Shape([*self.in_lines(on_one_line(request)), *self.in_lines(on_one_line(moment))], colour)
         tag = self.in_lines(f"left: {on_one_line(field(left, b'tag') or b'')}")
-        self.arrow(self.shape_of(members(field(left, b"subject") or b"")[0]), b"request", colour, *title, *tag)
+        self.add_arrow(self.add_subject(members(field(left, b"subject") or b"")[0]), b"request", colour, *title, *tag)
         if word == "NotTheKey":
-            self.arrow(self.shape_of(members(key)[0]), b"request", BLACK, "asks")
+            self.add_arrow(self.add_subject(members(key)[0]), b"request", BLACK, "asks")
 
 
 def drawing_of_case(case: Value, reasons: list[Reason], reduced: Callable[[int], Value], labels: Labels | None = None, width: int = WIDTH) -> Drawing:
@@ -121,10 +124,10 @@ def drawing_of_case(case: Value, reasons: list[Reason], reduced: Callable[[int],
     drawing = Drawing([members(key)[0], *keys_in(sequence)], labels, width)
     if chosen is not None:
         if chosen.entry is not None:
-            drawing.entries(access_list, chosen.entry)
-        drawing.links(sequence, chosen.item, chosen.word)
+            drawing.add_entries(access_list, chosen.entry)
+        drawing.add_certificates(sequence, chosen.item, chosen.word)
         if chosen.entry is not None and chosen.item is None:
-            drawing.ends(case, chosen.entry, chosen.word, reduced(chosen.entry))
+            drawing.add_request(case, chosen.entry, chosen.word, reduced(chosen.entry))
     return drawing
 
 
@@ -178,7 +181,7 @@ def box(x: float, y: float, width: float, height: float, lines: list[str], kind:
 
 
 def text(x: float | str, y: float, line: str, of_class: str = "small left") -> Iterator[str]:
-    """A line of text as SVG, in a class of STYLE. It begins at `x`, and its letters stand on `y`."""
+    """A line of text as SVG, in classes of STYLE. It begins at `x`, or has its middle there without the class `left`. Its letters stand on `y`."""
     yield f'<text class="{of_class}" x="{x}" y="{y}">{escape(NO_XML.sub("?", line))}</text>'
 
 
@@ -202,7 +205,7 @@ def svg_of_drawing(drawing: Drawing, title: str, width: float = 620) -> Iterator
     # (`y` is the lower edge of the last box, whose name is `last`. An arrow goes down from its middle, with lines of text on its right)
     middle, y, parts = EDGE + BOX_WIDTH // 2, EDGE, list[str]()
     last: bytes | None = None
-    for arrow, is_end in ((arrow, is_end) for arrow in drawing.arrows for is_end in (False, True)):
+    for arrow, is_end in itertools.product(drawing.arrows, (False, True)):
         shape_name = arrow.end if is_end else arrow.begin
         if shape_name == last and not is_end:
             continue
@@ -226,13 +229,13 @@ def svg_of(value: Value, labels: Labels) -> bytes:
         return svg_of_answer(asked, best_answer(asked))
     drawing = Drawing(keys_in(value), labels, PICTURE_WIDTH)
     if headed(value, b"acl"):
-        drawing.entries(value)
+        drawing.add_entries(value)
     else:
-        drawing.links([b"sequence", value] if headed(value, b"cert") else value)
+        drawing.add_certificates([b"sequence", value] if headed(value, b"cert") else value)
     return "\n".join([*svg_of_drawing(drawing, "Certificates", PICTURE_PIXELS), ""]).encode()
 
 
 def svg_of_answer(asked: Asked, answer: Answer) -> bytes:
     """The chain of an answer as SVG: that of the reason that goes furthest. `asked` is the question."""
-    drawing = drawing_of_case(case_of(asked, answer.sequence), answer.reasons, answer.left, asked.labels, PICTURE_WIDTH)
+    drawing = drawing_of_case(case_of(asked, answer.sequence), answer.reasons, answer.remaining_right, asked.labels, PICTURE_WIDTH)
     return "\n".join([*svg_of_drawing(drawing, "The chain of a request", PICTURE_PIXELS), ""]).encode()

@@ -100,8 +100,8 @@ def lines_by_hand(path: str) -> tuple[list[bytes], bool]:
 
 def read_ended(path: str) -> bytes:
     """The octets of the file. Only an ordinary file is opened: opening a FIFO or a device may wait, or do something. The file is replaced as a
-    whole, so one state of it is read. Raises OSError if there is none, or what is there cannot be looked at, and Refused for another or a longer
-    file, and for one that cannot be read."""
+    whole, so one state of it is read. Raises OSError if there is none, or what is there cannot be looked at, and Refused for one that is
+    not ordinary, has more than MOST_ENDED octets, or cannot be read."""
     if not stat.S_ISREG(os.stat(path).st_mode):
         raise Refused(f"{path}: it is no ordinary file")
     octets = octets_of(path, MOST_ENDED + 1)
@@ -122,9 +122,10 @@ def write_lines(path: str, lines: list[bytes]) -> None:
 # ---- the certificates that are meant
 
 
-def meant_at(path: str, place: int | None) -> tuple[str, str]:
+def digest_at(path: str, place: int | None) -> tuple[str, str]:
     """The digest in hexadecimal of a certificate in a file, and what it is called: the file, and its number among the certificates. `place` is this
-    number, from 1, or None for the last one. A file that is a certificate has one. Raises Refused."""
+    number, from 1, or None for the last one. A file that is a certificate has one. Raises Refused if there is no such certificate, or if the
+    file cannot be read or is of another kind."""
     value = value_headed(path, (b"cert", b"sequence"), "only a certificate of a sequence, or one that is alone, is ended")
     certificates = [value] if headed(value, b"cert") else [signed.terms.value for signed in certificates_in(value)]
     count = len(certificates)
@@ -134,15 +135,15 @@ def meant_at(path: str, place: int | None) -> tuple[str, str]:
     return digest_of(certificates[number - 1]).hex(), f"{path}, certificate {number} of {count}"
 
 
-def meant_by(given: argparse.Namespace) -> dict[str, str]:
+def digests_named(given: argparse.Namespace) -> dict[str, str]:
     """The digests of all certificates that the command line names, each with what it is called: first those of the FILEs, then those of --digest,
     each in the order given. A certificate that is named twice keeps the first name. Raises Refused for a --digest that is not 64 hexadecimal digits,
-    and for a FILE as `meant_at` does."""
+    and for a FILE as `digest_at` does."""
     for digest in given.digest:
         if not DIGITS.fullmatch(digest):
             raise Refused(f"--digest {digest}: a digest has 64 hexadecimal digits; `spki-cert show FILE` prints that of a certificate")
     names: dict[str, str] = {}
-    for digest, name in [meant_at(path, given.place) for path in given.files] + [(digest.lower(), digest.lower()) for digest in given.digest]:
+    for digest, name in [digest_at(path, given.place) for path in given.files] + [(digest.lower(), digest.lower()) for digest in given.digest]:
         names.setdefault(digest, name)
     return names
 
@@ -163,40 +164,40 @@ def make(given: argparse.Namespace) -> int:
 def add(given: argparse.Namespace) -> int:
     """Ends certificates: adds their digests to the file, each with today's date in UTC and at most MOST_REASON letters of --reason as a
     comment. Says which of them had ended before: they are not written twice. Returns DONE."""
-    meant = meant_by(given)
+    digests = digests_named(given)
     # (of the present moment, as 2026-03-01_12:00:00, the first 10 octets are the date)
     comment = f"{now()[:10].decode()} {visible(given.reason)[:MOST_REASON]}".rstrip()
     with locked(given.ended):
         lines = lines_in(given.ended)
         ended_before = digests_of(lines)
-        lines += [f"{digest} # {comment}".encode() for digest in meant if digest not in ended_before]
+        lines += [f"{digest} # {comment}".encode() for digest in digests if digest not in ended_before]
         count = len(digests_of(lines)) - len(ended_before)
         if count:
             write_lines(given.ended, lines)
-    return say(*(f"{name}: {'it had ended before' if digest in ended_before else 'ended'}" for digest, name in meant.items()),
+    return say(*(f"{name}: {'it had ended before' if digest in ended_before else 'ended'}" for digest, name in digests.items()),
                *(["--digest is compared with no certificate: give the FILE of the certificate if you have it"] if given.digest else []),
                f"digests added: {count}" + ("; they count from the next reload of spki-authd on" if count else ""))
 
 
 def undo(given: argparse.Namespace) -> int:
     """Takes digests out of the file: all that are named, or none. Returns NO if one of them is not there."""
-    meant = meant_by(given)
+    digests = digests_named(given)
     with locked(given.ended):
         lines = lines_in(given.ended)
         ended_before = digests_of(lines)
-        missing = [name for digest, name in meant.items() if digest not in ended_before]
+        missing = [name for digest, name in digests.items() if digest not in ended_before]
         if missing:
             tell(*(f"spki-cert: {name}: it has not ended; nothing was written" for name in missing))
             return NO
         # (a digest is the first 64 octets of its line)
-        write_lines(given.ended, [line for line in lines if line[:64].decode(errors="replace") not in meant])
-    return say(*(f"{name}: taken out" for name in meant.values()),
-               f"digests taken out: {len(meant)}; the next reload needs `spki-authd -reload -fewer`")
+        write_lines(given.ended, [line for line in lines if line[:64].decode(errors="replace") not in digests])
+    return say(*(f"{name}: taken out" for name in digests.values()),
+               f"digests taken out: {len(digests)}; the next reload needs `spki-authd -reload -fewer`")
 
 
 def line_listed(row: re.Match[bytes]) -> str:
-    """The line that is printed for a digest, a match of ENDED: with its date and reason. A comment that begins with no date is all reason, and the
-    date is `-`."""
+    """The line that is printed for a digest, a match of ENDED: with its date and reason. If its comment begins with no date, all of
+    it is the reason, and the date is `-`."""
     comment = visible((row[2] or b"").decode(errors="backslashreplace"))
     dated = DATED.fullmatch(comment)
     date, reason = dated.groups() if dated else ("-", comment)

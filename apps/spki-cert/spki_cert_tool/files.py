@@ -76,7 +76,7 @@ def write_at_once(stream: TextIO | None, text: str | bytes) -> None:
     stream.buffer.flush()
 
 
-def put(text: str | bytes) -> None:
+def write_output(text: str | bytes) -> None:
     """Writes to standard output, if there is something to write. Raises Failed, with a line that says why. It has no line, so nothing is told, if the
     reader of a pipe has ended, as `head` does once it has its lines."""
     try:
@@ -99,7 +99,7 @@ def say(*lines: str, is_aside: bool = False) -> int:
     if is_aside:
         tell(*lines)
     else:
-        put("".join(f"{line}\n" for line in lines))
+        write_output("".join(f"{line}\n" for line in lines))
     return DONE
 
 
@@ -113,7 +113,7 @@ def identity(state: os.stat_result) -> tuple[int, int]:
 
 def octets_of(path: str, most: int = MOST_OCTETS + 1) -> bytes:
     """The octets of a file, or of standard input for `-`: at most `most`, or all for -1. By default it is one more than a text may have, so that
-    callers see that there are more. Notes in READ what was read. Raises Refused."""
+    callers see that there are more. Notes in READ what was read. Raises Refused if it cannot be read, and for a second reading of standard input."""
     try:
         if path != "-":
             with open(path, "rb") as file:
@@ -155,7 +155,7 @@ def text_at(path: str, read_as: str = "") -> tuple[bytes, Node]:
 def value_of(path: str, kind: str) -> Value:
     """The value of a file, which must be of a kind: acl, sequence, case. Raises Refused for another one, or if a service would refuse it."""
     _, node = text_at(path, f"refused {kind}")
-    # (a case is read as one, since a refusal of it may name this part)
+    # (`text_at` accepts a whole case too: a refusal that begins so may be that of a part of a case)
     if node.head != kind.encode():
         raise Refused(f"{path}: this is a whole case, and `({kind} ..)` is wanted")
     return node.value
@@ -218,7 +218,8 @@ def key_at(path: str, number: int | None = None, is_private_too: bool = False) -
 
 
 def signer_at(path: str) -> Signer:
-    """Who signs: the private key of a file, or for the file of a public key ssh-agent. Raises Refused."""
+    """What signs by the key of a file: a private key itself, or ssh-agent for a public one. Raises Refused if the file has no key that is used, or
+    ssh-agent does not hold it."""
     with octets_of_key(path) as octets:
         if is_private(octets):
             return FileSigner(read_private(octets, lambda: passphrase_for(path)))
@@ -314,8 +315,8 @@ def target_of(path: str, new: bytes, force: bool, edits: bool) -> tuple[str, os.
 
 
 def advice_on_existing(path: str, old: bytes, new: bytes) -> str:
-    """What to do where a file is there already, in words. `old` are its octets, and `new` those to be written. If the two have other heads, also in
-    braces, the path is probably a mistake, and --force is not advised."""
+    """What to do where a file is there already, in words. `old` are its octets, and `new` those to be written. If the two have different heads, also
+    in braces, the path is probably a mistake, and --force is not advised."""
     head = HEAD.match(read_text(old)[0][1])
     if head is None or new.startswith(b"(" + head[1]):
         return "--force writes over it"
@@ -337,7 +338,7 @@ def write(*parts: tuple[str | None, bytes], mode: int = 0o644, force: bool = Fal
             replace(place, octets, mode, before)
         except OSError as why:
             raise Failed(f"{name}: {why.strerror}; the file is as before") from None
-    put(b"".join(octets for path, octets in parts if path in (None, "-")))
+    write_output(b"".join(octets for path, octets in parts if path in (None, "-")))
 
 
 def replace(place: str, octets: bytes, mode: int, before: os.stat_result | None) -> None:
@@ -363,6 +364,7 @@ def replace(place: str, octets: bytes, mode: int, before: os.stat_result | None)
         try:
             os.unlink(temporary)
         except FileNotFoundError:
+            # (it was renamed, or its name is still empty)
             pass
         except OSError as why:
             raise Failed(f"{place}: the file is {state}, and its temporary file {temporary} cannot be deleted: {why.strerror}") from None

@@ -160,10 +160,10 @@ class Parser:
         node = self.value(self.skip(0), "a value")
         behind = self.skip(node.end)
         if behind < len(self.text):
-            raise self.trailing(node, behind)
+            raise self.trailing_fault(node, behind)
         return node
 
-    def trailing(self, node: Node, behind: int) -> Wrong:
+    def trailing_fault(self, node: Node, behind: int) -> Wrong:
         """The fault of what follows the value, at offset `behind`. By its indentation it may belong to the value, which a `)` too many has ended."""
         begins = (node.begin, "the value begins here")
         if self.text[behind:behind + 1] == b")":
@@ -250,12 +250,12 @@ class Parser:
             return self.string_in_marks(at, at, None)
         length = LENGTH.match(self.text, at)
         if length:
-            return self.of_length(at, length.end(), length[0])
+            return self.string_with_length(at, length.end(), length[0])
         if not self.is_canonical and (remark := remark_on_octet(self.text, at)):
             raise Wrong("Bad", at, f"{remark}; here {wanted} is expected")
         raise Wrong("Bad", at, f"no {'canonical ' if self.is_canonical else ''}text has this octet where {wanted} is expected")
 
-    def of_length(self, begin: int, at: int, digits: bytes) -> tuple[bytes, int]:
+    def string_with_length(self, begin: int, at: int, digits: bytes) -> tuple[bytes, int]:
         """The octets of a string with a length, and the offset after it. It begins at `begin` with the digits of its length, which end at `at`.
         Behind them is a colon, or in advanced form the mark of a string as `string_in_marks` reads it. Raises Wrong."""
         octet = self.octet(at, begin)
@@ -307,10 +307,10 @@ class Parser:
             pieces.append(plain + itself + ESCAPED.get(letter, b"") + bytes(numbers))
             at = piece.end()
         if self.text[at:at + 1] == b"\\":
-            self.escape_fault(begin, at)
+            self.refuse_escape(begin, at)
         return b"".join(pieces)
 
-    def escape_fault(self, begin: int, at: int) -> None:
+    def refuse_escape(self, begin: int, at: int) -> None:
         """Raises Wrong for the escape whose backslash is at the offset `at`, and which is wrong or cut off. The place of the fault is its first
         octet that no escape has there. The string begins at `begin`."""
         first = self.octet(at + 1, begin)

@@ -12,7 +12,7 @@ from collections.abc import Callable
 from typing import TYPE_CHECKING, Any, Union, cast
 
 from .forms import Parser
-from .places import USED, foreign, value_in
+from .places import USED, remark_on_foreign, value_in
 from .sexp import Value, canonical
 
 if TYPE_CHECKING:
@@ -37,7 +37,7 @@ PEM = re.compile(rb"-----BEGIN ([A-Z0-9 ]+)-----")
 # A line of a public key of OpenSSH: the key, and its comment. At most two fields are before it, as the options in authorized_keys, or a marker and
 # names in known_hosts.
 FIELD = rb'(?!ssh-|ecdsa-|sk-)(?:\\"|\\(?!")|[^ \t\r\n"\\]|"(?:\\"|\\(?!")|[^"\r\n\\])*")+[ \t]+'
-# (no more blanks than `foreign` takes, which refuses certificates and FIDO keys)
+# (no more blanks than `remark_on_foreign` takes, which refuses certificates and FIDO keys)
 KEY = rb"(?:ssh-|ecdsa-|sk-)[\w@.-]+[ \t]{1,64}AAAA[A-Za-z0-9+/=]+"
 OPENSSH = re.compile(rb"^(?![ \t]*#)[ \t]*(?:%b){0,2}(%b)[ \t]*([^\r\n]*)" % (FIELD, KEY), re.MULTILINE)
 NEEDS_BCRYPT = "encrypted OpenSSH keys need python3-bcrypt (pip: bcrypt); or let ssh-agent sign by it"
@@ -188,7 +188,7 @@ def read_public(octets: bytes, asking: Asking, number: int | None = None) -> Val
     piece = pieces[(number or 1) - 1]
     if is_text(piece):
         return key_of_text(piece)
-    if why := foreign(piece):
+    if why := remark_on_foreign(piece):
         raise BadKey(why)
     return key_of(public_in(piece)) if OPENSSH.match(piece) or PEM.search(piece) else key_of_text(piece)
 
@@ -253,7 +253,7 @@ def split_string(octets: bytes) -> tuple[bytes, bytes]:
 
 
 def key_of_text(octets: bytes) -> Value:
-    """The SPKI key that a text is, in any of the three forms. Raises Wrong if it is none."""
+    """The SPKI key in a text, which may have any of the three forms. Raises Wrong for any other text."""
     from .structures import read_key
     node = value_in(octets)
     read_key(node)
@@ -268,7 +268,7 @@ def read_private(octets: bytes, asking: Asking) -> Private:
     from cryptography.hazmat.primitives.serialization.ssh import load_ssh_private_key
     openssh_public, is_asked = public_part(octets), False
     load: Any = load_ssh_private_key if openssh_public else load_pem_private_key
-    if why := foreign(openssh_public or octets):
+    if why := remark_on_foreign(openssh_public or octets):
         raise BadKey(why)
     try:
         if octets.lstrip().startswith(b"("):

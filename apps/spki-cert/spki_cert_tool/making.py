@@ -119,8 +119,8 @@ def warnings_of_list(new_entry: Value, before: bytes) -> Iterator[str]:
 
 
 def warnings_of(terms: Terms, tag_text: str, tries: list[Value]) -> Iterator[str]:
-    """Yields what is probably a mistake in what certificates and entries both have. A missing end is none here: an entry can be removed from its
-    list. `tag_text` is the tag as it was written, and `tries` are requests that the tag is to contain."""
+    """Yields what is probably a mistake in what certificates and entries both have. A missing end is no mistake here: an entry can be removed
+    from its list. `tag_text` is the tag as it was written, and `tries` are requests that the tag is to contain."""
     yield from (f"{why}: give a later date by --until" for _, why in remarks_on_window(terms.begins, terms.ends, now()))
     if headed(terms.principal, b"hash") and members(terms.principal)[0] == b"sha1":
         yield "its subject is a hash by sha1, which names no key under the strict policy"

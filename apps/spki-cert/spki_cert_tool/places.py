@@ -66,7 +66,7 @@ BEGINS = rb"^\((?:acl|case|cert|entry|public-key|sequence)[\s()]"
 FLAGS = re.DOTALL | re.MULTILINE
 
 
-def foreign(text: bytes) -> str | None:
+def remark_on_foreign(text: bytes) -> str | None:
     """A remark on a text that is something known, but neither a key that is used nor an S-expression. None for any other text."""
     return next((why for pattern, why in FOREIGN if re.match(pattern, text.lstrip(), FLAGS)), None)
 
@@ -74,7 +74,7 @@ def foreign(text: bytes) -> str | None:
 def may_be_secret(text: bytes) -> bool:
     """Whether a text is perhaps a private key, in any form."""
     # (a text of FOREIGN may be one of another program, as of age or PuTTY)
-    return SECRET.search(text) is not None or foreign(text) is not None
+    return SECRET.search(text) is not None or remark_on_foreign(text) is not None
 
 
 def has_private_key(word: bytes) -> bool:
@@ -159,7 +159,7 @@ def read_sequence(node: Node) -> None:
 
 
 def read_case(node: Node) -> None:
-    """Reads a case, part after part. Raises Wrong if it or a part of it is none."""
+    """Reads a case, part after part. Raises Wrong if its parts are not those of a case, or at the first part that is refused."""
     read_outline(node)
     acl, accepted, sequence, key, request, moment = node.rest[:6]
     read_list(acl)
@@ -248,11 +248,11 @@ def read_as(node: Node, word: str, fault: str) -> None:
         ALONE[node.head](node)
 
 
-def read_text(text: bytes, given: str = "") -> tuple[Diagnosis, Node]:
-    """What is wrong with a text, a `Diagnosis`, and its value, which is an empty list if the form of the text cannot be read. `given` is empty, or a
-    refusal that is to be explained, as `refused sequence 3 Shape` or `refused key Short`: its second word says as what the text is read."""
+def read_text(text: bytes, to_explain: str = "") -> tuple[Diagnosis, Node]:
+    """What is wrong with a text, a `Diagnosis`, and its value, which is an empty list if the form of the text cannot be read. `to_explain` is empty,
+    or a refusal that is to be explained, as `refused sequence 3 Shape` or `refused key Short`: its second word says as what the text is read."""
     # (the words after `refused`, each empty if it is missing)
-    word, fault, *_ = *given.split()[1:3], "", ""
+    word, fault, *_ = *to_explain.split()[1:3], "", ""
     # (`inner` is the text, or what is in its braces, and then `places` are the offsets of these octets in the text)
     node, inner, places = Node(0, members=[]), text, None
     try:
@@ -302,7 +302,7 @@ def refusal(wrong: Wrong, places: list[int] | None) -> str:
     """The line by which the program `spki` refuses a text with this fault. `places` are the offsets of the octets in its braces, or None."""
     if wrong.kind.split()[-1] not in ("Bad", "Trailing"):
         return f"refused {wrong.kind}"
-    # (what is in braces is refused at the closing one)
+    # (a fault in braces is at the closing one)
     return f"refused {wrong.kind} {places[-1] if places else wrong.at}"
 
 

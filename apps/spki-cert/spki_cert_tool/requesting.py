@@ -7,7 +7,7 @@ import os
 import re
 import subprocess
 
-from .files import DONE, Refused, octets_of, put, remark_on_mode, signer_at, tell, value_of
+from .files import DONE, Refused, octets_of, remark_on_mode, signer_at, tell, value_of, write_output
 from .sexp import canonical
 
 # The exit status for curl ended by a signal is the sum of BY_SIGNAL and the number of the signal, as a shell has it.
@@ -41,7 +41,7 @@ def request(given: argparse.Namespace) -> int:
     lines = "".join(f"{name}: {value}\n" for name, value in fields.items())
     if given.curl:
         return send_by_curl(method, given.address, lines.encode(), body, given.words)
-    put(lines)
+    write_output(lines)
     return DONE
 
 
@@ -49,7 +49,7 @@ def send_by_curl(method: str, address: str, lines: bytes, body: bytes | None, wo
     """Has curl send a request as it is, and returns its exit status. `lines` are the fields, each as a line NAME: VALUE, `body` is None for a request
     without one, and `words` are more options of curl. The fields and the body are files without a name, so that no list of processes shows them.
     Raises Refused if there is no curl."""
-    files = [file_of(octets) for octets in [lines, *([body] if body is not None else [])]]
+    files = [memory_file(octets) for octets in [lines, *([body] if body is not None else [])]]
     # (without --path-as-is and --globoff curl would change the address, which is signed. With `--request HEAD` it would wait for a body)
     command = ["curl", "--path-as-is", "--globoff", *(["--head"] if method == "HEAD" else ["--request", method]), "--header", f"@/dev/fd/{files[0]}",
                *(["--header", "Content-Type: application/octet-stream", "--data-binary", f"@/dev/fd/{files[1]}"] if body is not None else []),
@@ -64,8 +64,8 @@ def send_by_curl(method: str, address: str, lines: bytes, body: bytes | None, wo
             os.close(file)
 
 
-def file_of(octets: bytes) -> int:
-    """A file in memory with these octets: its descriptor, which the caller closes."""
+def memory_file(octets: bytes) -> int:
+    """Makes a file in memory with these octets, and returns its descriptor, which the caller closes."""
     file = os.memfd_create("spki-cert")
     with os.fdopen(os.dup(file), "wb") as writer:
         writer.write(octets)

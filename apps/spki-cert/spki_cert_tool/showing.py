@@ -34,7 +34,7 @@ class Labels:
         self.counts = Counter[str]()
 
     def add(self, key: Value, label: str) -> None:
-        """Adds a key. It is called by this label, unless it has one or this is empty. What cannot be seen in the label is escaped."""
+        """Adds a key, which gets this label unless it has one already or the label is empty. Invisible characters of the label are escaped."""
         self.keys.add(key)
         if label and digest_of(key) not in self.labels:
             shown = "".join(letter if letter.isprintable() else ascii(letter)[1:-1] for letter in label)
@@ -45,14 +45,17 @@ class Labels:
         """Takes the public keys of a file, or of the files of a folder that are not hidden: lines of OpenSSH with their comments, as authorized_keys
         has them, or one key. A key without a comment is called by the name of its file. What is no public key is left out, and of a file what is
         behind its first MiB. Raises Refused for a file that cannot be read."""
-        for file in sorted(filter(os.path.isfile, glob.glob(f"{glob.escape(path)}/*"))) if os.path.isdir(path) else [path]:
+        files = sorted(filter(os.path.isfile, glob.glob(f"{glob.escape(path)}/*"))) if os.path.isdir(path) else [path]
+        for file in files:
             octets = octets_of(file)
+            if is_private(octets):
+                continue
             stem = os.path.splitext(os.path.basename(file))[0]
-            for key, comment in OPENSSH.findall(octets) or [(octets, b"")] if not is_private(octets) else []:
+            for key, comment in OPENSSH.findall(octets) or [(octets, b"")]:
                 with contextlib.suppress(BadKey, Wrong):
                     self.add(read_public(key, no_passphrase), comment.decode(errors="replace").strip() or stem)
 
-    def of(self, principal: Value | None) -> str:
+    def label_of(self, principal: Value | None) -> str:
         """What a principal is called: its label, else the text of a short key, or digits of the hash of a long one. None is the issuer of entries. A
         label that several keys have, such as a comment that anyone may write, is followed by these digits."""
         if principal is None:
@@ -68,20 +71,20 @@ class Labels:
         digest_shown = digest if is_known else string_of(members(principal)[1]) or b""
         return f"key {digest_shown.hex()[:SHORT_DIGITS]}"
 
-    def of_subject(self, subject: Value) -> str:
-        """What a subject is called: a key or a hash as by `of`, and a name of a key as `friends of ann`."""
+    def label_of_subject(self, subject: Value) -> str:
+        """What a subject is called: a key or a hash as by `label_of`, and a name of a key as `friends of ann`."""
         if not headed(subject, b"name"):
-            return self.of(subject)
+            return self.label_of(subject)
         names = " ".join(on_one_line(name) for name in members(subject)[1:])
-        return f"{names} of {self.of(members(subject)[0])}"
+        return f"{names} of {self.label_of(members(subject)[0])}"
 
 
 def row_of_terms(kind: str, number: int | None, terms: Terms, moment: bytes, labels: Labels) -> Row:
     """What an entry or a certificate says, as a row: a dictionary, for JSON and for `lines_of`. `kind` is `entry` or `certificate`, and `number` is
     that of the entry or item, or None for a certificate that is alone. The row says whether it is valid at `moment`."""
-    return {"kind": kind, "number": number, "issuer": labels.of(terms.issuer),
+    return {"kind": kind, "number": number, "issuer": labels.label_of(terms.issuer),
             "name": terms.name.decode(errors="surrogateescape") if terms.name is not None else None,
-            "subject": labels.of_subject(terms.subject), "tag": on_one_line(terms.tag) if terms.tag is not None else None,
+            "subject": labels.label_of_subject(terms.subject), "tag": on_one_line(terms.tag) if terms.tag is not None else None,
             "from": terms.begins.decode() if terms.begins else None, "until": terms.ends.decode() if terms.ends else None,
             "window": terms.window, "delegates": terms.delegates, "comment": terms.comment or None, "state": terms.state(moment)}
 
@@ -97,7 +100,8 @@ def rows_of(value: Value, moment: bytes, labels: Labels) -> Iterator[Row]:
         certificates = {signed.number: signed for signed in certificates_in(value)}
         for number, item in enumerate(members(value), 1):
             if headed(item, b"public-key"):
-                yield {"kind": "key", "number": number, "label": labels.of(item), "algorithm": kind_of(item), "hash": on_one_line(hash_of(item))}
+                yield {"kind": "key", "number": number, "label": labels.label_of(item), "algorithm": kind_of(item),
+                       "hash": on_one_line(hash_of(item))}
             elif signed := certificates.get(number):
                 yield {**row_of_terms("certificate", number, signed.terms, moment, labels), "digest": digest_of(signed.terms.value).hex(),
                        "fault": fault_of_signature(signed, keys)}
@@ -105,7 +109,7 @@ def rows_of(value: Value, moment: bytes, labels: Labels) -> Iterator[Row]:
         # (a case, whose parts are the list, the rows, the sequence, the key, the request and the moment)
         parts = members(value)
         yield from (row for part in (parts[0], parts[2]) for row in rows_of(part, moment, labels))
-        yield {"kind": "question", "key": labels.of(members(parts[3])[0]), "request": on_one_line(members(parts[4])[0]),
+        yield {"kind": "question", "key": labels.label_of(members(parts[3])[0]), "request": on_one_line(members(parts[4])[0]),
                "at": on_one_line(members(parts[5])[0])}
 
 

@@ -48,21 +48,22 @@ class Members:
             raise Wrong("Shape", self.node.end - 1, f"{what} is missing here", [(self.node.begin, "in the list that begins here")])
         return self.left.pop(0)
 
-    def end(self) -> None:
+    def require_end(self) -> None:
         """Raises Wrong if there is one more member."""
         if self.left:
             head = (self.node.head or b"").decode(errors="replace")
             raise shape_fault(self.left[0], f"this is one member too many in `({head} ..)`", [(self.node.begin, "which begins here")])
 
 
-def list_of(head: bytes | None, what: str, *readers: tuple[str, Reader]) -> Reader:
+def list_reader(head: bytes | None, what: str, *readers: tuple[str, Reader]) -> Reader:
     """Returns a reader of lists with this head, or any head for None, and exactly these members: each by what it is called, and its reader. The list
     is called `what` in a remark. The reader returns what that of the last member returns, and None without members."""
     def read_list(node: Node) -> object:
+        """Reads the list. Raises Wrong if it has another head or other members."""
         members, last_result = Members(node, head or node.head or b"", what), None
         for name, read in readers:
             last_result = read(members.next(name))
-        members.end()
+        members.require_end()
         return last_result
     return read_list
 
@@ -75,7 +76,7 @@ def read_key(node: Node) -> None:
         raise shape_fault(inner, "a key contains a list that begins with the name of an algorithm")
     if members.left and members.left[0].head == b"uri":
         raise Wrong("KeyUris", members.left[0].begin, "a key has no `(uri ..)` here")
-    members.end()
+    members.require_end()
 
 
 def read_algorithm(node: Node) -> bytes:
@@ -100,7 +101,7 @@ def read_hash(node: Node) -> bytes:
         raise Wrong("DigestLength", digest.begin, f"{lengths}, between two `#`: copy it again, or take that of `spki-cert key --hash FILE`")
     if members.left and members.left[0].head == b"uri":
         members.left.pop(0)
-    members.end()
+    members.require_end()
     return algorithm
 
 
@@ -162,17 +163,17 @@ def read_issuer(node: Node) -> bool:
     return True
 
 
-def field_of(read: Reader) -> Reader:
+def field_reader(read: Reader) -> Reader:
     """The reader of a field `(HEAD MEMBER)`, whose member is read by `read`. It returns what `read` returns."""
-    return list_of(None, "a field", ("the member of this field", read))
+    return list_reader(None, "a field", ("the member of this field", read))
 
 
-read_version = list_of(b"version", "a version", ("the version's string", read_version_number))
+read_version = list_reader(b"version", "a version", ("the version's string", read_version_number))
 # The reader of each field by its head. (`read_tag` and `read_fields` are defined below.) A field that is not here is not read.
 FIELDS: dict[bytes, Reader] = {
-    b"not-before": field_of(read_date), b"not-after": field_of(read_date), b"tag": field_of(lambda node: read_tag(node)),
-    b"issuer": field_of(read_issuer), b"subject": field_of(read_subject), b"version": read_version,
-    b"propagate": list_of(None, "a field"), b"valid": lambda node: read_fields(node, node.rest, LIMITS)}
+    b"not-before": field_reader(read_date), b"not-after": field_reader(read_date), b"tag": field_reader(lambda node: read_tag(node)),
+    b"issuer": field_reader(read_issuer), b"subject": field_reader(read_subject), b"version": read_version,
+    b"propagate": list_reader(None, "a field"), b"valid": lambda node: read_fields(node, node.rest, LIMITS)}
 
 
 def why_no_field(node: Node, allowed: tuple[bytes, ...]) -> str:
@@ -250,11 +251,11 @@ def read_operation(node: Node) -> None:
     # (another operation has a fault of its own, so this is tested before the rest)
     if not node.rest or not node.rest[0].is_plain(b"hash"):
         raise Wrong("UnknownOp", node.begin, "the only operation is `(do hash ALGORITHM)`")
-    list_of(b"do", "an operation", ("hash", lambda _: None), ("the algorithm", read_algorithm))(node)
+    list_reader(b"do", "an operation", ("hash", lambda _: None), ("the algorithm", read_algorithm))(node)
 
 
-read_signature = list_of(b"signature", "a signature", ("the hash", read_hash), ("the principal", read_principal), ("the value", lambda _: None))
-read_row = list_of(b"by", "a row", ("the key", read_key), ("the hash", read_digest_of_row), ("the value of the signature", lambda _: None))
+read_signature = list_reader(b"signature", "a signature", ("the hash", read_hash), ("the principal", read_principal), ("the value", lambda _: None))
+read_row = list_reader(b"by", "a row", ("the key", read_key), ("the hash", read_digest_of_row), ("the value of the signature", lambda _: None))
 ITEMS: dict[bytes, Reader] = {b"public-key": read_key, b"do": read_operation, b"cert": read_certificate, b"signature": read_signature}
 
 

@@ -27,7 +27,7 @@ exit status: 0 done, 1 something differs or is wrong, 2 a word, a text or a chan
 DIGEST = re.compile(r"[0-9a-f]{64}\Z")
 
 
-def put(line: str) -> None:
+def print_line(line: str) -> None:
     """Writes a line to standard output. Raises OSError if that is closed."""
     if sys.stdout is None:
         raise OSError(errno.EBADF, "standard output is closed")
@@ -55,7 +55,7 @@ def end_by_signal(number: int, frame: object) -> NoReturn:
 def init(store: Store, given: argparse.Namespace) -> int:
     """Makes the schema and the roles."""
     store.make()
-    put(f"made the schema {store.schema} and the roles {', '.join(f'{store.schema}_{role}' for role in ROLES)}: grant these to accounts")
+    print_line(f"made the schema {store.schema} and the roles {', '.join(f'{store.schema}_{role}' for role in ROLES)}: grant these to accounts")
     return DONE
 
 
@@ -65,7 +65,7 @@ def import_(store: Store, given: argparse.Namespace) -> int:
     if given.again:
         forget(store, given.file)
     added, before = import_list(store, given.file, sys.stderr is not None and (sys.stderr.isatty() or given.progress))
-    put(f"entries added: {added}" + (f", and {before} before" if before else ""))
+    print_line(f"entries added: {added}" + (f", and {before} before" if before else ""))
     return DONE
 
 
@@ -75,13 +75,13 @@ def export(store: Store, given: argparse.Namespace) -> int:
     for number in (signal.SIGHUP, signal.SIGINT, signal.SIGTERM):
         if signal.getsignal(number) is not signal.SIG_IGN:
             signal.signal(number, end_by_signal)
-    put(f"entries written: {export_list(store, given.file)}")
+    print_line(f"entries written: {export_list(store, given.file)}")
     return DONE
 
 
 def add(store: Store, given: argparse.Namespace) -> int:
     """Adds an entry, and prints its number."""
-    put(f"entry {store.add(entry_of(text_at(given.file)))}")
+    print_line(f"entry {store.add(entry_of(text_at(given.file)))}")
     return DONE
 
 
@@ -89,7 +89,7 @@ def remove(store: Store, given: argparse.Namespace) -> int:
     """Removes entries by their numbers. The status is FOUND if one is not there, or if this account may not remove it."""
     numbers = list(dict.fromkeys(given.numbers))
     removed = [number for number in numbers if store.remove(number)]
-    put(f"entries removed: {len(removed)}")
+    print_line(f"entries removed: {len(removed)}")
     for number in sorted(set(numbers) - set(removed)):
         is_there = store.rows("SELECT 1 FROM {entries} WHERE number = %s", number)
         tell(f"entry {number} {'still counts: this account may not remove it' if is_there else 'is not there'}")
@@ -100,7 +100,7 @@ def end(store: Store, given: argparse.Namespace) -> int:
     """Ends certificates by their SHA-256 digests, and says how many had not ended before. Raises Wrong before any is ended if a word is no digest."""
     if wrong := [digest for digest in given.digests if not DIGEST.match(digest)]:
         raise Wrong(f"{wrong[0]!r} is no digest of 64 hexadecimal digits in small letters")
-    put(f"certificates ended: {sum(store.end(bytes.fromhex(digest), given.remark) for digest in given.digests)}")
+    print_line(f"certificates ended: {sum(store.end(bytes.fromhex(digest), given.remark) for digest in given.digests)}")
     return DONE
 
 
@@ -117,8 +117,8 @@ def check(store: Store, given: argparse.Namespace) -> int:
                 why = "its principal is not that of its text"
             if why is not None:
                 wrong += 1
-                put(f"entry {row.number}: {why}")
-    put(f"entries checked: {count}, wrong {wrong}")
+                print_line(f"entry {row.number}: {why}")
+    print_line(f"entries checked: {count}, wrong {wrong}")
     return FOUND if wrong else DONE
 
 
@@ -130,7 +130,7 @@ def log(store: Store, given: argparse.Namespace) -> int:
             given.last):
         # (a row about an ended certificate has no entry)
         fields = [str(number), moment.isoformat(timespec="milliseconds"), ascii(who), what, str(entry or ""), digest.hex()]
-        put(" ".join(fields + ([] if text is None else [advanced(text)])))
+        print_line(" ".join(fields + ([] if text is None else [advanced(text)])))
     return DONE
 
 
@@ -139,8 +139,8 @@ def diff(store: Store, given: argparse.Namespace) -> int:
     count = 0
     for row, text in differences(store, given.file):
         count += 1
-        put(f"{f'- {row.number}' if row else '+'} {advanced(text)}")
-    put(f"entries that differ: {count}")
+        print_line(f"{f'- {row.number}' if row else '+'} {advanced(text)}")
+    print_line(f"entries that differ: {count}")
     return FOUND if count else DONE
 
 

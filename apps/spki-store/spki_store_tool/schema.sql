@@ -12,9 +12,9 @@ DECLARE
     most CONSTANT integer := octet_length(text);
     is_name CONSTANT boolean := substring(text FROM 9 FOR 7) = '(4:name';
     -- The offset of the principal, counted from 0 as `at`, and how many lists are open around it.
-    begun CONSTANT integer := CASE WHEN is_name THEN 15 ELSE 8 END;
-    outside CONSTANT integer := CASE WHEN is_name THEN 2 ELSE 1 END;
-    is_hash CONSTANT boolean := substring(text FROM begun + 1 FOR 7) = '(4:hash';
+    principal_at CONSTANT integer := CASE WHEN is_name THEN 15 ELSE 8 END;
+    lists_around CONSTANT integer := CASE WHEN is_name THEN 2 ELSE 1 END;
+    is_hash CONSTANT boolean := substring(text FROM principal_at + 1 FOR 7) = '(4:hash';
     at integer := 0;
     depth integer := 0;
     -- The strings of the hash so far: `hash`, the algorithm, the digest. One in brackets, a display hint, does not count.
@@ -25,7 +25,7 @@ DECLARE
     -- The result, as soon as it is known.
     found bytea;
 BEGIN
-    IF substring(text FROM 1 FOR 8) <> '(5:entry' OR NOT (is_hash OR substring(text FROM begun + 1 FOR 14) = '(10:public-key') THEN
+    IF substring(text FROM 1 FOR 8) <> '(5:entry' OR NOT (is_hash OR substring(text FROM principal_at + 1 FOR 14) = '(10:public-key') THEN
         RAISE check_violation USING MESSAGE = 'the text is no entry in canonical form for a key, a hash or a name';
     END IF;
     WHILE at < most LOOP
@@ -34,11 +34,11 @@ BEGIN
             depth := depth + 1;
         ELSIF octet = 41 THEN
             depth := depth - 1;
-            IF depth = outside AND found IS NULL AND at > begun THEN
+            IF depth = lists_around AND found IS NULL AND at > principal_at THEN
                 IF is_hash THEN
                     RAISE check_violation USING MESSAGE = 'the hash has no digest';
                 END IF;
-                found := sha256(substring(text FROM begun + 1 FOR at - begun + 1));
+                found := sha256(substring(text FROM principal_at + 1 FOR at - principal_at + 1));
             END IF;
             EXIT WHEN depth = 0;
         ELSIF octet = 91 OR octet = 93 THEN
@@ -54,7 +54,7 @@ BEGIN
                 at := at + 1;
                 octet := get_byte(text, at);
             END LOOP;
-            IF is_hash AND found IS NULL AND at > begun AND NOT is_hint THEN
+            IF is_hash AND found IS NULL AND at > principal_at AND NOT is_hint THEN
                 strings := strings + 1;
                 IF strings = 3 THEN
                     found := substring(text FROM at + 2 FOR length);

@@ -40,9 +40,9 @@ def connect_to(settings: str) -> psycopg.Connection[Any]:
     return psycopg.connect(settings, autocommit=True, fallback_application_name="spki-store")
 
 
-def value_of(connection: PGconn, text: bytes, seconds: float) -> bytes:
-    """Sends the statements in `text`, and waits for at most so many seconds. Returns the value in the only row of the last one that has a row, as
-    octets. Raises OperationalError if one fails, or if the server does not answer in time. (psycopg alone would wait for ever.)"""
+def run_within(connection: PGconn, text: bytes, seconds: float) -> bytes:
+    """Runs the statements in `text`, and waits for at most so many seconds. Returns the first value in the first row of the last one that returns
+    rows, as octets. Raises OperationalError if one fails, or if the server does not answer in time. (psycopg alone would wait for ever.)"""
     end, value = time.monotonic() + seconds, b""
     connection.send_query(text)
     connection.flush()
@@ -155,7 +155,7 @@ class Store:
         not cancelled then: a change that waits for a replica would be committed without the replica. Such a beat has the lock of the row, so further
         beats fail after BEAT_WAITS milliseconds."""
         text = f"SET LOCAL lock_timeout = {BEAT_WAITS}; UPDATE {{heartbeat}} SET number = number + 1, moment = clock_timestamp() RETURNING number"
-        return int(value_of(self.connection.pgconn, self.statement(text).as_string(self.connection).encode(), seconds))
+        return int(run_within(self.connection.pgconn, self.statement(text).as_string(self.connection).encode(), seconds))
 
     def all(self) -> Iterator[Row]:
         """Yields all entries in the order of their numbers, of one state of the store."""

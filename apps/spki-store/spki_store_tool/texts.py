@@ -25,8 +25,8 @@ class Wrong(Exception):
 
 
 def end_of(text: mmap.mmap | bytes, at: int) -> int:
-    """The offset behind the list in canonical form that begins at an offset. Raises Wrong if there is none. Only parentheses and lengths are looked
-    at: whether the list is one that the library reads is not tested."""
+    """The offset behind the list in canonical form that begins at an offset. Raises Wrong if the list is not whole. Only parentheses and lengths are
+    looked at: whether a list begins there, and whether the library reads it, is not tested."""
     # (how many lists are open; a string is passed by its length)
     depth = 0
     while at < len(text):
@@ -138,7 +138,8 @@ def fault_of_one(text: bytes) -> str | None:
 
 
 def principal_of(text: bytes) -> bytes:
-    """What an entry in canonical form is found by: the digest of its hash, or the SHA-256 digest of its key. Raises Wrong for another text."""
+    """What an entry in canonical form is found by: the digest of its hash, or the SHA-256 digest of its key. Raises Wrong if its subject begins
+    with neither."""
     import spki
     # (the principal is behind the 8 octets `(5:entry`, and for a name behind the 7 octets `(4:name` too)
     at = 15 if text[8:15] == b"(4:name" else 8

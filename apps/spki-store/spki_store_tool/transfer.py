@@ -20,10 +20,11 @@ PAUSE = 0.5
 
 
 class Progress:
-    """A line on standard error that says how far an import is, if `is_shown`. `octets` is the length of the list, and `entries_before` how many of
-    its entries an earlier import has added."""
+    """A line on standard error that says how far an import is."""
 
     def __init__(self, octets: int, entries_before: int, is_shown: bool) -> None:
+        """`octets` is the length of the list, and `entries_before` how many of its entries an earlier import has added. Unless `is_shown`, nothing is
+        written."""
         self.octets, self.entries_before, self.is_shown = octets, entries_before, is_shown
         # (when the import began, and when the line was last written, in seconds)
         self.begun, self.shown_at = time.monotonic(), 0.0
@@ -49,7 +50,7 @@ def digest_of(text: mmap.mmap | bytes) -> bytes:
 def import_list(store: Store, path: str, is_shown: bool) -> tuple[int, int]:
     """Adds the entries of the list in the file at `path`. Returns how many were added now, and how many before, by an import of this list that did
     not end. A transaction adds entries and notes how far the import is, so nothing is added twice. `is_shown` says whether to show the progress.
-    Raises Wrong for a list that was imported before or is being imported, or has something that is no entry: the entries before that stay."""
+    Raises Wrong for a list that was imported before or is being imported, or has something that is no entry: the transactions before that stay."""
     with open_list(path) as text:
         digest, offset, before = digest_of(text), 0, 0
         # (at most one row: how far an import of this list is)
