@@ -142,7 +142,8 @@ class OfKeys(CommandTest):
 
     @needs_ssh
     def test_the_key_that_ssh_keygen_shows(self):
-        """The key of a line is the one that ssh-keygen shows, and none in its comment or options. A file with a line and a PEM block has two keys."""
+        """The key of a line is the one that ssh-keygen shows, and none in its comment or options. A file with a line and a PEM block has two keys, which
+        are numbered in their order. A block that is cut off is a key that cannot be read, and hides no line behind it."""
         self.make_ssh_key("bob")
         self.make_ssh_key("mallory")
         bob, mallory = (b" ".join(octets_in(self.at(f"{name}.pub")).split()[:2]) for name in ("bob", "mallory"))
@@ -152,8 +153,15 @@ class OfKeys(CommandTest):
             self.write("line.pub", line + b"\n")
             self.assertEqual(run_checked("ssh-keygen", "-l", "-f", self.at("line.pub")).split()[1], shown)
             self.assertEqual(self.cert("key", "--hash", "line.pub"), self.cert("key", "--hash", "bob.pub"), line)
-        self.write("two.pub", mallory + b"\n" + PEM.encode())
-        self.assertIn("2 keys are in this file", self.cert("key", "two.pub", wanted=2))
+        self.write("of-pem", PEM)
+        of_pem, of_bob = (self.cert("key", name) for name in ("of-pem", "bob.pub"))
+        for text, first, second in ((bob + b"\n" + PEM.encode(), of_bob, of_pem), (PEM.encode() + b"\n" + bob, of_pem, of_bob)):
+            self.write("two.pub", text)
+            self.assertIn("2 keys are in this file", self.cert("key", "two.pub", wanted=2))
+            self.assertEqual([self.cert("key", "--key", number, "two.pub") for number in "12"], [first, second])
+        self.write("cut.pub", PEM.encode()[:60] + b"\n" + bob)
+        self.assertIn("cut.pub:1:1: refused: no whole public key", self.cert("check", "cut.pub", wanted=2))
+        self.assertEqual(self.cert("key", "--key", "2", "cut.pub"), of_bob)
 
     @needs.needs("openssl")
     def test_keys_of_pem_are_read_and_written(self):

@@ -252,8 +252,8 @@ class OfAsk(unittest.TestCase):
         self.assertIs(keys.text_of(hash_of(long)), keys.text_of(hash_of(long)))
 
     def test_many_keys_of_a_file(self) -> None:
-        """After the first MOST_KEYS keys of a file, here 3, a last remark says that no more are looked at, and what to do. It is placed after the
-        third key, in column 23. The keys are faulty, so each has a remark too."""
+        """After the first MOST_KEYS keys of a file, here 3, a last remark says that no more are looked at, and what to do. It is placed at the fourth
+        key, one line below the third. The keys are faulty, so each has a remark too."""
         from spki_cert_tool import checking
         with tempfile.TemporaryDirectory() as room, mock.patch.object(checking, "MOST_KEYS", 3):
             path = os.path.join(room, "keys.pub")
@@ -261,4 +261,4 @@ class OfAsk(unittest.TestCase):
                 file.write(keys_in_lines(5))
             kind, remarks = checking.remarks_on(path, NOW)
         self.assertEqual((kind, len(remarks), remarks[-1].text), ("5 public keys", 4, "only the first 3 of these keys are looked at: split the file"))
-        self.assertEqual([(remark.line, remark.column) for remark in remarks], [(1, 1), (2, 1), (3, 1), (3, 23)])
+        self.assertEqual([(remark.line, remark.column) for remark in remarks], [(1, 1), (2, 1), (3, 1), (4, 1)])

@@ -77,11 +77,9 @@ def remarks_on(path: str, moment: bytes, is_given: bool = True) -> tuple[str | N
 def remarks_on_key_file(path: str, octets: bytes) -> tuple[str, list[Remark]]:
     """What a file with keys of OpenSSH or PEM, or with a private key, is, in words, and the remarks on it. An encrypted key alone needs no remark."""
     has_private = is_private(octets)
-    pieces = [octets] if has_private else pieces_of(octets)
-    on_keys, kind, lines, end = list[Remark](), "a file of keys", Lines(octets), 0
-    for piece in pieces[:MOST_KEYS]:
-        begin = octets.find(piece, end)
-        end = begin + len(piece)
+    pieces = [(0, octets)] if has_private else pieces_of(octets)
+    on_keys, kind, lines = list[Remark](), "a file of keys", Lines(octets)
+    for begin, piece in pieces[:MOST_KEYS]:
         try:
             kind = f"a {'private' if has_private else 'public'} key, {kind_of(read_public(piece, no_passphrase))}"
         except (BadKey, Wrong) as why:
@@ -92,7 +90,7 @@ def remarks_on_key_file(path: str, octets: bytes) -> tuple[str, list[Remark]]:
                 on_keys.append(Remark(path, *lines.line_and_column(begin), True, text))
     on_keys += [Remark(path, 1, 1, False, why.removeprefix(f"{path} is ")) for why in remark_on_mode(path)]
     if len(pieces) > MOST_KEYS:
-        on_keys.append(Remark(path, *lines.line_and_column(end), False, f"only the first {MOST_KEYS} of these keys are looked at: split the file"))
+        on_keys.append(Remark(path, *lines.line_and_column(pieces[MOST_KEYS][0]), False, f"only the first {MOST_KEYS} of these keys are looked at: split the file"))
     return f"{len(pieces)} public keys" if len(pieces) > 1 else kind, on_keys
 
 

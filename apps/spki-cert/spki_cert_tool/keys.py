@@ -34,6 +34,8 @@ MOST_OCTETS = 4098
 # How an S-expression of a private key begins.
 PRIVATE = (b"(private-key", b"(11:private-key")
 PEM = re.compile(rb"-----BEGIN ([A-Z0-9 ]+)-----")
+# A block of PEM. One without a last line is only its first line here, which is no whole key.
+BLOCK = re.compile(rb"-----BEGIN [A-Z0-9 ]+-----(?:(?:(?!-----BEGIN ).)*?-----END [A-Z0-9 ]+-----)?", re.DOTALL)
 # A line of a public key of OpenSSH: the key, and its comment. At most two fields are before it, as the options in authorized_keys, or a marker and
 # names in known_hosts.
 FIELD = rb'(?!ssh-|ecdsa-|sk-)(?:\\"|\\(?!")|[^ \t\r\n"\\]|"(?:\\"|\\(?!")|[^"\r\n\\])*")+[ \t]+'
@@ -185,7 +187,7 @@ def read_public(octets: bytes, asking: Asking, number: int | None = None) -> Val
         raise BadKey(f"{len(pieces)} keys are in this file; --key N takes the one with this number for --to, and `spki-cert key --key N` writes it")
     if number is not None and not 1 <= number <= len(pieces):
         raise BadKey(f"there is no key {number} in this file; it has {len(pieces)}")
-    piece = pieces[(number or 1) - 1]
+    _, piece = pieces[(number or 1) - 1]
     if is_text(piece):
         return key_of_text(piece)
     if why := remark_on_foreign(piece):
@@ -193,14 +195,14 @@ def read_public(octets: bytes, asking: Asking, number: int | None = None) -> Val
     return key_of(public_in(piece)) if OPENSSH.match(piece) or PEM.search(piece) else key_of_text(piece)
 
 
-def pieces_of(octets: bytes) -> list[bytes]:
-    """The parts of the octets of a file that are one public key each: the whole if it begins as an S-expression, otherwise all lines of OpenSSH and
-    behind them all blocks of PEM, or the whole if there are none."""
+def pieces_of(octets: bytes) -> list[tuple[int, bytes]]:
+    """The parts of the octets of a file that are one public key each, with the offset of each: the whole if it begins as an S-expression, otherwise
+    the lines of OpenSSH and the blocks of PEM in their order in the file, or the whole if there are none."""
     if is_text(octets):
-        return [octets]
-    begin = b"-----BEGIN "
-    lines, blocks = [line for line, _ in OPENSSH.findall(octets)], [begin + block for block in octets.split(begin)[1:]]
-    return [*lines, *blocks] or [octets]
+        return [(0, octets)]
+    lines = [(found.start(1), found[1]) for found in OPENSSH.finditer(octets)]
+    blocks = [(found.start(), found[0]) for found in BLOCK.finditer(octets)]
+    return sorted([*lines, *blocks]) or [(0, octets)]
 
 
 def no_passphrase() -> bytes:
