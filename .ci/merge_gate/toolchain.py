@@ -65,7 +65,7 @@ def check_of(crate: Any, texts: dict[str, str], only: list[str], over: str) -> s
 
 
 def verdict_on(crate: Any, path: str, over: str) -> tuple[bool, str]:
-    """Whether a crate's contract refuses an edit, and what is said of it. The whole crate is checked, beginning with what the folder `over` has."""
+    """Whether a crate's contract refuses an edit, and the toolchain's remark. The whole crate is checked, from what the folder `over` has on."""
     verdict, said = rt_module().must_fail(crate, path, ONE, over)
     return verdict == rt_module().REFUSED and not any(words in said for words in SAYS_LITTLE), said
 
@@ -81,10 +81,10 @@ def give_libraries(names: set[str]) -> None:
     """Puts the libraries of these crates into their folders, as `rt ci` has kept them for the present files. Where it kept none, the folder has none.
     The names must include all crates below each. It is needed behind `rt ci NAME ..`, which works on a copy and leaves no libraries here."""
     chosen = crates(*names).values() if names else ()
-    rt_module().Crate.cuts_libraries = True
+    rt_module().Crate.cuts_libraries = True  # (as `rt ci` does: a crate then loads only the statements of the libraries below it)
     kept = rt_module().Kept(chosen, anew=False)
     for crate in chosen:
         shutil.rmtree(os.path.join(crate.folder, "out", "rlib"), ignore_errors=True)
         os.makedirs(os.path.join(crate.folder, "out"), exist_ok=True)
         if kept.give(crate, tests=False, key=kept.key(crate)):
-            kept.is_built(crate)
+            kept.is_built(crate)  # (records its checksum, which the keys of the crates above depend on)

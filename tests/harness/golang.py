@@ -21,7 +21,7 @@ def settings(library: str) -> dict[str, str]:
 
 
 def go(folder: str, words: list[str], library: str, stdin: bytes | None = None, **more: str) -> subprocess.CompletedProcess[bytes]:
-    """Runs `go` in a folder, with a static library to link, octets for its input, and more variables of the environment. Returns how it ended."""
+    """Runs `go` in a folder on an input, with a static library to link and more variables of the environment. Returns how it ended, or failed."""
     return subprocess.run(["go", *words], cwd=folder, input=stdin, stdout=subprocess.PIPE, stderr=subprocess.PIPE, timeout=SECONDS,
                           env={**settings(library), **more})
 

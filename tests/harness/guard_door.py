@@ -60,12 +60,12 @@ def text_of(octets: bytes) -> Text:
 
 
 def rows_of(question: GuardQuestion) -> list[cases.Row]:
-    """The rows of a question: the signatures that count as valid."""
+    """The accepted signatures of a question, as the model reads them: those that count as valid."""
     return cases.read_rows(forms.read(question.rows))
 
 
 def model_answer(question: GuardQuestion) -> tuple[Answer, list[Signed]]:
-    """What the model answers to a question, and the signatures that it lists."""
+    """What the model answers to a question, a status and octets, and the signatures that it lists."""
     wish = question.command.removeprefix("guard ")
     return answer(wish, question.acl, parts_of(question), rows_of(question), question.policy, question.limits, question.oddity)
 
@@ -259,7 +259,7 @@ def signed_at(listed: Listed) -> Signed:
 
 
 def asked_of(question: GuardQuestion) -> Asked:
-    """A question as `struct spki_question`, with what its oddity changes."""
+    """A question as `struct spki_question`. An oddity of this structure is put into it; those of calls are left out."""
     request = b"" if question.strings is not None else question.request
     moment = b"" if question.seconds is not None else question.moment
     asked = Asked(ctypes.sizeof(Asked), *map(text_of, (question.sequence, question.key, request)), moment=text_of(moment))
@@ -288,6 +288,6 @@ def asked_of(question: GuardQuestion) -> Asked:
 
 
 def valid_of(question: GuardQuestion, listed: list[Signed]) -> list[bool]:
-    """For each listed signature, whether a row of the question accepts it."""
+    """For each listed signature, in order, whether a row of the question accepts it, by its key, the digest of its message and its value."""
     rows = {(row.key.octets, row.digest, row.value) for row in rows_of(question)}
     return [(key, hashlib.sha256(message).digest(), value) in rows for key, message, value in listed]

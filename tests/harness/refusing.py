@@ -36,7 +36,7 @@ class Ended:
 
 
 def compiled(folder):
-    """Compiles `refuse.c` into a folder. Returns the path of the library, which is preloaded before a program."""
+    """Compiles `refuse.c` into a folder. Returns the path of the library, which LD_PRELOAD puts before the libraries of a program."""
     library = os.path.join(folder, "refuse.so")
     source = os.path.join(TESTS, "programs", "refuse.c")
     subprocess.run(["cc", "-O1", "-Wall", "-shared", "-fPIC", "-o", library, source, "-ldl"], check=True)
@@ -100,8 +100,9 @@ class Program:
         status = os.waitstatus_to_exitcode(os.waitpid(child, 0)[1])
         return Ended(status, out, err, dict(zip(NAMES, counts[::2])), sum(counts[1::2]), before_reads)
 
-    def started(self, command, reader, writer, **settings):
-        """Starts the program on two descriptors, and closes its input here. `settings` are those of `subprocess.Popen`. Returns the process."""
+    def start(self, command, reader, writer, **settings):
+        """Starts a command of the program, which reads from one descriptor and writes to another. Closes the first one here. `settings` are those of
+        `subprocess.Popen`. Returns the process."""
         child = subprocess.Popen([self.path, command], stdin=reader, stdout=writer, stderr=subprocess.PIPE, **settings)
         os.close(reader)
         return child
@@ -109,7 +110,7 @@ class Program:
     def limited(self, command, text, resource_number, most):
         """A run for which the system limits a resource, such as `resource.RLIMIT_AS`, to `most`, in the unit of setrlimit. It writes into a file."""
         with tempfile.TemporaryFile() as out:
-            child = self.started(command, descriptor_of(text), out, preexec_fn=lambda: self.limit(resource_number, most))
+            child = self.start(command, descriptor_of(text), out, preexec_fn=lambda: self.limit(resource_number, most))
             run = ended(child)
             out.seek(0)
             return replace(run, out=out.read())
@@ -121,7 +122,7 @@ class Program:
         resource.setrlimit(resource_number, (most, most))
 
     def redirected(self, command, words):
-        """A run by the shell. `words` are the redirections behind the command, as `>&-`. Without one its input is empty."""
+        """A run by the shell. `words` are the redirections behind the command, such as `>&-`. If none is of the input, that is empty."""
         shell = ["sh", "-c", f'exec "$0" "$1" {words}', self.path, command]
         return ended(subprocess.Popen(shell, stdin=subprocess.DEVNULL, stdout=subprocess.PIPE, stderr=subprocess.PIPE))
 
@@ -131,7 +132,7 @@ class Program:
         reader, writer = os.pipe()
         if taken == 0:
             os.close(reader)
-        child = self.started(command, descriptor_of(text), writer, restore_signals=dies)
+        child = self.start(command, descriptor_of(text), writer, restore_signals=dies)
         os.close(writer)
         out = b""
         if taken:
@@ -143,7 +144,7 @@ class Program:
     def in_packets(self, command, text):
         """A run that gets one octet at each read, from a pipe in which each octet is a packet. The text must fit into the pipe."""
         reader, writer = os.pipe2(os.O_DIRECT | os.O_CLOEXEC)
-        child = self.started(command, reader, subprocess.PIPE)
+        child = self.start(command, reader, subprocess.PIPE)
         for place in range(len(text)):
             os.write(writer, text[place:place + 1])
         os.close(writer)
@@ -154,9 +155,9 @@ class Program:
         reader, writer = os.pipe()
         os.set_blocking(writer if text else reader, False)
         if text:
-            child = self.started(command, descriptor_of(text), writer)
+            child = self.start(command, descriptor_of(text), writer)
             os.close(writer)
             return replace(ended(child), out=read_to_end(reader))
-        run = ended(self.started(command, reader, subprocess.PIPE))
+        run = ended(self.start(command, reader, subprocess.PIPE))
         os.close(writer)
         return run

@@ -96,7 +96,7 @@ class Request:
 
 
 class Call:
-    """A call, with the types that ctypes wants to know."""
+    """A call of the library, by its number in CALLS, with the types `argtypes` and `restype` as a function of ctypes has them."""
 
     def __init__(self, relayed: "Relayed", number: int) -> None:
         self.relayed, self.number = relayed, number
@@ -104,8 +104,7 @@ class Call:
         self.restype: Any = c_int
 
     def decided(self, *arguments: Any) -> Decision:
-        """What `spki_asked_decide` returns. A call by `relay.c` returns one number, so it writes the last second of the decision to an address that
-        is added to the arguments."""
+        """What `spki_asked_decide` returns. A call by `relay.c` returns one number: it writes the decision's last second to one more argument."""
         until, call = c_int64(), Call(self.relayed, self.number)
         call.argtypes = [*self.argtypes, POINTER(c_int64)]
         return Decision(call(*arguments, byref(until)), until.value)
@@ -140,7 +139,8 @@ def address_here(address: int | None, request: Request, blocks: list[tuple[int, 
 
 
 class Relayed:
-    """What is used as the loaded library. Each process of this machine starts a process of the other machine."""
+    """In the place of a library that ctypes loads. `words` is the command that runs `relay.c` for the other machine. Each process of this machine
+    that calls starts one."""
 
     def __init__(self, words: list[str]) -> None:
         self.words, self.owner = words, 0

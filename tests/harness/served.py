@@ -45,7 +45,7 @@ def free_port() -> int:
 
 
 class Site:
-    """A folder with nginx and the daemon, both started. `web_servers.py` has other web servers."""
+    """nginx and the daemon, both started, with their files in the new folder `room`. `web_servers.py` has other web servers."""
 
     def __init__(self) -> None:
         self.room = tempfile.mkdtemp(prefix="site-")
@@ -135,7 +135,7 @@ class Site:
         return False
 
     def reload(self) -> str:
-        """Has the daemon read its list again, and returns what it says of that."""
+        """Has the daemon read its list again, and returns what it writes to its log of events then."""
         before = self.text("log/authd-events.log")
         self.daemon.send_signal(signal.SIGHUP)
         waits_for("the list is read again", lambda: self.text("log/authd-events.log").count("\n") > before.count("\n"))
@@ -184,8 +184,8 @@ class Site:
         return answer
 
     def status(self, who: str | None, method: str, path: str, *lines: str, body: str = "") -> int:
-        """The status of the answer to a request, with these lines added to its header. `who` names the client's certificate and key. None: it has no
-        certificate. Raises IndexError if there is no answer."""
+        """The status of the answer to a request, with these lines added to its header, and a `Content-Length` if it has a body. `who` names the
+        client's certificate and key. None: it has no certificate. Raises IndexError if there is no answer."""
         header = [f"{method} {path} HTTP/1.1", "Host: localhost", "Connection: close", *lines]
         header += [f"Content-Length: {len(body)}"] if body else []
         return int(self.answer(who, "\r\n".join([*header, "", body]).encode("latin-1")).split(b" ", 2)[1])

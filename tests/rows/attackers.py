@@ -70,7 +70,7 @@ def sequence(site: Site, by: str, to: str, tag: str, *, days: int = 9, begins: i
 
 
 class Attackers:
-    """What attackers send to a site. `form` is that of a certificate in the server's header, as `Behind.form`."""
+    """What attackers send to a site. `form` is that of a certificate in the server's header, as `ServerSite.form`."""
 
     def __init__(self, site: Site, form: str = "escaped-pem") -> None:
         self.site, self.form = site, form

@@ -23,12 +23,12 @@ def is_chosen(row: str, share: int = 10) -> bool:
     return built.IS_LONG or hashlib.sha256(row.encode()).digest()[0] % share == 0
 
 
-def columns_of(kind: type[web_servers.Behind]) -> list[str]:
+def columns_of(kind: type[web_servers.ServerSite]) -> list[str]:
     """The columns of a server: `plain`, `stopped`, and those for whose name `kind.sites` has configuration lines. Debian's Caddy has no cache."""
     return [column for column in COLUMNS if column in ("plain", "stopped") or column.removeprefix(STOPPED) in kind.sites]
 
 
-def rows_of(kind: type[web_servers.Behind], column: str) -> list[tuple[str, attacks.Attack]]:
+def rows_of(kind: type[web_servers.ServerSite], column: str) -> list[tuple[str, attacks.Attack]]:
     """The rows of a column, each as the row's name and the attack. Each column has the same attacks, under names that begin with the server and the
     column. `attacks.GRANTED` has those that a server grants by right: they are left out."""
     return [(f"{kind.name}, {column}: {each.what}", each) for each in attacks.all_attacks() if (kind.name, each.what) not in attacks.GRANTED]
@@ -59,11 +59,10 @@ class Pages(unittest.TestCase):
 
 
 class Table(unittest.TestCase):
-    """The tests of one web server. `table_of` adds the methods that unittest runs. `site` is a site behind this server, and `sender` puts keys and
-    certificates into attacks."""
+    """The tests of a web server, `kind`. `table_of` adds the methods that unittest runs. `sender` puts keys and certificates into attacks."""
 
-    kind: type[web_servers.Behind]
-    site: web_servers.Behind
+    kind: type[web_servers.ServerSite]
+    site: web_servers.ServerSite
     sender: attackers.Attackers
 
     @classmethod
@@ -168,7 +167,7 @@ class Table(unittest.TestCase):
             self.assertEqual(attackers.faults_of(self.site, each, statuses), [])
 
 
-def table_of(kind: type[web_servers.Behind]) -> Callable[[type[Table]], type[Table]]:
+def table_of(kind: type[web_servers.ServerSite]) -> Callable[[type[Table]], type[Table]]:
     """Returns a decorator that gives a subclass of Table the tests of a server: one for each column, and others. They are skipped where something
     that they need is not there. The default of a lambda keeps the column of this turn."""
     def with_tests(table: type[Table]) -> type[Table]:

@@ -26,8 +26,7 @@ def page_of(crate):
 
 
 def path_in(crate, path):
-    """The path of a file from the top of the repository. `path` is what the page of a crate has: `src/..` for a file of this crate, and a path from
-    crates/ for another one."""
+    """The path of a file from the top of the repository. `path` is as on the page of a crate: `src/..` for its own files, from crates/ for others."""
     return f"crates/{crate}/{path}" if path.startswith("src/") else f"crates/{path}"
 
 
@@ -40,8 +39,8 @@ def owner_of(head):
 
 
 def calls_in(source):
-    """Yields the public calls of a source as pairs: the type or trait that has the call, None for a function, and the name of the call. Every method
-    of a public trait is public."""
+    """Yields the public calls of a source as pairs: the type or trait that has the call, None for a function; its name. Methods of public traits are
+    public."""
     owner, is_trait = None, False
     for line in source.splitlines():
         if HEAD.match(line):

@@ -30,8 +30,7 @@ def all_rows() -> dict[str, list[CallRow]]:
 
 
 def examples() -> list[CallRow]:
-    """For each call two rows at most: the best by `rank` whose texts are read, and the best whose texts are refused. test_hostile.py repeats these
-    calls while allocations fail."""
+    """For each call at most two rows, the best by `rank`: one whose texts are read, one whose texts are refused. test_hostile.py repeats them."""
     best: dict[tuple[str, bool], CallRow] = {}
     for row in (row for rows in all_rows().values() for row in rows if is_example(row)):
         kind = row.call, FAULT.match(row.answer) is not None

@@ -153,8 +153,7 @@ class Person:
 
 
 def sealed(lines: str) -> str:
-    """The text of a file of ended certificates: `lines`, each with its end, and the last line, which has the number of digests and the SHA-256 of
-    `lines`."""
+    """The text of a file of ended certificates: `lines`, each with its end, and a last line with their number of digests and their SHA-256."""
     count = sum(bool(line) and not line.startswith("#") for line in lines.splitlines())
     return f"{lines}end {count} {hashlib.sha256(lines.encode()).hexdigest()}\n"
 

@@ -30,8 +30,7 @@ def files_laid_out_wrongly(crate: str) -> str:
 
 
 def faults_of_wrong_bodies() -> Iterator[str]:
-    """A line for each wrong body, an edit of a function that its contract must refuse, that cannot be applied, or that has a line which the toolchain
-    does not read."""
+    """A line for each wrong body, an edit of a function that its contract must refuse, that cannot be applied or has lines which are not read."""
     for crate in toolchain.crates().values():
         for path in bodies.paths_of(crate):
             why = toolchain.applied(path, crate.folder)[1]

@@ -1,5 +1,4 @@
-"""Drives the smallest services in C, Rust, Python and Go by signed requests, with keys and certificates that are made for them, and counts their
-lines.
+"""Drives the smallest services in C, Rust, Python and Go by signed requests, with keys and certificates made for them, and counts their lines.
 
 The keys, the list and the certificates are those of examples/signed/run.py. Each request is sent to one process of the service: right ones,
 certificates with a wrong signature or that have expired, requests that another key has signed, that are sent again or were changed, and what is no

@@ -16,8 +16,8 @@ PAGE = "/web/index.html"
 class OfSites(unittest.TestCase):
     """A web server with a daemon that accepts signed requests. `kind` is the class that starts both."""
 
-    kind: type[web_servers.Behind]
-    site: web_servers.Behind
+    kind: type[web_servers.ServerSite]
+    site: web_servers.ServerSite
     # The answer to a second line of a signature. nginx 1.22 passes on the first one alone.
     second_line = 403
 

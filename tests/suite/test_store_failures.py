@@ -1,5 +1,4 @@
-"""Tests `spki-authd` with a list in PostgreSQL while something fails: servers die, are cut from each other, lag behind, have a wrong clock or a full
-disk.
+"""Tests `spki-authd` with a list in PostgreSQL while servers die, are cut from each other, lag behind, have a wrong clock or a full disk.
 
 Under each failure of `Questions` 20,000 questions are asked while the list changes. Each answer must be a failure, or that of the guard of the whole
 list as of a moment that is at most `stale_seconds` ago. All are long tests, and those with a network or a disk of their own need root."""
