@@ -117,7 +117,7 @@ class Pages(unittest.TestCase):
     """The pages for callers. `add_tests` adds a test for each check."""
 
 
-def made_test(crate: str, about: str, fault: str | None) -> Callable[[Pages], None]:
+def check_test(crate: str, about: str, fault: str | None) -> Callable[[Pages], None]:
     """Returns the test of a check. It fails unless `fault` is None. Otherwise `fault` says what is wrong with `about`, a part of the crate's page."""
     return lambda self: self.assertIsNone(fault, f"crates/{crate}/CALLING.md: {about} {fault}")
 
@@ -126,7 +126,7 @@ def add_tests() -> None:
     """Adds the tests of all pages."""
     for crate in sorted(filter(page_of, CRATES)):
         for number, (about, fault) in enumerate(checks(crate), 1):
-            setattr(Pages, f"test_calling:{crate}:{number}:{about}", made_test(crate, about, fault))
+            setattr(Pages, f"test_calling:{crate}:{number}:{about}", check_test(crate, about, fault))
 
 
 add_tests()

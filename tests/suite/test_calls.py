@@ -71,15 +71,15 @@ class OfCalls(unittest.TestCase):
             self.fail(f"{row.place}: {row.call}\n{texts}\nwanted {shown(row.answer)}\ncame   {shown(answer)}")
 
 
-def made_test(name: str) -> Callable[[OfCalls], None]:
+def row_test(name: str) -> Callable[[OfCalls], None]:
     """The test of the row with this name."""
     return lambda self: self.check_row(name)
 
 
-def made_class(name: str, rows: Iterable[CallRow], path: str) -> type:
+def class_of_rows(name: str, rows: Iterable[CallRow], path: str) -> type:
     """A class of this name with a test for each of these rows. The program at `path` answers them."""
     named = {f"test_{row.place}:{row.call}": row for row in rows}
-    tests = {each: made_test(each) for each in named}
+    tests = {each: row_test(each) for each in named}
     return type(name, (OfCalls,), {"path": path, "rows": named} | tests)
 
 
@@ -90,7 +90,7 @@ def add_classes() -> None:
         if ending and not os.path.exists(path):
             continue
         for name, of_class in rows.items():
-            globals()[name + ending] = made_class(name + ending, of_class, path)
+            globals()[name + ending] = class_of_rows(name + ending, of_class, path)
 
 
 add_classes()

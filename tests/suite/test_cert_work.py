@@ -85,10 +85,12 @@ def key(name: str, octets: int = 1) -> Any:
 
 
 def hash_of(value: Any) -> Any:
+    """The value `(hash sha256 ..)` that names another value by the digest of its canonical form."""
     return [b"hash", b"sha256", hashlib.sha256(canonical(value)).digest()]
 
 
 def certificate(issuer: Any, subject: Any, *more: Any) -> Any:
+    """A certificate of the right `ftp`, with the fields `more`. It is not signed: see `signed`."""
     return [b"cert", [b"issuer", issuer], [b"subject", subject], [b"tag", [b"ftp"]], *more]
 
 

@@ -212,8 +212,8 @@ class OnMachines(built.OfLibrary):
         self.assertEqual(faults_in([line for lines in by_user for line in lines], STATUS.split(of_user, maxsplit=1)[-1]), [])
 
 
-def made_test(machine: Machine) -> Callable[[OnMachines], None]:
-    """The test of a page, which is added to OnMachines for the long tests."""
+def machine_test(machine: Machine) -> Callable[[OnMachines], None]:
+    """A test method for a page, which is added to OnMachines for the long tests."""
     return lambda self: self.check_page(machine)
 
 
@@ -231,5 +231,5 @@ class OfToolchain(unittest.TestCase):
 
 if built.IS_LONG:
     for each in MACHINES:
-        setattr(OnMachines, f"test_machine:{each.page}", made_test(each))
+        setattr(OnMachines, f"test_machine:{each.page}", machine_test(each))
     setattr(OfToolchain, "test_first_command", OfToolchain.first_command)

@@ -42,9 +42,9 @@ class OfGo(test_bindings.Binding):
 
 
 class InGo(OfGo):
-    """The module."""
+    """The module of bindings/go, and for the linters the daemon too."""
 
-    def test_layout(self) -> None:
+    def test_gofmt(self) -> None:
         for folder in (golang.MODULE, golang.DAEMON):
             self.assertEqual(output_of("gofmt", "-l", ".", cwd=folder, seconds=golang.SECONDS), (0, ""))
 
@@ -53,7 +53,7 @@ class InGo(OfGo):
             self.go(folder, "vet", "./...")
 
     @needs.needs("go-staticcheck")
-    def test_lints(self) -> None:
+    def test_staticcheck(self) -> None:
         settings = {**golang.settings(self.library), "XDG_CACHE_HOME": os.path.join(TESTS, "out", "staticcheck")}
         for folder in (golang.MODULE, golang.DAEMON):
             self.assertEqual(output_of("go-staticcheck", "./...", cwd=folder, env=settings, seconds=golang.SECONDS), (0, ""))
@@ -64,7 +64,7 @@ class InGo(OfGo):
         names = set(self.go(golang.MODULE, "list", "./...").decode().split())
         self.assertLessEqual({"conguraki/spki", "conguraki/spki/guard", "conguraki/spki/verify"}, names)
 
-    def test_module(self) -> None:
+    def test_own_tests(self) -> None:
         """The tests of the module pass, with the race detector and the strict checks of pointers that are passed to C. `cgocheck=2` asks the runtime
         of Go up to 1.20 for these checks. From 1.21 on they are a setting of the build, GOEXPERIMENT=cgocheck2."""
         self.go(golang.MODULE, "test", "-race", "./...", GODEBUG="cgocheck=2")
@@ -84,7 +84,7 @@ class InGo(OfGo):
             self.check_decisions(to)
 
     @needs.needs("pkg-config")
-    def test_shared(self) -> None:
+    def test_shared_library(self) -> None:
         """With the tag spki_shared the library is the one that pkg-config knows: here the installed one. CGO_LDFLAGS is emptied, since
         `golang.settings` puts the folder of the built library there, by `-L`. Go passes that before the flags of pkg-config, so the linker would
         find the built library and not the installed one. Go's cache has the flags that pkg-config gave in an earlier run, and of these flags alone it
@@ -97,14 +97,14 @@ class InGo(OfGo):
 
 
 class Authd(OfGo):
-    """The tests of the daemon."""
+    """The daemon's own tests."""
 
     def test_daemon(self) -> None:
         self.go(golang.DAEMON, "test", "-race", "./...")
 
 
 class Fuzzed(OfGo):
-    """The fuzzed tests."""
+    """What FUZZED has is fuzzed, and finds no failure."""
 
     def test_fuzz(self) -> None:
         for folder, package, name, seconds in FUZZED:
@@ -306,7 +306,7 @@ class Served(OfGo):
                 daemon.process = Daemon(room, daemon.program, text).process
                 self.assertEqual(daemon.ask(alice, "GET", "/web/a").status, 200)
 
-    def test_check(self) -> None:
+    def test_check_of_a_list(self) -> None:
         """`spki-authd -check` says how many entries a list has, or what is wrong in it."""
         with tempfile.TemporaryDirectory() as room:
             program = golang.build_daemon(self.library, os.path.join(room, "spki-authd"))
@@ -318,5 +318,5 @@ class Served(OfGo):
 
 
 def value_of(text: bytes) -> Any:
-    """The value of a text in any form."""
+    """The value of a text in any form: octets, or for a list a list of values."""
     return read(subprocess.run([built.program(), "canonical"], input=text, stdout=subprocess.PIPE, check=True).stdout)

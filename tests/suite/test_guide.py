@@ -145,7 +145,7 @@ class Pages(built.OfProgram):
         return list((steps_of_manual if page.endswith(".1") else steps_of_markdown)(text_of(page)))
 
     def check_commands(self, page: str, shell: str) -> None:
-        """Each command of a page must write what the page says. One that a shell did not reach, which ended early, writes `nothing`."""
+        """Each command of a page must write what the page says. Where the shell ended before a command, its output counts as the word `nothing`."""
         steps = self.steps(page)
         wanted = [(command, answer) for kind, command, answer in steps if kind == "command"]
         outputs = outputs_of(shell, steps, self.program)

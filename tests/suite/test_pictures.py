@@ -61,7 +61,7 @@ class Pictures(built.OfProgram):
                 self.assertEqual((status, output.count("\n"), message in output), (2, 1, True), output)
 
 
-def add(name: str) -> None:
+def add_tests(name: str) -> None:
     """Adds the tests of a case: that its picture has the words, and that Graphviz reads it."""
     words: Callable[[Pictures], None] = lambda self: self.check_words(name)
     read: Callable[[Pictures], None] = lambda self: self.check_by_graphviz(name)
@@ -71,4 +71,4 @@ def add(name: str) -> None:
 
 
 for each in CASES:
-    add(each)
+    add_tests(each)

@@ -113,7 +113,7 @@ class Proxies(unittest.TestCase):
     @needs.needs("nginx")
     def test_nginx_before_two_services(self) -> None:
         """Where nginx chooses between services by the nonce, a request that is sent again comes to the service that has seen its nonce, also with
-        tabs around the field, which nginx takes for a part of it. This is tried 21 to 1,000 times, until both services have got a request."""
+        tabs around the field, which nginx counts as a part of it. This is tried 21 to 1,000 times, until both services have got a request."""
         servers = " ".join(f"server {service.name} max_fails=0;" for service in self.services)
         self.start_nginx(f"{OWN_HOST} proxy_next_upstream off;", "both", f"{BY_NONCE} upstream both {{ hash $spki_nonce consistent; {servers} }}")
         for turn in range(1000):

@@ -111,11 +111,11 @@ class Nginx(OfSites):
 
     kind, second_line = web_servers.Nginx, 200
 
-    def test_answers(self) -> None:
+    def test_signed_requests(self) -> None:
         self.check_signed()
         self.check_left_chain()
 
-    def test_stores(self) -> None:
+    def test_stores_by_curl(self) -> None:
         self.check_curl()
 
 
@@ -136,7 +136,7 @@ class Caddy(OfSites):
 
     kind = web_servers.Caddy
 
-    def test_answers(self) -> None:
+    def test_signed_requests(self) -> None:
         self.check_signed()
         self.check_left_chain()
 
@@ -147,11 +147,11 @@ class HAProxy(OfSites):
 
     kind = web_servers.HAProxy
 
-    def test_answers(self) -> None:
+    def test_signed_requests(self) -> None:
         self.check_signed()
         self.check_left_chain()
 
-    def test_stores(self) -> None:
+    def test_stores_by_curl(self) -> None:
         self.check_curl()
 
 
@@ -202,8 +202,8 @@ class Apache(OfSites):
 
     kind = web_servers.Apache
 
-    def test_answers(self) -> None:
+    def test_signed_requests(self) -> None:
         self.check_signed()
 
-    def test_stores(self) -> None:
+    def test_stores_by_curl(self) -> None:
         self.check_curl()

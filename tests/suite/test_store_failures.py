@@ -71,8 +71,8 @@ def cut_twice(node: networks.Node) -> None:
 Entered = TypeVar("Entered", Server, networks.Network)
 
 
-class Failing(test_store.OfServed):
-    """Tests with servers of their own."""
+class WithOwnServers(test_store.OfServed):
+    """The base of tests that start servers of PostgreSQL of their own, and make them fail."""
 
     def enter(self, context: Entered) -> Entered:
         """Enters the context of a server or a network, until the test ends. Returns it."""
@@ -112,8 +112,8 @@ class Failing(test_store.OfServed):
         return certificate
 
 
-class Questions(Failing):
-    """Questions, while something fails."""
+class Questions(WithOwnServers):
+    """Generated questions are answered rightly while something fails. `questions` is the path of the daemon's compiled tests, which ask them."""
 
     questions: str
 
@@ -242,11 +242,11 @@ class Questions(Failing):
         self.ask_while(replica.folder, [primary], fails)
 
 
-class Daemons(Failing):
-    """Daemons, while something fails."""
+class Daemons(WithOwnServers):
+    """What running daemons and `spki-store` answer while something fails."""
 
     @needs.needs("ip")
-    def test_network(self) -> None:
+    def test_cut_network_and_failover(self) -> None:
         """A replica is cut from the primary, a daemon from its replica, and the primary from all others. Then a replica takes its place. The old
         primary comes back, and its daemon grants nothing for 4 seconds, longer than a state may be old. The daemons are `old`, `near` and `far`."""
         nodes = self.network(4)
@@ -358,7 +358,8 @@ def received(replica: Server) -> int:
 
 
 def write_until_it_ends(server: Server) -> None:
-    """Writes to a server whose disk is full, until it has no room for its log and ends. Raises AssertionError if it does not end."""
+    """Writes to a server whose disk is full, until it has no room for its log and ends. Raises AssertionError if it does not end. Each switch begins
+    a new file of the log, if something was logged since the last one, as the number of a transaction is."""
     def is_over() -> bool:
         with contextlib.suppress(psycopg.Error):
             execute(server, "SELECT pg_switch_wal()", "SELECT txid_current()")
@@ -367,4 +368,4 @@ def write_until_it_ends(server: Server) -> None:
 
 
 if not built.IS_LONG:
-    del Failing, Questions, Daemons
+    del WithOwnServers, Questions, Daemons

@@ -27,7 +27,7 @@ class BySecondCompiler(built.OfProgram):
 # ---- rows
 
 
-def made_test(row: Row) -> Test:
+def row_test(row: Row) -> Test:
     """A test method: the program must give the answer of the row, and by other commands answers that agree with it (`fault_of`)."""
     def test(self: built.OfProgram) -> None:
         fault = fault_of(self.program, row)
@@ -44,7 +44,7 @@ def named_tests(rows: Iterable[Row]) -> Iterator[tuple[str, Test]]:
     for row in listed:
         name = f"test_{row.place}{f':{row.command}' if places[row.place] > 1 else ''}"
         named[name] += 1
-        yield f"{name}{f':{named[name]}' if named[name] > 1 else ''}", made_test(row)
+        yield f"{name}{f':{named[name]}' if named[name] > 1 else ''}", row_test(row)
 
 
 # ---- pairs
