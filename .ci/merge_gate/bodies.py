@@ -29,7 +29,7 @@ def path_of(file: str, lines: list[str], at: int, name: str) -> str:
 
 
 def function_around(file: str, lines: list[str], number: int) -> str | None:
-    """The path (`path_of`) of the function that line `number`, from 0, is in. None if it is in none. A function ends with a `}` below its head."""
+    """The path (`path_of`) of the function of a file that line `number`, from 0, is in. None if it is in none. A `}` below the head ends it."""
     for at in range(number, -1, -1):
         head = HEAD.match(lines[at])
         if head:
@@ -87,7 +87,7 @@ class Body(NamedTuple):
 
 
 def body_of(path: str, folder: str) -> Body:
-    """The wrong body in a file, an edit of the crate in a folder."""
+    """The wrong body in the file at `path`, an edit of the crate in `folder`."""
     texts, _ = toolchain.applied(path, folder)
     return Body(path, texts, functions_of(folder, texts))
 

@@ -51,7 +51,7 @@ def crates(*names: str) -> dict[str, Any]:
 
 
 def applied(path: str, folder: str) -> tuple[dict[str, str], str]:
-    """The files of the crate in a folder that an edit changes, with their texts after it, and "". Or no files, and why it cannot be applied."""
+    """The files of the crate in `folder` that the edit in the file `path` changes, with their texts after it, and "". Or {}, and why it fails."""
     texts, why = rt_module().read_edit(path, folder)
     return texts or {}, why or ""
 
@@ -65,7 +65,7 @@ def check_of(crate: Any, texts: dict[str, str], only: list[str], over: str) -> s
 
 
 def verdict_on(crate: Any, path: str, over: str) -> tuple[bool, str]:
-    """Whether a crate's contract refuses an edit, and the toolchain's remark. The whole crate is checked, from what the folder `over` has on."""
+    """Whether a crate's contract refuses the edit in the file `path`, and the toolchain's remark. The folder `over` has proofs of earlier checks."""
     verdict, said = rt_module().must_fail(crate, path, ONE, over)
     return verdict == rt_module().REFUSED and not any(words in said for words in SAYS_LITTLE), said
 

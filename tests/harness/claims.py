@@ -50,7 +50,7 @@ class Sources:
         return self.contracts.get(name, self.contracts.get(name.split("::")[-1]))
 
     def leads_to(self, contracts: list[str], wanted: str) -> bool:
-        """Whether one of these contracts cites a definition, or cites one that leads to it."""
+        """Whether one of these contracts cites the definition `wanted`, or cites one that leads to it."""
         left, seen = set(WORD.findall(" ".join(contracts))), set[str]()
         while left - seen and wanted not in left:
             seen |= left

@@ -120,7 +120,8 @@ class Server:
             self.process = None
 
     def replica(self, at: networks.Node | None = None, mib: int = 0, **settings: str) -> Server:
-        """A replica of this server, which is not started yet. It has the settings of this server, except for those that are given."""
+        """A replica of this server, which is not started yet: at the node `at`, if any, on a disk of `mib` MiB, if that is not 0. It has the settings
+        of this server, except for those that are given."""
         replica = Server(at, mib, **{**self.settings, **settings})
         replica.run("pg_basebackup", "-d", replica.source(self), "-D", replica.data, "-R", "-X", "stream", "-c", "fast", "--no-sync")
         return replica

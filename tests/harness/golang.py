@@ -27,6 +27,6 @@ def go(folder: str, words: list[str], library: str, stdin: bytes | None = None, 
 
 
 def build_daemon(library: str, to: str, *flags: str) -> str:
-    """Builds spki-authd at a path, and returns the path. Raises CalledProcessError if it is not built."""
+    """Builds spki-authd with a static library at the path `to`, which it returns. `flags` are options of `go build`. Raises CalledProcessError."""
     go(DAEMON, ["build", *flags, "-o", to, "."], library).check_returncode()
     return to

@@ -84,8 +84,8 @@ class Program:
         self.path, self.library = path, library
 
     def run(self, command, text, before=(), **plan):
-        """A run under refuse.c. The plan has the settings of refuse.c, in lower case: `memory=3` refuses the third request for memory, `memory="3.."`
-        all from there on. `before` are the words of a program that starts the run, as valgrind."""
+        """Runs a command on a text under refuse.c. The plan has the settings of refuse.c, in lower case: `memory=3` refuses the third request for
+        memory, `memory="3.."` all from there on. `before` are the words of a program that starts the run, as valgrind."""
         environment = {"LD_PRELOAD": self.library, "REFUSE_IN": self.path, "PATH": os.environ["PATH"]}
         environment |= {f"REFUSE_{name.upper()}": str(value) for name, value in plan.items()}
         ends = [os.pipe() for _ in range(3)]  # (for both outputs, and on descriptor 3 for the report of refuse.c)
@@ -108,7 +108,7 @@ class Program:
         return child
 
     def limited(self, command, text, resource_number, most):
-        """A run for which the system limits a resource, such as `resource.RLIMIT_AS`, to `most`, in the unit of setrlimit. It writes into a file."""
+        """Runs a command with a resource, such as `resource.RLIMIT_AS`, limited to `most`, in the unit of setrlimit. Its output is a file."""
         with tempfile.TemporaryFile() as out:
             child = self.start(command, descriptor_of(text), out, preexec_fn=lambda: self.limit(resource_number, most))
             run = ended(child)
@@ -122,13 +122,13 @@ class Program:
         resource.setrlimit(resource_number, (most, most))
 
     def redirected(self, command, words):
-        """A run by the shell. `words` are the redirections behind the command, such as `>&-`. If none is of the input, that is empty."""
+        """Runs a command by the shell. `words` are the redirections behind the command, such as `>&-`. If none is of the input, that is empty."""
         shell = ["sh", "-c", f'exec "$0" "$1" {words}', self.path, command]
         return ended(subprocess.Popen(shell, stdin=subprocess.DEVNULL, stdout=subprocess.PIPE, stderr=subprocess.PIPE))
 
     def reader_gone(self, command, text, taken, dies):
-        """A run whose output is closed after `taken` octets, or at its end if there are fewer. `dies`: SIGPIPE, the signal of a closed pipe, ends it.
-        Otherwise it is ignored there, as in this process, and the write is an error."""
+        """Runs a command whose output is closed after `taken` octets, or at its end if there are fewer. `dies`: SIGPIPE, the signal of a closed pipe,
+        ends it. Otherwise it is ignored there, as in this process, and the write is an error."""
         reader, writer = os.pipe()
         if taken == 0:
             os.close(reader)
@@ -142,7 +142,7 @@ class Program:
         return ended(child, out)
 
     def in_packets(self, command, text):
-        """A run that gets one octet at each read, from a pipe in which each octet is a packet. The text must fit into the pipe."""
+        """Runs a command that gets one octet at each read, from a pipe in which each octet is a packet. The text must fit into the pipe."""
         reader, writer = os.pipe2(os.O_DIRECT | os.O_CLOEXEC)
         child = self.start(command, reader, subprocess.PIPE)
         for place in range(len(text)):
@@ -151,7 +151,7 @@ class Program:
         return ended(child)
 
     def without_waiting(self, command, text):
-        """A run on a pipe that does not block: it writes to one that gets full, or if the text is empty reads from one that has nothing yet."""
+        """Runs a command on a pipe that does not block: it writes to one that gets full, or if the text is empty reads from one without octets."""
         reader, writer = os.pipe()
         os.set_blocking(writer if text else reader, False)
         if text:

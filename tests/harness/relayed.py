@@ -130,7 +130,7 @@ class Call:
 
 def address_here(address: int | None, request: Request, blocks: list[tuple[int, bytes]]) -> int | None:
     """An address of the other machine as one of this process, if it is in or at the end of an array that was lent. Any other address, as that of a
-    guard, is returned as it is: only the other machine uses it."""
+    guard, is returned as it is: only the other machine uses it. `blocks` has for each block of the request its address there and its octets."""
     for block, value in request.written:
         at, octets = blocks[block]
         if address is not None and at <= address <= at + len(octets) and isinstance(value, Array):
@@ -139,8 +139,7 @@ def address_here(address: int | None, request: Request, blocks: list[tuple[int, 
 
 
 class Relayed:
-    """In the place of a library that ctypes loads. `words` is the command that runs `relay.c` for the other machine. Each process of this machine
-    that calls starts one."""
+    """In the place of a library that ctypes loads. Each process of this machine that calls it runs the command `words`, `relay.c` by an emulator."""
 
     def __init__(self, words: list[str]) -> None:
         self.words, self.owner = words, 0

@@ -62,7 +62,7 @@ class Site:
         """Writes what another web server needs, before the programs start. nginx needs nothing more."""
 
     def at(self, name: str) -> str:
-        """The path of a file of the site."""
+        """The path of a file of the site, which `name` names from the folder `room`."""
         return os.path.join(self.room, name)
 
     def text(self, name: str) -> str:
@@ -168,14 +168,14 @@ class Site:
                 yield client
 
     def answer(self, who: str | None, request: bytes) -> bytes:
-        """All that the web server answers to some octets, until it ends the connection. Empty if there is no connection. Where the rate is exceeded,
-        the client waits and asks again. `who` names its certificate and key. None: it has no certificate."""
+        """All that the web server answers to the octets `request`, until it ends the connection. Empty if there is no connection. Where the rate is
+        exceeded, the client waits and asks again. `who` names its certificate and key. None: it has no certificate."""
         while (answer := self.answer_at_once(who, request)).startswith(b"HTTP/1.1 429"):
             time.sleep(0.2)
         return answer
 
     def answer_at_once(self, who: str | None, request: bytes) -> bytes:
-        """All that the web server answers to some octets, sent once: also 429, if the rate is exceeded. Empty if there is no connection."""
+        """All that the web server answers to the octets `request`, sent once: also 429, if the rate is exceeded. Empty if there is no connection."""
         answer = b""
         with contextlib.suppress(OSError), self.connected(who) as client:
             client.sendall(request)

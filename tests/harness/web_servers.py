@@ -59,7 +59,8 @@ class ServerSite(served.Site):
         return "localhost"
 
     def restart_with(self, more: More) -> None:
-        """Starts the server again, with these lines put into the example's files, and without those that were put there before."""
+        """Starts the server again, with `more` lines in its example's files, and without those of the last time. Each row has a file, a text of it,
+        and the lines that are put behind this text."""
         self.restart_replacing([(name, place, place + lines) for name, place, lines in more])
 
     def restart_asking_port(self, port: int) -> None:

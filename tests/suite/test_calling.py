@@ -39,8 +39,7 @@ def owner_of(head):
 
 
 def calls_in(source):
-    """Yields the public calls of a source as pairs: the type or trait that has the call, None for a function; its name. Methods of public traits are
-    public."""
+    """Yields the public calls of a source, also methods of public traits, as pairs: the type or trait that has it, None for a function; its name."""
     owner, is_trait = None, False
     for line in source.splitlines():
         if HEAD.match(line):

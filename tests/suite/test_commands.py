@@ -1,8 +1,8 @@
 """Runs the commands of pages and helps that no other test runs: harness/page_commands.py says which.
 
-They run in a copy of the repository with what is built at its place, an empty home, and no environment but a path. In the long tests each page of
-MACHINES runs on a machine of its own, a chroot that Debian's mmdebstrap makes (machines.py). It has the packages that the page names, those of
-`Machine.packages`, and no other."""
+They run in a copy of the repository with what is built at its place, an empty home, and no environment but HOME and PATH. In the long tests each
+page of MACHINES runs on a machine of its own, a chroot that Debian's mmdebstrap makes (machines.py). It has the packages that the page names, those
+of `Machine.packages`, and no other."""
 from __future__ import annotations
 
 import os
@@ -203,7 +203,7 @@ class OnMachines(built.OfLibrary):
             self.check_statuses(machine, by_root, by_user)
 
     def check_statuses(self, machine: Machine, by_root: list[str], by_user: list[list[str]]) -> None:
-        """Commands of root, then blocks of the user's, must end with status 0 or that of STATUSES. `Machine.blocks` says where a block begins."""
+        """Commands of root, then blocks of the user's, must end with status 0 or that of STATUSES. `Machine.blocks` says where each block begins."""
         begin = "" if machine.blocks == "on" else "cd ~/clone\n"
         script = "cd ~/clone\n" + "".join(begin + script_of(lines) for lines in by_user)
         output = self.output(machine, f"echo '{END}' 0\n" + script_of(by_root), script)

@@ -108,7 +108,7 @@ class Maker:
 
 
 def outcome(decide, asked):
-    """What `decide` returns for a question: the number of the entry that grants it, or None for no. If it is refused, the line of the refusal."""
+    """What `decide` returns for the question `asked`: the number of the entry that grants it, or None. If it is refused, the line of the refusal."""
     try:
         return decide(asked)
     except spki.Refused as refusal:
@@ -116,7 +116,7 @@ def outcome(decide, asked):
 
 
 def decider_by_whole_list(store, policy):
-    """Returns a function that decides a question by a guard of all rows of the store: the number of the row that grants, or None."""
+    """Returns a function that decides a question by a guard of all rows that the store has now: the number of the row that grants, or None."""
     rows = list(store.all())
     guard = entries.list_of([row.text for row in rows], policy, entries.LIMITS)
 

@@ -38,7 +38,7 @@ impl<'a> Display for Name<'a> {
 
 
 def functions_changed(old: str, new: str, file: str = "src/names.rt") -> set[str | None]:
-    """The functions of SOURCE that an edit of it changes, with None for what is in no function."""
+    """The functions of SOURCE that an edit changes, which puts `new` in the place of `old`. None is among them for what is in no function."""
     assert SOURCE.count(old) == 1
     return bodies.functions_changed(file, SOURCE, SOURCE.replace(old, new))
 

@@ -136,7 +136,7 @@ class Person:
     certificate that the person has signed. `key` is the SPKI key as a text, and `digest` the hash of it in hexadecimal digits."""
 
     def __init__(self, room: str, name: str, kind: str) -> None:
-        """Makes the files in the folder `room`. `kind` is one of KINDS."""
+        """Makes the files, which begin with `name`, in the folder `room`. `kind` is one of KINDS."""
         self.path = os.path.join(room, name)
         words = ["openssl", "genpkey", "-algorithm", *KINDS[kind], "-out", self.path]
         subprocess.run(words, check=True, stderr=subprocess.DEVNULL)
@@ -169,7 +169,7 @@ class Daemon:
     grants. `list`, `ended`, `socket` and `config` are paths too."""
 
     def __init__(self, room: str, program: str, access_list: str, *before: str, **more: object) -> None:
-        """Writes the files, starts the daemon, and waits for its first message."""
+        """Writes the files, with `access_list` as the list's text, starts the daemon, and waits for its first message."""
         self.program = program
         self.list, self.ended, self.socket, self.log, self.grants = (os.path.join(room, name) for name in ("acl", "ended", "socket", "log", "grants"))
         self.write(self.list, access_list)
@@ -230,7 +230,7 @@ class Served(OfGo):
 
     @contextlib.contextmanager
     def served(self, access_list: str, room: str) -> Iterator[Daemon]:
-        """A context with a daemon, which must end by SIGTERM with status 0."""
+        """A context with a daemon that has this list, as a text, and its files in a folder. At the end SIGTERM must end it with status 0."""
         daemon = Daemon(room, golang.build_daemon(self.library, os.path.join(room, "spki-authd")), access_list)
         try:
             self.assertEqual(daemon.event["event"], "started")

@@ -68,8 +68,7 @@ def steps_of_manual(page):
 
 
 def script(steps):
-    """Yields the parts of a script that writes the files and runs the commands of steps, and writes END after each
-    command. It does nothing for a quotation."""
+    """Yields the parts of a script that writes the files and runs the commands of steps, and writes END after each command. It omits quotations."""
     for kind, first, second in steps:
         if kind == "file":
             yield f"printf %s {shlex.quote(second)} > {shlex.quote(first)}\n"

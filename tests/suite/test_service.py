@@ -144,8 +144,7 @@ class Service(built.OfLibrary):
 
     def check_service(self, *words: str, **settings: str) -> None:
         """The service that these words start must grant the requests of `chain_requests` and `proof_requests` that say so, and no others. It must not
-        start on a wrong list, as one of over 1,048,576 octets. Its errors may have no report of a sanitizer or valgrind. `settings` are more
-        variables of its environment."""
+        start on a wrong list, as one of over 1,048,576 octets. No sanitizer nor valgrind may report. `settings` are more environment variables."""
         environment = {**os.environ, **settings}
         with open(os.path.join(self.room, "errors"), "w+b") as errors, subprocess.Popen(
                 [*words, self.path, NAME], stdout=subprocess.PIPE, stderr=errors, env=environment) as service:

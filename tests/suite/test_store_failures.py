@@ -81,8 +81,8 @@ class WithOwnServers(test_store.OfServed):
         return context
 
     def primary(self, settings: dict[str, str] = USUAL, at: networks.Node | None = None, mib: int = 0) -> Server:
-        """Starts a server, at the node `at` or at none, on a disk of `mib` MiB or, if it is 0, on the usual one. Makes the store of this test there.
-        The table `error` says by how much its clock is wrong: the tests in Go add this to the moment of each heartbeat."""
+        """Starts a server by settings of PostgreSQL, at the node `at` if any, on a disk of `mib` MiB or, for 0, on the usual one. Makes the store of
+        this test there. The table `error` says by how much its clock is wrong: the tests in Go add this to the moment of each heartbeat."""
         server = self.enter(Server(at, mib, **settings))
         self.store.close()
         self.store = Store(server.address, self.schema)
@@ -92,7 +92,7 @@ class WithOwnServers(test_store.OfServed):
         return server
 
     def replica(self, primary: Server, settings: dict[str, str] = USUAL, at: networks.Node | None = None, mib: int = 0) -> Server:
-        """Starts a replica of a server, at the node `at` or at none, on a disk of `mib` MiB or, if it is 0, on the usual one."""
+        """Starts a replica of a server by settings of PostgreSQL, at the node `at` if any, on a disk of `mib` MiB or, for 0, on the usual one."""
         return self.enter(primary.replica(at, mib, **settings))
 
     def network(self, count: int) -> list[networks.Node]:
@@ -158,8 +158,7 @@ class Questions(WithOwnServers):
         self.ask_while(replica.folder, [primary], lambda: kill_twice(replica))
 
     def test_failover(self) -> None:
-        """The primary dies, and the replica that received most takes its place. The second replica is asked. If the first one is promoted, the second
-        is told to follow it."""
+        """The primary dies, and the replica that received most takes its place. The second one is asked. It follows the first if that is promoted."""
         primary = self.primary(SHORT)
         replicas = [self.replica(primary) for _ in range(2)]
         make_synchronous(primary)
