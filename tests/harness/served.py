@@ -76,8 +76,7 @@ class Site:
 
     def sh(self, *words: str) -> str:
         """Runs a command in the folder. Returns what it writes on both streams. Raises AssertionError, which says that too, if it fails."""
-        done = subprocess.run(words, cwd=self.room if os.path.isdir(self.room) else None, env=self.settings, stdout=subprocess.PIPE,
-                              stderr=subprocess.STDOUT, text=True, timeout=SECONDS)
+        done = subprocess.run(words, cwd=self.room, env=self.settings, stdout=subprocess.PIPE, stderr=subprocess.STDOUT, text=True, timeout=SECONDS)
         if done.returncode:
             raise AssertionError(f"{words}: {done.stdout}")
         return done.stdout

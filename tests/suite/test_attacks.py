@@ -37,7 +37,7 @@ def rows_of(kind: type[web_servers.ServerSite], column: str) -> list[tuple[str, 
 class Pages(unittest.TestCase):
     """The pages of the servers, and how large the table is."""
 
-    def test_lines(self) -> None:
+    def test_pages_of_servers(self) -> None:
         """Each page in apps/spki-authd/servers/ has at most 40 indented lines, to paste, and says how to probe the site and what the server cannot
         promise. The daemon's README names the page."""
         pages = [os.path.join("apps", "spki-authd", "servers", f"{name}.md") for name in
@@ -50,7 +50,7 @@ class Pages(unittest.TestCase):
             self.assertIn("cannot promise.**", text)
             self.assertIn(page.removeprefix("apps/spki-authd/"), text_of("apps/spki-authd/README.md"))
 
-    def test_rows(self) -> None:
+    def test_number_of_rows(self) -> None:
         """Each server has at least 600 rows, so none is lost unseen, and no two rows have the same name."""
         for kind in web_servers.SERVERS:
             names = [name for column in columns_of(kind) for name, _ in rows_of(kind, column)]

@@ -49,12 +49,12 @@ class Text(bytes):
 @contextmanager
 def counting() -> Iterator[None]:
     """A context that sets SEEN to 0 and counts steps there: the events of `trace`, and the octets that the modules asking, certificates, checking and
-    making make canonical. Other modules make few canonical, and these are not counted. A `Text` adds its own."""
+    making make canonical. The few of other modules are not counted. A `Text` adds its own."""
     from spki_cert_tool import asking, certificates, checking, making, sexp
 
     def trace(frame, event, _):
-        """Adds 1 to SEEN for each event in `spki_cert_tool`: a call, a line, a return, an exception. Python calls this where a function begins, and
-        then what it returns, which is this again, for what follows there."""
+        """Adds 1 to SEEN for each event in `spki_cert_tool`: a call, a line, a return, an exception. Python calls this where a function begins. There
+        it returns itself, so that Python calls it for each further event of the function too."""
         if "spki_cert_tool" in frame.f_code.co_filename:
             SEEN[0] += 1
             return trace

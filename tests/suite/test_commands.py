@@ -194,7 +194,7 @@ class OnMachines(built.OfLibrary):
             answers = [each.strip("\n") for each in output.split(f"{test_guide.END}\n")]
             self.assertEqual(answers, [*(answer.strip("\n") for kind, _, answer in steps if kind == "command"), ""])
         inline = [command.line for command in commands if command.kind == "inline"]
-        by_root = [f"({line})" for line in inline if OF_ROOT.fullmatch(line)]
+        by_root = [f"({line})" for line in inline if OF_ROOT.fullmatch(line)]  # (in subshells, since some change the folder)
         blocks = page_commands.indented_blocks(text_of(machine.page)) if machine.blocks else ()
         by_user = [[f"timeout 2 {line}" if SERVES.fullmatch(line) else line for line in block.splitlines() if not NOT_ON_MACHINES.fullmatch(line)]
                    for block in blocks]

@@ -303,7 +303,7 @@ class Served(OfGo):
                 daemon.process.kill()
                 daemon.process.communicate()
                 self.assertTrue(os.path.exists(daemon.socket))
-                daemon.process = Daemon(room, daemon.program, text).process
+                daemon.process = Daemon(room, daemon.program, text).process  # (`served` ends this one)
                 self.assertEqual(daemon.ask(alice, "GET", "/web/a").status, 200)
 
     def test_check_of_a_list(self) -> None:

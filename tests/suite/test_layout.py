@@ -66,7 +66,7 @@ class Layout(unittest.TestCase):
         self.assertEqual([line for line in git("ls-files", "-s").stdout.splitlines() if line.startswith("120000")], [])
 
     def test_last_deep_run(self) -> None:
-        """CONTRIBUTING.md has one line on the last run of `.ci/deep`. Its commit must be in the history. In a shallow clone this is left out."""
+        """CONTRIBUTING.md has one line on the last run of `.ci/deep`. Its commit must be in the history, if the clone is not shallow."""
         commits = LINE.findall(text_of("CONTRIBUTING.md"))
         self.assertEqual(len(commits), 1, "CONTRIBUTING.md has not one line on the last run of .ci/deep, as LINE has it")
         if git("rev-parse", "--is-shallow-repository").stdout.strip() != "false":

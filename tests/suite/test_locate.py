@@ -163,8 +163,8 @@ class Refusals(unittest.TestCase):
     def check_mistake(self, text: str, refusal: str, wanted: str, place: tuple[int, int], words: str) -> None:
         """`locate`, run with a refusal or none, must show the refusal `wanted` at a line and column, with these words, and no place twice."""
         output = locate(text, refusal)[1]
-        first, offsets = output.split("\n")[1] if "\n" in output else "", PLACE.findall(output)
-        is_right = f"refused {wanted}\n" in output and first.startswith(f"line {place[0]}, column {place[1]},") and words in output
+        first_place, offsets = output.split("\n")[1] if "\n" in output else "", PLACE.findall(output)
+        is_right = f"refused {wanted}\n" in output and first_place.startswith(f"line {place[0]}, column {place[1]},") and words in output
         if not is_right or len(set(offsets)) < len(offsets):
             self.fail(f"text   {text!r}, given {refusal!r}\nwanted {wanted} at line {place[0]}, column {place[1]}, {words}\ncame   {output}")
 

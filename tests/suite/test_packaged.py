@@ -133,7 +133,7 @@ class Packages(built.OfLibrary):
         self.assertNotIn(TOP.encode(), pathlib.Path(program).read_bytes())
 
     def test_stripped(self) -> None:
-        """Nothing is left that is for debuggers. What names the logic by which a program was proved is left, in the daemon that of the library."""
+        """Nothing is left that is for debuggers. The words that name the logic of the proofs are left, in the daemon those of the library."""
         for name, place, source in (("spki", "usr/bin/spki", self.program), (SHARED, f"{PLACE}/libspki_c.so.{INTERFACE}", self.shared),
                                     ("libspki-dev", f"{PLACE}/libspki_c.a", self.library), ("spki-authd", "usr/bin/spki-authd", self.library)):
             left = sections(self.inside(name, place))
@@ -151,7 +151,7 @@ class Packages(built.OfLibrary):
 
     @needs.needs("cmake")
     def test_cmake(self) -> None:
-        """CMake finds the libraries and the header, also by the path through /lib."""
+        """CMake finds the libraries and the header of the packages, also by the path through /lib. It does not look for those of the system."""
         root = self.root_with("libspki-dev", SHARED)
         for prefix in (os.path.join(root, "usr"), root):
             with self.subTest(prefix=prefix), tempfile.TemporaryDirectory() as room:
@@ -184,8 +184,8 @@ class Packages(built.OfLibrary):
         self.assertEqual([flag.split("/")[-1] for flag in flags], ["include", "x86_64-linux-gnu", "-lspki_c"])
         words = ("cc", "-o", linked, os.path.join(TESTS, "programs", "linked.c"))
         self.assertEqual(output_of(*words, *flags), (0, ""))
-        path = {**os.environ, "LD_LIBRARY_PATH": self.inside(SHARED, PLACE)}
-        self.assertEqual(output_of(linked, env=path), (0, ""))
+        environment = {**os.environ, "LD_LIBRARY_PATH": self.inside(SHARED, PLACE)}
+        self.assertEqual(output_of(linked, env=environment), (0, ""))
         self.assertEqual(output_of(*words, flags[0], os.path.join(root, PLACE, "libspki_c.a")), (0, ""))
         self.assertEqual(output_of(linked), (0, ""))
 

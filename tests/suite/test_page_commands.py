@@ -41,7 +41,7 @@ class Lists(unittest.TestCase):
                 self.assertIn(os.path.basename(row.page), text_of(f"tests/suite/{row.test}.py"))
 
     def test_names(self) -> None:
-        """The program has each command of `spki` and `spki-cert`, with options of the latter, and flag of `spki-authd` that is in backticks."""
+        """The programs have each command of `spki` and `spki-cert`, option behind one of the latter and flag of `spki-authd` in backticks."""
         helps: dict[str, str] = {}
         flags = "".join(text_of(path) for path in tracked() if path.startswith("apps/spki-authd/") and path.endswith(".go"))
         for command in self.commands:

@@ -126,7 +126,7 @@ class Proxies(unittest.TestCase):
 
     @needs.needs("nginx")
     def test_nginx_with_a_host_of_its_own(self) -> None:
-        """Without `proxy_set_header Host` the name is that of the upstream."""
+        """Without `proxy_set_header Host` the host that nginx passes on is the upstream's, so the verifier refuses the request."""
         self.start_nginx("")
         self.assertEqual(self.ask("GET", "/a"), "other-authority")
 
