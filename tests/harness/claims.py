@@ -98,7 +98,7 @@ def unclaimed(page: str, header: str, source: str) -> Iterator[str]:
 
 def has_clause(contracts: list[str], name: str) -> bool:
     """Whether one of these contracts has a clause of this name."""
-    return any(name in CLAUSE.findall(it) for it in contracts)
+    return any(name in CLAUSE.findall(contract) for contract in contracts)
 
 
 def faults(page: str, sources: Sources) -> Iterator[str]:

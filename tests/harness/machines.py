@@ -50,7 +50,7 @@ def output_on_machine(packages: list[str], clone: str, by_root: str, script: str
                  f'chroot --userspec={USER}:{USER} "$1" {bare} sh -c "cd ~/empty && . /script" {into} || true']
         # (a script that fails says so in its output. apt-get installs what a package recommends, too)
         words = ["mmdebstrap", "--quiet", "--variant=apt", '--aptopt=Apt::Install-Recommends "true"', f"--include={','.join(packages)}",
-                 *(f"--customize-hook={it}" for it in hooks), release(), "/dev/null"]
+                 *(f"--customize-hook={hook}" for hook in hooks), release(), "/dev/null"]
         status, log = output_of(*words, seconds=SECONDS)
         with open(os.path.join(room, "output"), encoding="utf-8", errors="replace") as file:
             output = file.read()

@@ -203,7 +203,7 @@ class Report:
         print_faults(outcome, self.command)
         self.left[outcome.name] -= 1
         if not self.left[outcome.name]:
-            print(line_of_class(outcome.name, [it for it in self.outcomes if it.name == outcome.name]), flush=True)
+            print(line_of_class(outcome.name, [each for each in self.outcomes if each.name == outcome.name]), flush=True)
 
 
 def outcome_of(future: Future, name: str) -> Outcome:
@@ -220,7 +220,7 @@ def as_they_end(started: dict[Future, str]) -> Iterator[Future]:
         ended, left = wait(left, SECONDS_BETWEEN_LINES, FIRST_COMPLETED)
         yield from ended
         if not ended:
-            print("still running:", ", ".join(sorted({started[it] for it in left if it.running()})), flush=True)
+            print("still running:", ", ".join(sorted({started[future] for future in left if future.running()})), flush=True)
 
 
 def run_all(tests: list[unittest.TestCase], jobs: int, stops_early: bool, command: str) -> list[Outcome]:
@@ -236,7 +236,7 @@ def run_all(tests: list[unittest.TestCase], jobs: int, stops_early: bool, comman
         for future in as_they_end(started):
             if not future.cancelled():
                 report.add(outcome_of(future, started[future]))
-            if stops_early and any(it.failed for it in report.outcomes):
+            if stops_early and any(outcome.failed for outcome in report.outcomes):
                 pool.shutdown(wait=False, cancel_futures=True)
     return report.outcomes
 

@@ -82,8 +82,8 @@ def classes(base: type[built.OfProgram], ending: str = "") -> Iterator[type]:
 
 
 def add_classes() -> None:
-    """Adds the classes to this module, those of the second compiler's program where it is there. If the program alone is tested (`--quick`), it was
-    compiled anew, and the second compiler's may be of older sources."""
+    """Adds the classes to this module, also those of the second compiler's program where it is there. With `--quick` it is left out: the program that
+    is tested was compiled anew, and the second compiler's may be of older sources."""
     added = list(classes(built.OfProgram))
     if os.path.exists(built.BY_RATTLE) and not built.IS_ALONE:
         added += classes(BySecondCompiler, "BySecondCompiler")
