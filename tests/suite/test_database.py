@@ -226,11 +226,11 @@ class Stores(built.OfLibrary):
         self.addCleanup(store.close)
         return store
 
-    def test_strict(self):
+    def test_agrees_with_whole_list(self):
         self.assertTrue(agrees_with_whole_list(self.connect(), seed=0, policy=spki.Policy.STRICT))
 
-    def test_sha1_allowed(self):
-        """The same under `ALLOW_SHA1`: hashes by SHA-1 name keys too."""
+    def test_agrees_where_sha1_is_allowed(self):
+        """Decisions agree with those of the whole list also under `ALLOW_SHA1`, by which hashes by SHA-1 name keys too."""
         self.assertTrue(agrees_with_whole_list(self.connect(), seed=1, policy=spki.Policy.ALLOW_SHA1))
 
     def test_several_clients(self):

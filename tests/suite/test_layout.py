@@ -47,7 +47,7 @@ def git(*words):
 class Layout(unittest.TestCase):
     """The sources, the wrong bodies, and the line on the last run of `.ci/deep`."""
 
-    def test_sources(self) -> None:
+    def test_sources_are_formatted(self) -> None:
         crates = sorted(os.path.dirname(path) for path in glob.glob(os.path.join(ROOT, "crates", "*", "src")))
         faults = {os.path.relpath(crate, ROOT): files for crate in crates if (files := files_laid_out_wrongly(crate))}
         self.assertEqual(faults, {}, f"run rt fmt in {', '.join(faults)}")

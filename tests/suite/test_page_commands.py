@@ -23,7 +23,7 @@ class Lists(unittest.TestCase):
     def setUpClass(cls) -> None:
         cls.commands = page_commands.all_commands()
 
-    def test_all_are_known(self) -> None:
+    def test_all_commands_are_known(self) -> None:
         unknown = page_commands.uncovered(self.commands)
         self.assertEqual(unknown, [], "\n".join([ADVICE, *unknown]))
 

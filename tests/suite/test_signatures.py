@@ -149,6 +149,7 @@ class Requests(unittest.TestCase):
         self.cert("request", "--by", "p256", "--curl", self.url.replace("127.0.0.1", "localhost"), "--", "-s", "--fail", wanted=22)
 
     def test_refusals(self) -> None:
+        """Wrong words end with status 2 and a message, which has the text beside them here."""
         for words, message in (
             (["--by", "nokey", self.url], "nokey: No such file"), (["--by", "p256", "http://a/ b"], "no address of https or http"),
             (["--by", "p256", "ftp://a/"], "no address"), (["--by", "p256", "https://me:word@a/"], "no address"),
