@@ -82,7 +82,7 @@ class Request:
 
     def text(self, block: int, place: int, text: Text) -> None:
         """Adds a block with the octets of a text, and a link to it from the place of its pointer in `block`. Null stays null."""
-        at = c_void_p.from_address(addressof(text)).value
+        at = c_void_p.from_address(addressof(text)).value  # (`text.octets` would be the octets up to a 00, and not the address)
         if at:
             length = text.length if text.length <= MOST_OCTETS else 1
             self.links.append((block, place, self.block(string_at(at, length))))
@@ -181,7 +181,8 @@ class Relayed:
             if at:
                 request.block(bytes(length))
                 request.arguments = [(False, at), (False, length)]
-                copies.append(ctypes.create_string_buffer(self.relay(0, request)[1][0][1]))
+                _, [(_, octets)] = self.relay(0, request)
+                copies.append(ctypes.create_string_buffer(octets))
                 setattr(listed, name, addressof(copies[-1]))
         # (a copy lasts as long as what points to it)
         listed.copies = copies

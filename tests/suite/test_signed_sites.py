@@ -62,7 +62,7 @@ class OfSites(unittest.TestCase):
         self.check_chain()
 
     def check_chain(self) -> None:
-        """A request in which Ben shows Ann's certificate is granted only if his signature covers it. Leaves it in `b` for `check_left_chain`."""
+        """A request in which Ben shows Ann's certificate is granted only if his signature covers it. `check_left_chain` needs the file `b`."""
         right = ("--tag", "(files read (* prefix /web/))", "--days", "9")
         self.site.cert("sign", "--by", "keys/ann", "--to", "keys/ben.pub", *right, "--force", "-o", "b")
         ben = self.fields("ben", PAGE, "--cert", "b")
