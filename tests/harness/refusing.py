@@ -29,6 +29,7 @@ class Ended:
 
     @property
     def answer(self):
+        """The status and both outputs."""
         return self.status, self.out, self.err
 
     def __str__(self):
