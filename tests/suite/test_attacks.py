@@ -59,7 +59,7 @@ class Pages(unittest.TestCase):
 
 
 class Table(unittest.TestCase):
-    """The tests of a web server, `kind`. `table_of` adds the methods that unittest runs. `sender` puts keys and certificates into attacks."""
+    """The tests of a web server. `table_of` adds the methods that unittest runs. `site` has this server. `sender` puts certificates into attacks."""
 
     kind: type[web_servers.ServerSite]
     site: web_servers.ServerSite

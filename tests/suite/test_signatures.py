@@ -30,7 +30,7 @@ KINDS = ("ed25519", "rsa", "p256", "p384")
 
 
 def spki_cert(*words: str, room: str, **settings: str) -> subprocess.CompletedProcess[bytes]:
-    """Runs `spki-cert` in the folder `room`, with more `settings` of the environment, and without the caller's for ssh-agent, labels and proxies."""
+    """Runs `spki-cert` in the folder `room`, with more `settings` of the environment, but without the caller's ssh-agent and labels, nor a proxy."""
     others = {name: value for name, value in os.environ.items() if name not in ("SSH_AUTH_SOCK", "SPKI_LABELS")}
     return subprocess.run([sys.executable, COMMAND, *words], cwd=room, stdin=subprocess.DEVNULL, stdout=subprocess.PIPE, stderr=subprocess.PIPE,
                           timeout=SECONDS, env={**others, **settings, "no_proxy": "*"})
