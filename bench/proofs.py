@@ -56,7 +56,7 @@ def main():
     name, rows = sys.argv[1], int(sys.argv[2]) if len(sys.argv) > 2 else 20
     crate = toolchain.crates(name)[name]
     with tempfile.TemporaryDirectory() as folder:
-        ran = toolchain.rt_module().checked(crate, {}, toolchain.ONE, folder)
+        ran = toolchain.rt_module().checked(crate, {}, toolchain.ONE_JOB, folder)
         if ran.returncode:
             sys.exit(ran.stdout)
         parts, declarations = list(parts_in(folder)), sorted(steps_in(folder), reverse=True)

@@ -88,7 +88,8 @@ class Library:
         return status, needed.value, buffer.raw
 
     def fault_of_call(self, asked: Call) -> str | None:
-        """What is wrong with the answer to a call with texts that are empty, null or too long, None if nothing is."""
+        """What is wrong with the answer to a call of which no text is read, None if nothing is. `asked` has the command's number, or None for
+        `spki_check_accepted`; and of each text and of the buffer whether its pointer is null, and its length."""
         wanted = call(asked.number, asked.texts, asked.buffer)
         octets, needed = ctypes.create_string_buffer(ROOM + 1), ctypes.c_size_t()
         texts = [argument for is_null, length in asked.texts for argument in (None if is_null else b"", length)]
@@ -187,6 +188,7 @@ class Comparison:
         try:
             wanted = model_answer(asked)
             rng = random.Random(number)
+            # (the law of intersections is tried with a request near each tag)
             laws.check_laws(asked.command, asked.text, wanted, lambda of_tags: [tags.request_near(tag, rng) for tag in of_tags])
         except ModelDisagrees as why:
             return f"the model disagrees with itself: {why}"
@@ -205,7 +207,7 @@ class Comparison:
 # ---- many cases
 
 
-def work(comparison: Comparison, numbers: range, at: MutableSequence[int], job: int, results: Connection) -> None:
+def run_job(comparison: Comparison, numbers: range, at: MutableSequence[int], job: int, results: Connection) -> None:
     """Compares the cases of these numbers, in a process of its own, and keeps the present number in `at[job]`. Sends to `results` which cases differ,
     how often each row of the model was reached, and how many cases the program answered. A case that takes over SECONDS ends it: nothing is sent."""
     coverage.reset_counts()
@@ -230,7 +232,7 @@ def compare(comparison: Comparison, first: int, cases: int, jobs: int) -> tuple[
     for job in range(jobs):
         results, sender = multiprocessing.Pipe(duplex=False)
         numbers = range(first + job, first + cases, jobs)
-        process = multiprocessing.Process(target=work, args=(comparison, numbers, at, job, sender))
+        process = multiprocessing.Process(target=run_job, args=(comparison, numbers, at, job, sender))
         process.start()
         sender.close()
         workers.append((results, process))
@@ -271,14 +273,14 @@ def tables(rows: Counter) -> list[str]:
 
 
 def shared_object(archive: str, folder: str) -> str:
-    """Links the static library into a shared object in a folder, which Python can load. Returns its path."""
+    """Links the static library into a shared object in a folder, which Python can load. Returns its path. Raises CalledProcessError if cc fails."""
     path = os.path.join(folder, "libspki_c.so")
     subprocess.run(["cc", "-shared", "-o", path, "-Wl,--whole-archive", archive, "-Wl,--no-whole-archive"], check=True)
     return path
 
 
 def comparison_of(program: str, archive: str | None, folder: str, seed: str) -> Comparison:
-    """What is compared with the model: a program, and the library of an archive, unless it is None. The folder is for the library's shared object."""
+    """What is compared with the model: a program, and the library of an archive, unless that is None. `folder` is for the library's shared object."""
     library = Library(ctypes.CDLL(shared_object(os.path.abspath(archive), folder))) if archive else None
     return Comparison(library, os.path.abspath(program), seed)
 

@@ -9,7 +9,7 @@ __all__ = ["BENCH", "LIBRARY", "PROGRAM", "TOP", "braced", "canonical", "given_p
 
 
 def servers() -> Any:
-    """The module that starts servers of PostgreSQL. It looks for all that the tests use, so only who needs it waits for that."""
+    """The module that starts servers of PostgreSQL. Its import looks for all that the tests use, which takes a while, so it is imported only here."""
     from harness import databases
     return databases
 

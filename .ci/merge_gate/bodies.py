@@ -29,7 +29,7 @@ def path_of(file: str, lines: list[str], at: int, name: str) -> str:
 
 
 def function_around(file: str, lines: list[str], number: int) -> str | None:
-    """The path (`path_of`) of the function that line `number`, from 0, is in. None if it is in none. A function ends with a `}` below its head."""
+    """The path (`path_of`) of the function of a file that line `number`, from 0, is in. None if it is in none. A `}` below the head ends it."""
     for at in range(number, -1, -1):
         head = HEAD.match(lines[at])
         if head:
@@ -43,7 +43,7 @@ def functions_changed(file: str, old: str, new: str) -> set[str | None]:
     lines, so both texts have equally many lines."""
     lines = old.split("\n")
     pairs = zip(lines, new.split("\n"), strict=True)
-    return {function_around(file, lines, number) for number, (one, other) in enumerate(pairs) if one != other}
+    return {function_around(file, lines, number) for number, (before, after) in enumerate(pairs) if before != after}
 
 
 def functions_of(folder: str, texts: dict[str, str]) -> list[str]:
@@ -56,13 +56,13 @@ def functions_of(folder: str, texts: dict[str, str]) -> list[str]:
     return [] if None in changed else sorted(path for path in changed if path)
 
 
-def refuses(crate: str, path: str, said: str) -> bool:
+def refuses(crate: str, path: str, output: str) -> bool:
     """Whether a check shows that the contract of the function `path` itself is unproved: not only that of what it calls, and not only because a proof
-    file names what is gone. `said` is the check's output. A line `fn CRATE::PATH: VERDICT` there is a verdict on this function alone, since a proof
+    file names what is gone. `output` is that of the check. A line `fn CRATE::PATH: VERDICT` there is a verdict on this function alone, since a proof
     rests on the contracts of other functions, and not on their bodies."""
     name = path.rpartition("::")[2]
-    verdicts = re.findall(rf"^fn {crate}::(?:\S+::)?{name}: (.*)$", said, re.MULTILINE)
-    errors = re.findall(rf"^(?:\./)?proofs/(?:[\w+]+/)*{name}/\S*: error.*$", said, re.MULTILINE)
+    verdicts = re.findall(rf"^fn {crate}::(?:\S+::)?{name}: (.*)$", output, re.MULTILINE)
+    errors = re.findall(rf"^(?:\./)?proofs/(?:[\w+]+/)*{name}/\S*: error.*$", output, re.MULTILINE)
     are_gone = bool(errors) and all(NAME_GONE.search(error) for error in errors)
     return any("did not prove" in verdict or (verdict.startswith("not proved") and not are_gone) for verdict in verdicts)
 
@@ -87,7 +87,7 @@ class Body(NamedTuple):
 
 
 def body_of(path: str, folder: str) -> Body:
-    """The wrong body in a file, an edit of the crate in a folder."""
+    """The wrong body in the file at `path`, an edit of the crate in `folder`."""
     texts, _ = toolchain.applied(path, folder)
     return Body(path, texts, functions_of(folder, texts))
 
@@ -127,8 +127,8 @@ def tried(crate: Any, paths: list[str], over: str) -> Iterator[tuple[bool, str]]
     bodies = [body_of(path, crate.folder) for path in paths]
     refused = set()
     for group in batches(bodies):
-        said = toolchain.check_of(crate, merged(crate.folder, group), [path for body in group for path in body.functions], over)
-        refused |= {body.path for body in group if any(refuses(crate.name, path, said) for path in body.functions)}
+        output = toolchain.check_of(crate, merged(crate.folder, group), [path for body in group for path in body.functions], over)
+        refused |= {body.path for body in group if any(refuses(crate.name, path, output) for path in body.functions)}
     for path in paths:
         is_refused, why = (True, "") if path in refused else toolchain.verdict_on(crate, path, over)
         yield is_refused, f"{crate.name}/{os.path.basename(path)[:-5]}: {'refused' if is_refused else f'NOT SHOWN: {why}'}"

@@ -20,7 +20,7 @@ def try_bodies(names: list[str], counts: Counts, sums: dict[str, str]) -> None:
     """Tries wrong bodies, over the libraries that `rt ci` has left. If one is missing, a failure is counted and none is tried. A name is
     CRATE/NAME, or a crate for all of its. `sums` has `records.sum_of` from before `rt ci`: if all of a crate's are refused, it becomes its record."""
     crates = toolchain.crates(*(name.partition("/")[0] for name in names))
-    lacking = {it.name for crate in crates.values() for it in crate.below() if not os.path.isdir(it.rlib)}
+    lacking = {used.name for crate in crates.values() for used in crate.below() if not os.path.isdir(used.rlib)}
     if lacking:
         return counts.add(False, f"no wrong body was tried, since rt ci has not left the libraries {', '.join(sorted(lacking))}")
 
@@ -40,14 +40,14 @@ def try_bodies(names: list[str], counts: Counts, sums: dict[str, str]) -> None:
 
 
 def try_all(names: list[str], counts: Counts) -> None:
-    """Tries every wrong body of these crates, or of all. `rt ci` proves the crates first. If it fails, none is tried: in a
-    crate that is not proved each of them would be refused."""
+    """Tries every wrong body of these crates, or without names of all, and counts the results. `rt ci` proves the crates first. If it fails, none is
+    tried: in a crate that is not proved each of them would be refused."""
     sums = {name: records.sum_of(crate) for name, crate in toolchain.crates(*names).items() if bodies.paths_of(crate)}
     toolchain.remove_kept_libraries()
     counts.add_log(*run(["rt", "ci", *names], plan.DEEP_MINUTES))
     if counts.failed:
         return counts.add(False, "no wrong body was tried, since rt ci failed")
-    toolchain.give_libraries({it.name for crate in toolchain.crates(*names).values() for it in crate.below()} if names else set())
+    toolchain.give_libraries({used.name for crate in toolchain.crates(*names).values() for used in crate.below()} if names else set())
     try_bodies([*sums], counts, sums)
 
 

@@ -27,7 +27,7 @@ def promises(crate: Any) -> Iterator[str]:
     for path in sorted(glob.glob(f"{crate.folder}/src/**/*.rt", recursive=True)):
         text = read(path)
         yield from (found[0] for pattern in (HEAD, TRAIT) for found in pattern.finditer(text))
-    for folder in sorted({crate.folder, *(it.folder for it in crate.below())}):
+    for folder in sorted({crate.folder, *(used.folder for used in crate.below())}):
         yield from map(read, sorted(glob.glob(f"{folder}/specs/**/*.antt", recursive=True)))
         yield from (ghost for path in sorted(glob.glob(f"{folder}/src/**/*.rt", recursive=True)) for ghost in GHOST.findall(read(path)))
     yield from map(read, sorted(glob.glob(f"{crate.folder}/wrong/*.edit")))

@@ -24,7 +24,7 @@ TOP = os.path.realpath(os.path.join(os.path.dirname(os.path.abspath(__file__)), 
 # What the toolchain says of an edit that it refuses for a name alone, or by a limit of its own: that shows nothing of the contract.
 SAYS_LITTLE = ("says little of the contract", "says less of the contract")
 # One check has one process.
-ONE = ["--jobs", "1"]
+ONE_JOB = ["--jobs", "1"]
 
 
 @functools.lru_cache(maxsize=None)
@@ -43,7 +43,7 @@ def rt_module() -> Any:
 
 def crates(*names: str) -> dict[str, Any]:
     """The crates with these names, or all, those that use the fewest others first. Ends the process if one is missing."""
-    every = {it.name: it for it in sorted(rt_module().rtlib.crates_below(TOP), key=lambda it: len(it.below()))}
+    every = {crate.name: crate for crate in sorted(rt_module().rtlib.crates_below(TOP), key=lambda crate: len(crate.below()))}
     missing = sorted(set(names) - every.keys())
     if missing:
         sys.exit(f"there is no crate {', '.join(missing)}")
@@ -51,7 +51,7 @@ def crates(*names: str) -> dict[str, Any]:
 
 
 def applied(path: str, folder: str) -> tuple[dict[str, str], str]:
-    """The files of the crate in a folder that an edit changes, with their texts after it, and "". Or no files, and why it cannot be applied."""
+    """The files of the crate in `folder` that the edit in the file `path` changes, with their texts after it, and "". Or {}, and why it fails."""
     texts, why = rt_module().read_edit(path, folder)
     return texts or {}, why or ""
 
@@ -59,14 +59,14 @@ def applied(path: str, folder: str) -> tuple[dict[str, str], str]:
 def check_of(crate: Any, texts: dict[str, str], only: list[str], over: str) -> str:
     """The output of a check of the functions `only`, given by their paths, of a crate with other texts. Empty if it does not judge them: a text could
     not be read, or its status is neither 0 (all proved) nor 1. It begins with what the folder `over` has, and keeps there what it proves."""
-    ran = rt_module().checked(crate, texts, [*ONE, *(f"--only={path}" for path in only)], over)
+    ran = rt_module().checked(crate, texts, [*ONE_JOB, *(f"--only={path}" for path in only)], over)
     is_read = not any(rt_module().unread(line, texts) for line in ran.stdout.split("\n"))
     return ran.stdout if is_read and ran.returncode in (0, 1) else ""
 
 
 def verdict_on(crate: Any, path: str, over: str) -> tuple[bool, str]:
-    """Whether a crate's contract refuses an edit, and what is said of it. The whole crate is checked, beginning with what the folder `over` has."""
-    verdict, said = rt_module().must_fail(crate, path, ONE, over)
+    """Whether a crate's contract refuses the edit in the file `path`, and why. Checks the whole crate, beginning with what the folder `over` has."""
+    verdict, said = rt_module().must_fail(crate, path, ONE_JOB, over)
     return verdict == rt_module().REFUSED and not any(words in said for words in SAYS_LITTLE), said
 
 
@@ -81,10 +81,10 @@ def give_libraries(names: set[str]) -> None:
     """Puts the libraries of these crates into their folders, as `rt ci` has kept them for the present files. Where it kept none, the folder has none.
     The names must include all crates below each. It is needed behind `rt ci NAME ..`, which works on a copy and leaves no libraries here."""
     chosen = crates(*names).values() if names else ()
-    rt_module().Crate.cuts_libraries = True
+    rt_module().Crate.cuts_libraries = True  # (as `rt ci` does: a crate then loads only the statements of the libraries below it)
     kept = rt_module().Kept(chosen, anew=False)
     for crate in chosen:
         shutil.rmtree(os.path.join(crate.folder, "out", "rlib"), ignore_errors=True)
         os.makedirs(os.path.join(crate.folder, "out"), exist_ok=True)
         if kept.give(crate, tests=False, key=kept.key(crate)):
-            kept.is_built(crate)
+            kept.is_built(crate)  # (records its checksum, which the keys of the crates above depend on)

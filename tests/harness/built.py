@@ -1,5 +1,5 @@
-"""The built program and library as the tests take them, and the size of a run. `tests/run` builds them. These variables of the environment are for
-both. It sets all but ONE_CALL and LIBRARY, with which a person tests others:
+"""The paths of the program and of the libraries that are tested, which `tests/run` builds, and the size of a run. These variables of the environment
+say both. `tests/run` sets all but ONE_CALL and LIBRARY, by which a person tests others:
 
     SPKI_TEST_PROGRAM   another program than crates/spki/out/spki
     SPKI_TEST_ONE_CALL  another program than crates/test_one_call/out/test_one_call
@@ -59,7 +59,8 @@ class OfProgram(unittest.TestCase):
 
 
 class OfLibrary(OfProgram):
-    """The base of tests of the library: `library` and `shared` are the paths of both kinds. Some compare its answers with those of the program."""
+    """The base of tests of the library for C: `library` is the path of the static one, and `shared` that of the shared one. Some tests compare its
+    answers with those of the program."""
 
     library: str
     shared: str

@@ -50,12 +50,12 @@ class Sources:
         return self.contracts.get(name, self.contracts.get(name.split("::")[-1]))
 
     def leads_to(self, contracts: list[str], wanted: str) -> bool:
-        """Whether one of these contracts cites a definition, or cites one that leads to it."""
-        left, seen = set(WORD.findall(" ".join(contracts))), set[str]()
-        while left - seen and wanted not in left:
-            seen |= left
-            left = left.union(*(self.cited.get(name, set()) for name in left))
-        return wanted in left
+        """Whether one of these contracts cites the definition `wanted`, or cites one that leads to it."""
+        reached, followed = set(WORD.findall(" ".join(contracts))), set[str]()
+        while reached - followed and wanted not in reached:
+            followed |= reached
+            reached = reached.union(*(self.cited.get(name, set()) for name in reached))
+        return wanted in reached
 
     def faults_of(self, cell: str, default: list[str]) -> Iterator[str]:
         """A line for each name of a cell that is not where the cell says. A phrase, up to a semicolon, has functions and then names of their clauses;
@@ -64,7 +64,7 @@ class Sources:
         # `contracts` are those of the functions named last. Behind a clause (is_closed) the next function begins a new list of them.
         contracts, is_closed, is_in_parentheses, are_all_clauses = default, True, False, False
         for mark, word, name in re.findall(r"([();])|\b(calls?|readers)\b|`([\w:-]+)`", cell):
-            named = None if are_all_clauses else self.contracts_of(name)
+            of_function = None if are_all_clauses else self.contracts_of(name)
             if mark:
                 is_in_parentheses = mark == "(" or is_in_parentheses and mark == ";"
                 if mark == ";" and not is_in_parentheses:
@@ -74,8 +74,8 @@ class Sources:
             elif is_in_parentheses:
                 if not self.leads_to(contracts, name):
                     yield f"no contract leads to {name}"
-            elif named is not None and (contracts is default or not has_clause(contracts, name)):
-                contracts, is_closed = (named if is_closed else [*contracts, *named]), False
+            elif of_function is not None and (contracts is default or not has_clause(contracts, name)):
+                contracts, is_closed = (of_function if is_closed else [*contracts, *of_function]), False
             elif not has_clause(contracts, name) and name not in OF_LANGUAGE:
                 yield f"no clause {name}"
             else:
@@ -83,9 +83,8 @@ class Sources:
 
 
 def unclaimed(page: str, header: str, source: str) -> Iterator[str]:
-    """A line for each function `spki_c_..` of a source that no row of the page's section `spki_c` has, and for each call of a header for C that calls
-    no such function of its own name and that the words before the rows do not explain: by its whole name, or by an end of it that begins with `_`.
-    All three are paths."""
+    """A line for each function `spki_c_..` of a source that no row of the page's section `spki_c` has, and for each call of a header that has no such
+    function of its name and whose name, or an end of it from a `_` on, is not in the words before the rows. All three are paths."""
     section = next(rows for head, rows in SECTION.findall(text_of(page)) if head == "`spki_c`")
     introduction, _, rows = section.partition("\n|")
     exports = set(re.findall(r"^\w[\w *]*\b(spki_c_\w+)\(", text_of(source), re.MULTILINE))
@@ -99,7 +98,7 @@ def unclaimed(page: str, header: str, source: str) -> Iterator[str]:
 
 def has_clause(contracts: list[str], name: str) -> bool:
     """Whether one of these contracts has a clause of this name."""
-    return any(name in CLAUSE.findall(it) for it in contracts)
+    return any(name in CLAUSE.findall(contract) for contract in contracts)
 
 
 def faults(page: str, sources: Sources) -> Iterator[str]:

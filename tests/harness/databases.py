@@ -1,5 +1,4 @@
-"""Servers of PostgreSQL in temporary folders, for the tests and benches of stores: also replicas, and servers whose network can be cut or whose disk
-can be filled."""
+"""Servers of PostgreSQL in temporary folders, for the tests and benches of stores: also replicas, and servers that can lose network or disk space."""
 from __future__ import annotations
 
 import contextlib
@@ -48,7 +47,7 @@ OWNER = ["setpriv", "--reuid=postgres", "--regid=postgres", "--clear-groups"]
 
 class Server:
     """A server in a temporary folder, which trusts whoever reaches its socket there. It ends with its context. It may be at a node of a network, and
-    then trusts other nodes too, and on a disk of its own of so many MiB. `settings` are those of PostgreSQL."""
+    then trusts other nodes too, and on a disk of its own of `mib` MiB, if that is not 0. `settings` are those of PostgreSQL."""
 
     def __init__(self, at: networks.Node | None = None, mib: int = 0, **settings: str) -> None:
         self.folder = tempfile.mkdtemp(prefix="spki-pg-")
@@ -65,7 +64,7 @@ class Server:
         os.chmod(self.folder, 0o755)  # (so that clients of other users reach its socket)
 
     def __enter__(self) -> Server:
-        if not os.path.exists(self.data):  # (a replica has those of its primary)
+        if not os.path.exists(self.data):  # (`replica` has copied the data of a replica already)
             self.run("initdb", "-D", self.data, "-U", "postgres", "-A", "trust", "-E", "UTF8", "--locale=C", "--no-sync")
             with open(os.path.join(self.data, "pg_hba.conf"), "a", encoding="utf-8") as file:
                 file.write(f"host all,replication all {networks.ALL} trust\n")
@@ -121,7 +120,8 @@ class Server:
             self.process = None
 
     def replica(self, at: networks.Node | None = None, mib: int = 0, **settings: str) -> Server:
-        """A replica of this server, which is not started yet. It has the settings of this server, except for those that are given."""
+        """A replica of this server, which is not started yet: at the node `at`, if any, on a disk of `mib` MiB, if that is not 0. It has the settings
+        of this server, except for those that are given."""
         replica = Server(at, mib, **{**self.settings, **settings})
         replica.run("pg_basebackup", "-d", replica.source(self), "-D", replica.data, "-R", "-X", "stream", "-c", "fast", "--no-sync")
         return replica

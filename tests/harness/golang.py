@@ -21,12 +21,13 @@ def settings(library: str) -> dict[str, str]:
 
 
 def go(folder: str, words: list[str], library: str, stdin: bytes | None = None, **more: str) -> subprocess.CompletedProcess[bytes]:
-    """Runs `go` in a folder, with a static library to link, octets for its input, and more variables of the environment. Returns how it ended."""
+    """Runs `go` in a folder on an input, with a static library to link and more variables of the environment. Returns how it ended, also if it
+    failed."""
     return subprocess.run(["go", *words], cwd=folder, input=stdin, stdout=subprocess.PIPE, stderr=subprocess.PIPE, timeout=SECONDS,
                           env={**settings(library), **more})
 
 
 def build_daemon(library: str, to: str, *flags: str) -> str:
-    """Builds spki-authd at a path, and returns the path. Raises CalledProcessError if it is not built."""
+    """Builds spki-authd with a static library at the path `to`, which it returns. `flags` are options of `go build`. Raises CalledProcessError."""
     go(DAEMON, ["build", *flags, "-o", to, "."], library).check_returncode()
     return to

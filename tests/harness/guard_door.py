@@ -60,12 +60,12 @@ def text_of(octets: bytes) -> Text:
 
 
 def rows_of(question: GuardQuestion) -> list[cases.Row]:
-    """The rows of a question: the signatures that count as valid."""
+    """The accepted signatures of a question, as the model reads them: those that count as valid."""
     return cases.read_rows(forms.read(question.rows))
 
 
 def model_answer(question: GuardQuestion) -> tuple[Answer, list[Signed]]:
-    """What the model answers to a question, and the signatures that it lists."""
+    """What the model answers to a question, a status and octets, and the signatures that it lists."""
     wish = question.command.removeprefix("guard ")
     return answer(wish, question.acl, parts_of(question), rows_of(question), question.policy, question.limits, question.oddity)
 
@@ -108,14 +108,15 @@ class GuardDoor:
             call.argtypes = [c_void_p, c_void_p, c_size_t, needed]
 
     def decide(self, asked: Any, line: Any, room: int, needed: Any) -> int:
-        """Calls `spki_asked_decide`, which writes a line of at most `room` octets. Returns the status alone, as the calls that explain and reduce do,
-        and keeps the last second of the decision in `until`."""
+        """Calls `spki_asked_decide`, which writes a line of at most `room` octets, and its length to `needed`. Returns the status alone, as the calls
+        that explain and reduce do, and keeps the last second of the decision in `until`."""
         decision = self.decision(asked, line, room, needed)
         self.until = decision.until
         return int(decision.status)
 
     def fault_of_answer(self, question: GuardQuestion, wanted: tuple[Answer, list[Signed]]) -> str | None:
-        """What is wrong with the answer, what is said of a decision, or the listed signatures, else None. `wanted` is what `model_answer` returns."""
+        """What is wrong with the answer to a question, with what the library says of a decision, or with the listed signatures. None if nothing is.
+        `wanted` is what `model_answer` returns."""
         handle, asked = c_void_p(), c_void_p()
         self.truths = ()
         try:
@@ -178,14 +179,14 @@ class GuardDoor:
         return answered, listed
 
     def mark_valid(self, question: GuardQuestion, asked: c_void_p, listed: list[Signed]) -> None:
-        """Marks the listed signatures that a row of the question accepts, and the place behind the last one. That mark must not change the answer."""
+        """Marks in `asked` the listed signatures that a row of the question accepts, and the place behind the last: that must change nothing."""
         for place, is_valid in enumerate([*valid_of(question, listed), True]):
             if is_valid:
                 self.mark(asked, place)
 
     def open_guard(self, question: GuardQuestion, handle: c_void_p, room: int) -> Answer:
-        """What `spki_guard_open` answers to the list, if the buffer for the line has `room` octets. One more, behind them, must stay zero. `handle`
-        gets the guard. The question's oddity is made here if it is one of this call."""
+        """What `spki_guard_open` answers to the list, told that the buffer for the line has `room` octets. It has one more, in which a write past its
+        end shows. `handle` gets the guard. The question's oddity is made here if it is one of this call."""
         line, needed, odd = ctypes.create_string_buffer(room + 1), c_size_t(), question.oddity
         text, length = (None, 1) if odd == "a list that is null with a length" else (question.acl, len(question.acl))
         size = ctypes.sizeof(Limits) - (odd == "limits of another size")
@@ -195,7 +196,8 @@ class GuardDoor:
         return status, line.raw[:needed.value]
 
     def open_question(self, question: GuardQuestion, handle: c_void_p, asked: c_void_p, room: int) -> Answer:
-        """What `spki_guard_ask` answers, with a buffer of `room` octets for the line. `asked` gets the opened question."""
+        """What `spki_guard_ask` answers to a question of the guard `handle`, with a buffer of `room` octets for the line. `asked` gets the opened
+        question. The question's oddity is made here if it is one of this call."""
         line, needed, odd = ctypes.create_string_buffer(room + 1), c_size_t(), question.oddity
         structure = asked_of(question)
         pointer = None if odd == "no question" else byref(structure)
@@ -205,7 +207,7 @@ class GuardDoor:
         return status, line.raw[:needed.value]
 
     def signatures(self, asked: c_void_p) -> list[Signed]:
-        """The signatures of an opened question. LISTED_WRONGLY if one cannot be had, its octets are wrong, or there is one behind the last."""
+        """The signatures of the opened question `asked`. LISTED_WRONGLY if a call for one fails, its octets are wrong, or one is behind the last."""
         signatures = []
         for place in range(self.count(asked)):
             signature = Listed()
@@ -219,7 +221,7 @@ class GuardDoor:
         return LISTED_WRONGLY if self.signature(asked, len(signatures), byref(Listed())) == DONE else signatures
 
     def answer(self, question: GuardQuestion, asked: c_void_p | None) -> Answer:
-        """What the question's call answers to the opened question by its marks. It asks for the length, and then with a buffer of that length."""
+        """What the question's call answers to the opened question `asked`, or null, by its marks. First asks for the length, then for the answer."""
         call, odd, needed = self.by_wish[question.command.removeprefix("guard ")], question.oddity, c_size_t()
         if odd == "a buffer that is null with a length":
             return call(asked, None, 1, byref(needed)), b""
@@ -230,7 +232,8 @@ class GuardDoor:
         return status, octets.raw[:needed.value]
 
     def refuses_small_buffers(self, question: GuardQuestion, handle: c_void_p, asked: c_void_p) -> bool:
-        """Whether the calls for a question return TOO_SMALL and write nothing, where the buffer is one octet too small."""
+        """Whether the calls for a question return TOO_SMALL and write nothing, where the buffer is one octet too small. Opens the guard in `handle`
+        and the question in `asked`, which the caller closes."""
         status, line = self.open_guard(question, handle, ROOM)
         if status != DONE:
             status, buffer = self.open_guard(question, c_void_p(), len(line) - 1)
@@ -259,7 +262,7 @@ def signed_at(listed: Listed) -> Signed:
 
 
 def asked_of(question: GuardQuestion) -> Asked:
-    """A question as `struct spki_question`, with what its oddity changes."""
+    """A question as `struct spki_question`. An oddity of this structure is put into it; those of calls are left out."""
     request = b"" if question.strings is not None else question.request
     moment = b"" if question.seconds is not None else question.moment
     asked = Asked(ctypes.sizeof(Asked), *map(text_of, (question.sequence, question.key, request)), moment=text_of(moment))
@@ -288,6 +291,6 @@ def asked_of(question: GuardQuestion) -> Asked:
 
 
 def valid_of(question: GuardQuestion, listed: list[Signed]) -> list[bool]:
-    """For each listed signature, whether a row of the question accepts it."""
+    """For each listed signature, in order, whether a row of the question accepts it, by its key, the digest of its message and its value."""
     rows = {(row.key.octets, row.digest, row.value) for row in rows_of(question)}
     return [(key, hashlib.sha256(message).digest(), value) in rows for key, message, value in listed]

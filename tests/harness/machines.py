@@ -1,7 +1,7 @@
-"""Machines on which nothing is but what a page names: Debian's mmdebstrap makes each as a chroot, runs a script there, and removes it.
+"""Machines that have nothing but what a page names: Debian's mmdebstrap makes each as a chroot, runs a script there, and removes it.
 
 A machine has the system's smallest set of packages, those that the page names, and the files of the repository in ~/clone, with what is built where
-the page's own commands would leave it. The script runs as an ordinary user with an empty home and no environment but a path."""
+the page's own commands would leave it. The script runs as an ordinary user, in an empty folder, with no environment but HOME and PATH."""
 from __future__ import annotations
 
 import os
@@ -20,7 +20,8 @@ OTHERS, BY_WORD = ("python3-venv",), {"Python": "python3", "Go 1.": "golang-go",
 
 
 def packages_of(page: str) -> list[str]:
-    """The packages of OTHERS, or that the tests use, which a page names in backticks, or as words if it has none; and those by BY_WORD. Sorted."""
+    """The Debian packages that the text `page` names, sorted: those of OTHERS and of the tests' needs that are in backticks, or if it has none are
+    words of it; and those for which BY_WORD has words of it."""
     # (a page of the manual has `\-` for a hyphen)
     words = re.findall(r"`([^`\n]+)`", page) or re.split(r"[^\w.+-]+", page.replace("\\-", "-"))
     packages = {*(need.package for need in needs.NEEDS), *OTHERS}
@@ -49,7 +50,7 @@ def output_on_machine(packages: list[str], clone: str, by_root: str, script: str
                  f'chroot --userspec={USER}:{USER} "$1" {bare} sh -c "cd ~/empty && . /script" {into} || true']
         # (a script that fails says so in its output. apt-get installs what a package recommends, too)
         words = ["mmdebstrap", "--quiet", "--variant=apt", '--aptopt=Apt::Install-Recommends "true"', f"--include={','.join(packages)}",
-                 *(f"--customize-hook={it}" for it in hooks), release(), "/dev/null"]
+                 *(f"--customize-hook={hook}" for hook in hooks), release(), "/dev/null"]
         status, log = output_of(*words, seconds=SECONDS)
         with open(os.path.join(room, "output"), encoding="utf-8", errors="replace") as file:
             output = file.read()

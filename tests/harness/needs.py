@@ -154,7 +154,7 @@ def needs(*names: str) -> Callable[[Any], Any]:
 
 
 def required(*names: str) -> None:
-    """Skips the module that calls this, by raising SkipTest, where one of these is not there."""
+    """Skips the module that calls this, by raising SkipTest, where a need of one of these names is not there."""
     gone = [need.reason for need in map(BY_NAME.__getitem__, names) if not need.is_there]
     if gone:
         raise unittest.SkipTest(", ".join(gone))
@@ -175,5 +175,5 @@ def table() -> Iterator[str]:
 
 
 def install_line() -> str:
-    """The line that installs all packages of the list."""
+    """The command that installs the packages of all needs."""
     return "apt-get install " + " ".join(dict.fromkeys(need.package for need in NEEDS))

@@ -29,6 +29,7 @@ class Ended:
 
     @property
     def answer(self):
+        """The status and both outputs."""
         return self.status, self.out, self.err
 
     def __str__(self):
@@ -36,7 +37,7 @@ class Ended:
 
 
 def compiled(folder):
-    """Compiles `refuse.c` into a folder. Returns the path of the library, which is preloaded before a program."""
+    """Compiles `refuse.c` into a folder. Returns the path of the library, which LD_PRELOAD puts before the libraries of a program."""
     library = os.path.join(folder, "refuse.so")
     source = os.path.join(TESTS, "programs", "refuse.c")
     subprocess.run(["cc", "-O1", "-Wall", "-shared", "-fPIC", "-o", library, source, "-ldl"], check=True)
@@ -84,8 +85,8 @@ class Program:
         self.path, self.library = path, library
 
     def run(self, command, text, before=(), **plan):
-        """A run under refuse.c. The plan has the settings of refuse.c, in lower case: `memory=3` refuses the third request for memory, `memory="3.."`
-        all from there on. `before` are the words of a program that starts the run, as valgrind."""
+        """Runs a command on a text under refuse.c. The plan has the settings of refuse.c, in lower case: `memory=3` refuses the third request for
+        memory, `memory="3.."` all from there on. `before` are the words of a program that starts the run, as valgrind."""
         environment = {"LD_PRELOAD": self.library, "REFUSE_IN": self.path, "PATH": os.environ["PATH"]}
         environment |= {f"REFUSE_{name.upper()}": str(value) for name, value in plan.items()}
         ends = [os.pipe() for _ in range(3)]  # (for both outputs, and on descriptor 3 for the report of refuse.c)
@@ -100,16 +101,17 @@ class Program:
         status = os.waitstatus_to_exitcode(os.waitpid(child, 0)[1])
         return Ended(status, out, err, dict(zip(NAMES, counts[::2])), sum(counts[1::2]), before_reads)
 
-    def started(self, command, reader, writer, **settings):
-        """Starts the program on two descriptors, and closes its input here. `settings` are those of `subprocess.Popen`. Returns the process."""
+    def start(self, command, reader, writer, **settings):
+        """Starts a command of the program, which reads from one descriptor and writes to another. Closes the first one here. `settings` are those of
+        `subprocess.Popen`. Returns the process."""
         child = subprocess.Popen([self.path, command], stdin=reader, stdout=writer, stderr=subprocess.PIPE, **settings)
         os.close(reader)
         return child
 
     def limited(self, command, text, resource_number, most):
-        """A run for which the system limits a resource, such as `resource.RLIMIT_AS`, to `most`, in the unit of setrlimit. It writes into a file."""
+        """Runs a command with a resource, such as `resource.RLIMIT_AS`, limited to `most`, in the unit of setrlimit. Its output is a file."""
         with tempfile.TemporaryFile() as out:
-            child = self.started(command, descriptor_of(text), out, preexec_fn=lambda: self.limit(resource_number, most))
+            child = self.start(command, descriptor_of(text), out, preexec_fn=lambda: self.limit(resource_number, most))
             run = ended(child)
             out.seek(0)
             return replace(run, out=out.read())
@@ -121,17 +123,17 @@ class Program:
         resource.setrlimit(resource_number, (most, most))
 
     def redirected(self, command, words):
-        """A run by the shell. `words` are the redirections behind the command, as `>&-`. Without one its input is empty."""
+        """Runs a command by the shell. `words` are the redirections behind the command, such as `>&-`. If none is of the input, that is empty."""
         shell = ["sh", "-c", f'exec "$0" "$1" {words}', self.path, command]
         return ended(subprocess.Popen(shell, stdin=subprocess.DEVNULL, stdout=subprocess.PIPE, stderr=subprocess.PIPE))
 
     def reader_gone(self, command, text, taken, dies):
-        """A run whose output is closed after `taken` octets, or at its end if there are fewer. `dies`: SIGPIPE, the signal of a closed pipe, ends it.
-        Otherwise it is ignored there, as in this process, and the write is an error."""
+        """Runs a command whose output is closed after `taken` octets, or at its end if there are fewer. `dies`: SIGPIPE, the signal of a closed pipe,
+        ends it. Otherwise it is ignored there, as in this process, and the write is an error."""
         reader, writer = os.pipe()
         if taken == 0:
             os.close(reader)
-        child = self.started(command, descriptor_of(text), writer, restore_signals=dies)
+        child = self.start(command, descriptor_of(text), writer, restore_signals=dies)
         os.close(writer)
         out = b""
         if taken:
@@ -141,22 +143,22 @@ class Program:
         return ended(child, out)
 
     def in_packets(self, command, text):
-        """A run that gets one octet at each read, from a pipe in which each octet is a packet. The text must fit into the pipe."""
+        """Runs a command that gets one octet at each read, from a pipe in which each octet is a packet. The text must fit into the pipe."""
         reader, writer = os.pipe2(os.O_DIRECT | os.O_CLOEXEC)
-        child = self.started(command, reader, subprocess.PIPE)
+        child = self.start(command, reader, subprocess.PIPE)
         for place in range(len(text)):
             os.write(writer, text[place:place + 1])
         os.close(writer)
         return ended(child)
 
     def without_waiting(self, command, text):
-        """A run on a pipe that does not block: it writes to one that gets full, or if the text is empty reads from one that has nothing yet."""
+        """Runs a command on a pipe that does not block: it writes to one that gets full, or if the text is empty reads from one without octets."""
         reader, writer = os.pipe()
         os.set_blocking(writer if text else reader, False)
         if text:
-            child = self.started(command, descriptor_of(text), writer)
+            child = self.start(command, descriptor_of(text), writer)
             os.close(writer)
             return replace(ended(child), out=read_to_end(reader))
-        run = ended(self.started(command, reader, subprocess.PIPE))
+        run = ended(self.start(command, reader, subprocess.PIPE))
         os.close(writer)
         return run

@@ -82,7 +82,7 @@ class Request:
 
     def text(self, block: int, place: int, text: Text) -> None:
         """Adds a block with the octets of a text, and a link to it from the place of its pointer in `block`. Null stays null."""
-        at = c_void_p.from_address(addressof(text)).value
+        at = c_void_p.from_address(addressof(text)).value  # (`text.octets` would be the octets up to a 00, and not the address)
         if at:
             length = text.length if text.length <= MOST_OCTETS else 1
             self.links.append((block, place, self.block(string_at(at, length))))
@@ -96,7 +96,7 @@ class Request:
 
 
 class Call:
-    """A call, with the types that ctypes wants to know."""
+    """A call of the library, by its number in CALLS, with the types `argtypes` and `restype` as a function of ctypes has them."""
 
     def __init__(self, relayed: "Relayed", number: int) -> None:
         self.relayed, self.number = relayed, number
@@ -104,8 +104,7 @@ class Call:
         self.restype: Any = c_int
 
     def decided(self, *arguments: Any) -> Decision:
-        """What `spki_asked_decide` returns. A call by `relay.c` returns one number, so it writes the last second of the decision to an address that
-        is added to the arguments."""
+        """What `spki_asked_decide` returns. A call by `relay.c` returns one number: it writes the decision's last second to one more argument."""
         until, call = c_int64(), Call(self.relayed, self.number)
         call.argtypes = [*self.argtypes, POINTER(c_int64)]
         return Decision(call(*arguments, byref(until)), until.value)
@@ -131,7 +130,7 @@ class Call:
 
 def address_here(address: int | None, request: Request, blocks: list[tuple[int, bytes]]) -> int | None:
     """An address of the other machine as one of this process, if it is in or at the end of an array that was lent. Any other address, as that of a
-    guard, is returned as it is: only the other machine uses it."""
+    guard, is returned as it is: only the other machine uses it. `blocks` has for each block of the request its address there and its octets."""
     for block, value in request.written:
         at, octets = blocks[block]
         if address is not None and at <= address <= at + len(octets) and isinstance(value, Array):
@@ -140,7 +139,7 @@ def address_here(address: int | None, request: Request, blocks: list[tuple[int, 
 
 
 class Relayed:
-    """What is used as the loaded library. Each process of this machine starts a process of the other machine."""
+    """In the place of a library that ctypes loads. Each process of this machine that calls it runs the command `words`, `relay.c` by an emulator."""
 
     def __init__(self, words: list[str]) -> None:
         self.words, self.owner = words, 0
@@ -182,7 +181,8 @@ class Relayed:
             if at:
                 request.block(bytes(length))
                 request.arguments = [(False, at), (False, length)]
-                copies.append(ctypes.create_string_buffer(self.relay(0, request)[1][0][1]))
+                _, [(_, octets)] = self.relay(0, request)
+                copies.append(ctypes.create_string_buffer(octets))
                 setattr(listed, name, addressof(copies[-1]))
         # (a copy lasts as long as what points to it)
         listed.copies = copies

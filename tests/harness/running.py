@@ -63,11 +63,11 @@ def goes_by(test: unittest.TestCase, name: str) -> bool:
 
 
 class Result(unittest.TestResult):
-    """Gathers the results of tests into an outcome. A test that fails, or of which several subtests fail, counts once."""
+    """Gathers the results of tests of one class into `outcome`. A test that fails, or of which several subtests fail, counts once."""
 
-    def __init__(self, outcome: Outcome, is_fast: bool) -> None:
+    def __init__(self, outcome: Outcome, stops_early: bool) -> None:
         super().__init__()
-        self.outcome, self.failfast = outcome, is_fast
+        self.outcome, self.failfast = outcome, stops_early
 
     def addSuccess(self, test: unittest.TestCase) -> None:
         self.outcome.passed += short_name(test) not in self.outcome.failed
@@ -93,7 +93,7 @@ class Result(unittest.TestResult):
 
     def add(self, test, text: str) -> None:
         """Adds a fault of a test, behind those that it has already. Where the setup of a class failed, `test` is unittest's object for the class. If
-        `is_fast` was true, no further test of this part begins."""
+        the result stops early (`failfast`), no further test begins."""
         name = short_name(test) if isinstance(test, unittest.TestCase) else str(test)
         self.outcome.failed[name] = self.outcome.failed.get(name, "") + text.rstrip() + "\n"
         if self.failfast:
@@ -102,7 +102,7 @@ class Result(unittest.TestResult):
 
 @contextlib.contextmanager
 def catching_outputs() -> Iterator[io.StringIO]:
-    """A context that catches what this process and those that it starts write to the two outputs. The text has it when the context ends."""
+    """A context that catches what this process and those that it starts write to the two outputs. Yields a text that has this once it has ended."""
     caught, originals = io.StringIO(), [os.dup(1), os.dup(2)]
     with tempfile.TemporaryFile() as file:
         sys.stdout.flush()
@@ -121,11 +121,11 @@ def catching_outputs() -> Iterator[io.StringIO]:
             caught.write(file.read().decode(errors="replace"))
 
 
-def run_part(name: str, tests: list[unittest.TestCase], is_fast: bool) -> Outcome:
-    """Runs some tests of the class of this name. `is_fast`: it begins none after the first that fails."""
+def run_part(name: str, tests: list[unittest.TestCase], stops_early: bool) -> Outcome:
+    """Runs some tests of the class of this name. `stops_early`: it begins none after the first that fails."""
     outcome, begun = Outcome(name), time.monotonic()
     with catching_outputs() as caught:
-        unittest.TestSuite(tests).run(Result(outcome, is_fast))
+        unittest.TestSuite(tests).run(Result(outcome, stops_early))
     outcome.seconds, outcome.output = time.monotonic() - begun, caught.getvalue()
     return outcome
 
@@ -172,7 +172,8 @@ def parts_of(tests: Iterable[unittest.TestCase]) -> list[tuple[str, list[unittes
 
 
 def print_faults(outcome: Outcome, command: str) -> None:
-    """Prints what failed in a part and what its tests wrote, each up to FAULT_LENGTH, and their notes. `command` with a test's name runs it alone."""
+    """Prints what failed in a part, with the end of what its tests wrote, each up to FAULT_LENGTH; and always its tests' notes. `command`, with the
+    name of a test behind it, runs this test alone."""
     for name, text in outcome.failed.items():
         print(f"\nFAILED {name}\n{text[:FAULT_LENGTH]}alone  {command} '{name}'\n", flush=True)
     if outcome.failed and outcome.output:
@@ -181,11 +182,11 @@ def print_faults(outcome: Outcome, command: str) -> None:
 
 
 def line_of_class(name: str, outcomes: list[Outcome]) -> str:
-    """A line with the outcome of a class."""
-    counts = [(sum(it.passed for it in outcomes), "passed"), (sum(len(it.failed) for it in outcomes), "failed"),
-              (sum(len(it.skipped) for it in outcomes), "skipped")]
+    """A line with the outcomes of all parts of a class."""
+    counts = [(sum(part.passed for part in outcomes), "passed"), (sum(len(part.failed) for part in outcomes), "failed"),
+              (sum(len(part.skipped) for part in outcomes), "skipped")]
     text = ", ".join(f"{count} {what}" for count, what in counts if count)
-    return f"{name:<44} {text or 'nothing was run'}, {sum(it.seconds for it in outcomes):.1f} s"
+    return f"{name:<44} {text or 'nothing was run'}, {sum(part.seconds for part in outcomes):.1f} s"
 
 
 class Report:
@@ -202,7 +203,7 @@ class Report:
         print_faults(outcome, self.command)
         self.left[outcome.name] -= 1
         if not self.left[outcome.name]:
-            print(line_of_class(outcome.name, [it for it in self.outcomes if it.name == outcome.name]), flush=True)
+            print(line_of_class(outcome.name, [each for each in self.outcomes if each.name == outcome.name]), flush=True)
 
 
 def outcome_of(future: Future, name: str) -> Outcome:
@@ -212,29 +213,30 @@ def outcome_of(future: Future, name: str) -> Outcome:
 
 
 def as_they_end(started: dict[Future, str]) -> Iterator[Future]:
-    """Yields each of these parts when it has ended. After each five minutes in which none ends it prints the names of those that run."""
+    """Yields the future of each part when it has ended. `started` has the class's name by the future. After each five minutes in which none ends it
+    prints the names of those that run."""
     left = set(started)
     while left:
         ended, left = wait(left, SECONDS_BETWEEN_LINES, FIRST_COMPLETED)
         yield from ended
         if not ended:
-            print("still running:", ", ".join(sorted({started[it] for it in left if it.running()})), flush=True)
+            print("still running:", ", ".join(sorted({started[future] for future in left if future.running()})), flush=True)
 
 
-def run_all(tests: list[unittest.TestCase], jobs: int, is_fast: bool, command: str) -> list[Outcome]:
-    """Runs tests in `jobs` processes, and prints their outcomes. `is_fast`: it begins none after the first that fails. `command`, with
-    the name of a test behind it, runs this test alone."""
+def run_all(tests: list[unittest.TestCase], jobs: int, stops_early: bool, command: str) -> list[Outcome]:
+    """Runs tests in `jobs` processes, and prints their outcomes. Returns one for each part. `stops_early`: it begins none after the first that fails.
+    `command`, with the name of a test behind it, runs this test alone."""
     parts = parts_of(tests)
     report = Report(parts, command)
     for name, part in parts:
         if is_whole_module(part[0]):
-            report.add(run_part(name, part, is_fast))
+            report.add(run_part(name, part, stops_early))
     with ProcessPoolExecutor(jobs, mp_context=multiprocessing.get_context("fork")) as pool:
-        started = {pool.submit(run_part, name, part, is_fast): name for name, part in parts if not is_whole_module(part[0])}
+        started = {pool.submit(run_part, name, part, stops_early): name for name, part in parts if not is_whole_module(part[0])}
         for future in as_they_end(started):
             if not future.cancelled():
                 report.add(outcome_of(future, started[future]))
-            if is_fast and any(it.failed for it in report.outcomes):
+            if stops_early and any(outcome.failed for outcome in report.outcomes):
                 pool.shutdown(wait=False, cancel_futures=True)
     return report.outcomes
 

@@ -45,7 +45,7 @@ def free_port() -> int:
 
 
 class Site:
-    """A folder with nginx and the daemon, both started. `web_servers.py` has other web servers."""
+    """nginx and the daemon, both started, with their files in the new folder `room`. `web_servers.py` has other web servers."""
 
     def __init__(self) -> None:
         self.room = tempfile.mkdtemp(prefix="site-")
@@ -62,7 +62,7 @@ class Site:
         """Writes what another web server needs, before the programs start. nginx needs nothing more."""
 
     def at(self, name: str) -> str:
-        """The path of a file of the site."""
+        """The path of a file of the site, which `name` names from the folder `room`."""
         return os.path.join(self.room, name)
 
     def text(self, name: str) -> str:
@@ -76,8 +76,7 @@ class Site:
 
     def sh(self, *words: str) -> str:
         """Runs a command in the folder. Returns what it writes on both streams. Raises AssertionError, which says that too, if it fails."""
-        done = subprocess.run(words, cwd=self.room if os.path.isdir(self.room) else None, env=self.settings, stdout=subprocess.PIPE,
-                              stderr=subprocess.STDOUT, text=True, timeout=SECONDS)
+        done = subprocess.run(words, cwd=self.room, env=self.settings, stdout=subprocess.PIPE, stderr=subprocess.STDOUT, text=True, timeout=SECONDS)
         if done.returncode:
             raise AssertionError(f"{words}: {done.stdout}")
         return done.stdout
@@ -135,7 +134,7 @@ class Site:
         return False
 
     def reload(self) -> str:
-        """Has the daemon read its list again, and returns what it says of that."""
+        """Has the daemon read its list again, and returns what it writes to its log of events then."""
         before = self.text("log/authd-events.log")
         self.daemon.send_signal(signal.SIGHUP)
         waits_for("the list is read again", lambda: self.text("log/authd-events.log").count("\n") > before.count("\n"))
@@ -168,14 +167,14 @@ class Site:
                 yield client
 
     def answer(self, who: str | None, request: bytes) -> bytes:
-        """All that the web server answers to some octets, until it ends the connection. Empty if there is no connection. Where the rate is exceeded,
-        the client waits and asks again. `who` names its certificate and key. None: it has no certificate."""
+        """All that the web server answers to the octets `request`, until it ends the connection. Empty if there is no connection. Where the rate is
+        exceeded, the client waits and asks again. `who` names its certificate and key. None: it has no certificate."""
         while (answer := self.answer_at_once(who, request)).startswith(b"HTTP/1.1 429"):
             time.sleep(0.2)
         return answer
 
     def answer_at_once(self, who: str | None, request: bytes) -> bytes:
-        """All that the web server answers to some octets, sent once: also 429, if the rate is exceeded. Empty if there is no connection."""
+        """All that the web server answers to the octets `request`, sent once: also 429, if the rate is exceeded. Empty if there is no connection."""
         answer = b""
         with contextlib.suppress(OSError), self.connected(who) as client:
             client.sendall(request)
@@ -184,8 +183,8 @@ class Site:
         return answer
 
     def status(self, who: str | None, method: str, path: str, *lines: str, body: str = "") -> int:
-        """The status of the answer to a request, with these lines added to its header. `who` names the client's certificate and key. None: it has no
-        certificate. Raises IndexError if there is no answer."""
+        """The status of the answer to a request, with these lines added to its header, and a `Content-Length` if it has a body. `who` names the
+        client's certificate and key. None: it has no certificate. Raises IndexError if there is no answer."""
         header = [f"{method} {path} HTTP/1.1", "Host: localhost", "Connection: close", *lines]
         header += [f"Content-Length: {len(body)}"] if body else []
         return int(self.answer(who, "\r\n".join([*header, "", body]).encode("latin-1")).split(b" ", 2)[1])

@@ -1,5 +1,4 @@
-"""What the scripts of tests/, bench/ and examples/ share: where the programs are, how one is run, and how S-expressions are read and
-written, by the model.
+"""What the scripts of tests/, bench/ and examples/ share: paths of programs, how one is run, and how the model reads and writes S-expressions.
 
 A service that takes over `examples/signed/` does not need this module: `tools.py` there and `apps/spki-cert/spki_cert_tool/` stand by themselves."""
 import base64
@@ -57,7 +56,8 @@ def run(program, command, text, seconds=SECONDS):
 
 
 def output_of(*words, text=None, seconds=SECONDS, **settings):
-    """The exit status of a command, and all that it writes to both outputs. Raises TimeoutExpired. `settings` are those of `subprocess.run`."""
+    """Runs a command with `text` as its input. Returns its exit status and all that it writes to both outputs, as a text. Raises TimeoutExpired after
+    so many seconds. `settings` are those of `subprocess.run`."""
     done = subprocess.run(words, input=text, stdout=subprocess.PIPE, stderr=subprocess.STDOUT, timeout=seconds, text=True, **settings)
     return done.returncode, done.stdout
 

@@ -23,10 +23,10 @@ FOLDER_OF_MODULES = "/usr/lib/apache2/modules"
 SOCKET_OF_LUA = "/usr/lib/*/lua/5.3/socket/unix.so"
 
 
-class Behind(served.Site):
-    """A site behind one of the web servers, which asks spki-authd before it answers."""
+class ServerSite(served.Site):
+    """A site with one of the web servers, which asks spki-authd before it answers."""
 
-    # As the daemon calls the server, the form of a certificate there, and what it needs beside nginx's example.
+    # The server's name in the daemon's configuration, the form of a certificate in its header, and what it needs beside nginx's example.
     name, form = "", "base64-der"
     needs: tuple[str, ...] = ()
     # The files of the example, and the names in them that are replaced, beside those of all.
@@ -39,8 +39,7 @@ class Behind(served.Site):
     on_port: list[tuple[str, str, str]] = []
 
     def prepare(self) -> None:
-        """Writes the files that the server reads: those of its example, for this site. `originals` has the former texts of the files that are changed
-        now, by their names."""
+        """Writes the files of the server's example, for this site. `originals` has the former text of each file that is changed now, by its name."""
         self.originals: dict[str, str] = {}
         self.write(f"files{SORRY}", SORRY_TEXT)
         self.write("etc/authd.json", self.text("etc/authd.json").replace('"server": "nginx"', f'"server": "{self.name}"'))
@@ -49,7 +48,7 @@ class Behind(served.Site):
                 self.write(f"etc/{name}", self.replaced(file.read()))
 
     def replaced(self, text: str) -> str:
-        """The text of a file of the example, with the folders of this site, and its name or address."""
+        """The text of a file of the example, with this site's folders and host name in the place of those of a real server."""
         for name, here in (("/etc/spki-files", "etc"), ("/run/spki-authd", "run"), ("/run/spki-files", "run/files"), ("/srv/files", "files"),
                            ("/etc/haproxy", "etc"), ("/etc/apache2", "etc"), ("/var/lock/apache2", "tmp"), ("/var/log/nginx", "log")):
             text = text.replace(name, self.at(here))
@@ -60,11 +59,12 @@ class Behind(served.Site):
         return "localhost"
 
     def restart_with(self, more: More) -> None:
-        """Starts the server again, with these lines put into the example's files, and without those that were put there before."""
+        """Starts the server again, with `more` lines in its example's files, and without those of the last time. Each row has a file, a text of it,
+        and the lines that are put behind this text."""
         self.restart_replacing([(name, place, place + lines) for name, place, lines in more])
 
     def restart_asking_port(self, port: int) -> None:
-        """Starts the server again, so that it asks the daemon on a port with TLS."""
+        """Starts the server again, so that it asks the daemon by TLS on this port of loopback."""
         self.restart_replacing([(name, place, lines.replace("{port}", str(port))) for name, place, lines in self.on_port])
 
     def restart_replacing(self, changes: list[tuple[str, str, str]]) -> None:
@@ -81,7 +81,7 @@ class Behind(served.Site):
         self.restart_server()
 
 
-class Nginx(Behind):
+class Nginx(ServerSite):
     """nginx, without its rates. test_nginx.py has more lines of other sites."""
 
     name, form = "nginx", "escaped-pem"
@@ -101,7 +101,7 @@ class Nginx(Behind):
         return re.sub("rate=[0-9]+r/s", "rate=9000r/s", text)
 
 
-class Caddy(Behind):
+class Caddy(ServerSite):
     """Caddy, which only reads files. Debian's has no cache."""
 
     name, needs, files = "caddy", ("caddy",), ("Caddyfile",)
@@ -134,7 +134,7 @@ class Caddy(Behind):
         return ["caddy", "run", "--config", self.at("etc/Caddyfile"), "--adapter", "caddyfile"]
 
 
-class HAProxy(Behind):
+class HAProxy(ServerSite):
     """HAProxy before a server of files that knows nothing of rights."""
 
     name, needs = "haproxy", ("haproxy",)
@@ -177,7 +177,7 @@ class HAProxy(Behind):
         super().end()
 
 
-class Apache(Behind):
+class Apache(ServerSite):
     """Apache, which reads and writes files by WebDAV."""
 
     name, needs, files = "apache", ("apache2", SOCKET_OF_LUA), ("files.conf", "spki.lua")
@@ -224,7 +224,7 @@ class Apache(Behind):
 
 
 class Handler(http.server.BaseHTTPRequestHandler):
-    """Answers by HTTP/1.1, and writes no log."""
+    """The base of handlers that answer by HTTP/1.1, and write no log."""
 
     protocol_version = "HTTP/1.1"
 
@@ -239,11 +239,11 @@ class Handler(http.server.BaseHTTPRequestHandler):
         pass
 
 
-class OfFiles(Handler):
-    """Reads, writes or deletes the file that is asked for: so a request that should not have come can be seen by the folder."""
+class FileHandler(Handler):
+    """Reads, writes or deletes the file that a request names. So a test sees by the files whether a request came that should have been denied."""
 
     def answer(self, status: int, octets: bytes = b"") -> None:
-        """Sends an answer, to HEAD without its octets, with fields by which a cache may keep it."""
+        """Sends an answer with a status and a body, but to HEAD no body. Its fields say that a cache may keep it."""
         self.send_head(status, f"Content-Length: {len(octets)}", "Cache-Control: max-age=60", "Last-Modified: Thu, 01 Jan 2026 00:00:00 GMT")
         if self.command != "HEAD" and octets:
             self.wfile.write(octets)
@@ -268,7 +268,7 @@ class OfFiles(Handler):
     do_HEAD, do_POST, do_PATCH, do_OPTIONS, do_MOVE, do_COPY = do_GET, do_PUT, do_PUT, do_GET, do_DELETE, do_PUT
 
     def file(self) -> str:
-        """The path of the file that is asked for. If a link is on the way to it, the path of a file that does not exist."""
+        """The path of the file that the request names. If a link is on the way to it, the path of a file that does not exist."""
         server = self.server
         assert isinstance(server, FileServer)
         path = os.path.join(server.folder, unquote(self.path.partition("?")[0]).lstrip("/"))
@@ -276,12 +276,12 @@ class OfFiles(Handler):
 
 
 class FileServer(socketserver.ThreadingUnixStreamServer):
-    """Serves a folder on a Unix socket, in threads of this process."""
+    """Serves the files of `folder` on a Unix socket at `path`, in threads of this process."""
 
     daemon_threads = True
 
     def __init__(self, path: str, folder: str) -> None:
-        super().__init__(path, OfFiles)
+        super().__init__(path, FileHandler)
         self.folder = folder
         threading.Thread(target=self.serve_forever, daemon=True).start()
 
@@ -292,11 +292,11 @@ class FileServer(socketserver.ThreadingUnixStreamServer):
 
 
 class Impostor(http.server.ThreadingHTTPServer):
-    """Says yes to everything on a port with TLS, by a certificate of its own, and keeps the secrets that it gets."""
+    """In the place of the daemon on a port with TLS: it has its own certificate, grants each request, and keeps the secrets that it gets."""
 
     def __init__(self, certificate: str, key: str) -> None:
         self.secrets: list[str] = []
-        super().__init__(("127.0.0.1", 0), SaysYes)
+        super().__init__(("127.0.0.1", 0), ImpostorHandler)
         context = ssl.SSLContext(ssl.PROTOCOL_TLS_SERVER)
         context.load_cert_chain(certificate, key)
         self.socket = context.wrap_socket(self.socket, server_side=True)
@@ -306,8 +306,8 @@ class Impostor(http.server.ThreadingHTTPServer):
         """Says nothing of a web server that does not trust it."""
 
 
-class SaysYes(Handler):
-    """The answers of an impostor."""
+class ImpostorHandler(Handler):
+    """Adds the secret of each request to those of its Impostor, and answers with a yes."""
 
     def do_GET(self) -> None:
         server = self.server
@@ -316,4 +316,4 @@ class SaysYes(Handler):
         self.send_head(200, "X-Spki-Answer: yes", "Content-Length: 0")
 
 
-SERVERS: list[type[Behind]] = [Nginx, Caddy, HAProxy, Apache]
+SERVERS: list[type[ServerSite]] = [Nginx, Caddy, HAProxy, Apache]

@@ -23,12 +23,12 @@ def is_chosen(row: str, share: int = 10) -> bool:
     return built.IS_LONG or hashlib.sha256(row.encode()).digest()[0] % share == 0
 
 
-def columns_of(kind: type[web_servers.Behind]) -> list[str]:
+def columns_of(kind: type[web_servers.ServerSite]) -> list[str]:
     """The columns of a server: `plain`, `stopped`, and those for whose name `kind.sites` has configuration lines. Debian's Caddy has no cache."""
     return [column for column in COLUMNS if column in ("plain", "stopped") or column.removeprefix(STOPPED) in kind.sites]
 
 
-def rows_of(kind: type[web_servers.Behind], column: str) -> list[tuple[str, attacks.Attack]]:
+def rows_of(kind: type[web_servers.ServerSite], column: str) -> list[tuple[str, attacks.Attack]]:
     """The rows of a column, each as the row's name and the attack. Each column has the same attacks, under names that begin with the server and the
     column. `attacks.GRANTED` has those that a server grants by right: they are left out."""
     return [(f"{kind.name}, {column}: {each.what}", each) for each in attacks.all_attacks() if (kind.name, each.what) not in attacks.GRANTED]
@@ -37,7 +37,7 @@ def rows_of(kind: type[web_servers.Behind], column: str) -> list[tuple[str, atta
 class Pages(unittest.TestCase):
     """The pages of the servers, and how large the table is."""
 
-    def test_lines(self) -> None:
+    def test_pages_of_servers(self) -> None:
         """Each page in apps/spki-authd/servers/ has at most 40 indented lines, to paste, and says how to probe the site and what the server cannot
         promise. The daemon's README names the page."""
         pages = [os.path.join("apps", "spki-authd", "servers", f"{name}.md") for name in
@@ -50,7 +50,7 @@ class Pages(unittest.TestCase):
             self.assertIn("cannot promise.**", text)
             self.assertIn(page.removeprefix("apps/spki-authd/"), text_of("apps/spki-authd/README.md"))
 
-    def test_rows(self) -> None:
+    def test_number_of_rows(self) -> None:
         """Each server has at least 600 rows, so none is lost unseen, and no two rows have the same name."""
         for kind in web_servers.SERVERS:
             names = [name for column in columns_of(kind) for name, _ in rows_of(kind, column)]
@@ -59,11 +59,10 @@ class Pages(unittest.TestCase):
 
 
 class Table(unittest.TestCase):
-    """The tests of one web server. `table_of` adds the methods that unittest runs. `site` is a site behind this server, and `sender` puts keys and
-    certificates into attacks."""
+    """The tests of a web server. `table_of` adds the methods that unittest runs. `site` has this server. `sender` puts certificates into attacks."""
 
-    kind: type[web_servers.Behind]
-    site: web_servers.Behind
+    kind: type[web_servers.ServerSite]
+    site: web_servers.ServerSite
     sender: attackers.Attackers
 
     @classmethod
@@ -168,7 +167,7 @@ class Table(unittest.TestCase):
             self.assertEqual(attackers.faults_of(self.site, each, statuses), [])
 
 
-def table_of(kind: type[web_servers.Behind]) -> Callable[[type[Table]], type[Table]]:
+def table_of(kind: type[web_servers.ServerSite]) -> Callable[[type[Table]], type[Table]]:
     """Returns a decorator that gives a subclass of Table the tests of a server: one for each column, and others. They are skipped where something
     that they need is not there. The default of a lambda keeps the column of this turn."""
     def with_tests(table: type[Table]) -> type[Table]:

@@ -27,7 +27,7 @@ LINES = [("read /builds/a", "nothing is there"), ("write /builds/a octets of a",
 
 @needs.needs(*needs.LIBRARY, "import cryptography")
 class Caches(built.OfLibrary):
-    """Each cache."""
+    """The cache in each language serves Bob by Alice's certificate, and nobody else."""
 
     def setUp(self) -> None:
         self.room = room_for(self)

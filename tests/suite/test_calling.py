@@ -26,8 +26,7 @@ def page_of(crate):
 
 
 def path_in(crate, path):
-    """The path of a file from the top of the repository. `path` is what the page of a crate has: `src/..` for a file of this crate, and a path from
-    crates/ for another one."""
+    """The path of a file from the top of the repository. `path` is as on the page of a crate: `src/..` for its own files, from crates/ for others."""
     return f"crates/{crate}/{path}" if path.startswith("src/") else f"crates/{path}"
 
 
@@ -40,8 +39,7 @@ def owner_of(head):
 
 
 def calls_in(source):
-    """Yields the public calls of a source as pairs: the type or trait that has the call, None for a function, and the name of the call. Every method
-    of a public trait is public."""
+    """Yields the public calls of a source, also methods of public traits, as pairs: the type or trait that has it, None for a function; its name."""
     owner, is_trait = None, False
     for line in source.splitlines():
         if HEAD.match(line):
@@ -118,7 +116,7 @@ class Pages(unittest.TestCase):
     """The pages for callers. `add_tests` adds a test for each check."""
 
 
-def made_test(crate: str, about: str, fault: str | None) -> Callable[[Pages], None]:
+def check_test(crate: str, about: str, fault: str | None) -> Callable[[Pages], None]:
     """Returns the test of a check. It fails unless `fault` is None. Otherwise `fault` says what is wrong with `about`, a part of the crate's page."""
     return lambda self: self.assertIsNone(fault, f"crates/{crate}/CALLING.md: {about} {fault}")
 
@@ -127,7 +125,7 @@ def add_tests() -> None:
     """Adds the tests of all pages."""
     for crate in sorted(filter(page_of, CRATES)):
         for number, (about, fault) in enumerate(checks(crate), 1):
-            setattr(Pages, f"test_calling:{crate}:{number}:{about}", made_test(crate, about, fault))
+            setattr(Pages, f"test_calling:{crate}:{number}:{about}", check_test(crate, about, fault))
 
 
 add_tests()

@@ -30,8 +30,7 @@ def all_rows() -> dict[str, list[CallRow]]:
 
 
 def examples() -> list[CallRow]:
-    """For each call two rows at most: the best by `rank` whose texts are read, and the best whose texts are refused. test_hostile.py repeats these
-    calls while allocations fail."""
+    """For each call at most two rows, the best by `rank`: one whose texts are read, one whose texts are refused. test_hostile.py repeats them."""
     best: dict[tuple[str, bool], CallRow] = {}
     for row in (row for rows in all_rows().values() for row in rows if is_example(row)):
         kind = row.call, FAULT.match(row.answer) is not None
@@ -72,15 +71,15 @@ class OfCalls(unittest.TestCase):
             self.fail(f"{row.place}: {row.call}\n{texts}\nwanted {shown(row.answer)}\ncame   {shown(answer)}")
 
 
-def made_test(name: str) -> Callable[[OfCalls], None]:
+def row_test(name: str) -> Callable[[OfCalls], None]:
     """The test of the row with this name."""
     return lambda self: self.check_row(name)
 
 
-def made_class(name: str, rows: Iterable[CallRow], path: str) -> type:
+def class_of_rows(name: str, rows: Iterable[CallRow], path: str) -> type:
     """A class of this name with a test for each of these rows. The program at `path` answers them."""
     named = {f"test_{row.place}:{row.call}": row for row in rows}
-    tests = {each: made_test(each) for each in named}
+    tests = {each: row_test(each) for each in named}
     return type(name, (OfCalls,), {"path": path, "rows": named} | tests)
 
 
@@ -91,7 +90,7 @@ def add_classes() -> None:
         if ending and not os.path.exists(path):
             continue
         for name, of_class in rows.items():
-            globals()[name + ending] = made_class(name + ending, of_class, path)
+            globals()[name + ending] = class_of_rows(name + ending, of_class, path)
 
 
 add_classes()

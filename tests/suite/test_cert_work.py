@@ -1,6 +1,5 @@
 """What `spki-cert` does grows as its texts do. Counts steps, and no time: lines of Python that are run, octets of a text that are looked through, and
-octets that are made canonical. A text with four times the parts takes less than five times the steps. Beyond that are bounds: the answer says which
-one ended it, and what to do.
+octets that are made canonical. A text with four times the parts takes less than five times the steps. If a bound ends a search, the answer says so.
 
 `spki_cert_tool` is the package of `spki-cert`. Work grows with the square of the parts, if each part leads to work on the whole text: each maker of a
 text says where that could be."""
@@ -50,12 +49,12 @@ class Text(bytes):
 @contextmanager
 def counting() -> Iterator[None]:
     """A context that sets SEEN to 0 and counts steps there: the events of `trace`, and the octets that the modules asking, certificates, checking and
-    making make canonical. Other modules make few canonical, and these are not counted. A `Text` adds its own."""
+    making make canonical. The few of other modules are not counted. A `Text` adds its own."""
     from spki_cert_tool import asking, certificates, checking, making, sexp
 
     def trace(frame, event, _):
-        """Adds 1 to SEEN for each event in `spki_cert_tool`: a call, a line, a return, an exception. Python calls this where a function begins, and
-        then what it returns, which is this again, for what follows there."""
+        """Adds 1 to SEEN for each event in `spki_cert_tool`: a call, a line, a return, an exception. Python calls this where a function begins. There
+        it returns itself, so that Python calls it for each further event of the function too."""
         if "spki_cert_tool" in frame.f_code.co_filename:
             SEEN[0] += 1
             return trace
@@ -85,10 +84,12 @@ def key(name: str, octets: int = 1) -> Any:
 
 
 def hash_of(value: Any) -> Any:
+    """The value `(hash sha256 ..)` that names another value by the digest of its canonical form."""
     return [b"hash", b"sha256", hashlib.sha256(canonical(value)).digest()]
 
 
 def certificate(issuer: Any, subject: Any, *more: Any) -> Any:
+    """A certificate of the right `ftp`, with the fields `more`. It is not signed: see `signed`."""
     return [b"cert", [b"issuer", issuer], [b"subject", subject], [b"tag", [b"ftp"]], *more]
 
 
@@ -101,31 +102,31 @@ def signed(cert: Any) -> Any:
 
 
 def members_behind_a_long_line(parts: int) -> bytes:
-    """A list far right on a long line, whose members begin lines of their own. At each of these the parser needs the column of the list, and must
-    look for it only once. The second line feed makes an empty line before the first member, which changes nothing."""
+    """A list far right on a long line, whose `parts` members begin lines of their own. At each of these the parser needs the column of the list, and
+    must look for it only once. The second line feed makes an empty line before the first member, which changes nothing."""
     return b"(" + b"a" * 40 * parts + b" (b" + b"\n" * 2 + b" c\n" * parts + b"))"
 
 
 def entries_that_ended(parts: int) -> bytes:
-    """A list with one entry on each line, all with an end that is past: `check` makes a remark on each. Its line and
-    column must be found without looking through the text from the beginning."""
+    """A list of `parts` entries, one on each line, whose validity is past: `check` makes a remark on each. Its line and column must be found without
+    looking through the text from the beginning."""
     return b"(acl" + b"".join(b'\n (entry (public-key (test k%d)) (tag (ftp)) (not-after "2020-01-01_00:00:00"))' % at for at in range(parts)) + b")"
 
 
 def long_display(parts: int) -> bytes:
-    """A certificate with a field of many lists. `check` must look at each of them once."""
+    """A certificate with a field of 20 * `parts` lists. `check` must look at each of them once."""
     return canonical([b"sequence", *signed(certificate(key("a"), key("b"), [b"display", *[[b"x"]] * 20 * parts]))])
 
 
 def hashes_of_a_long_key(parts: int) -> bytes:
-    """Certificates of one long key, which they name by its hash. The key must be made canonical once, and not for each certificate."""
+    """`parts` certificates of one long key, which they name by its hash. The key must be made canonical once, and not for each certificate."""
     long = key("k", 60 * parts)
     return canonical([b"sequence", long, *[part for at in range(parts) for part in signed(certificate(hash_of(long), key(f"s{at}")))]])
 
 
 def entries_for_a_long_key(parts: int) -> bytes:
-    """An entry for a long key, at most 8 for its hash, which are compared with each other, and many for other keys. The long key must not be made
-    canonical for each of those."""
+    """An entry for a long key, at most 8 for its hash, which are compared with each other, and `parts` for other keys. For each of those the long key
+    must not be made canonical again."""
     long = key("k", 60 * parts)
     entries: Any = [[b"entry", subject, [b"tag", [b"t%d" % at]]] for at, subject in enumerate([long] + [hash_of(long)] * min(parts, 8))]
     others: Any = [[b"entry", key(f"o{at}"), [b"tag", [b"ftp"]]] for at in range(parts)]
@@ -133,7 +134,7 @@ def entries_for_a_long_key(parts: int) -> bytes:
 
 
 def keys_in_lines(parts: int) -> bytes:
-    """Lines that begin as keys of OpenSSH do, and have no key. The place of each must be looked for after the one before it."""
+    """`parts` lines that begin as keys of OpenSSH do, and have no key. The place of each must be looked for after the one before it."""
     return b"".join(b"ssh-ed25519 AAAA%06d comment\n" % at for at in range(parts))
 
 

@@ -1,8 +1,8 @@
 """Runs the commands of pages and helps that no other test runs: harness/page_commands.py says which.
 
-They run in a copy of the repository with what is built at its place, an empty home, and no environment but a path. In the long tests each page of
-MACHINES runs on a machine of its own, a chroot that Debian's mmdebstrap makes (machines.py). It has the packages that the page names, those of
-`Machine.packages`, and no other."""
+They run in a copy of the repository with what is built at its place, an empty home, and no environment but HOME and PATH. In the long tests each
+page of MACHINES runs on a machine of its own, a chroot that Debian's mmdebstrap makes (machines.py). It has the packages that the page names, those
+of `Machine.packages`, and no other."""
 from __future__ import annotations
 
 import os
@@ -194,7 +194,7 @@ class OnMachines(built.OfLibrary):
             answers = [each.strip("\n") for each in output.split(f"{test_guide.END}\n")]
             self.assertEqual(answers, [*(answer.strip("\n") for kind, _, answer in steps if kind == "command"), ""])
         inline = [command.line for command in commands if command.kind == "inline"]
-        by_root = [f"({line})" for line in inline if OF_ROOT.fullmatch(line)]
+        by_root = [f"({line})" for line in inline if OF_ROOT.fullmatch(line)]  # (in subshells, since some change the folder)
         blocks = page_commands.indented_blocks(text_of(machine.page)) if machine.blocks else ()
         by_user = [[f"timeout 2 {line}" if SERVES.fullmatch(line) else line for line in block.splitlines() if not NOT_ON_MACHINES.fullmatch(line)]
                    for block in blocks]
@@ -203,7 +203,7 @@ class OnMachines(built.OfLibrary):
             self.check_statuses(machine, by_root, by_user)
 
     def check_statuses(self, machine: Machine, by_root: list[str], by_user: list[list[str]]) -> None:
-        """Commands of root, then blocks of the user's, must end with status 0 or that of STATUSES. `Machine.blocks` says where a block begins."""
+        """Commands of root, then blocks of the user's, must end with status 0 or that of STATUSES. `Machine.blocks` says where each block begins."""
         begin = "" if machine.blocks == "on" else "cd ~/clone\n"
         script = "cd ~/clone\n" + "".join(begin + script_of(lines) for lines in by_user)
         output = self.output(machine, f"echo '{END}' 0\n" + script_of(by_root), script)
@@ -212,8 +212,8 @@ class OnMachines(built.OfLibrary):
         self.assertEqual(faults_in([line for lines in by_user for line in lines], STATUS.split(of_user, maxsplit=1)[-1]), [])
 
 
-def made_test(machine: Machine) -> Callable[[OnMachines], None]:
-    """The test of a page, which is added to OnMachines for the long tests."""
+def machine_test(machine: Machine) -> Callable[[OnMachines], None]:
+    """A test method for a page, which is added to OnMachines for the long tests."""
     return lambda self: self.check_page(machine)
 
 
@@ -231,5 +231,5 @@ class OfToolchain(unittest.TestCase):
 
 if built.IS_LONG:
     for each in MACHINES:
-        setattr(OnMachines, f"test_machine:{each.page}", made_test(each))
+        setattr(OnMachines, f"test_machine:{each.page}", machine_test(each))
     setattr(OfToolchain, "test_first_command", OfToolchain.first_command)

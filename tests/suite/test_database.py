@@ -108,7 +108,7 @@ class Maker:
 
 
 def outcome(decide, asked):
-    """What `decide` returns for a question: the number of the entry that grants it, or None for no. If it is refused, the line of the refusal."""
+    """What `decide` returns for the question `asked`: the number of the entry that grants it, or None. If it is refused, the line of the refusal."""
     try:
         return decide(asked)
     except spki.Refused as refusal:
@@ -116,7 +116,7 @@ def outcome(decide, asked):
 
 
 def decider_by_whole_list(store, policy):
-    """Returns a function that decides a question by a guard of all rows of the store: the number of the row that grants, or None."""
+    """Returns a function that decides a question by a guard of all rows that the store has now: the number of the row that grants, or None."""
     rows = list(store.all())
     guard = entries.guard_of([row.text for row in rows], policy, entries.LIMITS)
 
@@ -226,11 +226,11 @@ class Stores(built.OfLibrary):
         self.addCleanup(store.close)
         return store
 
-    def test_strict(self):
+    def test_agrees_with_whole_list(self):
         self.assertTrue(agrees_with_whole_list(self.connect(), seed=0, policy=spki.Policy.STRICT))
 
-    def test_sha1_allowed(self):
-        """The same under `ALLOW_SHA1`: hashes by SHA-1 name keys too."""
+    def test_agrees_where_sha1_is_allowed(self):
+        """Decisions agree with those of the whole list also under `ALLOW_SHA1`, by which hashes by SHA-1 name keys too."""
         self.assertTrue(agrees_with_whole_list(self.connect(), seed=1, policy=spki.Policy.ALLOW_SHA1))
 
     def test_several_clients(self):

@@ -25,9 +25,9 @@ HEADING = re.compile(r"^#+ (.*)$", re.MULTILINE)
 PATH = re.compile(r"^(?:\.ci|[\w*+-][\w.*+-]*)(?:/[\w.*+-]+)*/?$")
 KINDS = (".md", ".py", ".sexp", ".csexp", ".tsexp", ".rt", ".antt", ".h", ".c", ".sh", ".svg")
 LOGIC = re.compile(r"rattle-kit-\w+ (logic [0-9a-f]+)")
-ANY = re.compile(r"\b[A-Z]{2,}(?![A-Za-z.])")
+PLACEHOLDER = re.compile(r"\b[A-Z]{2,}(?![A-Za-z.])")
 # What pages name that is made by a command, by the reader, or by another program.
-MADE = {"ask.py", "builders.sexp", "to-bob.sexp", "to-carol.sexp", "case.sexp", "chain.svg", "chain.sexp", "wrong.sexp", "x.edit", "locate"}
+MADE_ELSEWHERE = {"ask.py", "builders.sexp", "to-bob.sexp", "to-carol.sexp", "case.sexp", "chain.svg", "chain.sexp", "wrong.sexp", "x.edit", "locate"}
 
 
 def names_here():
@@ -75,11 +75,11 @@ def bases(page):
 
 def dead_paths(page, names):
     """Yields a text for each path that a page names and that is not there. `names` has the bare names of all files. A word without a folder must be
-    one of them if it ends as a file does. Names of blocks, MADE, files in out/, and words in capitals, which stand for any name, are left out."""
+    one of them if it ends as a file does. Left out are names of blocks, MADE_ELSEWHERE, files in out/, and words in capitals, which stand for any."""
     written = {name for _, name, _ in FENCED.findall(text_of(page)) if name}
     for word in words_of(page):
         word = re.sub(r"^(?:\.\./|\./)+", "", word.rstrip(".,;:)"))
-        if not PATH.match(word) or "out/" in f"{word}/" or ANY.search(word) or word in MADE | written:
+        if not PATH.match(word) or "out/" in f"{word}/" or PLACEHOLDER.search(word) or word in MADE_ELSEWHERE | written:
             continue
         first, is_bare_file = word.split("/")[0], "/" not in word and word.endswith(KINDS)
         is_path = "/" in word and any(os.path.exists(os.path.join(base, first)) for base in bases(page))
@@ -145,7 +145,7 @@ class Documents(unittest.TestCase):
         self.assertEqual(list(missing_definitions()), [])
 
     def test_claims(self) -> None:
-        """Each clause that a row of docs/PROOFS.md names is in the contract of a function there, and each definition follows from one."""
+        """Each clause that a row of docs/PROOFS.md names is in the contract of a function there, which leads to each definition of the row."""
         sources = claims.Sources(below_crates("src/**/*.rt"), below_crates("specs/**/*.antt"))
         self.assertEqual(list(claims.faults("docs/PROOFS.md", sources)), [])
 
@@ -163,7 +163,7 @@ class Documents(unittest.TestCase):
         self.assertEqual(missing, [], f"{page}: these are not there")
 
 
-def made_test(page: str) -> Callable[[Documents], None]:
+def page_test(page: str) -> Callable[[Documents], None]:
     """The test of a page."""
     return lambda self: self.check_page(page)
 
@@ -171,4 +171,4 @@ def made_test(page: str) -> Callable[[Documents], None]:
 NAMES = names_here()
 for path in sorted(path for pattern in PAGES for path in glob.glob(os.path.join(TOP, pattern), recursive=True)):
     each = os.path.relpath(path, TOP)
-    setattr(Documents, f"test_page:{each}", made_test(each))
+    setattr(Documents, f"test_page:{each}", page_test(each))

@@ -38,7 +38,7 @@ impl<'a> Display for Name<'a> {
 
 
 def functions_changed(old: str, new: str, file: str = "src/names.rt") -> set[str | None]:
-    """The functions of SOURCE that an edit of it changes, with None for what is in no function."""
+    """The functions of SOURCE that an edit changes, which puts `new` in the place of `old`. None is among them for what is in no function."""
     assert SOURCE.count(old) == 1
     return bodies.functions_changed(file, SOURCE, SOURCE.replace(old, new))
 
@@ -53,19 +53,19 @@ def is_gone(process: str) -> bool:
 class Bodies(unittest.TestCase):
     """The functions that wrong bodies change."""
 
-    def test_function(self) -> None:
+    def test_path_of_a_function(self) -> None:
         """The module, which is the name of the file, precedes the name of the function, except in lib.rt."""
         self.assertEqual(functions_changed("n < MOST", "n <= MOST"), {"names::is_it"})
         self.assertEqual(functions_changed("n < MOST", "n <= MOST", "src/lib.rt"), {"is_it"})
 
-    def test_method(self) -> None:
+    def test_path_of_a_method(self) -> None:
         """The toolchain's name for a method of `impl Display for Name` begins with NameDisplay."""
         self.assertEqual(functions_changed("self.octets.len()", "0"), {"NameDisplay::length"})
 
-    def test_no_function(self) -> None:
+    def test_change_outside_of_functions(self) -> None:
         self.assertEqual(functions_changed("usize = 3", "usize = 4"), {None})
 
-    def test_one_check(self) -> None:
+    def test_batches(self) -> None:
         """Wrong bodies of functions with different names are tried by one check, of the text with all of them: here 0 and 1. Body 2 changes the
         function of body 0, so it is in the second batch. Body 3 changes no function, and is in none."""
         with tempfile.TemporaryDirectory() as folder:
@@ -82,7 +82,7 @@ class Bodies(unittest.TestCase):
 class Records(unittest.TestCase):
     """What the deep run has recorded."""
 
-    def test_text(self) -> None:
+    def test_what_a_record_covers(self) -> None:
         """A record is a checksum of contracts and of ghost members, such as views. Other bodies and remarks leave it as it is."""
         def heads(text: str) -> list[str]:
             return [found[0] for pattern in (records.HEAD, records.GHOST) for found in pattern.finditer(records.REMARK.sub("", text))]
@@ -132,23 +132,23 @@ class Script(unittest.TestCase):
         self.assertEqual((done.stdout, done.stderr, done.returncode), (f"{TOP}/.ci -m merge_gate.landing\n", "", 0))
 
 
-class NothingToTry(unittest.TestCase):
-    """Command lines by which nothing would be tried, or less: such a run must not pass."""
+class CommandLines(unittest.TestCase):
+    """Command lines of the tests and of the deep run. One by which nothing would be tried must not pass."""
 
-    def test_tests(self) -> None:
+    def test_no_test(self) -> None:
         """A run fails if no test has the given name, or if it may use no process (`--jobs 0`)."""
         for name, *words in ("run", "--pages", "-k", "no such test"), ("run", "--as-built", "--jobs", "0"), ("differential.py", "--jobs", "0"):
             self.assertNotEqual(subprocess.run([os.path.join(TESTS, name), *words, "--cases", "9"], capture_output=True).returncode, 0, words)
 
-    def test_alone(self) -> None:
-        """The command that `tests/run` prints of a failed test, to run it alone, has the number of generated cases if it is not the usual one."""
+    def test_command_of_a_failed_test(self) -> None:
+        """The command that `tests/run` prints with a failed test, to run it alone, has the number of generated cases if it is not the usual one."""
         script = loaded(os.path.join(TESTS, "run"))
         for words in ("tests/run", "tests/run --quick --cases 9"):
-            with mock.patch.dict(os.environ), mock.patch.object(sys, "argv", words.split()):
-                self.assertEqual(script.settings(script.arguments()), words)
+            with mock.patch.object(sys, "argv", words.split()):
+                self.assertEqual(script.command_of(script.arguments()), words)
 
-    def test_wrong_bodies(self) -> None:
-        """No wrong body is tried without a name, nor where `rt ci` fails: in a crate that is not proved each would be refused."""
+    def test_no_wrong_body(self) -> None:
+        """With `--alone` and no name the deep run fails. Where `rt ci` fails it tries no wrong body: in a crate without proof each is refused."""
         with contextlib.redirect_stderr(io.StringIO()), mock.patch.object(sys, "argv", ["deep", "--alone"]):
             self.assertRaises(SystemExit, deep.main, "")
         with contextlib.redirect_stdout(io.StringIO()), mock.patch.object(deep, "run", lambda *_: ("0 passed, 1 failed\n", 1)), \
@@ -183,25 +183,25 @@ class Logs(unittest.TestCase):
 
 
 class Commands(unittest.TestCase):
-    """Commands that run."""
+    """What `merge_gate.run` and the gate do with commands."""
 
     def run_bounded(self, *words: str, minutes: float = 1.0) -> tuple[str, int]:
-        """What a command writes, as it is printed, and its status. After so many minutes it is ended."""
+        """Runs a command, which is ended after so many minutes. Returns what it writes, which must also be what is printed, and its status."""
         with contextlib.redirect_stdout(io.StringIO()) as printed:
             output, status = run([*words], minutes)
         self.assertEqual(printed.getvalue(), output)
         return output, status
 
-    def test_printed(self) -> None:
+    def test_both_outputs_and_status(self) -> None:
         self.assertEqual(self.run_bounded("sh", "-c", "echo one; sleep 0.1; echo two >&2; exit 3"), ("one\ntwo\n", 3))
 
-    def test_late(self) -> None:
+    def test_ended_by_time(self) -> None:
         """A command that takes too long has failed, and is ended with what it began."""
         output, status = self.run_bounded("sh", "-c", "sleep 99 & echo $!; wait", minutes=0.01)
         waits_for("what it began has ended", lambda: is_gone(output.split("\n")[0]))
         self.assertNotEqual(status, 0)
 
-    def test_ended(self) -> None:
+    def test_ended_by_signal(self) -> None:
         """A signal that ends the gate ends the command that it runs."""
         begun = ["sh", "-c", "echo $$; exec sleep 99"]
         gate = subprocess.Popen([sys.executable, "-c", f"from merge_gate.run import run; run({begun}, 1)"], cwd=os.path.join(TOP, ".ci"),

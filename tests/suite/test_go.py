@@ -42,9 +42,9 @@ class OfGo(test_bindings.Binding):
 
 
 class InGo(OfGo):
-    """The module."""
+    """The module of bindings/go, and for the linters the daemon too."""
 
-    def test_layout(self) -> None:
+    def test_gofmt(self) -> None:
         for folder in (golang.MODULE, golang.DAEMON):
             self.assertEqual(output_of("gofmt", "-l", ".", cwd=folder, seconds=golang.SECONDS), (0, ""))
 
@@ -53,7 +53,7 @@ class InGo(OfGo):
             self.go(folder, "vet", "./...")
 
     @needs.needs("go-staticcheck")
-    def test_lints(self) -> None:
+    def test_staticcheck(self) -> None:
         settings = {**golang.settings(self.library), "XDG_CACHE_HOME": os.path.join(TESTS, "out", "staticcheck")}
         for folder in (golang.MODULE, golang.DAEMON):
             self.assertEqual(output_of("go-staticcheck", "./...", cwd=folder, env=settings, seconds=golang.SECONDS), (0, ""))
@@ -64,7 +64,7 @@ class InGo(OfGo):
         names = set(self.go(golang.MODULE, "list", "./...").decode().split())
         self.assertLessEqual({"conguraki/spki", "conguraki/spki/guard", "conguraki/spki/verify"}, names)
 
-    def test_module(self) -> None:
+    def test_own_tests(self) -> None:
         """The tests of the module pass, with the race detector and the strict checks of pointers that are passed to C. `cgocheck=2` asks the runtime
         of Go up to 1.20 for these checks. From 1.21 on they are a setting of the build, GOEXPERIMENT=cgocheck2."""
         self.go(golang.MODULE, "test", "-race", "./...", GODEBUG="cgocheck=2")
@@ -84,7 +84,7 @@ class InGo(OfGo):
             self.check_decisions(to)
 
     @needs.needs("pkg-config")
-    def test_shared(self) -> None:
+    def test_shared_library(self) -> None:
         """With the tag spki_shared the library is the one that pkg-config knows: here the installed one. CGO_LDFLAGS is emptied, since
         `golang.settings` puts the folder of the built library there, by `-L`. Go passes that before the flags of pkg-config, so the linker would
         find the built library and not the installed one. Go's cache has the flags that pkg-config gave in an earlier run, and of these flags alone it
@@ -97,14 +97,14 @@ class InGo(OfGo):
 
 
 class Authd(OfGo):
-    """The tests of the daemon."""
+    """The daemon's own tests."""
 
     def test_daemon(self) -> None:
         self.go(golang.DAEMON, "test", "-race", "./...")
 
 
 class Fuzzed(OfGo):
-    """The fuzzed tests."""
+    """What FUZZED has is fuzzed, and finds no failure."""
 
     def test_fuzz(self) -> None:
         for folder, package, name, seconds in FUZZED:
@@ -136,7 +136,7 @@ class Person:
     certificate that the person has signed. `key` is the SPKI key as a text, and `digest` the hash of it in hexadecimal digits."""
 
     def __init__(self, room: str, name: str, kind: str) -> None:
-        """Makes the files in the folder `room`. `kind` is one of KINDS."""
+        """Makes the files, which begin with `name`, in the folder `room`. `kind` is one of KINDS."""
         self.path = os.path.join(room, name)
         words = ["openssl", "genpkey", "-algorithm", *KINDS[kind], "-out", self.path]
         subprocess.run(words, check=True, stderr=subprocess.DEVNULL)
@@ -153,8 +153,7 @@ class Person:
 
 
 def sealed(lines: str) -> str:
-    """The text of a file of ended certificates: `lines`, each with its end, and the last line, which has the number of digests and the SHA-256 of
-    `lines`."""
+    """The text of a file of ended certificates: `lines`, each with its end, and a last line with their number of digests and their SHA-256."""
     count = sum(bool(line) and not line.startswith("#") for line in lines.splitlines())
     return f"{lines}end {count} {hashlib.sha256(lines.encode()).hexdigest()}\n"
 
@@ -170,7 +169,7 @@ class Daemon:
     grants. `list`, `ended`, `socket` and `config` are paths too."""
 
     def __init__(self, room: str, program: str, access_list: str, *before: str, **more: object) -> None:
-        """Writes the files, starts the daemon, and waits for its first message."""
+        """Writes the files, with `access_list` as the list's text, starts the daemon, and waits for its first message."""
         self.program = program
         self.list, self.ended, self.socket, self.log, self.grants = (os.path.join(room, name) for name in ("acl", "ended", "socket", "log", "grants"))
         self.write(self.list, access_list)
@@ -231,7 +230,7 @@ class Served(OfGo):
 
     @contextlib.contextmanager
     def served(self, access_list: str, room: str) -> Iterator[Daemon]:
-        """A context with a daemon, which must end by SIGTERM with status 0."""
+        """A context with a daemon that has this list, as a text, and its files in a folder. At the end SIGTERM must end it with status 0."""
         daemon = Daemon(room, golang.build_daemon(self.library, os.path.join(room, "spki-authd")), access_list)
         try:
             self.assertEqual(daemon.event["event"], "started")
@@ -304,10 +303,10 @@ class Served(OfGo):
                 daemon.process.kill()
                 daemon.process.communicate()
                 self.assertTrue(os.path.exists(daemon.socket))
-                daemon.process = Daemon(room, daemon.program, text).process
+                daemon.process = Daemon(room, daemon.program, text).process  # (`served` ends this one)
                 self.assertEqual(daemon.ask(alice, "GET", "/web/a").status, 200)
 
-    def test_check(self) -> None:
+    def test_check_of_a_list(self) -> None:
         """`spki-authd -check` says how many entries a list has, or what is wrong in it."""
         with tempfile.TemporaryDirectory() as room:
             program = golang.build_daemon(self.library, os.path.join(room, "spki-authd"))
@@ -319,5 +318,5 @@ class Served(OfGo):
 
 
 def value_of(text: bytes) -> Any:
-    """The value of a text in any form."""
+    """The value of a text in any form: octets, or for a list a list of values."""
     return read(subprocess.run([built.program(), "canonical"], input=text, stdout=subprocess.PIPE, check=True).stdout)

@@ -1,15 +1,14 @@
 """Does what README.md, docs/GUIDE.md and the examples of docs/spki.1 say, each in an empty folder, and compares the answers.
 
 A fenced block `sexp NAME`, `sh NAME` or `python NAME` of README.md and the guide is a file. It is written at its place on the page, and cannot be
-run until a command permits it. If examples/ has a file of this name, it must be the same. A block `c NAME`, `rust NAME` or `python NAME` that an
-example of this name in PROGRAMS has is a quotation: it must be a part of it.
+run until a command permits it. If examples/ has a file of this name, it must be the same. A block `c NAME`, `rust NAME` or `python NAME` is a
+quotation if a folder of PROGRAMS has an example NAME: it must be a part of that.
 
 In a block `console`, and in the manual's blocks, a line that begins with `$ ` is a command of the shell. A line with `> ` continues it. The lines up
 to the next command are what it should write. The commands of a page run unchanged, one after the other in one shell, with the program as `spki`,
 apps/locate as `locate` and apps/spki-cert/spki-cert as `spki-cert`, which has the built library. They run once in `sh`, and once in `bash`.
 
-An indented block below a paragraph that begins with `**C.**`, `**Rust.**`, `**Python.**` or `**Go.**` is a snippet: snippets.py compiles it and runs
-it.
+An indented block below a paragraph that begins with `**C.**`, `**Rust.**`, `**Python.**` or `**Go.**` is a snippet: snippets.py builds and runs it.
 
 tests/harness/page_commands.py says which test runs the other commands and pages, and which commands no test runs."""
 import itertools
@@ -69,8 +68,7 @@ def steps_of_manual(page):
 
 
 def script(steps):
-    """Yields the parts of a script that writes the files and runs the commands of steps, and writes END after each
-    command. It does nothing for a quotation."""
+    """Yields the parts of a script that writes the files and runs the commands of steps, and writes END after each command. It omits quotations."""
     for kind, first, second in steps:
         if kind == "file":
             yield f"printf %s {shlex.quote(second)} > {shlex.quote(first)}\n"
@@ -106,8 +104,7 @@ def settings_for_library(steps: Iterable[tuple[str, str, str]]) -> dict[str, str
 
 
 def is_as_in_examples(kind, name, text):
-    """Whether the file of examples/ with this name has just this text, or for the kind `quotation` the program has it inside. True if there is no
-    such file."""
+    """Whether the file of examples/ with this name, if there is one, has just this text, or for the kind `quotation` the program has it inside."""
     path = program_of(name) if kind == "quotation" else os.path.join(TOP, "examples", name)
     if not os.path.exists(path):
         return True
@@ -147,7 +144,7 @@ class Pages(built.OfProgram):
         return list((steps_of_manual if page.endswith(".1") else steps_of_markdown)(text_of(page)))
 
     def check_commands(self, page: str, shell: str) -> None:
-        """Each command of a page must write what the page says. One that a shell did not reach, which ended early, writes `nothing`."""
+        """Each command of a page must write what the page says. Where the shell ended before a command, its output counts as the word `nothing`."""
         steps = self.steps(page)
         wanted = [(command, answer) for kind, command, answer in steps if kind == "command"]
         outputs = outputs_of(shell, steps, self.program)

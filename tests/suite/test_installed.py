@@ -66,7 +66,7 @@ class Installed(built.OfLibrary):
             settings = {**os.environ, "LD_LIBRARY_PATH": os.path.join(self.prefix, "lib")}
             self.assertEqual(output_of(linked, env=settings), (0, ""))
 
-    def test_program(self) -> None:
+    def test_program_decides(self) -> None:
         answer = output_of(os.path.join(self.prefix, "bin", "spki"), "check", text=text_of(os.path.join(EXAMPLES, "delegation.sexp")))
         self.assertEqual(answer, (0, "yes entry 1\n"))
 

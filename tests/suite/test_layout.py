@@ -30,8 +30,7 @@ def files_laid_out_wrongly(crate: str) -> str:
 
 
 def faults_of_wrong_bodies() -> Iterator[str]:
-    """A line for each wrong body, an edit of a function that its contract must refuse, that cannot be applied, or that has a line which the toolchain
-    does not read."""
+    """A line for each wrong body, an edit of a function that its contract must refuse, that cannot be applied or has lines which are not read."""
     for crate in toolchain.crates().values():
         for path in bodies.paths_of(crate):
             why = toolchain.applied(path, crate.folder)[1]
@@ -48,7 +47,7 @@ def git(*words):
 class Layout(unittest.TestCase):
     """The sources, the wrong bodies, and the line on the last run of `.ci/deep`."""
 
-    def test_sources(self) -> None:
+    def test_sources_are_formatted(self) -> None:
         crates = sorted(os.path.dirname(path) for path in glob.glob(os.path.join(ROOT, "crates", "*", "src")))
         faults = {os.path.relpath(crate, ROOT): files for crate in crates if (files := files_laid_out_wrongly(crate))}
         self.assertEqual(faults, {}, f"run rt fmt in {', '.join(faults)}")
@@ -67,7 +66,7 @@ class Layout(unittest.TestCase):
         self.assertEqual([line for line in git("ls-files", "-s").stdout.splitlines() if line.startswith("120000")], [])
 
     def test_last_deep_run(self) -> None:
-        """CONTRIBUTING.md has one line on the last run of `.ci/deep`. Its commit must be in the history. A note replaces this in a shallow clone."""
+        """CONTRIBUTING.md has one line on the last run of `.ci/deep`. Its commit must be in the history, if the clone is not shallow."""
         commits = LINE.findall(text_of("CONTRIBUTING.md"))
         self.assertEqual(len(commits), 1, "CONTRIBUTING.md has not one line on the last run of .ci/deep, as LINE has it")
         if git("rev-parse", "--is-shallow-repository").stdout.strip() != "false":

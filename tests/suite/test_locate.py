@@ -146,7 +146,7 @@ def show_places(wrong, inner, places):
 
 
 def refusal_of_part(name, text):
-    """The line by which the model refuses a part of a question, or None if it reads it. `name` is `acl` or a key of MODEL, and `text` has octets."""
+    """The line by which the model refuses a part of a question, or None if it accepts it. `name` is `acl` or a key of MODEL. `text` has octets."""
     try:
         if name == "acl":
             guard.open_guard(text, False, guard.USUAL)
@@ -158,15 +158,15 @@ def refusal_of_part(name, text):
 
 
 class Refusals(unittest.TestCase):
-    """What the tool finds in texts."""
+    """The refusals and places that `locate` finds in texts."""
 
-    def check_mistake(self, text: str, given: str, wanted: str, place: tuple[int, int], words: str) -> None:
-        """`locate`, given the refusal `given` or none, must show the refusal `wanted` at a line and column, with these words, and no place twice."""
-        output = locate(text, given)[1]
-        first, offsets = output.split("\n")[1] if "\n" in output else "", PLACE.findall(output)
-        is_right = f"refused {wanted}\n" in output and first.startswith(f"line {place[0]}, column {place[1]},") and words in output
+    def check_mistake(self, text: str, refusal: str, wanted: str, place: tuple[int, int], words: str) -> None:
+        """`locate`, run with a refusal or none, must show the refusal `wanted` at a line and column, with these words, and no place twice."""
+        output = locate(text, refusal)[1]
+        first_place, offsets = output.split("\n")[1] if "\n" in output else "", PLACE.findall(output)
+        is_right = f"refused {wanted}\n" in output and first_place.startswith(f"line {place[0]}, column {place[1]},") and words in output
         if not is_right or len(set(offsets)) < len(offsets):
-            self.fail(f"text   {text!r}, given {given!r}\nwanted {wanted} at line {place[0]}, column {place[1]}, {words}\ncame   {output}")
+            self.fail(f"text   {text!r}, given {refusal!r}\nwanted {wanted} at line {place[0]}, column {place[1]}, {words}\ncame   {output}")
 
     def check_refusal(self, place: str, command: str, text: bytes, wanted: tuple[int, bytes]) -> None:
         """`locate` must find the refusal that a command answers to a text. It must find none if the command answers otherwise, or by a refusal that
@@ -211,9 +211,9 @@ class Refusals(unittest.TestCase):
                     self.assertEqual(LOCATE.refusal(wrong, places) if wrong else None, wanted, f"question {number}, {name}: {text!r}")
 
 
-def mistake_test(text: str, given: str, wanted: str, place: tuple[int, int], words: str) -> Callable[[Refusals], None]:
+def mistake_test(text: str, refusal: str, wanted: str, place: tuple[int, int], words: str) -> Callable[[Refusals], None]:
     """A test method that calls `check_mistake` with these arguments."""
-    return lambda self: self.check_mistake(text, given, wanted, place, words)
+    return lambda self: self.check_mistake(text, refusal, wanted, place, words)
 
 
 def row_test(row: Row) -> Callable[[Refusals], None]:
@@ -221,7 +221,7 @@ def row_test(row: Row) -> Callable[[Refusals], None]:
     return lambda self: self.check_refusal(row.place, row.command, row.text, (row.status, row.answer))
 
 
-def mistakes() -> Iterator[tuple[str, Callable[[Refusals], None]]]:
+def tests_of_mistakes() -> Iterator[tuple[str, Callable[[Refusals], None]]]:
     """Yields the name and the method of a test for each row of MISTAKES and of OF_PARTS."""
     for number, (text, wanted, place, words) in enumerate(MISTAKES, 1):
         yield f"test_mistake:text:{number}", mistake_test(text, "", wanted, place, words)
@@ -229,12 +229,12 @@ def mistakes() -> Iterator[tuple[str, Callable[[Refusals], None]]]:
         yield f"test_mistake:part:{number}", mistake_test(*part)
 
 
-def of_tables() -> Iterator[tuple[str, Callable[[Refusals], None]]]:
+def tests_of_tables() -> Iterator[tuple[str, Callable[[Refusals], None]]]:
     """Yields the name and the method of a test for each row of the tables."""
     for table in tables_here():
         for row in rows_of(table):
             yield f"test_locate:{row.place}:{row.command}", row_test(row)
 
 
-for name, each in [*mistakes(), *of_tables()]:
+for name, each in [*tests_of_mistakes(), *tests_of_tables()]:
     setattr(Refusals, name, each)

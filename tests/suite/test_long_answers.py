@@ -28,8 +28,8 @@ def case_of(subject, items, rows):
                       [b"at", AT], [b"policy", b"strict"]])
 
 
-def long_key():
-    """The text of a case whose answers have the long key of the subject once for each entry."""
+def case_with_long_key():
+    """The text of a case whose answers have the subject's key, of KEY_OCTETS and more, once for each entry."""
     subject = [b"public-key", [b"test", b"k" * KEY_OCTETS]]
     certificate = [b"cert", [b"issuer", ISSUER], [b"subject", subject], [b"tag", [b"*"]]]
     digest = [b"hash", b"sha256", hashlib.sha256(canonical(certificate)).digest()]
@@ -53,7 +53,7 @@ class Counted(test_bindings.Binding):
                       ["ld", "-r", "-o", whole, own, "--whole-archive", renamed], ["ar", "rcsD", cls.archive, whole],
                       ["cc", "-shared", "-o", cls.counting, whole]):
             subprocess.run(words, check=True, timeout=SECONDS)
-        few, many = case_of([b"public-key", [b"test", b"b"]], [], []), long_key()
+        few, many = case_of([b"public-key", [b"test", b"b"]], [], []), case_with_long_key()
         # (without the same questions in other forms, by strings or by seconds: these have `by` in their names)
         cls.asked = [each._replace(limits=limits) for text, limits in ((few, "usual"), (few, "highest"), (many, "highest"))
                      for each in test_bindings.questions_of(cls.program, text, limits) if each.command != "decide" and "by" not in each.name]

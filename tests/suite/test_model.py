@@ -123,7 +123,7 @@ class GeneratedOnArm(built.OfProgram):
         self.assertEqual((described, ended), ([], []), f"cases 0 to {cases}, seed {seed}")
 
 
-def made_test(command: str) -> Callable[[Generated], None]:
+def command_test(command: str) -> Callable[[Generated], None]:
     """A test method that checks the cases of a command."""
     return lambda self: self.check_command(command)
 
@@ -141,7 +141,7 @@ def part_of_the_program(self: Generated) -> None:
 
 
 for name in COMMANDS if built.IS_ALONE else ASKED:
-    setattr(Generated, f"test_{name.replace(' ', '_')}", made_test(name))
+    setattr(Generated, f"test_{name.replace(' ', '_')}", command_test(name))
 if built.IS_ALONE:
     del GeneratedOnArm
 else:

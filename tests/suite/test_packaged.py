@@ -97,7 +97,7 @@ class Packages(built.OfLibrary):
         """The path of an unpacked package, or of a file of it."""
         return os.path.join(cls.unpacked, name, *path)
 
-    def test_packages(self) -> None:
+    def test_names_of_packages(self) -> None:
         self.assertEqual(set(self.packages), set(FILES))
 
     def test_files(self) -> None:
@@ -107,7 +107,7 @@ class Packages(built.OfLibrary):
                    if not os.path.lexists(self.inside(name, file))]
         self.assertEqual(missing, [])
 
-    def test_fields(self) -> None:
+    def test_control_fields(self) -> None:
         for name in self.packages:
             control = text_of(self.inside(name, "DEBIAN", "control"))
             with self.subTest(name=name):
@@ -122,7 +122,7 @@ class Packages(built.OfLibrary):
         self.assertEqual(text_of(self.inside(SHARED, "DEBIAN", "shlibs")), f"libspki_c {INTERFACE} {SHARED} (>= {INTERFACE})\n")
         self.assertEqual(text_of(self.inside(SHARED, "DEBIAN", "triggers")), "activate-noawait ldconfig\n")
 
-    def test_program(self) -> None:
+    def test_program_decides(self) -> None:
         case = pathlib.Path(EXAMPLES, "delegation.sexp").read_bytes()
         self.assertEqual(run(self.inside("spki", "usr", "bin", "spki"), "check", case), (0, b"yes entry 1\n"))
 
@@ -133,7 +133,7 @@ class Packages(built.OfLibrary):
         self.assertNotIn(TOP.encode(), pathlib.Path(program).read_bytes())
 
     def test_stripped(self) -> None:
-        """Nothing is left that is for debuggers. What names the logic by which a program was proved is left, in the daemon that of the library."""
+        """Nothing is left that is for debuggers. The words that name the logic of the proofs are left, in the daemon those of the library."""
         for name, place, source in (("spki", "usr/bin/spki", self.program), (SHARED, f"{PLACE}/libspki_c.so.{INTERFACE}", self.shared),
                                     ("libspki-dev", f"{PLACE}/libspki_c.a", self.library), ("spki-authd", "usr/bin/spki-authd", self.library)):
             left = sections(self.inside(name, place))
@@ -151,7 +151,7 @@ class Packages(built.OfLibrary):
 
     @needs.needs("cmake")
     def test_cmake(self) -> None:
-        """CMake finds the libraries and the header, also by the path through /lib."""
+        """CMake finds the libraries and the header of the packages, also by the path through /lib. It does not look for those of the system."""
         root = self.root_with("libspki-dev", SHARED)
         for prefix in (os.path.join(root, "usr"), root):
             with self.subTest(prefix=prefix), tempfile.TemporaryDirectory() as room:
@@ -166,7 +166,7 @@ class Packages(built.OfLibrary):
                 self.assertEqual([path for line in lines for path in line if not os.path.exists(path)], [])
 
     def test_python(self) -> None:
-        """The module of spki-cert finds the library of its version by the loader, also beside one with no version in its name: here no library."""
+        """The module of spki-cert loads the library of its own version, also if `libspki_c.so` is beside it: here a file that is no library."""
         folder = self.root_with(SHARED)
         shutil.copy(self.inside(SHARED, "DEBIAN", "control"), os.path.join(folder, PLACE, "libspki_c.so"))
         settings = {name: value for name, value in os.environ.items() if name != "SPKI_LIBRARY"}
@@ -184,14 +184,14 @@ class Packages(built.OfLibrary):
         self.assertEqual([flag.split("/")[-1] for flag in flags], ["include", "x86_64-linux-gnu", "-lspki_c"])
         words = ("cc", "-o", linked, os.path.join(TESTS, "programs", "linked.c"))
         self.assertEqual(output_of(*words, *flags), (0, ""))
-        path = {**os.environ, "LD_LIBRARY_PATH": self.inside(SHARED, PLACE)}
-        self.assertEqual(output_of(linked, env=path), (0, ""))
+        environment = {**os.environ, "LD_LIBRARY_PATH": self.inside(SHARED, PLACE)}
+        self.assertEqual(output_of(linked, env=environment), (0, ""))
         self.assertEqual(output_of(*words, flags[0], os.path.join(root, PLACE, "libspki_c.a")), (0, ""))
         self.assertEqual(output_of(linked), (0, ""))
 
     def test_same_octets(self) -> None:
         """The same sources in another place, which is no clone, make the same octets with another home, time zone and language, and the maintainer in
-        the environment. In the long run Go compiles everything once more."""
+        the environment. In the long tests Go compiles everything once more."""
         epoch = output_of("git", "log", "-1", "--format=%ct", cwd=TOP)[1].strip()
         name, address = MAINTAINER.rstrip(">").split(" <")
         with tempfile.TemporaryDirectory(suffix=" with a space") as room:
@@ -220,13 +220,13 @@ class Packages(built.OfLibrary):
     def test_lintian_of_the_commands(self) -> None:
         self.check_lintian("spki-cert", "spki-authd")
 
-    def test_sums(self) -> None:
+    def test_checksums(self) -> None:
         """SHA256SUMS has the right digest of each file beside it."""
         self.assertEqual(output_of("sha256sum", "--strict", "--check", "--quiet", "SHA256SUMS", cwd=self.folder), (0, ""))
         listed = {line.split("  ")[1] for line in text_of(os.path.join(self.folder, "SHA256SUMS")).splitlines()}
         self.assertEqual(listed | {"SHA256SUMS"}, set(os.listdir(self.folder)))
 
-    def test_list(self) -> None:
+    def test_list_in_spdx(self) -> None:
         """The list in SPDX has each package and each file, with the digests of what was unpacked, and what is linked into each package."""
         listed = json.loads(text_of(os.path.join(self.folder, f"spki_{VERSION}.spdx.json")))
         self.assertEqual((listed["spdxVersion"], listed["SPDXID"]), ("SPDX-2.3", "SPDXRef-DOCUMENT"))
@@ -275,8 +275,8 @@ class Packages(built.OfLibrary):
 class Scripts(unittest.TestCase):
     """What runs where a package is installed, and what packages.sh refuses."""
 
-    def test_maintainer(self) -> None:
-        """Without the name and the address of a maintainer, or by an option that is misspelled, no packages are made."""
+    def test_no_maintainer(self) -> None:
+        """Without the name and the address of a maintainer, or with an option that is misspelled, no packages are made."""
         rows: list[tuple[list[str], dict[str, str]]] = [
             ([], {}), ([], {"DEBFULLNAME": "Ann"}), ([], {"DEBEMAIL": "ann@conguraki.org"}), (["--maintainer"], {}), (["--maintainer", ""], {}),
             (["--maintainer", "ann"], {}), (["--maintainer", "ann@conguraki.org"], {}), (["--maintainer", "Ann <ann>"], {}),
@@ -289,7 +289,7 @@ class Scripts(unittest.TestCase):
                 self.assertIn("packages.sh: ", output)
                 self.assertEqual(os.listdir(room), [])
 
-    def test_time(self) -> None:
+    def test_no_time(self) -> None:
         """Sources that are no clone need SOURCE_DATE_EPOCH, the time of the files in the packages: without it the status is 2."""
         with tempfile.TemporaryDirectory() as room:
             status, output = make_packages(copy_sources(room), "--maintainer", MAINTAINER, os.path.join(room, "made"))
@@ -297,7 +297,7 @@ class Scripts(unittest.TestCase):
             self.assertFalse(os.path.exists(os.path.join(room, "made")))
 
     def test_installing_the_daemon(self) -> None:
-        """The script makes the user, opens the configuration's folder to root and this user, and starts nothing. Its programs only print here."""
+        """The script makes the user, opens the configuration's folder to root and this user, and starts nothing. What it runs only prints here."""
         with tempfile.TemporaryDirectory() as room:
             for name in ("adduser", "chown", "chmod", "systemctl", "deb-systemd-invoke", "runuser"):
                 with open(os.path.join(room, name), "w", encoding="ascii") as file:

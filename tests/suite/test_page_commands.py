@@ -23,7 +23,7 @@ class Lists(unittest.TestCase):
     def setUpClass(cls) -> None:
         cls.commands = page_commands.all_commands()
 
-    def test_all_are_known(self) -> None:
+    def test_all_commands_are_known(self) -> None:
         unknown = page_commands.uncovered(self.commands)
         self.assertEqual(unknown, [], "\n".join([ADVICE, *unknown]))
 
@@ -41,8 +41,7 @@ class Lists(unittest.TestCase):
                 self.assertIn(os.path.basename(row.page), text_of(f"tests/suite/{row.test}.py"))
 
     def test_names(self) -> None:
-        """Where a text in backticks is a command of `spki` or `spki-cert`, or a flag of `spki-authd`, the program has it, and `spki-cert` has the
-        options behind the command."""
+        """The programs have each command of `spki` and `spki-cert`, option behind one of the latter and flag of `spki-authd` in backticks."""
         helps: dict[str, str] = {}
         flags = "".join(text_of(path) for path in tracked() if path.startswith("apps/spki-authd/") and path.endswith(".go"))
         for command in self.commands:

@@ -21,11 +21,11 @@ class Pictures(built.OfProgram):
     """What examples/picture.py and docs/pictures/draw.py draw."""
 
     def draw(self, name: str) -> tuple[int, str]:
-        """The status of examples/picture.py on a case, and what it draws."""
+        """The status of examples/picture.py on a case, by its path below examples/, and what it draws."""
         return output_of(os.path.join(EXAMPLES, "picture.py"), os.path.join(EXAMPLES, name), self.program)
 
     def check_words(self, name: str) -> None:
-        """The picture of a case must have its words in CASES."""
+        """The picture of a case, a key of CASES, must have its words there."""
         status, picture = self.draw(name)
         missing = [word for word in CASES[name] if word not in picture]
         self.assertEqual((status, missing), (0, []), f"{name} is drawn without {missing}\n{picture}")
@@ -61,7 +61,7 @@ class Pictures(built.OfProgram):
                 self.assertEqual((status, output.count("\n"), message in output), (2, 1, True), output)
 
 
-def add(name: str) -> None:
+def add_tests(name: str) -> None:
     """Adds the tests of a case: that its picture has the words, and that Graphviz reads it."""
     words: Callable[[Pictures], None] = lambda self: self.check_words(name)
     read: Callable[[Pictures], None] = lambda self: self.check_by_graphviz(name)
@@ -71,4 +71,4 @@ def add(name: str) -> None:
 
 
 for each in CASES:
-    add(each)
+    add_tests(each)

@@ -113,7 +113,7 @@ class Proxies(unittest.TestCase):
     @needs.needs("nginx")
     def test_nginx_before_two_services(self) -> None:
         """Where nginx chooses between services by the nonce, a request that is sent again comes to the service that has seen its nonce, also with
-        tabs around the field, which nginx takes for a part of it. This is tried 21 to 1,000 times, until both services have got a request."""
+        tabs around the field, which nginx counts as a part of it. This is tried 21 to 1,000 times, until both services have got a request."""
         servers = " ".join(f"server {service.name} max_fails=0;" for service in self.services)
         self.start_nginx(f"{OWN_HOST} proxy_next_upstream off;", "both", f"{BY_NONCE} upstream both {{ hash $spki_nonce consistent; {servers} }}")
         for turn in range(1000):
@@ -126,7 +126,7 @@ class Proxies(unittest.TestCase):
 
     @needs.needs("nginx")
     def test_nginx_with_a_host_of_its_own(self) -> None:
-        """Without `proxy_set_header Host` the name is that of the upstream."""
+        """Without `proxy_set_header Host` the host that nginx passes on is the upstream's, so the verifier refuses the request."""
         self.start_nginx("")
         self.assertEqual(self.ask("GET", "/a"), "other-authority")
 

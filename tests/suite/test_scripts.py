@@ -60,9 +60,9 @@ class Scripts(unittest.TestCase):
         self.assertEqual([path for path in scripts() if not path.startswith("tests/") and theirs.search(text_of(path))], [])
 
     @needs.needs("pyflakes3")
-    def test_faults(self) -> None:
+    def test_pyflakes(self) -> None:
         self.check_all("pyflakes3")
 
     @needs.needs("pycodestyle")
-    def test_layout(self) -> None:
+    def test_pycodestyle(self) -> None:
         self.check_all("pycodestyle", "--max-line-length", str(LINE_LENGTH))

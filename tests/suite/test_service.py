@@ -1,5 +1,4 @@
-"""Drives the smallest services in C, Rust, Python and Go by signed requests, with keys and certificates that are made for them, and counts their
-lines.
+"""Drives the smallest services in C, Rust, Python and Go by signed requests, with keys and certificates made for them, and counts their lines.
 
 The keys, the list and the certificates are those of examples/signed/run.py. Each request is sent to one process of the service: right ones,
 certificates with a wrong signature or that have expired, requests that another key has signed, that are sent again or were changed, and what is no
@@ -49,8 +48,8 @@ class LastingStory(Story):
         self.to_carol = self.to_carol.replace("2026-06-30", "9999-06-30")
 
 
-def chains(story: LastingStory) -> Iterator[tuple[str, Sent, bool]]:
-    """Requests with right and wrong certificates, and without. Yields for each a remark, the request, and whether it must be granted."""
+def chain_requests(story: LastingStory) -> Iterator[tuple[str, Sent, bool]]:
+    """Requests with right certificates, with wrong ones and with none. Yields for each a remark, the request, and whether it must be granted."""
     alice, bob, carol = story.alice, story.bob, story.carol
     good = signed(story.to_carol, bob)
     longer = story.to_carol.replace("9999-06-30", "9999-07-31")
@@ -80,8 +79,8 @@ def chains(story: LastingStory) -> Iterator[tuple[str, Sent, bool]]:
     yield "and again all is right", asked_by(carol, READ, right), True
 
 
-def proofs(story: LastingStory) -> Iterator[tuple[str, Sent, bool]]:
-    """Requests that are signed rightly, wrongly or not at all, to be sent in this order. Yields for each a remark, it, and whether it is granted."""
+def proof_requests(story: LastingStory) -> Iterator[tuple[str, Sent, bool]]:
+    """Requests signed rightly, wrongly or not at all, to be sent in this order. Yields for each a remark, the request, and whether it is granted."""
     alice, bob, carol = story.alice, story.bob, story.carol
     right = story.sequence(signed(story.to_carol, bob))
     once = asked_by(carol, READ, right)
@@ -144,15 +143,15 @@ class Service(built.OfLibrary):
         pathlib.Path(cls.path).write_text(cls.story.access_list, encoding="ascii")
 
     def check_service(self, *words: str, **settings: str) -> None:
-        """The service that these words start must grant what `chains` and `proofs` say, and nothing else. It must not start on a wrong list, such as
-        one of over 1,048,576 octets. Its standard error may have no report of a sanitizer or valgrind. `settings` are more environment variables."""
+        """The service that these words start must grant the requests of `chain_requests` and `proof_requests` that say so, and no others. It must not
+        start on a wrong list, as one of over 1,048,576 octets. No sanitizer nor valgrind may report. `settings` are more environment variables."""
         environment = {**os.environ, **settings}
         with open(os.path.join(self.room, "errors"), "w+b") as errors, subprocess.Popen(
                 [*words, self.path, NAME], stdout=subprocess.PIPE, stderr=errors, env=environment) as service:
             try:
                 assert service.stdout is not None
                 port = int(service.stdout.readline())
-                for remark, sent, wanted in (*chains(self.story), *proofs(self.story)):
+                for remark, sent, wanted in (*chain_requests(self.story), *proof_requests(self.story)):
                     with self.subTest(remark):
                         self.assertEqual(is_granted(port, sent), wanted)
                 for octets in NO_REQUESTS:

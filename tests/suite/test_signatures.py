@@ -30,7 +30,7 @@ KINDS = ("ed25519", "rsa", "p256", "p384")
 
 
 def spki_cert(*words: str, room: str, **settings: str) -> subprocess.CompletedProcess[bytes]:
-    """Runs `spki-cert` in the folder `room`, with more `settings` of the environment, and without the caller's for ssh-agent, labels and proxies."""
+    """Runs `spki-cert` in the folder `room`, with more `settings` of the environment, but without the caller's ssh-agent and labels, nor a proxy."""
     others = {name: value for name, value in os.environ.items() if name not in ("SSH_AUTH_SOCK", "SPKI_LABELS")}
     return subprocess.run([sys.executable, COMMAND, *words], cwd=room, stdin=subprocess.DEVNULL, stdout=subprocess.PIPE, stderr=subprocess.PIPE,
                           timeout=SECONDS, env={**others, **settings, "no_proxy": "*"})
@@ -99,13 +99,13 @@ class Requests(unittest.TestCase):
         self.url = f"http://{self.service.name}/a%20b/c?d=e"
 
     def cert(self, *words: str, wanted: int = 0, **settings: str) -> str:
-        """Runs `spki-cert`, which must end with the status `wanted`. Returns its output, or if it must fail its errors."""
+        """Runs `spki-cert` with more `settings` of the environment. Its status must be `wanted`: if that is 0 returns its output, else its errors."""
         done = spki_cert(*words, room=self.room, **settings)
         self.assertEqual(done.returncode, wanted, done.stderr)
         return (done.stdout if wanted == 0 else done.stderr).decode(errors="replace")
 
     def ask(self, fields: str, method: str = "GET", body: bytes | None = None) -> tuple[int, bytes]:
-        """Sends a request for `url` with these fields, one a line. Returns the status and the body of the service's answer."""
+        """Sends a request for `self.url` with these fields, one a line. Returns the status and the body of the service's answer."""
         headers = dict(line.split(": ", 1) for line in fields.splitlines())
         opener = urllib.request.build_opener(urllib.request.ProxyHandler({}), Quiet())
         with opener.open(urllib.request.Request(self.url, body, headers, method=method)) as answer:
@@ -149,6 +149,7 @@ class Requests(unittest.TestCase):
         self.cert("request", "--by", "p256", "--curl", self.url.replace("127.0.0.1", "localhost"), "--", "-s", "--fail", wanted=22)
 
     def test_refusals(self) -> None:
+        """Wrong words end with status 2 and a message, which has the text beside them here."""
         for words, message in (
             (["--by", "nokey", self.url], "nokey: No such file"), (["--by", "p256", "http://a/ b"], "no address of https or http"),
             (["--by", "p256", "ftp://a/"], "no address"), (["--by", "p256", "https://me:word@a/"], "no address"),
@@ -205,7 +206,7 @@ class InC(unittest.TestCase):
         return program
 
     def check_answers(self, verifier: str, library: str) -> None:
-        """The verifier in C, with this one of signatures, must answer all rows rightly, and mutated rows as the verifier in Python does."""
+        """The verifier in C, with one of signatures as `compile` has it, must answer all rows rightly, and mutated rows as that in Python does."""
         import test_spki_http
         program, rows = self.compile(verifier, library), [*test_spki_http.rows()]
         names, right_answers = [row[0] for row in rows], [row[4] for row in rows]

@@ -16,8 +16,8 @@ PAGE = "/web/index.html"
 class OfSites(unittest.TestCase):
     """A web server with a daemon that accepts signed requests. `kind` is the class that starts both."""
 
-    kind: type[web_servers.Behind]
-    site: web_servers.Behind
+    kind: type[web_servers.ServerSite]
+    site: web_servers.ServerSite
     # The answer to a second line of a signature. nginx 1.22 passes on the first one alone.
     second_line = 403
 
@@ -62,7 +62,7 @@ class OfSites(unittest.TestCase):
         self.check_chain()
 
     def check_chain(self) -> None:
-        """A request in which Ben shows Ann's certificate is granted only if his signature covers it. Leaves it in `b` for `check_left_chain`."""
+        """A request in which Ben shows Ann's certificate is granted only if his signature covers it. `check_left_chain` needs the file `b`."""
         right = ("--tag", "(files read (* prefix /web/))", "--days", "9")
         self.site.cert("sign", "--by", "keys/ann", "--to", "keys/ben.pub", *right, "--force", "-o", "b")
         ben = self.fields("ben", PAGE, "--cert", "b")
@@ -111,11 +111,11 @@ class Nginx(OfSites):
 
     kind, second_line = web_servers.Nginx, 200
 
-    def test_answers(self) -> None:
+    def test_signed_requests(self) -> None:
         self.check_signed()
         self.check_left_chain()
 
-    def test_stores(self) -> None:
+    def test_stores_by_curl(self) -> None:
         self.check_curl()
 
 
@@ -136,7 +136,7 @@ class Caddy(OfSites):
 
     kind = web_servers.Caddy
 
-    def test_answers(self) -> None:
+    def test_signed_requests(self) -> None:
         self.check_signed()
         self.check_left_chain()
 
@@ -147,11 +147,11 @@ class HAProxy(OfSites):
 
     kind = web_servers.HAProxy
 
-    def test_answers(self) -> None:
+    def test_signed_requests(self) -> None:
         self.check_signed()
         self.check_left_chain()
 
-    def test_stores(self) -> None:
+    def test_stores_by_curl(self) -> None:
         self.check_curl()
 
 
@@ -202,8 +202,8 @@ class Apache(OfSites):
 
     kind = web_servers.Apache
 
-    def test_answers(self) -> None:
+    def test_signed_requests(self) -> None:
         self.check_signed()
 
-    def test_stores(self) -> None:
+    def test_stores_by_curl(self) -> None:
         self.check_curl()

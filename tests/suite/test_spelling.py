@@ -8,7 +8,7 @@ from harness import built, needs
 from harness.support import SECONDS_TO_WAIT, TESTS, TOP, output_of
 
 KINDS = (".md", ".1", ".py", ".rs", ".go", ".rt", ".h", ".c", ".sh")
-WITHOUT_END = ("apps/locate", "tests/run", ".ci/run", ".ci/deep")
+WITHOUT_SUFFIX = ("apps/locate", "tests/run", ".ci/run", ".ci/deep")
 
 
 def files_here() -> Iterator[str]:
@@ -20,10 +20,10 @@ def files_here() -> Iterator[str]:
 
 @needs.needs("codespell")
 class Spelling(unittest.TestCase):
-    """The spelling of the files of KINDS and WITHOUT_END, and of those in specs/."""
+    """The spelling of the files of KINDS and WITHOUT_SUFFIX, and of those in specs/."""
 
     def test_spelling(self) -> None:
-        files = [path for path in files_here() if path.endswith(KINDS) or path in WITHOUT_END or "/specs/" in path]
+        files = [path for path in files_here() if path.endswith(KINDS) or path in WITHOUT_SUFFIX or "/specs/" in path]
         words = ["codespell", "--ignore-words", os.path.join(TESTS, "suite", "spelling.words"), *files]
         self.assertEqual(output_of(*words, cwd=TOP, seconds=SECONDS_TO_WAIT), (0, ""))
 

@@ -1,5 +1,4 @@
-"""Tests `spki-authd` with a list in PostgreSQL while something fails: servers die, are cut from each other, lag behind, have a wrong clock or a full
-disk.
+"""Tests `spki-authd` with a list in PostgreSQL while servers die, are cut from each other, lag behind, have a wrong clock or a full disk.
 
 Under each failure of `Questions` 20,000 questions are asked while the list changes. Each answer must be a failure, or that of the guard of the whole
 list as of a moment that is at most `stale_seconds` ago. All are long tests, and those with a network or a disk of their own need root."""
@@ -72,8 +71,8 @@ def cut_twice(node: networks.Node) -> None:
 Entered = TypeVar("Entered", Server, networks.Network)
 
 
-class Failing(test_store.OfServed):
-    """Tests with servers of their own."""
+class WithOwnServers(test_store.OfServed):
+    """The base of tests that start servers of PostgreSQL of their own, and make them fail."""
 
     def enter(self, context: Entered) -> Entered:
         """Enters the context of a server or a network, until the test ends. Returns it."""
@@ -82,8 +81,8 @@ class Failing(test_store.OfServed):
         return context
 
     def primary(self, settings: dict[str, str] = USUAL, at: networks.Node | None = None, mib: int = 0) -> Server:
-        """Starts a server, at the node `at` or at none, on a disk of `mib` MiB or, if it is 0, on the usual one. Makes the store of this test there.
-        The table `error` says by how much its clock is wrong: the tests in Go add this to the moment of each heartbeat."""
+        """Starts a server by settings of PostgreSQL, at the node `at` if any, on a disk of `mib` MiB or, for 0, on the usual one. Makes the store of
+        this test there. The table `error` says by how much its clock is wrong: the tests in Go add this to the moment of each heartbeat."""
         server = self.enter(Server(at, mib, **settings))
         self.store.close()
         self.store = Store(server.address, self.schema)
@@ -93,7 +92,7 @@ class Failing(test_store.OfServed):
         return server
 
     def replica(self, primary: Server, settings: dict[str, str] = USUAL, at: networks.Node | None = None, mib: int = 0) -> Server:
-        """Starts a replica of a server, at the node `at` or at none, on a disk of `mib` MiB or, if it is 0, on the usual one."""
+        """Starts a replica of a server by settings of PostgreSQL, at the node `at` if any, on a disk of `mib` MiB or, for 0, on the usual one."""
         return self.enter(primary.replica(at, mib, **settings))
 
     def network(self, count: int) -> list[networks.Node]:
@@ -113,8 +112,8 @@ class Failing(test_store.OfServed):
         return certificate
 
 
-class Questions(Failing):
-    """Questions, while something fails."""
+class Questions(WithOwnServers):
+    """Generated questions are answered rightly while something fails. `questions` is the path of the daemon's compiled tests, which ask them."""
 
     questions: str
 
@@ -159,8 +158,7 @@ class Questions(Failing):
         self.ask_while(replica.folder, [primary], lambda: kill_twice(replica))
 
     def test_failover(self) -> None:
-        """The primary dies, and the replica that received most takes its place. The second replica is asked. If the first one is promoted, the second
-        is told to follow it."""
+        """The primary dies, and the replica that received most takes its place. The second one is asked. It follows the first if that is promoted."""
         primary = self.primary(SHORT)
         replicas = [self.replica(primary) for _ in range(2)]
         make_synchronous(primary)
@@ -243,11 +241,11 @@ class Questions(Failing):
         self.ask_while(replica.folder, [primary], fails)
 
 
-class Daemons(Failing):
-    """Daemons, while something fails."""
+class Daemons(WithOwnServers):
+    """What running daemons and `spki-store` answer while something fails."""
 
     @needs.needs("ip")
-    def test_network(self) -> None:
+    def test_cut_network_and_failover(self) -> None:
         """A replica is cut from the primary, a daemon from its replica, and the primary from all others. Then a replica takes its place. The old
         primary comes back, and its daemon grants nothing for 4 seconds, longer than a state may be old. The daemons are `old`, `near` and `far`."""
         nodes = self.network(4)
@@ -359,7 +357,8 @@ def received(replica: Server) -> int:
 
 
 def write_until_it_ends(server: Server) -> None:
-    """Writes to a server whose disk is full, until it has no room for its log and ends. Raises AssertionError if it does not end."""
+    """Writes to a server whose disk is full, until it has no room for its log and ends. Raises AssertionError if it does not end. Each switch begins
+    a new file of the log, if something was logged since the last one, as the number of a transaction is."""
     def is_over() -> bool:
         with contextlib.suppress(psycopg.Error):
             execute(server, "SELECT pg_switch_wal()", "SELECT txid_current()")
@@ -368,4 +367,4 @@ def write_until_it_ends(server: Server) -> None:
 
 
 if not built.IS_LONG:
-    del Failing, Questions, Daemons
+    del WithOwnServers, Questions, Daemons

@@ -27,7 +27,7 @@ class BySecondCompiler(built.OfProgram):
 # ---- rows
 
 
-def made_test(row: Row) -> Test:
+def row_test(row: Row) -> Test:
     """A test method: the program must give the answer of the row, and by other commands answers that agree with it (`fault_of`)."""
     def test(self: built.OfProgram) -> None:
         fault = fault_of(self.program, row)
@@ -44,7 +44,7 @@ def named_tests(rows: Iterable[Row]) -> Iterator[tuple[str, Test]]:
     for row in listed:
         name = f"test_{row.place}{f':{row.command}' if places[row.place] > 1 else ''}"
         named[name] += 1
-        yield f"{name}{f':{named[name]}' if named[name] > 1 else ''}", made_test(row)
+        yield f"{name}{f':{named[name]}' if named[name] > 1 else ''}", row_test(row)
 
 
 # ---- pairs
@@ -82,8 +82,8 @@ def classes(base: type[built.OfProgram], ending: str = "") -> Iterator[type]:
 
 
 def add_classes() -> None:
-    """Adds the classes to this module, those of the second compiler's program where it is there. If the program alone is tested (`--quick`), it was
-    compiled anew, and the second compiler's may be of older sources."""
+    """Adds the classes to this module, also those of the second compiler's program where it is there. With `--quick` it is left out: the program that
+    is tested was compiled anew, and the second compiler's may be of older sources."""
     added = list(classes(built.OfProgram))
     if os.path.exists(built.BY_RATTLE) and not built.IS_ALONE:
         added += classes(BySecondCompiler, "BySecondCompiler")

@@ -42,5 +42,5 @@ class Words(built.OfProgram):
                 self.assertEqual((status, out, is_help), (0, b"", True), f"spki {b' '.join(words)!r}: {errors!r}")
         self.assertTrue(self.run_with((b"--help",))[2].startswith(b"Decides"))
 
-    def test_right_word(self) -> None:
+    def test_canonical_without_more_words(self) -> None:
         self.assertEqual(self.run_with((b"canonical",)), (0, TEXT, b""))

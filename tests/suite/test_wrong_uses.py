@@ -55,7 +55,7 @@ class WrongUses(built.OfLibrary):
         return done.stdout
 
     def write_program(self, name: str, shared: str, rows: list[Row]) -> tuple[str, dict[int, Row]]:
-        """Writes a program with the code that all rows share, and these rows. Returns its path, and the row of each line that is in one."""
+        """Writes the file `name`: the code that all rows share, and a program of these. Returns its path, and the row of each line that is in one."""
         text, lines = wrong_uses.program_of(shared, rows)
         path = os.path.join(self.room, name)
         os.makedirs(os.path.dirname(path), exist_ok=True)
