@@ -83,8 +83,8 @@ fn skip_symbols(text: &[u8], at: usize) -> usize
 
 /// Returns the symbols of base64 and the `=` from the offset `at` up to the octet `mark`, without the whitespace
 /// between them, and the offset after the mark. `at` may be the end of the text. `mark` is no symbol, no `=` and no
-/// whitespace. Err is `Short` if the text ends before the mark, `Bad` at the first octet that is none of these, or
-/// `Memory`.
+/// whitespace. Err is `Short` if the text ends before the mark, `Bad` at the first octet that is none of these, where
+/// nothing is skipped, or `Memory`.
 fn gather_symbols(alloc: Global, text: &[u8], at: usize, mark: u8) -> Result<Gathered, FormFault>
     requires begins { at ≤ length text.now }
     requires apart { is_body_octet mark ≡ false }

@@ -38,7 +38,8 @@ fn print_verbatim<'t, S: Sink>(text: &'t [u8], sink: &mut S) -> &'t [u8]
 }
 
 /// Prints, in advanced form, a string with a hint. `text` is what follows its opening bracket in a canonical text: the
-/// hint, the closing bracket and the string. Returns the text after the string.
+/// hint, the closing bracket and the string. Returns the text after the string. `print_hint` prints both brackets, so the
+/// closing one in `text` is skipped.
 fn print_hinted<'t, S: Sink>(text: &'t [u8], sink: &mut S) -> &'t [u8]
     requires { (hint octets behind : List ℕ) × (text.now ≡ verbatim hint ++ 93 ∷ (verbatim octets ++ behind)) }
     ensures { (hint octets behind : List ℕ) → text.now ≡ verbatim hint ++ 93 ∷ (verbatim octets ++ behind)

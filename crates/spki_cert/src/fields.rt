@@ -332,8 +332,8 @@ fn read_fields<'a>(
 }
 
 /// Reads all fields of an entry or of a certificate, as `place` says. Fields may be in any order. A missing field is no fault here; its
-/// content is None. Err is the first fault: that of a field, `Shape` for a head that occurs twice or that no field there has (`Online` for
-/// `(online ..)`), or `Memory` if memory ran out.
+/// content is None. Err is the first fault: that of a field, `Shape` for a field without a head, or for a head that occurs twice or that no
+/// field there has (`Online` for `(online ..)`), or `Memory` if memory ran out.
 pub(crate) fn fields_of<'a>(
     alloc: Global,
     place: Place,

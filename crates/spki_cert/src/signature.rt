@@ -14,7 +14,7 @@ use sexpr_core::syntax::Node;
 
 /// Reads a signature from its node: `(signature HASH PRINCIPAL VALUE)`. HASH is the digest of what is signed, PRINCIPAL the signer. VALUE
 /// is any value: only its canonical octets are kept. Err is the first fault: that of HASH (`hash_of`) or of PRINCIPAL (`principal_of`), or
-/// `Shape` if the members are not exactly these three. Allocates nothing.
+/// `Shape` if the node is not headed `signature`, or if its members are not exactly these three. Allocates nothing.
 #[tactic(auto, using(crate::proofs::Heads::heads), unfolding(crate::specs::StructureFaults::signature_fault))]
 pub(crate) fn signature_of<'a>(node: &Node<'_, 'a>) -> Result<Signature<'a>, CertFaultKind>
     ensures found { IfOk result (λ signature. SignatureOf node.now signature) }
