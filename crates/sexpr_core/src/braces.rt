@@ -201,7 +201,7 @@ fn check_body(octets: &[u8], at: usize) -> Result<(), FormFault>
 
 /// Reads a text in transport form (RFC 9804, section 6.3) as an owned tree. The text is base64 of a canonical form, in
 /// braces. Whitespace is allowed around the braces and inside them. Some or all of the padding may be missing, and an
-/// unused bit must be zero.
+/// unused bit must be zero. `octets_in_braces` finds every fault of the text, so `decode` fails only if memory runs out.
 ///
 /// # Errors
 ///
