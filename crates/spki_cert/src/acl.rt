@@ -145,8 +145,8 @@ pub fn acl_of<'a>(alloc: Global, node: &Node<'_, 'a>) -> Result<Vec<Entry<'a>>, 
     }
 }
 
-/// Reads the entries of an access list like `entries_of`, but returns only the principals of their subjects, in order. Only one entry is in
-/// memory at a time. Err is the first fault, with the number of its entry, from 1, or `Memory` if memory ran out.
+/// Reads `members`, the entries of an access list, like `entries_of`, but returns only the principals of their subjects, in order. Only one
+/// entry is in memory at a time. Err is the first fault, with the number of its entry, from 1, or `Memory` if memory ran out.
 #[tactic(auto, using(crate::proofs::Heads::heads), unfolding(crate::specs::StructureFaults::entries_fault))]
 fn principals_in<'a>(
     alloc: Global,
