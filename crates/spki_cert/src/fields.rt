@@ -304,8 +304,8 @@ fn unrepeated_field<'d, 'a>(field: &Node<'d, 'a>, heads: &[Octets]) -> Option<He
 
 /// Reads `members`, the fields of an entry or of a certificate, as `place` says, and puts their contents into `known`, which must be empty.
 /// Returns whether one of them is `(propagate)`. Err is the first fault: `Shape` if a field has no head or that of a field before it,
-/// otherwise the fault of the field, as `field_value` says. It is `Memory` if memory ran out. Then `known` keeps what was read before the
-/// fault, and the caller frees it.
+/// otherwise the fault of the field, as `field_value` says. It is `Memory` if memory ran out. On an error `known` keeps what was read before
+/// the fault, and the caller frees it.
 fn read_fields<'a>(
     alloc: Global,
     place: Place,
