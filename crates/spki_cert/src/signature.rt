@@ -47,8 +47,8 @@ pub(crate) fn signature_of<'a>(node: &Node<'_, 'a>) -> Result<Signature<'a>, Cer
 }
 
 /// Reads the algorithm from the node of an operation, `(do hash ALG)`, which has no effect. Err is the first fault: `UnknownOp` if the
-/// member after `do` is missing, or is anything but the string `hash`, `HashAlg` if ALG is a string that names no supported algorithm,
-/// otherwise `Shape`. Allocates nothing.
+/// member after `do` is missing, or is anything but the string `hash` without a display hint; `HashAlg` if ALG is a string that names no
+/// supported algorithm or has a display hint; otherwise `Shape`. Allocates nothing.
 #[tactic(auto, using(crate::proofs::Heads::heads), unfolding(crate::specs::StructureFaults::do_fault))]
 pub(crate) fn do_hash_of(node: &Node) -> Result<HashAlg, CertFaultKind>
     ensures found { IfOk result (λ alg. DoHashOf node.now alg) }
