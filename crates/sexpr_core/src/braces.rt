@@ -83,8 +83,8 @@ fn skip_symbols(text: &[u8], at: usize) -> usize
 
 /// Returns the symbols of base64 and the `=` from the offset `at` up to the octet `mark`, without the whitespace
 /// between them, and the offset after the mark. `at` may be the end of the text. `mark` is no symbol, no `=` and no
-/// whitespace. Err is `Short` if the text ends before the mark, `Bad` at the first octet that is none of these, or
-/// `Memory`.
+/// whitespace. Err is `Short` if the text ends before the mark, `Bad` at the first octet that is none of these, where
+/// nothing is skipped, or `Memory`.
 fn gather_symbols(alloc: Global, text: &[u8], at: usize, mark: u8) -> Result<Gathered, FormFault>
     requires begins { at ≤ length text.now }
     requires apart { is_body_octet mark ≡ false }
@@ -201,7 +201,7 @@ fn check_body(octets: &[u8], at: usize) -> Result<(), FormFault>
 
 /// Reads a text in transport form (RFC 9804, section 6.3) as an owned tree. The text is base64 of a canonical form, in
 /// braces. Whitespace is allowed around the braces and inside them. Some or all of the padding may be missing, and an
-/// unused bit must be zero.
+/// unused bit must be zero. `octets_in_braces` finds every fault of the text, so `decode` fails only if memory runs out.
 ///
 /// # Errors
 ///

@@ -53,7 +53,7 @@ fn tree_of(alloc: Global, node: &Node) -> Result<Sexp, AllocError>
     }
 }
 
-/// Copies each of the members that are still to be read as an owned tree, in order. Err if memory ran out.
+/// Returns a copy of each of the members, as an owned tree, in order. Err if memory ran out.
 #[cycle(trees)]
 fn trees_of(alloc: Global, members: Members) -> Result<Vec<Sexp>, AllocError>
     ensures { IfOk result (λ trees. map sexp_value trees.items ≡ members.entry) }

@@ -60,10 +60,10 @@ fn first_digit(text: &[u8], at: usize) -> Result<usize, FormFault>
     }
 }
 
-/// Reads the decimal length at the offset `at`, without leading zeros, and the colon after it. A length over
-/// `MOST_OCTETS` is returned as `MOST_OCTETS` plus one: no text that is read has as many octets, so `read_verbatim`
-/// refuses it as `Short`. Err is `Bad` at the first octet that is not allowed there, or `Short` if the text ends before
-/// the colon.
+/// Reads the decimal length at the offset `at`, without leading zeros, and the colon after it. After a first `0` only the
+/// colon is allowed. A length over `MOST_OCTETS` is returned as `MOST_OCTETS` plus one, so that no sum overflows: no text
+/// that is read has as many octets, so `read_verbatim` refuses it as `Short`. Err is `Bad` at the first octet that is not
+/// allowed there, or `Short` if the text ends before the colon.
 fn read_length(text: &[u8], at: usize) -> Result<Length, FormFault>
     requires { at ≤ length text.now }
     ensures { MatchResult result

@@ -1,4 +1,4 @@
-//! Prints canonical texts in advanced form, without a tree.
+//! Prints canonical texts in advanced form, without a tree. A printed octet goes to a sink, as in `printer`.
 
 ghost use Rattle.std.specs.Prelude.{◌≡◌, ℕ, List, ◌∷◌, ◌++◌};
 ghost use Rattle.sexpr_core.specs.Value.{Value, Values, list, verbatim, canon, canons};
@@ -26,7 +26,8 @@ fn split_verbatim<'t>(text: &'t [u8]) -> (&'t [u8], &'t [u8])
     (rest, rest)
 }
 
-/// Prints, in advanced form, the string in verbatim form with which a text begins. Returns the text after it.
+/// Prints, in advanced form, the string in verbatim form, such as `3:abc`, with which `text` begins. The text must begin
+/// with such a string. Returns the text after it.
 fn print_verbatim<'t, S: Sink>(text: &'t [u8], sink: &mut S) -> &'t [u8]
     requires { (octets behind : List ℕ) × (text.now ≡ verbatim octets ++ behind) }
     ensures { (octets behind : List ℕ) → text.now ≡ verbatim octets ++ behind
@@ -38,7 +39,8 @@ fn print_verbatim<'t, S: Sink>(text: &'t [u8], sink: &mut S) -> &'t [u8]
 }
 
 /// Prints, in advanced form, a string with a hint. `text` is what follows its opening bracket in a canonical text: the
-/// hint, the closing bracket and the string. Returns the text after the string.
+/// hint, the closing bracket and the string. Returns the text after the string. `print_hint` prints both brackets, so the
+/// closing one in `text` is skipped.
 fn print_hinted<'t, S: Sink>(text: &'t [u8], sink: &mut S) -> &'t [u8]
     requires { (hint octets behind : List ℕ) × (text.now ≡ verbatim hint ++ 93 ∷ (verbatim octets ++ behind)) }
     ensures { (hint octets behind : List ℕ) → text.now ≡ verbatim hint ++ 93 ∷ (verbatim octets ++ behind)

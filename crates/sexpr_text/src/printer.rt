@@ -1,4 +1,4 @@
-//! Prints advanced form.
+//! Prints advanced form. A printed octet goes to a sink, such as one that appends it to a vector or only counts it.
 
 ghost use Rattle.std.specs.Prelude.{◌≡◌, ◌≤◌, ◌==◌, ◌||◌, [], ◌++◌, ◌∷◌, length, IfOk};
 ghost use Rattle.sexpr_core.specs.Value.{HasOctets, atom_value, sexp_value};

@@ -34,9 +34,10 @@ struct ReadMembers {
 /// # Errors
 ///
 /// TooLong: the text has more octets. Otherwise the first fault from the left. TooDeep: a list begins while
-/// `MOST_LISTS` are open. Bad: the octet at this offset is not allowed in its place. At a closing mark it may also be
-/// that the body does not fit the marks or the length in front. Short: the text ends before the value is complete.
-/// Trailing: an octet follows the complete value and the whitespace after it, at this offset. Memory: memory ran out.
+/// `MOST_LISTS` are open. Bad: the octet at this offset is not allowed in its place, or it is the closing mark of a string
+/// that is wrong base64, has an odd number of hexadecimal digits, or does not have the length in front of it. Short: the
+/// text ends before the value is complete. Trailing: an octet follows the complete value and the whitespace after it, at
+/// this offset. Memory: memory ran out.
 pub fn read_advanced(alloc: Global, text: &[u8]) -> Result<Sexp, FormFault>
     ensures read { IfOk result (λ tree. IsSpelledWithin text.now (sexp_value tree)) }
     ensures only { (v : Value) → IsSpelledWithin text.now v → IsOkUnless result FormFault.Memory }

@@ -166,9 +166,9 @@ fn read_count(text: &[u8], at: usize, first: u8) -> Count
     Count { number, end: i }
 }
 
-/// Reads the string with a length in front whose first digit, `first`, is at `at`. The length is that of the decoded
-/// octets. The text has at most `MOST_OCTETS` octets. Err is `Memory` or the first fault: `Short`, or `Bad`, which is
-/// at the closing mark for a string between marks that does not have this length.
+/// Reads the string with a length in front, such as `3:abc` or `3#616263#`, whose first digit, `first`, is at `at`. The
+/// length is that of the decoded octets. The text has at most `MOST_OCTETS` octets. Err is `Memory` or the first fault:
+/// `Short`, or `Bad`, which is at the closing mark for a string between marks that does not have this length.
 fn read_counted<'t>(
     alloc: Global,
     text: &'t [u8],

@@ -41,8 +41,9 @@ fn entry_subject<'a>(alloc: Global, node: &Node<'_, 'a>) -> Result<Subject<'a>, 
 ///
 /// # Errors
 ///
-/// The first fault from the left: that of the subject, or of a field. After all others it is `Shape`, if limits are both in `(valid ..)`
-/// and outside of it, or if there is no tag. `Memory` if memory ran out.
+/// The first fault from the left: `Shape` if the node is not headed `entry` or has no subject, otherwise that of the subject, or of a field.
+/// After all others it is `Shape`, if there is a `(valid ..)` and also a limit outside of it, or if there is no tag. `Memory` if memory ran
+/// out.
 pub fn entry_of<'a>(alloc: Global, node: &Node<'_, 'a>) -> Result<Entry<'a>, CertFaultKind>
     ensures entry { IfOk result (λ entry. EntryOf node.now entry) }
     ensures refused { IfErr result (λ kind. kind ≢ CertFaultKind.Memory → (e : spec.Entry) → EntryOf node.now e → ⊥) }
@@ -144,8 +145,8 @@ pub fn acl_of<'a>(alloc: Global, node: &Node<'_, 'a>) -> Result<Vec<Entry<'a>>, 
     }
 }
 
-/// Reads the entries of an access list like `entries_of`, but returns only the principals of their subjects, in order. Only one entry is in
-/// memory at a time. Err is the first fault, with the number of its entry, from 1, or `Memory` if memory ran out.
+/// Reads `members`, the entries of an access list, like `entries_of`, but returns only the principals of their subjects, in order. Only one
+/// entry is in memory at a time. Err is the first fault, with the number of its entry, from 1, or `Memory` if memory ran out.
 #[tactic(auto, using(crate::proofs::Heads::heads), unfolding(crate::specs::StructureFaults::entries_fault))]
 fn principals_in<'a>(
     alloc: Global,

@@ -48,7 +48,7 @@ pub enum CertFaultKind {
     /// A signature without a certificate before it, or after one that has its signature already.
     #[error("a signature without certificate")]
     StraySignature,
-    /// A list headed `do` whose operation, the member after `do`, is missing or is not the string `hash`.
+    /// A list headed `do` whose operation, the member after `do`, is missing or is not the string `hash` without a display hint.
     #[error("unknown operation")]
     UnknownOp,
     /// A tag that is refused, and why. It is not used for `TagFault::Memory`, which becomes `Memory`.

@@ -302,10 +302,10 @@ fn unrepeated_field<'d, 'a>(field: &Node<'d, 'a>, heads: &[Octets]) -> Option<He
     }
 }
 
-/// Reads the fields of an entry or of a certificate, as `place` says, and puts their contents into `known`, which must be empty. Returns
-/// whether one of them is `(propagate)`. Err is the first fault: `Shape` if a field has no head or that of a field before it, otherwise the
-/// fault of the field, as `field_value` says. It is `Memory` if memory ran out. Then `known` keeps what was read before the fault, and the
-/// caller frees it.
+/// Reads `members`, the fields of an entry or of a certificate, as `place` says, and puts their contents into `known`, which must be empty.
+/// Returns whether one of them is `(propagate)`. Err is the first fault: `Shape` if a field has no head or that of a field before it,
+/// otherwise the fault of the field, as `field_value` says. It is `Memory` if memory ran out. On an error `known` keeps what was read before
+/// the fault, and the caller frees it.
 fn read_fields<'a>(
     alloc: Global,
     place: Place,
@@ -331,9 +331,9 @@ fn read_fields<'a>(
     Ok(is_word_among(&heads, b"propagate"))
 }
 
-/// Reads all fields of an entry or of a certificate, as `place` says. Fields may be in any order. A missing field is no fault here; its
-/// content is None. Err is the first fault: that of a field, `Shape` for a head that occurs twice or that no field there has (`Online` for
-/// `(online ..)`), or `Memory` if memory ran out.
+/// Reads `members`, all fields of an entry or of a certificate, as `place` says. Fields may be in any order. A missing field is no fault
+/// here; its content is None. Err is the first fault: that of a field, `Shape` for a field without a head, or for a head that occurs twice
+/// or that no field there has (`Online` for `(online ..)`), or `Memory` if memory ran out.
 pub(crate) fn fields_of<'a>(
     alloc: Global,
     place: Place,

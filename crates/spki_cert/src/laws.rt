@@ -93,7 +93,7 @@ pub fn refused_entry()
 
 /// If a value has a fault as an access list, the item of the fault says what is wrong. With an item above 0 the value is an access list up
 /// to the entry with this number, the first that cannot be read, and the fault is that of this entry. With item 0 the value does not have
-/// the head `acl`, or its version is not 0.
+/// the head `acl`, or its first member has the head `version` and is not `(version 0)`.
 #[tactic(auto, using(crate::proofs::RefusedWholes::wholes))]
 pub fn refused_list()
     ensures entry { (v : Value) (fault : CertFault) → acl_fault v ≡ Some fault → 0 < fault.item → HasRefusedEntry v fault }

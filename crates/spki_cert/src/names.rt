@@ -148,9 +148,9 @@ impl<'a> Names<'a> {
         Ok(Names { front, read, gone })
     }
 
-    /// Returns the names of `others`, and after them these names. A caller that replaces a name by what a name certificate says it means
-    /// puts the names of the certificate's subject, `others`, in front of the remaining names. The vector `front` is in reverse, so
-    /// `others` are appended to it from the last to the first. If there are no names here, the result is a copy of `others`.
+    /// Returns the names of `others`, and after them these names. A caller that replaces a name by the subject of a certificate that defines
+    /// this name puts the names of the subject, `others`, in front of the remaining names. The vector `front` is in reverse, so `others` are
+    /// appended to it from the last to the first. If there are no names here, the result is a copy of `others`.
     ///
     /// # Errors
     ///

@@ -14,7 +14,7 @@ use sexpr_core::syntax::Node;
 
 /// Reads a signature from its node: `(signature HASH PRINCIPAL VALUE)`. HASH is the digest of what is signed, PRINCIPAL the signer. VALUE
 /// is any value: only its canonical octets are kept. Err is the first fault: that of HASH (`hash_of`) or of PRINCIPAL (`principal_of`), or
-/// `Shape` if the members are not exactly these three. Allocates nothing.
+/// `Shape` if the node is not headed `signature`, or if its members are not exactly these three. Allocates nothing.
 #[tactic(auto, using(crate::proofs::Heads::heads), unfolding(crate::specs::StructureFaults::signature_fault))]
 pub(crate) fn signature_of<'a>(node: &Node<'_, 'a>) -> Result<Signature<'a>, CertFaultKind>
     ensures found { IfOk result (λ signature. SignatureOf node.now signature) }
@@ -47,8 +47,8 @@ pub(crate) fn signature_of<'a>(node: &Node<'_, 'a>) -> Result<Signature<'a>, Cer
 }
 
 /// Reads the algorithm from the node of an operation, `(do hash ALG)`, which has no effect. Err is the first fault: `UnknownOp` if the
-/// member after `do` is missing, or is anything but the string `hash`, `HashAlg` if ALG is a string that names no supported algorithm,
-/// otherwise `Shape`. Allocates nothing.
+/// member after `do` is missing, or is anything but the string `hash` without a display hint; `HashAlg` if ALG is a string that names no
+/// supported algorithm or has a display hint; otherwise `Shape`. Allocates nothing.
 #[tactic(auto, using(crate::proofs::Heads::heads), unfolding(crate::specs::StructureFaults::do_fault))]
 pub(crate) fn do_hash_of(node: &Node) -> Result<HashAlg, CertFaultKind>
     ensures found { IfOk result (λ alg. DoHashOf node.now alg) }

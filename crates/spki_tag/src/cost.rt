@@ -11,7 +11,7 @@ use crate::tag::{Node, Tag};
 /// What a string, a set or `(*)` costs, without its octets and members: 15 for a node, and 1 for a tag.
 const PLAIN: usize = 16;
 
-/// What a list costs, without the octets of its head and without its members: 15 for itself and for its head, and 1 for a tag.
+/// What a list costs, without the octets of its head and without its members: 15 for itself, 15 for its head, and 1 for a tag.
 const LIST: usize = 31;
 
 /// What a prefix or a range costs, without its octets: 48 more than a string, since two of them make a new range.

@@ -114,8 +114,8 @@ impl<'a> PlacesByKind<'a> {
         }
     }
 
-    /// Adds the place of one more tag, which is of this kind, to each field that the kind belongs to. `of` adds the places in increasing
-    /// order, so each field increases. Err if memory ran out; then only some of the fields may have the place.
+    /// Adds `place`, the place of one more tag, to each field that has the places of tags of its kind. `PlacesByKind::of` adds places in
+    /// increasing order, so each field has them in this order. Err if memory ran out; then only some of the fields may have the place.
     fn add(&mut self, kind: Kind<'a>, place: usize) -> Result<(), AllocError>
         ensures { OnOk result (IsAdded self.old self.new (kind_of kind.entry) place) }
     {

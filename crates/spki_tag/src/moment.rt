@@ -39,9 +39,9 @@ pub fn is_time(text: &[u8]) -> bool
         && is_number_at(text, 6, 0, 60)
 }
 
-/// Whether a text is `YYYY-MM-DD_HH:MM:SS`: any year of four digits, a month from 01 to 12, a day from 01 to 31, and a time by `is_time`.
-/// There is no calendar check, so `2024-02-31_00:00:00` is one. A range of the ordering `date` contains only such strings, and `spki_cert`
-/// reads its dates with this.
+/// Whether a text is `YYYY-MM-DD_HH:MM:SS`: any year of four digits, tested as two numbers, a month from 01 to 12, a day from 01 to 31, and
+/// a time by `is_time`. There is no calendar check, so `2024-02-31_00:00:00` is one. A range of the ordering `date` contains only such
+/// strings, and `spki_cert` reads its dates with this.
 #[tactic(auto, unfolding(crate::specs::Tag::is_date))]
 pub fn is_date(text: &[u8]) -> bool
     ensures { result ≡ spec.is_date text.now }

@@ -41,7 +41,7 @@ impl Prefix {
         })
     }
 
-    /// The octets with which the strings start.
+    /// The octets of the prefix itself.
     pub(crate) fn octets(&self) -> &[u8]
         ensures { result.now ≡ self.now }
     {

@@ -10,7 +10,7 @@ use std::sync::ArcSlice;
 /// The members of a list after its head, or those of a set, in order. None if there are none: that takes no memory.
 pub(crate) type SharedTags = Option<ArcSlice<Tag>>;
 
-/// The tags of a vector, in order, so that they can be shared. Err if memory ran out.
+/// The tags of a vector, in order, so that they can be shared. `Ok(None)` if there are none. Err if memory ran out.
 pub(crate) fn shared(tags: Vec<Tag>) -> Result<SharedTags, AllocError>
     ensures { IfOk result (λ members. shared_items members ≡ tags.items) }
 {
@@ -30,7 +30,7 @@ pub(crate) fn shared_again(members: &SharedTags) -> Result<SharedTags, AllocErro
     }
 }
 
-/// The tags, in order.
+/// The tags as a slice, in order. Empty for None.
 pub(crate) fn tags_in(members: &SharedTags) -> &[Tag]
     ensures { result.now ≡ shared_items members.now }
 {

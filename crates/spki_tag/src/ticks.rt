@@ -48,7 +48,7 @@ impl<L: Ledger> Ticks<L> {
         self.book.add(&mut self.share, 1);
     }
 
-    /// Adds this number: of octets that are read or compared, of members that are copied, or of names.
+    /// Adds `octets`, a number of octets that are read or compared. Callers also count the members that are copied, and names, by this.
     pub fn read(&mut self, octets: usize)
         ensures { self.new ≡ self.old + octets }
     {
