@@ -31,7 +31,10 @@ pub enum ReadFault {
 
 /// Reads once, into `buffer`. Returns how many octets were read, or None if the read was interrupted and must be
 /// repeated. 0 octets mean that the reader has ended, unless the buffer is empty. Err is `Failed` at any other error.
-fn ask<R: Read>(reader: &mut Metered<R>, buffer: &mut [u8]) -> Result<Option<usize>, ReadFault>
+fn read_once<R: Read>(
+    reader: &mut Metered<R>,
+    buffer: &mut [u8],
+) -> Result<Option<usize>, ReadFault>
     ensures asks { asks_of reader.new ≡ counted (asks_of reader.old) }
     ensures earlier { earlier_of reader.new ≡ earlier_of reader.old }
     ensures fault { IsErrOf result ReadFault.Failed → faults_of reader.new ≡ counted (faults_of reader.old) }
@@ -87,7 +90,7 @@ fn read_piece<R: Read>(
 {
     let wanted = buffer.len().min((most - text.len()).saturating_add(1));
     let piece = &mut buffer[..wanted];
-    match ask(reader, piece)? {
+    match read_once(reader, piece)? {
         None => Ok(false),
         Some(0) => Ok(true),
         Some(count) => {

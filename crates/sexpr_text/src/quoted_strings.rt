@@ -145,7 +145,7 @@ fn line_end(text: &[u8], at: usize, second: u8) -> Escape
 }
 
 /// The octet that a backslash and this octet mean, such as a line feed for `n`. None if the two are no whole escape.
-fn meant_by(octet: u8) -> Option<u8>
+fn escaped_octet(octet: u8) -> Option<u8>
     ensures { result ≡ escape_value octet }
 {
     match octet {
@@ -171,7 +171,7 @@ fn read_letter(text: &[u8], at: usize, octet: u8) -> Result<Escape, FormFault>
     ensures refused { IfErr result (λ fault. IsNoLetter octet at fault) }
     ensures begun { IfErr result (λ fault. IsFrontEnd (GoesPiece (92 ∷ [])) text.now at fault) }
 {
-    match meant_by(octet) {
+    match escaped_octet(octet) {
         None => Err(FormFault::Bad(at)),
         Some(meant) => Ok(Escape {
             octet: Some(meant),

@@ -8,7 +8,7 @@ ghost use Rattle.sexpr_text.specs.{Refusal.{RefusesSpelling, RefusesText}, Advan
 
 use crate::hinted_strings::{HintedString, read_hinted_string};
 use crate::opening_brace::opens_braces;
-use crate::strings::{ReadString, own, read_string};
+use crate::strings::{ReadString, into_vector, read_string};
 use sexpr_core::syntax::{ended, octet_at, skip_spaces};
 use sexpr_core::{Atom, FormFault, MOST_LISTS, MOST_OCTETS, Sexp, unwrap_braces};
 use std::alloc::Global;
@@ -95,7 +95,7 @@ fn read_tree(alloc: Global, text: &[u8], at: usize, room: usize) -> Result<ReadT
             Ok(ReadTree {
                 tree: Sexp::Atom(Atom {
                     hint: None,
-                    body: own(alloc, octets)?,
+                    body: into_vector(alloc, octets)?,
                 }),
                 end,
             })
@@ -171,8 +171,8 @@ fn read_hinted(alloc: Global, text: &[u8], at: usize) -> Result<ReadTree, FormFa
     let HintedString { hint, octets, end } = read_hinted_string(alloc, text, at)?;
     Ok(ReadTree {
         tree: Sexp::Atom(Atom {
-            hint: Some(own(alloc, hint)?),
-            body: own(alloc, octets)?,
+            hint: Some(into_vector(alloc, hint)?),
+            body: into_vector(alloc, octets)?,
         }),
         end,
     })

@@ -77,7 +77,10 @@ pub(crate) fn read_string<'t>(
 
 /// Returns the octets of a string as a vector, as a tree needs them. They are copied if they are borrowed. Err if
 /// memory ran out.
-pub(crate) fn own(alloc: Global, octets: CowSlice<'_, u8, Global>) -> Result<Vec<u8>, AllocError>
+pub(crate) fn into_vector(
+    alloc: Global,
+    octets: CowSlice<'_, u8, Global>,
+) -> Result<Vec<u8>, AllocError>
     ensures { IfOk result (λ own. own.items ≡ cow_slice_items octets.entry) }
 {
     match octets {

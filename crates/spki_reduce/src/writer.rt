@@ -30,7 +30,7 @@ impl<'a> Five<'a> {
     pub fn write(&self, alloc: Global) -> Result<Sexp, AllocError>
         ensures { IfOk result (λ s. IsWrittenFive self.now (sexp_value s)) }
     {
-        let mut members = begun(alloc, b"five")?;
+        let mut members = begin_list(alloc, b"five")?;
         push_issuer(alloc, &mut members, &self.issuer)?;
         let principal = write_principal(alloc, &self.subject.principal)?;
         let subject = with_names(alloc, principal, &self.subject.names)?;
@@ -62,7 +62,7 @@ fn prove_principal(principal: &Principal)
 
 /// Returns a vector with the first member of a new list: `head`, as a string without a display hint. The caller appends the other members
 /// and makes the list of them. Err if memory ran out.
-fn begun(alloc: Global, head: &[u8]) -> Result<Vec<Sexp>, AllocError>
+fn begin_list(alloc: Global, head: &[u8]) -> Result<Vec<Sexp>, AllocError>
     ensures { IfOk result (λ members. map sexp_value members.items ≡ plain head.now ∷ []) }
 {
     let mut members = Vec::new(alloc);
@@ -80,7 +80,7 @@ fn push_headed(
     ensures { OnOk result (map sexp_value members.new.items
         ≡ map sexp_value members.old.items ++ headed head.now (sexp_value further ∷ []) ∷ []) }
 {
-    let mut inner = begun(alloc, head)?;
+    let mut inner = begin_list(alloc, head)?;
     inner.push(further)?;
     members.push(Sexp::list(inner))?;
     Ok(())
@@ -98,7 +98,7 @@ fn write_key(alloc: Global, key: &Key) -> Result<Sexp, AllocError>
 fn write_hash(alloc: Global, alg: HashAlg, digest: &[u8]) -> Result<Sexp, AllocError>
     ensures { IfOk result (λ s. IsWrittenPrincipal (Principal.Hash alg digest.now) (sexp_value s)) }
 {
-    let mut members = begun(alloc, b"hash")?;
+    let mut members = begin_list(alloc, b"hash")?;
     members.push(Sexp::plain(alloc, alg.name())?)?;
     members.push(Sexp::plain(alloc, digest)?)?;
     Ok(Sexp::list(members))
@@ -132,7 +132,7 @@ fn with_names(alloc: Global, principal: Sexp, names: &Names) -> Result<Sexp, All
     if names.is_empty() {
         return Ok(principal);
     }
-    let mut members = begun(alloc, b"name")?;
+    let mut members = begin_list(alloc, b"name")?;
     members.push(principal)?;
     push_names(alloc, &mut members, names)?;
     Ok(Sexp::list(members))
@@ -160,7 +160,7 @@ fn push_delegation(
         ≡ map sexp_value members.old.items ++ delegation_values propagate) }
 {
     if propagate {
-        members.push(Sexp::list(begun(alloc, b"propagate")?))?;
+        members.push(Sexp::list(begin_list(alloc, b"propagate")?))?;
     }
     Ok(())
 }
@@ -193,7 +193,7 @@ fn push_window(alloc: Global, members: &mut Vec<Sexp>, window: &Window) -> Resul
     if window.not_before.is_none() && window.not_after.is_none() {
         return Ok(());
     }
-    let mut limits = begun(alloc, b"valid")?;
+    let mut limits = begin_list(alloc, b"valid")?;
     push_limit(alloc, &mut limits, b"not-before", window.not_before)?;
     push_limit(alloc, &mut limits, b"not-after", window.not_after)?;
     members.push(Sexp::list(limits))?;

@@ -65,7 +65,11 @@ type PlacesByString<'a> = BTreeMap<&'a [u8], Vec<usize>>;
 
 /// Appends `place`, the place of one more tag, to the places that the map has for `string`, which is the tag itself or, for a list, its
 /// head. A string that is not in the map yet is added. Err if memory ran out; then the map may have the string without the place.
-fn put<'a>(map: &mut PlacesByString<'a>, string: &'a [u8], place: usize) -> Result<(), AllocError>
+fn add_place<'a>(
+    map: &mut PlacesByString<'a>,
+    string: &'a [u8],
+    place: usize,
+) -> Result<(), AllocError>
     ensures { OnOk result ((q : List ℕ) → found_at map.new q ≡ found_at map.old q ++ place_if (bytes_eq q string.now) place) }
 {
     map.entry(string)?.or_default().push(place)?;
@@ -131,10 +135,10 @@ impl<'a> PlacesByKind<'a> {
                 self.with_strings.push(place)?;
             }
             Kind::One(octets) => {
-                put(&mut self.strings, octets, place)?;
+                add_place(&mut self.strings, octets, place)?;
                 self.with_strings.push(place)?;
             }
-            Kind::Lists(head) => put(&mut self.lists, head, place)?,
+            Kind::Lists(head) => add_place(&mut self.lists, head, place)?,
         }
         Ok(())
     }

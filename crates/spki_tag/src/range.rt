@@ -73,7 +73,7 @@ impl Range {
 
     /// Returns the range of an ordering with copies of these limits. None if `excluded`, which must be true exactly if the limits exclude
     /// each other. Err if there are too many copies to count.
-    fn unless(
+    fn with_copied_limits(
         excluded: bool,
         ordering: RangeOrdering,
         low: &Option<Limit>,
@@ -106,9 +106,9 @@ impl Range {
         let own_low = is_greater_low(&self.low, &other.low);
         if is_lesser_up(&self.up, &other.up) {
             if own_low {
-                Range::unless(self.excluded, ordering, &self.low, &self.up)
+                Range::with_copied_limits(self.excluded, ordering, &self.low, &self.up)
             } else {
-                Range::unless(
+                Range::with_copied_limits(
                     exclude(&other.low, &self.up),
                     ordering,
                     &other.low,
@@ -116,14 +116,14 @@ impl Range {
                 )
             }
         } else if own_low {
-            Range::unless(
+            Range::with_copied_limits(
                 exclude(&self.low, &other.up),
                 ordering,
                 &self.low,
                 &other.up,
             )
         } else {
-            Range::unless(other.excluded, ordering, &other.low, &other.up)
+            Range::with_copied_limits(other.excluded, ordering, &other.low, &other.up)
         }
     }
 }

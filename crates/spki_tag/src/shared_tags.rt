@@ -11,7 +11,7 @@ use std::sync::ArcSlice;
 pub(crate) type SharedTags = Option<ArcSlice<Tag>>;
 
 /// The tags of a vector, in order, so that they can be shared. `Ok(None)` if there are none. Err if memory ran out.
-pub(crate) fn shared(tags: Vec<Tag>) -> Result<SharedTags, AllocError>
+pub(crate) fn into_shared(tags: Vec<Tag>) -> Result<SharedTags, AllocError>
     ensures { IfOk result (λ members. shared_items members ≡ tags.items) }
 {
     if tags.is_empty() {
@@ -21,7 +21,7 @@ pub(crate) fn shared(tags: Vec<Tag>) -> Result<SharedTags, AllocError>
 }
 
 /// The same tags once more, for a copy of the tag that has them. Nothing is copied. Err if they are shared too often to count.
-pub(crate) fn shared_again(members: &SharedTags) -> Result<SharedTags, AllocError>
+pub(crate) fn share_again(members: &SharedTags) -> Result<SharedTags, AllocError>
     ensures { IfOk result (λ copy. shared_items copy ≡ shared_items members.now) }
 {
     match members {

@@ -5,7 +5,7 @@ ghost use Rattle.spki_tag.specs.{Leaves.{leaf_tag}, Meet.{gather}};
 ghost use Rattle.spki_tag.specs.Tag as spec;
 
 use crate::leaf::{Leaf, SharedOctets};
-use crate::shared_tags::{SharedTags, shared, shared_again};
+use crate::shared_tags::{SharedTags, into_shared, share_again};
 use crate::string_octets::StringOctets;
 use std::alloc::AllocError;
 use std::marker::Model;
@@ -97,7 +97,7 @@ impl Tag {
     {
         let nodes = nodes_of(&further);
         Ok(Tag {
-            node: Node::List(head, shared(further)?, 2 + nodes),
+            node: Node::List(head, into_shared(further)?, 2 + nodes),
         })
     }
 
@@ -123,7 +123,7 @@ impl Tag {
     {
         let nodes = nodes_of(&members);
         Ok(Tag {
-            node: Node::Set(shared(members)?, 1 + nodes),
+            node: Node::Set(into_shared(members)?, 1 + nodes),
         })
     }
 
@@ -165,9 +165,9 @@ impl Clone for Tag {
         let node = match &self.node {
             Node::Leaf(leaf) => Node::Leaf(leaf.copy()?),
             Node::List(head, further, nodes) => {
-                Node::List(head.clone()?, shared_again(further)?, *nodes)
+                Node::List(head.clone()?, share_again(further)?, *nodes)
             }
-            Node::Set(members, nodes) => Node::Set(shared_again(members)?, *nodes),
+            Node::Set(members, nodes) => Node::Set(share_again(members)?, *nodes),
         };
         Ok(Tag { node })
     }

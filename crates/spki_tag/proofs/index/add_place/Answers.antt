@@ -1,6 +1,6 @@
 use Rattle.std.proofs.Common.{rules, ◌≡◌, ◌++◌, ◌∷◌, [], ap, ◌∙◌}
 use Rattle.spki_tag.{specs.Places.{found_at}, proofs.Places.{places-begun, places-put}}
-use Rattle.spki_tag.proofs.index.put.Goals as goal
+use Rattle.spki_tag.proofs.index.add_place.Goals as goal
 
 pub returns : goal.returns
 returns c =
