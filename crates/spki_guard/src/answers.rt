@@ -17,7 +17,7 @@ use spki_tag::Tag;
 /// The verdict of an answer.
 #[derive(Clone, Copy, Debug, PartialEq, Eq)]
 pub enum Verdict {
-    /// Yes, or the output is what the command is for.
+    /// The decision is yes, some entry becomes an authorization or grants the request, or the output is octets or a tag.
     Done,
     /// The decision is no, a certificate fails a test, or no entry becomes an authorization or grants the request.
     No,
