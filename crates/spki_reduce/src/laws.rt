@@ -68,7 +68,7 @@ pub fn not_every_bracketing()
 {}
 
 /// No restriction is lost: the root of a derivation has the tags and the windows of all leaves, in their order
-/// (RFC 2693, sections 6.3.1 and 6.3.2). A tuple of the definitions has lists of tags and windows, all of which apply.
+/// (RFC 2693, sections 6.3.1 and 6.3.2). In contracts a tuple has a list of tags and a list of windows, all of which apply.
 #[tactic(auto, using(crate::proofs::Derivations::all_tags, crate::proofs::Derivations::all_windows))]
 pub fn every_restriction()
     ensures tags { (policy : Policy) (tree : Tree) (root : Tuple) → Derives policy tree root →
