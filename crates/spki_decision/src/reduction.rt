@@ -150,9 +150,9 @@ pub fn entry_fold<'a>(
     entry_fold_with_new_count::<Brand>(alloc, case, entry, shown, steps, budget, Blank::new(1))
 }
 
-/// Does what `entry_fold` does, with its errors `TooLarge` and `Memory`: calls `entry_fold_counted` with a new count of ticks (operations that
-/// contracts count). The count exists only in contracts, and is dropped afterwards. `blank` is a new ledger of the toolchain, to keep the count
-/// in; it must be that of `L`. This is a function of its own, since only the call of a generic function can pick the type `L` of a count.
+/// Does what `entry_fold` does, with its arguments and its errors `TooLarge` and `Memory`: calls `entry_fold_counted` with a new count of ticks
+/// (operations that contracts count). The count exists only in contracts, and is dropped afterwards. `blank` is a new ledger of the toolchain, to
+/// keep the count in; it must be that of `L`. This is a function of its own, since only the call of a generic function can pick the type `L`.
 fn entry_fold_with_new_count<'a, L: Ledger>(
     alloc: Global,
     case: &Case<'a>,
@@ -193,10 +193,11 @@ fn entry_fold_with_new_count<'a, L: Ledger>(
     )
 }
 
-/// Folds an entry as `entry_fold` does: returns what it becomes when it is joined with all certificates. It adds its operations to `ticks`, a
-/// count that exists only in contracts: at most four ticks for each unit that the steps cost (`spki_reduce::Work`), and one more for a step at
-/// which the chain ends early; at least one for each step, or one if the chain ends early. This holds also of an entry that is spared, whose
-/// work is not taken from `budget`. The call of `prove_limits` does nothing: it tells the prover that the limits of the window are dates.
+/// Returns what an entry becomes when it is joined with all certificates, as `entry_fold`. `shown` are these certificates, and `steps` their
+/// tuples. Operations are added to `ticks`, a count that exists only in contracts: at most four ticks for each unit that the steps cost
+/// (`spki_reduce::Work`), and one more for a step at which the chain ends early; at least one for each step, or one if the chain ends early. This
+/// holds also of an entry that is spared, whose work is not taken from `budget`. The call of `prove_limits` does nothing: it tells the prover
+/// that the limits of the window are dates.
 ///
 /// # Errors
 ///

@@ -22,8 +22,8 @@ use spki_decision::{decide, explain, reduce_case};
 use spki_words::Command;
 use std::alloc::Global;
 
-/// Answers a whole text, in any of the three forms, with what `run` writes for it. For more than 1,048,576 octets the
-/// answer is `refused form TooLong`. If memory ran out, it is `refused Memory`.
+/// Answers a command for a whole text, in any of the three forms, with what `run` writes for them. For more than
+/// 1,048,576 octets the answer is `refused form TooLong`. If memory ran out, it is `refused Memory`.
 pub fn answer_text(alloc: Global, command: Command, text: &[u8]) -> Printed
     ensures answer { IsAnswer command text.now result.verdict (written_by result) }
     ensures too_long { 1048576 < length text.now → RefusesAsLong result.verdict (written_by result) }

@@ -85,8 +85,8 @@ fn read_text<R: Read>(alloc: Global, reader: &mut Metered<R>) -> Option<Result<V
     }
 }
 
-/// Answers what `read_text` returned, and writes the answer. Returns its status, or `WriteFault` if the writer failed.
-/// The writer's count of calls must be 0.
+/// Does the command with what `read_text` returned, and writes the answer. Returns the answer's status, or `WriteFault` if the
+/// writer failed or did not take the whole answer within the limit of calls. The writer's count of calls must be 0.
 fn send_read<W: Write>(
     alloc: Global,
     command: Command,
@@ -103,8 +103,8 @@ fn send_read<W: Write>(
     }
 }
 
-/// Answers a text, which may be in any of the three forms, and writes the answer. Returns its status, or `WriteFault` if the writer failed or
-/// did not take the whole answer within the limit of calls. The writer's count of calls must be 0.
+/// Does the command with a text, which may be in any of the three forms, and writes the answer. Returns the answer's status, or `WriteFault` if
+/// the writer failed or did not take the whole answer within the limit of calls. The writer's count of calls must be 0.
 fn send_text<W: Write>(
     alloc: Global,
     command: Command,

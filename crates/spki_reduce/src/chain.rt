@@ -111,9 +111,9 @@ pub fn fold_owned<'a>(
     fold_with_new_count::<Brand>(alloc, first, steps, policy, most, work, Blank::new(1))
 }
 
-/// Does what `fold_owned` does, with its errors `TooLarge` and `Memory`: calls `fold_owned_counted` with a new count of ticks (operations that
-/// contracts count). The count exists only in contracts, and is dropped afterwards. `blank` is a new ledger of the toolchain, to keep the count
-/// in; it must be that of `L`. This is a function of its own, since only the call of a generic function can pick the type `L` of a count.
+/// Does what `fold_owned` does, with its arguments and its errors `TooLarge` and `Memory`: calls `fold_owned_counted` with a new count of ticks
+/// (operations that contracts count). The count exists only in contracts, and is dropped afterwards. `blank` is a new ledger of the toolchain, to
+/// keep the count in; it must be that of `L`. This is a function of its own, since only the call of a generic function can pick the type `L`.
 fn fold_with_new_count<'a, L: Ledger>(
     alloc: Global,
     first: Five<'a>,
@@ -162,9 +162,10 @@ fn fold_with_new_count<'a, L: Ledger>(
     )
 }
 
-/// Does what `fold_owned` does, and adds its operations to `ticks`, a count that exists only in contracts. Each step that is looked at adds one
-/// tick. A step that joins, or that would join but for its tag, costs at least one unit of `Work`, and adds at most three more ticks for each
-/// unit. So there are at most four ticks for each unit that the steps cost, and one more for a step at which the chain ends early.
+/// Joins the authorization `first` with the steps after it, as `fold_owned`, and adds its operations to `ticks`, a count that exists only in
+/// contracts. Each step that is looked at adds one tick. A step that joins, or that would join but for its tag, costs at least one unit of
+/// `Work`, and adds at most three more ticks for each unit. So there are at most four ticks for each unit that the steps cost, and one more for
+/// a step at which the chain ends early.
 ///
 /// # Errors
 ///

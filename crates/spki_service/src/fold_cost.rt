@@ -261,13 +261,13 @@ impl<'a> PreparedQuestion<'a> {
 }
 
 /// Puts into `sink` what each entry becomes with the certificates of the case, as `fold_texts`, and counts operations in `ticks`, in contracts
-/// only. An entry is a tick, and so is each octet of its text, once. `entry_fold_counted`, which joins the entry with the certificates, adds
-/// more. What the sink does is not counted.
+/// only. `texts` are the entries' canonical texts, and `steps` the certificates' tuples. An entry is a tick, and so is each octet of its text,
+/// once. `entry_fold_counted`, which joins the entry with the certificates, adds more. What the sink does is not counted.
 ///
 /// # Errors
 ///
 /// `TooLarge` if the product of the nodes of two tags to be intersected is over the case's limit of nodes, or the work of all entries together
-/// over its limit of work. `Memory` if memory ran out, here or in the sink. `sink` then has what the entries before became.
+/// over its limit of work. `Memory` if memory ran out, here or in the sink. After an error, drop what `sink` has taken.
 fn fold_texts_counted<'a, L: Ledger, S: FoldSink<'a>>(
     alloc: Global,
     texts: &'a TextList,

@@ -26,7 +26,7 @@ use std::alloc::Global;
 /// # Errors
 ///
 /// `TooLarge` if the product of the nodes of two tags to be intersected is over the case's limit of nodes, or the work of all entries together
-/// over its limit of work. `Memory` if memory ran out, here or in the sink. `sink` then has what the entries before became.
+/// over its limit of work. `Memory` if memory ran out, here or in the sink. After an error, drop what `sink` has taken.
 pub(crate) fn fold_texts<'a, S: FoldSink<'a>>(
     alloc: Global,
     texts: &'a TextList,
