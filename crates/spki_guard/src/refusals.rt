@@ -175,7 +175,8 @@ fn print_refused_at<S: Sink>(text: &str, kind: &str, at: usize, sink: &mut S)
 }
 
 /// Prints `refused PART N KIND`, such as `refused acl 2 BadDate`, and a line feed. `part` is PART, the word for the list that is refused. `item`
-/// is N, the number of its entry, row or item, from 1, or 0 for the whole list. `kind` is KIND, the fault.
+/// is N, the number of its entry, row or item, from 1, or 0 for the whole list. `kind` is KIND, the fault. For `(intersect A B)` PART is `tag`,
+/// and N is 1 for A and 2 for B.
 #[tactic(auto, using(crate::proofs::ReportLines::decimal_written))]
 fn print_refused_item<S: Sink>(part: &str, item: usize, kind: &str, sink: &mut S)
     ensures { S.takes sink.old (refused_item part.now item kind.now) sink.new }

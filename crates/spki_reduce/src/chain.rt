@@ -28,7 +28,7 @@ use std::sync::ledger::{Blank, Ledger};
 /// # Errors
 ///
 /// `TooLarge` if a step joins the result of the steps before it except for their tags, and the product of the numbers of
-/// nodes of these two tags is over 1,000,000. `Memory` if memory ran out.
+/// nodes of these two tags is over 1,000,000. `Memory` if memory ran out, or if there are too many copies to count.
 #[tactic(auto, using(crate::proofs::Chains::too_large, crate::proofs::Working::unbounded))]
 pub fn fold_chain<'a>(
     alloc: Global,
@@ -71,8 +71,8 @@ pub fn fold_chain<'a>(
 /// # Errors
 ///
 /// `TooLarge` if a step joins except for its tag, and the product of the nodes of this tag and of the intersection of the
-/// tags before it is over `most`; or if a step costs more than `work` still has. `Memory` if memory ran out. What was taken
-/// from `work` before an error stays taken.
+/// tags before it is over `most`; or if a step costs more than `work` still has. `Memory` if memory ran out, or if there are
+/// too many copies to count. What was taken from `work` before an error stays taken.
 pub fn fold_owned<'a>(
     alloc: Global,
     first: Five<'a>,
@@ -170,7 +170,7 @@ fn fold_with_new_count<'a, L: Ledger>(
 /// # Errors
 ///
 /// `TooLarge` if the product of the nodes of two tags that are to be intersected is over `most`, or a step costs more than `work` still
-/// has. `Memory` if memory ran out. What was taken from `work` before an error stays taken.
+/// has. `Memory` if memory ran out, or if there are too many copies to count. What was taken from `work` before an error stays taken.
 pub fn fold_owned_counted<'a, L: Ledger>(
     alloc: Global,
     first: Five<'a>,

@@ -33,7 +33,7 @@ impl<'a> Five<'a> {
     /// # Errors
     ///
     /// `TooLarge` if they join except for their tags, and the product of the numbers of the tags' nodes is over 1,000,000.
-    /// `Memory` if memory ran out.
+    /// `Memory` if memory ran out, or if there are too many copies to count.
     pub fn then(
         &self,
         alloc: Global,
