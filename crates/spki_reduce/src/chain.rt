@@ -162,10 +162,10 @@ fn fold_with_new_count<'a, L: Ledger>(
     )
 }
 
-/// Joins the authorization `first` with the steps after it, as `fold_owned`, and adds its operations to `ticks`, a count that exists only in
-/// contracts. Each step that is looked at adds one tick. A step that joins, or that would join but for its tag, costs at least one unit of
-/// `Work`, and adds at most three more ticks for each unit. So there are at most four ticks for each unit that the steps cost, and one more for
-/// a step at which the chain ends early.
+/// Joins the authorization `first` with the steps after it, as `fold_owned`. The result is the authorization that they become, or the step at
+/// which the chain stops and the cause. Operations are added to `ticks`, a count that exists only in contracts. Each step that is looked at adds
+/// one tick. A step that joins, or that would join but for its tag, costs at least one unit of `Work`, and adds at most three more ticks for
+/// each unit. So there are at most four ticks for each unit that the steps cost, and one more for a step at which the chain ends early.
 ///
 /// # Errors
 ///

@@ -159,9 +159,9 @@ impl<'a> Five<'a> {
         self.into_resolve_with_new_count::<Brand>(definition, policy, Blank::new(1))
     }
 
-    /// Does what `into_resolve` does, with its only error `Memory`: calls `into_resolve_counted` with a new count of ticks (operations that
-    /// contracts count). The count exists only in contracts, and is dropped afterwards. `blank` is a new ledger of the toolchain, to keep the
-    /// count in; it must be that of `L`. This is a function of its own, since only the call of a generic function can pick the type `L`.
+    /// Does what `into_resolve` does, with its arguments and its only error `Memory`: calls `into_resolve_counted` with a new count of ticks
+    /// (operations that contracts count). The count exists only in contracts, and is dropped afterwards. `blank` is a new ledger of the toolchain,
+    /// to keep the count in; it must be that of `L`. This is a function of its own, since only the call of a generic function can pick the type `L`.
     fn into_resolve_with_new_count<L: Ledger>(
         self,
         definition: &Four<'a>,

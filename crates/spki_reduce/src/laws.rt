@@ -58,7 +58,7 @@ pub fn one_writing()
     ensures { (f : Five) (v w : Value) → IsWrittenFive f v → IsWrittenFive f w → v ≡ w }
 {}
 
-/// Under every policy there are tuples that, in one order, have a derivation in one bracketing and none in another. A name's definition
+/// Under every policy there are tuples that, in the same order, have a derivation in one bracketing and none in another. A name's definition
 /// may join the authorization before it, and never the one after it.
 #[tactic(auto, using(crate::proofs::Derivations::only_from_left))]
 pub fn not_every_bracketing()
