@@ -88,8 +88,8 @@ pub fn examine<'a>(
     examined
 }
 
-/// Does what `examine` does. `keys` are the keys that the sequence shows; `test` may add an index to them, so they are `&mut`. It is a
-/// function of its own, so that `examine` drops the keys in one place. Err if memory ran out.
+/// Does the first three tests of each certificate, as `examine`. `keys` are the keys that the sequence shows; `test` may add an index to them,
+/// so they are `&mut`. It is a function of its own, so that `examine` drops the keys in one place. Err if memory ran out.
 fn examine_by<'a>(
     alloc: Global,
     sequence: &[SeqItem<'a>],

@@ -64,9 +64,10 @@ pub fn fold_chain<'a>(
     fold_owned(alloc, own, steps, policy, MOST_NODES, &mut Work::new(None))
 }
 
-/// Like `fold_chain`, but consumes `first`, so that it is not copied, and the caller sets the limits. `most`, which must be
-/// at most 1,000,000, is the greatest product of the numbers of nodes of two tags that are intersected. `work` bounds the cost of
-/// all steps together: the cost of each step that joins, or that would join but for its tag, is subtracted from it. `Work` says what it is.
+/// Joins `first` with the steps after it like `fold_chain`, but consumes `first`, so that it is not copied, and the caller sets
+/// the limits. `most`, which must be at most 1,000,000, is the greatest product of the numbers of nodes of two tags that are
+/// intersected. `work` bounds the cost of all steps together: the cost of each step that joins, or that would join but for its
+/// tag, is subtracted from it. `Work` says what it is.
 ///
 /// # Errors
 ///

@@ -60,9 +60,9 @@ impl<'a> Five<'a> {
         }
     }
 
-    /// Like `then`, with three differences. It consumes `self`, which a fold does not need again. The greatest product of the numbers of
-    /// nodes of both tags is `most`, which must be at most 1,000,000. The work is added to `ticks`, a count that exists only in contracts.
-    /// Err is `TooLarge` if they join except for their tags, and the product is over `most`; or `Memory`.
+    /// Joins this authorization with the next one like `then`, with three differences. It consumes `self`, which a fold does not need again.
+    /// The greatest product of the numbers of nodes of both tags is `most`, which must be at most 1,000,000. The work is added to `ticks`, a
+    /// count that exists only in contracts. Err is `TooLarge` if they join except for their tags, and the product is over `most`; or `Memory`.
     ///
     /// A tick is one of `Tag::meet_counted` (a pair of tags that is looked at, a member that is copied, an octet of a string), or a name of
     /// the next subject. There are at most three for each unit of `cost_with`, so none if they do not join and their tags are not the
@@ -140,7 +140,7 @@ impl<'a> Five<'a> {
         self.copy()?.into_resolve(definition, policy)
     }
 
-    /// Like `resolve`, but consumes `self`, so that it is not copied first.
+    /// Resolves the first name of this authorization's subject like `resolve`, but consumes `self`, so that it is not copied first.
     ///
     /// # Errors
     ///
@@ -180,9 +180,9 @@ impl<'a> Five<'a> {
         self.into_resolve_counted(definition, policy, &mut Ticks::<L>::new(blank))
     }
 
-    /// Does what `into_resolve` does, and adds its operations to `ticks`, a count that exists only in contracts. If the name and the windows
-    /// fit, it adds one tick for the definition and one for each name of both subjects, also if memory then runs out. Otherwise it adds none:
-    /// comparing the name is not counted. Err is only `Memory`.
+    /// Resolves the first name of this authorization's subject by a definition, as `into_resolve`, and adds its operations to `ticks`, a count
+    /// that exists only in contracts. If the name and the windows fit, it adds one tick for the definition and one for each name of both subjects,
+    /// also if memory then runs out. Otherwise it adds none: comparing the name is not counted. Err is only `Memory`.
     #[tactic(auto, using(crate::proofs::ReducedForms::resolves))]
     pub(crate) fn into_resolve_counted<L: Ledger>(
         self,
