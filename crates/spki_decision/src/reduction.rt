@@ -197,9 +197,9 @@ fn entry_fold_with_new_count<'a, L: Ledger>(
 
 /// Returns what an entry becomes when it is joined with all certificates, as `entry_fold`. `shown` are these certificates, and `steps` their
 /// tuples. Operations are added to `ticks`, a count that exists only in contracts: at most four ticks for each unit that the steps cost
-/// (`spki_reduce::Work`), and one more for a step at which the chain ends early; at least one for each step, or one if the chain ends early. This
-/// holds also of an entry that is spared, whose work is not taken from `budget`. The call of `prove_limits` does nothing: it tells the prover
-/// that the limits of the window are dates.
+/// (`spki_reduce::Work`), and one more for a step at which the chain ends early. If the result is Ok, there is at least one for each step, or one
+/// if the chain ends early. This holds also of an entry that is spared, whose work is not taken from `budget`. The call of `prove_limits` does
+/// nothing: it tells the prover that the limits of the window are dates.
 ///
 /// # Errors
 ///

@@ -29,7 +29,7 @@ impl<'a> PreparedQuestion<'a> {
     /// is a signature, an entry or a step of a chain that is looked at, an octet of an entry that is read, or what an intersection compares or
     /// copies. There are at most four for each unit of the guard's limit of work, one for each octet of the access list's entries, two for each
     /// entry, and one for each listed signature, also if the answer is an error. This bound requires that the case's `uncounted`, the size up to
-    /// which a chain takes no work, is 0, as it is in each question that a guard has read. If no certificate fails and memory does not run out,
+    /// which a chain takes no work, is 0, as it is in each question that a guard has read. If no certificate fails and the answer is no error,
     /// there is at least one for each of these octets, entries and signatures. `docs/PERFORMANCE.md` says what is not counted.
     ///
     /// # Errors
