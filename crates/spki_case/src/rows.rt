@@ -31,7 +31,7 @@ pub enum RowsFault {
 
 impl<'a> AcceptedTable<'a> {
     /// Reads an accepted list from a canonical text of its own, outside of a case: `(accepted row ..)`. A caller who has opened the text as
-    /// a document takes `of`.
+    /// a document calls `of` instead.
     ///
     /// # Errors
     ///

@@ -20,7 +20,7 @@ use std::alloc::Global;
 use std::marker::Brand;
 use std::sync::ledger::{Blank, Ledger};
 
-/// The answer of a case's access list.
+/// Whether an entry of a case's access list grants the request, and which is the first that does.
 #[derive(Clone, Copy, Debug, PartialEq, Eq)]
 pub enum Decision {
     /// This entry, counted from 1, grants the request, and no entry before it does.

@@ -13,11 +13,16 @@ use spki_tag::Ticks;
 use std::alloc::{AllocError, Global};
 use std::sync::ledger::Ledger;
 
-/// Joins an entry's 5-tuple with the steps after it, as `fold_owned_counted` does, under the policy and the limits of the case. The work
-/// of the steps is taken from the budget, which `Budget::of` must have made for these steps. An entry is spared if the numbers of nodes alone
-/// show that the intersections of its chain are small (`Sizes::are_small`). Then it does not count as work (`Case::uncounted`): its work has no
-/// bound, and the budget stays the same. `ticks` counts operations, in contracts only. Err is `TooLarge` if the product of the nodes of two tags
-/// that are to be intersected is over the case's `most_nodes`, or a step costs more than the budget has left; or `Memory`.
+/// Joins an entry's 5-tuple with the steps after it, from the left as `fold_owned_counted` does, under the policy and the limits of the case.
+/// Returns the authorization that they become, or the first step that does not join, and why. The work of the steps is taken from the budget,
+/// which `Budget::of` must have made for these steps. An entry is spared if the numbers of nodes alone show that the intersections of its chain
+/// are small (`Sizes::are_small`). Then it does not count as work (`Case::uncounted`): its work has no limit (`any`), and the budget stays the
+/// same. `ticks` counts operations, in contracts only.
+///
+/// # Errors
+///
+/// `TooLarge` if the product of the nodes of two tags that are to be intersected is over the case's `most_nodes`, or a step costs more than the
+/// budget has left. `Memory` if memory ran out, or if there are too many copies to count.
 pub(crate) fn fold_entry<'a, L: Ledger>(
     alloc: Global,
     entry: &Entry<'a>,

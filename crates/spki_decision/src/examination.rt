@@ -88,8 +88,8 @@ pub fn examine<'a>(
     examined
 }
 
-/// Does what `examine` does. `keys` are the keys that the sequence shows; `test` may add an index to them, so they are `&mut`. It is a
-/// function of its own, so that `examine` drops the keys in one place. Err if memory ran out.
+/// Does the first three tests of each certificate, as `examine`. `keys` are the keys that the sequence shows; `test` may add an index to them,
+/// so they are `&mut`. It is a function of its own, so that `examine` drops the keys in one place. Err if memory ran out.
 fn examine_by<'a>(
     alloc: Global,
     sequence: &[SeqItem<'a>],
@@ -121,7 +121,7 @@ fn examine_by<'a>(
 }
 
 /// Appends the tuple of a certificate that passed `test` to `steps`, and its signature `one` to `signed`. The tuple's issuer is the key
-/// of the signature. Err if memory ran out.
+/// of the signature. Err if memory ran out, or if a tag or a list of names has too many copies to count.
 fn add_passed<'a>(
     steps: &mut Vec<Step<'a>>,
     signed: &mut Vec<Signed<'a>>,
@@ -137,8 +137,8 @@ fn add_passed<'a>(
     Ok(())
 }
 
-/// Does, in order, the three tests of a certificate that need no verifier: whether its issuer is a key or names a key of the sequence, this
-/// key being `holder`; whether the digest in its signature is that of the certificate's octets; whether the signer names `holder`. Returns the
+/// Does, in order, the three tests of a certificate that need no verifier. Its issuer is a key, or a hash that names a key of the sequence: this
+/// key is `holder`. The digest in its signature is that of the certificate's octets. The signer in the signature names `holder`. Returns the
 /// signature, or the first test that is not passed. The certificate must have a signature, so `unreachable!()` is not reached. `keys`, those
 /// of the sequence, are `&mut` since an index may be added; the keys stay the same. Err if memory ran out.
 fn test<'a>(

@@ -34,7 +34,7 @@ impl<T: Drop> From<AllocFailed<T>> for GuardFault {
 
     ghost from_gives = { λ _ fault. fault ≡ Memory };
 
-    /// A value that could not be stored, for want of memory, is the fault `Memory`. The error has the value, which is dropped.
+    /// A value that could not be stored, because memory ran out, is the fault `Memory`. The error has the value, which is dropped.
     fn from(_error: AllocFailed<T>) -> GuardFault {
         GuardFault::Memory
     }

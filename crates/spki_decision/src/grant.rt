@@ -11,8 +11,8 @@ use spki_cert::Date;
 pub struct Grant {
     /// This entry, counted from 1, grants the request, and no entry before it does.
     pub entry: usize,
-    /// The last moment to which the same question stays a yes, by this entry or an earlier one: the least not-after of this entry's window
-    /// and of those of all certificates, definitions of names too. None if none of them ends.
+    /// The least not-after of this entry's window and of those of all certificates, definitions of names too. None if none of them ends. At
+    /// each later moment up to this one the same question is a yes, by this entry or an earlier one. After it this entry does not grant.
     pub until: Option<Date>,
 }
 

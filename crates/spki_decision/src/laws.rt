@@ -34,9 +34,9 @@ pub fn decided_as_explained<V: Verifier>()
         → Agrees explanation decision }
 {}
 
-/// By one verifier, a text or a case has at most one answer of `decide`, apart from the error `Memory`: a decision, or the refusal
-/// `TooLarge`. The same holds for a text by its own accepted list. Without the limits of nodes and of work a case has at most one
-/// decision, and `decide` returns it unless the answer is `TooLarge`.
+/// With one verifier, a text or a case has at most one answer of `decide`, apart from the error `Memory`: a decision, or the refusal
+/// `TooLarge`. The same holds for a text if its own accepted list is the verifier. Without the limits of nodes and of work a case has
+/// at most one decision, and `decide` returns it unless the answer is `TooLarge`.
 pub fn one_decision<V: Verifier>()
     ensures verified { (verifier : V) (text : List ℕ) (c d : Case) (x y : Result Decision GuardFault)
         → IsCaseText text c → IsCaseText text d
@@ -51,9 +51,9 @@ pub fn one_decision<V: Verifier>()
         → IsDecided c (V.accepted verifier) x → IsDecision c (V.accepted verifier) d → (x ≡ Ok d) ⊎ (x ≡ Err GuardFault.TooLarge) }
 {}
 
-/// By one verifier, a text or a case has at most one answer of `explain`, apart from the error `Memory`: the first certificate that
-/// fails a test of `Stop`, with that test; or the reason of each entry; or the refusal `TooLarge`. The same holds for a text by its
-/// own accepted list.
+/// With one verifier, a text or a case has at most one answer of `explain`, apart from the error `Memory`: the first certificate that
+/// fails a test of `Stop`, with that test; or the reason of each entry; or the refusal `TooLarge`. The same holds for a text if its
+/// own accepted list is the verifier.
 pub fn one_explanation<V: Verifier>()
     ensures verified { (verifier : V) (text : List ℕ) (c d : Case) (x y : Result Explanation GuardFault)
         → IsCaseText text c → IsCaseText text d
@@ -64,9 +64,9 @@ pub fn one_explanation<V: Verifier>()
         → IsExplained c (accepted_by c) x → IsExplained d (accepted_by d) y → AreSame IsSameExplanation x y }
 {}
 
-/// By one verifier, a text or a case has at most one answer of `reduce_case`, apart from the error `Memory`: the first certificate
-/// that fails a test of `Stop`, with that test; or what each entry becomes; or the refusal `TooLarge`. The same holds for a text by
-/// its own accepted list.
+/// With one verifier, a text or a case has at most one answer of `reduce_case`, apart from the error `Memory`: the first certificate
+/// that fails a test of `Stop`, with that test; or what each entry becomes; or the refusal `TooLarge`. The same holds for a text if
+/// its own accepted list is the verifier.
 pub fn one_reduction<V: Verifier>()
     ensures verified { (verifier : V) (text : List ℕ) (c d : Case) (x y : Result Reduction GuardFault)
         → IsCaseText text c → IsCaseText text d
@@ -108,8 +108,8 @@ pub fn decided_by_kept<V: Verifier>()
         → IsSameAnswer kept x y → IsDecided c (V.accepted verifier) y }
 {}
 
-/// If two verifiers agree on the signatures that they are asked about, then `decide`, `explain` and `reduce_case` give the same answers
-/// by both, whatever else the verifiers accept. The decision is no if one of these signatures is not accepted.
+/// The signatures that a verifier is asked about are all that matters of it. If two verifiers agree on them, `decide`, `explain` and
+/// `reduce_case` give the same answers with both, whatever else they accept. The decision is no if one of these signatures is not accepted.
 #[tactic(auto, using(crate::proofs::ListedSignatures::decided_by, crate::proofs::ListedSignatures::decision_by, crate::proofs::ListedSignatures::explained_by, crate::proofs::ListedSignatures::reduced_by, crate::proofs::ListedSignatures::no_by, crate::proofs::ListedSignatures::none_by))]
 pub fn asks_whole<V: Verifier>()
     ensures refused { (verifier : V) (c : Case) (place : ℕ) (s : Signed) (x : Result Decision GuardFault)
@@ -159,8 +159,8 @@ pub fn more_entries<V: Verifier>()
         → IsDecision (with_entries c (c.entries ++ more)) (V.accepted verifier) (Yes n) → length c.entries < n }
 {}
 
-/// If the decision by an access list is no, it is no by each list that has only entries of this one. If `decide` answers no, and not
-/// `TooLarge`, by the whole list, it answers no by the list with some entries removed.
+/// If the decision with an access list is no, it is no with each list that has only entries of this one. If `decide` answers no, and not
+/// `TooLarge`, with the whole list, it answers no with the list without some of its entries.
 pub fn fewer_entries<V: Verifier>()
     ensures no { (verifier : V) (c : Case) (some : List Entry) → AreAmong some c.entries → IsDecision c (V.accepted verifier) No
         → IsDecision (with_entries c some) (V.accepted verifier) No }

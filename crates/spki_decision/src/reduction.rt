@@ -58,7 +58,8 @@ pub enum Reduction<'a> {
 ///
 /// `TooLarge` only if the certificates pass their tests, and one of two things is true. For some entry the tag of a certificate is too large
 /// for what the entry and the certificates before it became: the product of the nodes of both tags is over the case's `most_nodes`. Or the
-/// work of the entries, without those that are spared by `uncounted`, is over `most_work`. `Memory` if memory ran out, here or in the verifier.
+/// work of the entries, without those that are spared by `uncounted`, is over `most_work`. `Memory` if memory ran out, here or in the verifier,
+/// or if there are too many copies to count.
 #[tactic(auto, using(crate::proofs::EntryChains::as_many, crate::proofs::EntryChains::all_stand))]
 pub fn reduce_case<'a, V: Verifier>(
     alloc: Global,
@@ -120,7 +121,8 @@ pub(crate) fn put_folds<'a, S: FoldSink<'a>>(
 /// # Errors
 ///
 /// `TooLarge` if the product of the nodes of two tags that are to be intersected is over the case's `most_nodes`, or the work is more than
-/// the budget has. `Memory` if memory ran out. What was taken from the budget before an error stays taken.
+/// the budget has. `Memory` if memory ran out, or if there are too many copies to count. What was taken from the budget before an error stays
+/// taken.
 pub fn entry_fold<'a>(
     alloc: Global,
     case: &Case<'a>,
@@ -150,9 +152,9 @@ pub fn entry_fold<'a>(
     entry_fold_with_new_count::<Brand>(alloc, case, entry, shown, steps, budget, Blank::new(1))
 }
 
-/// Does what `entry_fold` does, with its errors `TooLarge` and `Memory`: calls `entry_fold_counted` with a new count of ticks (operations that
-/// contracts count). The count exists only in contracts, and is dropped afterwards. `blank` is a new ledger of the toolchain, to keep the count
-/// in; it must be that of `L`. This is a function of its own, since only the call of a generic function can pick the type `L` of a count.
+/// Does what `entry_fold` does, with its arguments and its errors `TooLarge` and `Memory`: calls `entry_fold_counted` with a new count of ticks
+/// (operations that contracts count). The count exists only in contracts, and is dropped afterwards. `blank` is a new ledger of the toolchain, to
+/// keep the count in; it must be that of `L`. This is a function of its own, since only the call of a generic function can pick the type `L`.
 fn entry_fold_with_new_count<'a, L: Ledger>(
     alloc: Global,
     case: &Case<'a>,
@@ -193,15 +195,16 @@ fn entry_fold_with_new_count<'a, L: Ledger>(
     )
 }
 
-/// Folds an entry as `entry_fold` does: returns what it becomes when it is joined with all certificates. It adds its operations to `ticks`, a
-/// count that exists only in contracts: at most four ticks for each unit that the steps cost (`spki_reduce::Work`), and one more for a step at
-/// which the chain ends early; at least one for each step, or one if the chain ends early. This holds also of an entry that is spared, whose
-/// work is not taken from `budget`. The call of `prove_limits` does nothing: it tells the prover that the limits of the window are dates.
+/// Returns what an entry becomes when it is joined with all certificates, as `entry_fold`. `shown` are these certificates, and `steps` their
+/// tuples. Operations are added to `ticks`, a count that exists only in contracts: at most four ticks for each unit that the steps cost
+/// (`spki_reduce::Work`), and one more for a step at which the chain ends early. If the result is Ok, there is at least one for each step, or one
+/// if the chain ends early. This holds also of an entry that is spared, whose work is not taken from `budget`. The call of `prove_limits` does
+/// nothing: it tells the prover that the limits of the window are dates.
 ///
 /// # Errors
 ///
 /// `TooLarge` if the product of the nodes of two tags that are to be intersected is over the case's `most_nodes`, or the work is more than
-/// the budget has. `Memory` if memory ran out.
+/// the budget has. `Memory` if memory ran out, or if there are too many copies to count.
 pub fn entry_fold_counted<'a, L: Ledger>(
     alloc: Global,
     case: &Case<'a>,

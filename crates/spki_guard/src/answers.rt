@@ -17,7 +17,7 @@ use spki_tag::Tag;
 /// The verdict of an answer.
 #[derive(Clone, Copy, Debug, PartialEq, Eq)]
 pub enum Verdict {
-    /// Yes, or the output is what the command is for.
+    /// The decision is yes, some entry becomes an authorization or grants the request, or the output is octets or a tag.
     Done,
     /// The decision is no, a certificate fails a test, or no entry becomes an authorization or grants the request.
     No,
@@ -25,14 +25,14 @@ pub enum Verdict {
     Refused,
 }
 
-/// What is answered to a text or a question.
+/// The answer to a text or a question.
 #[derive(Drop)]
 pub(crate) enum Answer<'o> {
     /// The entry with this number, from 1, grants the request.
     Yes(usize),
     /// No entry grants it.
     No,
-    /// What was asked for, which is no decision. Its verdict may be `Verdict::No`, as `Output::verdict` says.
+    /// The output of a command or query that is no decision. Its verdict may be `Verdict::No`, as `Output::verdict` says.
     Done(Output<'o>),
     /// The text or the question is refused.
     Refused(Refusal),

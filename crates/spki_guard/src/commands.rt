@@ -22,8 +22,8 @@ use spki_decision::{decide, explain, reduce_case};
 use spki_words::Command;
 use std::alloc::Global;
 
-/// Answers a whole text, in any of the three forms, with what `run` writes for it. For more than 1,048,576 octets the
-/// answer is `refused form TooLong`. If memory ran out, it is `refused Memory`.
+/// Answers a command for a whole text, in any of the three forms, with what `run` writes for them. For more than
+/// 1,048,576 octets the answer is `refused form TooLong`. If memory ran out, it is `refused Memory`.
 pub fn answer_text(alloc: Global, command: Command, text: &[u8]) -> Printed
     ensures answer { IsAnswer command text.now result.verdict (written_by result) }
     ensures too_long { 1048576 < length text.now → RefusesAsLong result.verdict (written_by result) }
@@ -131,7 +131,8 @@ fn answer_case<'a>(alloc: Global, query: Query, case: &Case<'a>) -> Result<Answe
     }
 }
 
-/// Decides a case by its accepted list. The answer is `yes entry N` or `no`. Err is `TooLarge` or `Memory`.
+/// Decides a case by its accepted list, the signatures that the service has verified. The answer is `yes entry N` or `no`. Err is `TooLarge` or
+/// `Memory`.
 fn check<'a>(alloc: Global, case: &Case<'a>) -> Result<Answer<'a>, Refusal>
     ensures answered { (text : List ℕ) → IsCaseText text (model case.now) → IfOk result (PrintsAs (Decides text)) }
     ensures refused { (v : Value) → IsCaseText (canon v) (model case.now) → IfErr result (λ refusal. RefusesValue Command.Check v refusal) }
@@ -140,8 +141,8 @@ fn check<'a>(alloc: Global, case: &Case<'a>) -> Result<Answer<'a>, Refusal>
     Ok(answer_of_decision(decision))
 }
 
-/// Reduces a case by its accepted list. The answer has a line for each entry, `no entries`, or one line for the
-/// certificate that fails. Err is `TooLarge` or `Memory`.
+/// Reduces a case by its accepted list, the signatures that the service has verified. The answer has a line for each
+/// entry, `no entries`, or one line for the certificate that fails. Err is `TooLarge` or `Memory`.
 fn reduce<'a>(alloc: Global, case: &Case<'a>) -> Result<Answer<'a>, Refusal>
     ensures answered { (text : List ℕ) → IsCaseText text (model case.now) → IfOk result (PrintsAs (Reduces text)) }
     ensures refused { (v : Value) → IsCaseText (canon v) (model case.now) → IfErr result (λ refusal. RefusesValue Command.Reduce v refusal) }
@@ -150,8 +151,8 @@ fn reduce<'a>(alloc: Global, case: &Case<'a>) -> Result<Answer<'a>, Refusal>
     Ok(answer_of_reduction(reduction))
 }
 
-/// Explains a case by its accepted list. The answer has a line for each entry, `no entries`, or one line for the
-/// certificate that fails. Err is `TooLarge` or `Memory`.
+/// Explains a case by its accepted list, the signatures that the service has verified. The answer has a line for each
+/// entry, `no entries`, or one line for the certificate that fails. Err is `TooLarge` or `Memory`.
 fn explain_case<'a>(alloc: Global, case: &Case<'a>) -> Result<Answer<'a>, Refusal>
     ensures answered { (text : List ℕ) → IsCaseText text (model case.now) → IfOk result (PrintsAs (Explains text)) }
     ensures refused { (v : Value) → IsCaseText (canon v) (model case.now) → IfErr result (λ refusal. RefusesValue Command.Explain v refusal) }

@@ -97,8 +97,8 @@ impl<'a> FoldSink<'a> for FoldPrinter {
     ghost nothing = { nothing_printed };
 }
 
-/// Appends the line of an entry, which is counted from 1, to `lines`. `room` is how many octets the line may have. Returns how
-/// many of them are left for the lines after it.
+/// Appends the line that says what an entry becomes (`fold`) to `lines`. `entry` is counted from 1. `room` is how many octets
+/// the line may have. Returns how many of them are left for the lines after it.
 ///
 /// # Errors
 ///

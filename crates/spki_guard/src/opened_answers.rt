@@ -28,8 +28,8 @@ pub struct OpenedAnswer {
 /// # Errors
 ///
 /// If memory ran out, also for the line, or the guard has too many owners to count, it is `refused Memory`. Otherwise it is `refused question
-/// TooLong` exactly if the question's parts together have more octets than the guard's limit. Otherwise it names the first part that has no
-/// reading, and its fault, such as `refused sequence Bad 5`; the word for the moment is `at`. If all parts have a reading, it is `refused
+/// TooLong` exactly if the question's parts together have more octets than the guard's limit. Otherwise it names the first part that cannot
+/// be read, and its fault, such as `refused sequence Bad 5`; the word for the moment is `at`. If all parts can be read, it is `refused
 /// question TooManyCertificates` or then `refused question TooManyWords` if they exceed the guard's limits.
 pub fn open_question(
     alloc: Global,

@@ -21,8 +21,8 @@ pub(crate) struct PageSink<'w, W> {
     failed: bool,
 }
 
-/// Writes octets, if `failed` is false. Returns whether a write failed before or now. Writing fails if octets are left and
-/// the writer's count of calls, `asks`, is `most` or more: calls before this one count too.
+/// Writes octets, if `failed` is false. Returns whether a write failed before or now. Writing fails if the writer fails, or if octets
+/// are left and its count of calls, `asks`, is `most` or more: calls before this one count too.
 fn write_unless_failed<W: Write>(
     writer: &mut Metered<W>,
     failed: bool,
@@ -54,8 +54,8 @@ fn hold_octet(page: &mut ArrayVec<u8, 4096>, octet: u8) -> bool
 }
 
 impl<'w, W: Write> PageSink<'w, W> {
-    /// A sink that writes to this writer. Writing fails if octets are left and the writer's count of calls, `asks`, is `most` or more: calls
-    /// before the sink was made count too.
+    /// A sink that writes to this writer. Writing fails if the writer fails, or if octets are left and its count of calls, `asks`, is `most`
+    /// or more: calls before the sink was made count too.
     pub(crate) fn new(writer: &'w mut Metered<W>, most: u64) -> PageSink<'w, W>
         ensures lender { lender_of result ≡ writer.entry.ghost_name }
         ensures writer { writer_of result ≡ writer.old }

@@ -19,8 +19,8 @@ use std::io::{ErrorKind, Read, Write};
 /// If the words ask for a command, it is run: it reads from the reader, and its answer goes to the writer. If one of
 /// the two fails, a line that says which goes to `errors`. If the words ask for help or for no command, the text of `clap` goes to
 /// `errors`, and nothing is read. If they are not UTF-8, a line that says so goes there. At any other error of `words`,
-/// and if memory ran out for them, `refused Memory` goes to the writer. If what is said of the words cannot be
-/// written, the status is the same. The call resets all meters first.
+/// and if memory ran out for them, `refused Memory` goes to the writer. If a message about the words, or about the
+/// reader or the writer, cannot be written, the status is the same. The call resets all meters first.
 pub fn run_words<R: Read, W: Write, E: Write>(
     alloc: Global,
     words: &io::Result<Vec<String>>,

@@ -175,7 +175,8 @@ fn print_refused_at<S: Sink>(text: &str, kind: &str, at: usize, sink: &mut S)
 }
 
 /// Prints `refused PART N KIND`, such as `refused acl 2 BadDate`, and a line feed. `part` is PART, the word for the list that is refused. `item`
-/// is N, the number of its entry, row or item, from 1, or 0 for the whole list. `kind` is KIND, the fault.
+/// is N, the number of its entry, row or item, from 1, or 0 for the whole list. `kind` is KIND, the fault. For `(intersect A B)` PART is `tag`,
+/// and N is 1 for A and 2 for B.
 #[tactic(auto, using(crate::proofs::ReportLines::decimal_written))]
 fn print_refused_item<S: Sink>(part: &str, item: usize, kind: &str, sink: &mut S)
     ensures { S.takes sink.old (refused_item part.now item kind.now) sink.new }
@@ -196,7 +197,7 @@ fn print_refused_tag<S: Sink>(part: &str, item: usize, kind: &str, sink: &mut S)
 
 /// Prints the line of a fault in an access list, accepted list or sequence: `refused PART N KIND`, `refused PART N Tag KIND` for a
 /// tag, or `refused Memory`. N is the number of the entry, row or item, from 1, or 0 for the whole list. `part` is the word for the
-/// list, such as `acl`.
+/// list, such as `acl`, and `met` the fault of the tag.
 fn print_item_fault<S: Sink>(part: &str, fault: CertFault, sink: &mut S)
     ensures { S.takes sink.old (refused_in part.now fault.item fault.kind) sink.new }
 {
@@ -224,7 +225,8 @@ fn print_case_fault<S: Sink>(fault: CaseFault, sink: &mut S)
     }
 }
 
-/// Prints the line of a fault of a separate accepted list, with the word `rows`, such as `refused rows 2 Shape`.
+/// Prints the line of a fault of a separate accepted list, with the word `rows`, such as `refused rows 2 Shape`. `met` is the fault of the text
+/// or of the row.
 fn print_rows_fault<S: Sink>(fault: RowsFault, sink: &mut S)
     ensures { S.takes sink.old (refused_rows fault) sink.new }
 {
@@ -261,7 +263,8 @@ fn print_intersect_fault<S: Sink>(fault: IntersectFault, sink: &mut S)
     }
 }
 
-/// Prints the line of the fault of a guard's access list: `refused form KIND ..`, `refused acl N KIND ..` or `refused Memory`.
+/// Prints the line of the fault of a guard's access list: `refused form KIND ..`, `refused acl N KIND ..` or `refused Memory`. `met` is the
+/// fault of the text or of the list.
 fn print_list_fault<S: Sink>(fault: AclFault, sink: &mut S)
     ensures { S.takes sink.old (refused_list fault) sink.new }
 {
@@ -273,7 +276,7 @@ fn print_list_fault<S: Sink>(fault: AclFault, sink: &mut S)
 }
 
 /// Prints the line of a question's fault: `refused question KIND` if the question exceeds a limit, otherwise with the word for its
-/// part, such as `refused key Shape`, or `refused Memory`.
+/// part, such as `refused key Shape`, or `refused Memory`. `met` is the fault of the part.
 fn print_question_fault<S: Sink>(fault: AskFault, sink: &mut S)
     ensures { S.takes sink.old (refused_question fault) sink.new }
 {

@@ -37,7 +37,7 @@ pub fn run<R: Read, W: Write>(
     reader: &mut Metered<R>,
     writer: &mut Metered<W>,
 ) -> Status
-    // So no call is missing in the counts, and no fault.
+    // Both meters count from 0, so they have each call and each fault of this run.
     ensures reset { IsReset reader.old reader.new × IsReset writer.old writer.new }
     ensures reader_asks { asks_of reader.new ≤ 2097152 }
     ensures no_more { (octets : List ℕ) × (length octets ≤ 1048577) × Gives R.remaining reader.old reader.new octets }
@@ -85,8 +85,8 @@ fn read_text<R: Read>(alloc: Global, reader: &mut Metered<R>) -> Option<Result<V
     }
 }
 
-/// Answers what `read_text` returned, and writes the answer. Returns its status, or `WriteFault` if the writer failed.
-/// The writer's count of calls must be 0.
+/// Does the command with what `read_text` returned, and writes the answer. Returns the answer's status, or `WriteFault` if the
+/// writer failed or did not take the whole answer within the limit of calls. The writer's count of calls must be 0.
 fn send_read<W: Write>(
     alloc: Global,
     command: Command,
@@ -103,8 +103,8 @@ fn send_read<W: Write>(
     }
 }
 
-/// Answers a text, which may be in any of the three forms, and writes the answer. Returns its status, or `WriteFault` if the writer failed or
-/// did not take the whole answer within the limit of calls. The writer's count of calls must be 0.
+/// Does the command with a text, which may be in any of the three forms, and writes the answer. Returns the answer's status, or `WriteFault` if
+/// the writer failed or did not take the whole answer within the limit of calls. The writer's count of calls must be 0.
 fn send_text<W: Write>(
     alloc: Global,
     command: Command,
@@ -140,8 +140,8 @@ fn send<W: Write>(writer: &mut Metered<W>, answer: &Answer) -> Status
 }
 
 /// Prints an answer to a writer, page by page, and flushes it. Returns its status, or `WriteFault` if a write or the flush
-/// failed. Writing fails when the writer's count of calls, `asks`, is `most`. The count must be 0, and `most` the number of
-/// the answer's octets plus 2,097,152.
+/// failed. Writing fails too when the writer's count of calls, `asks`, is `most`. The count must be 0, and `most` the number
+/// of the answer's octets plus 2,097,152.
 fn send_pages<W: Write>(writer: &mut Metered<W>, answer: &Answer, most: u64) -> Status
     requires unasked { asks_of writer.old ≡ 0 }
     requires most { (octets : List ℕ) → Prints answer.now octets → most ≡ length octets + 2097152 }

@@ -16,9 +16,9 @@ use spki_case::{AcceptedTable, Case, RowsFault};
 use spki_decision::decide;
 use std::alloc::Global;
 
-/// Decides a case by a separate accepted list, `(accepted row ..)`, each text in any of the three forms. The answer is
-/// `yes entry N`, `no` or a refusal, as for the command `check`. The rows of the case's accepted list are read, and
-/// none of them is used.
+/// Decides a case by a separate accepted list, `(accepted row ..)`, each text in any of the three forms. A row is a
+/// signature that the service has verified. The answer is `yes entry N`, `no` or a refusal, as for the command `check`.
+/// The rows of the case's own accepted list are read, and none of them is used.
 ///
 /// The case's text is read first: its form, and then the case. If it is refused, the rows are not examined. Then the
 /// text of the rows is read: its form, and then the rows. A refusal of the rows begins with `refused rows`. A text is

@@ -28,7 +28,7 @@ use std::sync::ledger::{Blank, Ledger};
 /// # Errors
 ///
 /// `TooLarge` if a step joins the result of the steps before it except for their tags, and the product of the numbers of
-/// nodes of these two tags is over 1,000,000. `Memory` if memory ran out.
+/// nodes of these two tags is over 1,000,000. `Memory` if memory ran out, or if there are too many copies to count.
 #[tactic(auto, using(crate::proofs::Chains::too_large, crate::proofs::Working::unbounded))]
 pub fn fold_chain<'a>(
     alloc: Global,
@@ -64,15 +64,16 @@ pub fn fold_chain<'a>(
     fold_owned(alloc, own, steps, policy, MOST_NODES, &mut Work::new(None))
 }
 
-/// Like `fold_chain`, but consumes `first`, so that it is not copied, and the caller sets the limits. `most`, which must be
-/// at most 1,000,000, is the greatest product of the numbers of nodes of two tags that are intersected. `work` bounds the cost of
-/// all steps together: the cost of each step that joins, or that would join but for its tag, is subtracted from it. `Work` says what it is.
+/// Joins `first` with the steps after it like `fold_chain`, but consumes `first`, so that it is not copied, and the caller sets
+/// the limits. `most`, which must be at most 1,000,000, is the greatest product of the numbers of nodes of two tags that are
+/// intersected. `work` bounds the cost of all steps together: the cost of each step that joins, or that would join but for its
+/// tag, is subtracted from it. `Work` says what it is.
 ///
 /// # Errors
 ///
 /// `TooLarge` if a step joins except for its tag, and the product of the nodes of this tag and of the intersection of the
-/// tags before it is over `most`; or if a step costs more than `work` still has. `Memory` if memory ran out. What was taken
-/// from `work` before an error stays taken.
+/// tags before it is over `most`; or if a step costs more than `work` still has. `Memory` if memory ran out, or if there are
+/// too many copies to count. What was taken from `work` before an error stays taken.
 pub fn fold_owned<'a>(
     alloc: Global,
     first: Five<'a>,
@@ -111,9 +112,9 @@ pub fn fold_owned<'a>(
     fold_with_new_count::<Brand>(alloc, first, steps, policy, most, work, Blank::new(1))
 }
 
-/// Does what `fold_owned` does, with its errors `TooLarge` and `Memory`: calls `fold_owned_counted` with a new count of ticks (operations that
-/// contracts count). The count exists only in contracts, and is dropped afterwards. `blank` is a new ledger of the toolchain, to keep the count
-/// in; it must be that of `L`. This is a function of its own, since only the call of a generic function can pick the type `L` of a count.
+/// Does what `fold_owned` does, with its arguments and its errors `TooLarge` and `Memory`: calls `fold_owned_counted` with a new count of ticks
+/// (operations that contracts count). The count exists only in contracts, and is dropped afterwards. `blank` is a new ledger of the toolchain, to
+/// keep the count in; it must be that of `L`. This is a function of its own, since only the call of a generic function can pick the type `L`.
 fn fold_with_new_count<'a, L: Ledger>(
     alloc: Global,
     first: Five<'a>,
@@ -162,14 +163,15 @@ fn fold_with_new_count<'a, L: Ledger>(
     )
 }
 
-/// Does what `fold_owned` does, and adds its operations to `ticks`, a count that exists only in contracts. Each step that is looked at adds one
-/// tick. A step that joins, or that would join but for its tag, costs at least one unit of `Work`, and adds at most three more ticks for each
-/// unit. So there are at most four ticks for each unit that the steps cost, and one more for a step at which the chain ends early.
+/// Joins the authorization `first` with the steps after it, as `fold_owned`. The result is the authorization that they become, or the step at
+/// which the chain stops and the cause. Operations are added to `ticks`, a count that exists only in contracts. Each step that is looked at adds
+/// one tick. A step that joins, or that would join but for its tag, costs at least one unit of `Work`, and adds at most three more ticks for
+/// each unit. So there are at most four ticks for each unit that the steps cost, and one more for a step at which the chain ends early.
 ///
 /// # Errors
 ///
 /// `TooLarge` if the product of the nodes of two tags that are to be intersected is over `most`, or a step costs more than `work` still
-/// has. `Memory` if memory ran out. What was taken from `work` before an error stays taken.
+/// has. `Memory` if memory ran out, or if there are too many copies to count. What was taken from `work` before an error stays taken.
 pub fn fold_owned_counted<'a, L: Ledger>(
     alloc: Global,
     first: Five<'a>,

@@ -31,7 +31,7 @@ impl From<AllocError> for ReduceFault {
 impl<T: Drop> From<AllocFailed<T>> for ReduceFault {
     ghost from_gives = { λ _ fault. fault ≡ Memory };
 
-    /// A value that could not be stored, for want of memory, is the fault `Memory`. The error has the value, which is dropped.
+    /// A value that could not be stored, because memory ran out, is the fault `Memory`. The error has the value, which is dropped.
     fn from(_error: AllocFailed<T>) -> ReduceFault {
         ReduceFault::Memory
     }

@@ -33,7 +33,7 @@ impl<'a> Five<'a> {
     /// # Errors
     ///
     /// `TooLarge` if they join except for their tags, and the product of the numbers of the tags' nodes is over 1,000,000.
-    /// `Memory` if memory ran out.
+    /// `Memory` if memory ran out, or if there are too many copies to count.
     pub fn then(
         &self,
         alloc: Global,
@@ -60,9 +60,9 @@ impl<'a> Five<'a> {
         }
     }
 
-    /// Like `then`, with three differences. It consumes `self`, which a fold does not need again. The greatest product of the numbers of
-    /// nodes of both tags is `most`, which must be at most 1,000,000. The work is added to `ticks`, a count that exists only in contracts.
-    /// Err is `TooLarge` if they join except for their tags, and the product is over `most`; or `Memory`.
+    /// Joins this authorization with the next one like `then`, with three differences. It consumes `self`, which a fold does not need again.
+    /// The greatest product of the numbers of nodes of both tags is `most`, which must be at most 1,000,000. The work is added to `ticks`, a
+    /// count that exists only in contracts. Err is `TooLarge` if they join except for their tags, and the product is over `most`; or `Memory`.
     ///
     /// A tick is one of `Tag::meet_counted` (a pair of tags that is looked at, a member that is copied, an octet of a string), or a name of
     /// the next subject. There are at most three for each unit of `cost_with`, so none if they do not join and their tags are not the
@@ -124,7 +124,7 @@ impl<'a> Five<'a> {
     ///
     /// # Errors
     ///
-    /// Only `Memory`, if memory ran out.
+    /// Only `Memory`, if memory ran out, or if the tag or a list of names has too many copies to count.
     pub fn resolve(
         &self,
         _alloc: Global,
@@ -140,11 +140,11 @@ impl<'a> Five<'a> {
         self.copy()?.into_resolve(definition, policy)
     }
 
-    /// Like `resolve`, but consumes `self`, so that it is not copied first.
+    /// Resolves the first name of this authorization's subject like `resolve`, but consumes `self`, so that it is not copied first.
     ///
     /// # Errors
     ///
-    /// Only `Memory`, if memory ran out.
+    /// Only `Memory`, if memory ran out, or if the names of the definition's subject have too many copies to count.
     pub fn into_resolve(
         self,
         definition: &Four<'a>,
@@ -159,9 +159,9 @@ impl<'a> Five<'a> {
         self.into_resolve_with_new_count::<Brand>(definition, policy, Blank::new(1))
     }
 
-    /// Does what `into_resolve` does, with its only error `Memory`: calls `into_resolve_counted` with a new count of ticks (operations that
-    /// contracts count). The count exists only in contracts, and is dropped afterwards. `blank` is a new ledger of the toolchain, to keep the
-    /// count in; it must be that of `L`. This is a function of its own, since only the call of a generic function can pick the type `L`.
+    /// Does what `into_resolve` does, with its arguments and its only error `Memory`: calls `into_resolve_counted` with a new count of ticks
+    /// (operations that contracts count). The count exists only in contracts, and is dropped afterwards. `blank` is a new ledger of the toolchain,
+    /// to keep the count in; it must be that of `L`. This is a function of its own, since only the call of a generic function can pick the type `L`.
     fn into_resolve_with_new_count<L: Ledger>(
         self,
         definition: &Four<'a>,
@@ -180,9 +180,9 @@ impl<'a> Five<'a> {
         self.into_resolve_counted(definition, policy, &mut Ticks::<L>::new(blank))
     }
 
-    /// Does what `into_resolve` does, and adds its operations to `ticks`, a count that exists only in contracts. If the name and the windows
-    /// fit, it adds one tick for the definition and one for each name of both subjects, also if memory then runs out. Otherwise it adds none:
-    /// comparing the name is not counted. Err is only `Memory`.
+    /// Resolves the first name of this authorization's subject by a definition, as `into_resolve`, and adds its operations to `ticks`, a count
+    /// that exists only in contracts. If the name and the windows fit, it adds one tick for the definition and one for each name of both subjects,
+    /// also if memory then runs out. Otherwise it adds none: comparing the name is not counted. Err is only `Memory`.
     #[tactic(auto, using(crate::proofs::ReducedForms::resolves))]
     pub(crate) fn into_resolve_counted<L: Ledger>(
         self,
@@ -282,7 +282,7 @@ impl<'a> Five<'a> {
 
 /// What an authorization and `next`, the one after it, become: an authorization with this issuer, tag and window, and with the
 /// subject and delegation of `next`. `issuer` is that of the first, and `tag` and `window` are the intersections of those of
-/// both. `Stopped(NoTag)` if `tag` is `(* set)`. Err if memory ran out.
+/// both. `Stopped(NoTag)` if `tag` is `(* set)`. Err if memory ran out, or if the names of the subject have too many copies to count.
 fn narrowed<'a>(
     issuer: Issuer<'a>,
     tag: Tag,
@@ -371,7 +371,8 @@ fn begins(subject: &Subject, definition: &Four, policy: Policy) -> bool
 }
 
 /// The subject that a subject with `names` becomes, if its first name is resolved by a definition. `subject` is that of the
-/// definition: its principal and names come first, and after them `names` without the first. Err if memory ran out.
+/// definition: its principal and names come first, and after them `names` without the first. Err if memory ran out, or if the
+/// names of `subject` have too many copies to count.
 fn resolved_subject<'a>(subject: &Subject<'a>, names: Names<'a>) -> Result<Subject<'a>, AllocError>
     ensures { IfOk result (λ made. (made.principal ≡ subject.now.principal)
         × (made.names ≡ subject.now.names ++ drop 1 names.entry)) }

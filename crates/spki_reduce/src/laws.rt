@@ -58,7 +58,7 @@ pub fn one_writing()
     ensures { (f : Five) (v w : Value) → IsWrittenFive f v → IsWrittenFive f w → v ≡ w }
 {}
 
-/// Under every policy there are tuples that, in one order, have a derivation in one bracketing and none in another. A name's definition
+/// Under every policy there are tuples that, in the same order, have a derivation in one bracketing and none in another. A name's definition
 /// may join the authorization before it, and never the one after it.
 #[tactic(auto, using(crate::proofs::Derivations::only_from_left))]
 pub fn not_every_bracketing()
@@ -68,7 +68,7 @@ pub fn not_every_bracketing()
 {}
 
 /// No restriction is lost: the root of a derivation has the tags and the windows of all leaves, in their order
-/// (RFC 2693, sections 6.3.1 and 6.3.2). A tuple of the definitions has lists of tags and windows, all of which apply.
+/// (RFC 2693, sections 6.3.1 and 6.3.2). In contracts a tuple has a list of tags and a list of windows, all of which apply.
 #[tactic(auto, using(crate::proofs::Derivations::all_tags, crate::proofs::Derivations::all_windows))]
 pub fn every_restriction()
     ensures tags { (policy : Policy) (tree : Tree) (root : Tuple) → Derives policy tree root →

@@ -62,9 +62,8 @@ fn rest_of(left: usize, work: Option<usize>) -> Option<usize>
 }
 
 /// What it costs, in units of `Work`, to join an authorization that has this tag with the next one. Each node of `tag` costs the `node_cost`
-/// of the next tag (the cost of intersecting one node with it). It costs 32 more, since what is left of the node is looked for and kept
-/// apart. With the number 32 a unit takes at most 5 ns, by measurement. Each name of the next subject costs one. None if the sum is 2^64
-/// or more.
+/// of the next tag (the cost of intersecting one node with it), and 32 for finding and storing what is left of the node. With the number 32 a
+/// unit takes at most 5 ns, by measurement. Each name of the next subject costs one. None if the sum is 2^64 or more.
 pub(crate) fn intersection_cost(tag: &Tag, next: &Five) -> Option<usize>
     ensures { (path : List (List ℕ)) → IsNumber result (step_cost tag.now path (five (five_tuple next.now))) }
 {

@@ -125,7 +125,7 @@ fn push_names(alloc: Global, members: &mut Vec<Sexp>, names: &Names) -> Result<(
     Ok(())
 }
 
-/// Returns a subject as a value: the principal, or `(name PRINCIPAL N N ..)` if there are names. Err if memory ran out.
+/// Returns a subject as a value: `principal` alone, or `(name PRINCIPAL N N ..)` if there are names. Err if memory ran out.
 fn with_names(alloc: Global, principal: Sexp, names: &Names) -> Result<Sexp, AllocError>
     ensures { IfOk result (λ s. sexp_value s ≡ named (sexp_value principal) names.now) }
 {

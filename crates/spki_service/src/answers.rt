@@ -58,7 +58,7 @@ impl<'a> PreparedQuestion<'a> {
     ///
     /// Only entries whose principal names the first issuer's key are examined, or the client's key if no certificate is shown.
     /// No intersection is formed: the request is looked for in each tag. So no tag is too large, and the time is in proportion
-    /// to the octets of the question and of these entries.
+    /// to the octets of the question and of these entries, except for the binary searches that find them.
     ///
     /// # Errors
     ///

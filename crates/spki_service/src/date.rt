@@ -57,7 +57,7 @@ fn clock_at(octets: &[u8], place: usize) -> u32
     hour as u32 * 3_600 + minute as u32 * 60 + whole as u32
 }
 
-/// The number of the two ASCII digits at the offsets `place` and `place + 1`.
+/// The number whose two ASCII digits are at the offsets `place` and `place + 1`.
 fn number_at(octets: &[u8], place: usize) -> u8
     requires within { place + 1 < length octets.now }
     requires digits { IsNumberUpto octets.now place 99 }

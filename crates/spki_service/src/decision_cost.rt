@@ -115,9 +115,9 @@ impl<'a> PreparedQuestion<'a> {
         self.granted_counted(alloc, &mut Ticks::<L>::new(blank))
     }
 
-    /// What is granted if the certificates have passed their tests, and `steps` are their tuples. Only the entries that the index finds for
-    /// `first_key` are read. None if none of them grants the request. Err if memory ran out. The bound on the ticks (operations that
-    /// contracts count) is that of `granted_counted`.
+    /// What is granted if all listed signatures are valid, after all certificates passed the other tests. `steps` are the certificates' tuples.
+    /// Only the entries that the index finds for `first_key` are read. None if none of them grants the request. Err if memory ran out. The
+    /// bound on the ticks (operations that contracts count) is that of `granted_counted`.
     fn granted_after<'s, L: Ledger>(
         &'s self,
         alloc: Global,

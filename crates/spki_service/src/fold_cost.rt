@@ -29,7 +29,7 @@ impl<'a> PreparedQuestion<'a> {
     /// is a signature, an entry or a step of a chain that is looked at, an octet of an entry that is read, or what an intersection compares or
     /// copies. There are at most four for each unit of the guard's limit of work, one for each octet of the access list's entries, two for each
     /// entry, and one for each listed signature, also if the answer is an error. This bound requires that the case's `uncounted`, the size up to
-    /// which a chain takes no work, is 0, as it is in each question that a guard has read. If no certificate fails and memory does not run out,
+    /// which a chain takes no work, is 0, as it is in each question that a guard has read. If no certificate fails and the answer is no error,
     /// there is at least one for each of these octets, entries and signatures. `docs/PERFORMANCE.md` says what is not counted.
     ///
     /// # Errors
@@ -261,13 +261,13 @@ impl<'a> PreparedQuestion<'a> {
 }
 
 /// Puts into `sink` what each entry becomes with the certificates of the case, as `fold_texts`, and counts operations in `ticks`, in contracts
-/// only. An entry is a tick, and so is each octet of its text, once. `entry_fold_counted`, which joins the entry with the certificates, adds
-/// more. What the sink does is not counted.
+/// only. `texts` are the entries' canonical texts, and `steps` the certificates' tuples. An entry is a tick, and so is each octet of its text,
+/// once. `entry_fold_counted`, which joins the entry with the certificates, adds more. What the sink does is not counted.
 ///
 /// # Errors
 ///
 /// `TooLarge` if the product of the nodes of two tags to be intersected is over the case's limit of nodes, or the work of all entries together
-/// over its limit of work. `Memory` if memory ran out, here or in the sink. `sink` then has what the entries before became.
+/// over its limit of work. `Memory` if memory ran out, here or in the sink. After an error, drop what `sink` has taken.
 fn fold_texts_counted<'a, L: Ledger, S: FoldSink<'a>>(
     alloc: Global,
     texts: &'a TextList,

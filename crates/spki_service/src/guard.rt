@@ -172,7 +172,7 @@ impl Guard {
     }
 
     /// The numbers, ascending and counted from 1, of the entries whose subject's principal names the key under the guard's
-    /// policy. Empty if `key` is None, which `first_key` explains. Err if memory ran out.
+    /// policy. Empty if `key` is None: then `first_key` has found that no entry can grant the request. Err if memory ran out.
     pub(crate) fn numbers_of(
         &self,
         alloc: Global,

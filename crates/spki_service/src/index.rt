@@ -21,8 +21,8 @@ pub(crate) struct Row {
 }
 
 /// An index of an access list: for each principal, the numbers of the entries whose subject has it. Numbers are ascending and count from 1. The rows
-/// of keys, and those of hashes by each algorithm, are sorted by the octets of the principals, for binary searches. Most rows differ in their last
-/// octets, which are compared first.
+/// of keys, and those of hashes by each algorithm, are sorted in the order of `compare`, for binary searches. It compares the last eight octets of
+/// the principals first, in which most rows differ.
 #[derive(Drop)]
 pub(crate) struct EntryIndex {
     /// For each entry the octets of its principal: those of a key, or a digest.

@@ -107,7 +107,7 @@ pub fn marked_stays()
 
 /// A grant holds until its date, `until`. If a question is granted by its marks, the same question with the same marks is granted at each later
 /// moment that is not after this date, by the same entry or an earlier one; without the date, at each later moment. `dates` says it of moments
-/// as dates, and `seconds` of moments as seconds, of which the last is the last second of the date.
+/// as dates, and `seconds` of moments in seconds, up to the last second of the date.
 pub fn held_until()
     ensures dates { (a : PreparedModel) (es : List Entry) (moment : List ℕ) (grant : Grant) (d : Decision) → AreEntries a.texts es
         → GrantsMarked a (Some grant) → upto a.case.moment moment ≡ true → is_until grant.until moment ≡ true

@@ -54,8 +54,8 @@ impl Limits {
         }
     }
 
-    /// The highest limits: 1,048,576 octets, 1,000,000 nodes, 1,000,000,000 of work, and 2^64 - 1 certificates, strings and
-    /// octets of an answer, which is no limit. On some questions within these limits an explanation takes seconds.
+    /// The highest limits: 1,048,576 octets, 1,000,000 as the product of the nodes of two tags, 1,000,000,000 of work, and 2^64 - 1
+    /// certificates, strings and octets of an answer, which is no limit. On some questions within these limits an explanation takes seconds.
     pub fn highest() -> Limits
         ensures { (result.octets ≡ 1048576) × (result.certificates ≡ 18446744073709551615) × (result.words ≡ 18446744073709551615)
             × (result.nodes ≡ 1000000) × (result.work ≡ 1000000000) × (result.answer ≡ 18446744073709551615) }
@@ -75,9 +75,9 @@ impl Default for Limits {
     ghost is_default = { λ limits. (limits.octets ≡ 65536) × (limits.certificates ≡ 16) × (limits.words ≡ 64)
         × (limits.nodes ≡ 1000000) × (limits.work ≡ 2000000) × (limits.answer ≡ 1048576) };
 
-    /// The default limits: 65,536 octets of a question, 16 certificates, 64 strings of a request, 1,000,000 nodes of an intersection, 2,000,000
-    /// of work, and 1,048,576 octets of an answer. For comparison: an entry and five certificates for sets of 100 short strings take some
-    /// 1,000,000 of work.
+    /// The default limits: 65,536 octets of a question, 16 certificates, 64 strings of a request, 1,000,000 as the product of the nodes of two
+    /// tags, 2,000,000 of work, and 1,048,576 octets of an answer. For comparison: an entry and five certificates for sets of 100 short strings
+    /// take some 1,000,000 of work.
     fn default() -> Limits {
         Limits {
             octets: 65_536,

@@ -73,7 +73,7 @@ impl OwnedQuestion {
     }
 
     /// Marks the signature that `signed` lists at this place, from 0, as valid, as `PreparedQuestion::mark` does. Returns false, and changes
-    /// nothing, if no signature is listed there. The place is tested before `marks` is borrowed, so it is plain that nothing changes then;
+    /// nothing, if no signature is listed there. The place is tested before `marks` is borrowed, so the prover sees that nothing changes then;
     /// `mark_at` makes the same test again.
     pub fn mark(&mut self, place: usize) -> bool
         ensures listed { IsTrue result ↔ (place < length self.old.marks.items) }

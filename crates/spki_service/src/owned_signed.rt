@@ -60,7 +60,7 @@ impl OwnedSigned {
 }
 
 /// Returns copies of the signatures, which borrow nothing. For n signatures by k keys this takes n binary searches among k
-/// places at most, and each new key moves up to k places.
+/// places at most, and the place of each new key is inserted among them, which moves up to k places.
 ///
 /// # Errors
 ///
@@ -111,9 +111,9 @@ fn shared_key(
     }
 }
 
-/// The key with these octets, if a signature of `owned` has it, by a binary search. Otherwise Err is the place in `order`, from 0, at which a
-/// signature by this key must be inserted. `order` has for each key the place in `owned` of the first signature by it, sorted by the keys'
-/// octets. Each of its numbers is a place in `owned`, so the `else` is not reached.
+/// The key with these octets, if a signature of `owned` has it, by a binary search. Otherwise Err is the index in `order`, from 0, at which the
+/// place of a signature by this key must be inserted. `order` has for each key the place in `owned`, from 0, of the first signature by it, sorted
+/// by the keys' octets. Each of its numbers is a place in `owned`, so the `else` is not reached.
 fn found_key<'o>(
     owned: &'o [OwnedSigned],
     order: &[usize],

@@ -110,7 +110,7 @@ impl From<AllocError> for AskFault {
 impl<T: Drop> From<AllocFailed<T>> for AskFault {
     ghost from_gives = { λ _ fault. fault ≡ Memory };
 
-    /// A value that could not be stored, for want of memory, is the fault `Memory`. So `?` converts the error, and drops the value in it.
+    /// A value that could not be stored, because memory ran out, is the fault `Memory`. So `?` converts the error, and drops the value in it.
     fn from(_error: AllocFailed<T>) -> AskFault {
         AskFault::Memory
     }

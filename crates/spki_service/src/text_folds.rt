@@ -18,14 +18,15 @@ use std::alloc::Global;
 /// Puts into `sink` what each entry of an access list becomes with the certificates of the case. `texts` are the canonical texts of the
 /// entries, and `steps` the tuples of all certificates, in order: one for each. An entry is read just before it is joined with them, and
 /// nothing of it is kept. The case's own access list, which is empty in a question, is not examined. All entries share one budget: the work
-/// that may still be done. `fold_texts_counted` is this loop with a count of ticks (operations that contracts count). This one is for
-/// `reduce_into`, which has no count: it cannot open one as other calls do, since the toolchain picks no ledger, in which a count is kept, for
-/// a function with a bound that names a lifetime, as `FoldSink<'a>` does.
+/// that may still be done.
+///
+/// `fold_texts_counted` is this loop with a count of ticks (operations that contracts count). `reduce_into` calls this one, which has no count:
+/// the toolchain picks no ledger to keep a new count in for a function with a bound that names a lifetime, such as `FoldSink<'a>`.
 ///
 /// # Errors
 ///
 /// `TooLarge` if the product of the nodes of two tags to be intersected is over the case's limit of nodes, or the work of all entries together
-/// over its limit of work. `Memory` if memory ran out, here or in the sink. `sink` then has what the entries before became.
+/// over its limit of work. `Memory` if memory ran out, here or in the sink. After an error, drop what `sink` has taken.
 pub(crate) fn fold_texts<'a, S: FoldSink<'a>>(
     alloc: Global,
     texts: &'a TextList,
