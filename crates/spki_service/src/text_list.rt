@@ -47,7 +47,7 @@ impl TextList {
         }
     }
 
-    /// Adds a copy of a text at the end. Err if memory ran out: then the list has the same texts as before.
+    /// Adds a copy of a text at the end. Err if memory ran out: then no contract says which texts the list has.
     pub(crate) fn push(&mut self, text: &[u8]) -> Result<(), AllocError>
         ensures { OnOk result (self.new ≡ self.old ++ text.now ∷ []) }
     {
