@@ -18,7 +18,7 @@ pub fn canonical_form_is_prefix_free()
     ensures { (v w : Value) (x y : List ℕ) → canon v ++ x ≡ canon w ++ y → (v ≡ w) × (x ≡ y) }
 {}
 
-/// A text has at most one of the faults TooDeep, Short, Bad and Trailing, with its offset. It has none if it is a
+/// A text has at most one of the faults TooDeep, Short, Bad and Trailing, the last two with their offset. It has none if it is a
 /// value's canonical text within the limits. So, if the text is not too long and memory does not run out, `Doc::open`
 /// and `decode` return each of these faults exactly if the text has it.
 #[tactic(auto, using(crate::proofs::Refusals::no_refusal, crate::proofs::Refusals::one_refusal))]
@@ -27,7 +27,7 @@ pub fn one_refusal()
     ensures one { (text : List ℕ) (e f : FormFault) → IsOfForm e → IsOfForm f → Refused text e → Refused text f → e ≡ f }
 {}
 
-/// A text has at most one of the faults TooDeep, Short, Bad and Trailing of the transport form, with its offset. It has
+/// A text has at most one of the faults TooDeep, Short, Bad and Trailing of the transport form, the last two with their offset. It has
 /// none if it braces a value within the limits, that is, if it is the value's transport form except for whitespace and
 /// missing padding. So, if the text is not too long and memory does not run out, `unwrap_braces` and `octets_in_braces`
 /// return each of these faults exactly if the text has it.

@@ -29,7 +29,7 @@ pub fn printed_is_advanced()
     ensures { (v : Value) → HasOctets v → Spells (adv v) v }
 {}
 
-/// A text has at most one of the faults TooDeep, Short, Bad and Trailing of advanced form, with its offset. It has none
+/// A text has at most one of the faults TooDeep, Short, Bad and Trailing of advanced form, the last two with their offset. It has none
 /// if it spells a value within the limits. So, if the text is not too long and memory does not run out, `read_advanced`
 /// returns each of these faults exactly if the text has it.
 pub fn one_refusal()

@@ -45,6 +45,7 @@ impl<'a> ChainRequirement<'a> {
         ensures answer { IfOk result (IsChainRequirement (model case.now) (tuples_of steps.now)) }
         ensures end { IfOk result (HasEnd (tuples_of steps.now)) }
     {
+        // `Brand` and `Blank` are for a count of ticks, which exists only in contracts: see `spki_tag::Ticks`.
         ChainRequirement::of_with_new_count::<Brand>(alloc, case, steps, Blank::new(1))
     }
 
@@ -102,6 +103,7 @@ impl<'a> ChainRequirement<'a> {
         ensures { (tuples : List Tuple) → IsChainRequirement (model case.now) tuples self.now
             → IsTrue result ↔ Supported (model case.now) tuples entry.now }
     {
+        // `Brand` and `Blank` are for a count of ticks, which exists only in contracts: see `spki_tag::Ticks`.
         self.grants_with_new_count::<Brand>(entry, case, Blank::new(1))
     }
 

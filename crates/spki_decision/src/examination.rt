@@ -64,10 +64,11 @@ pub(crate) enum Tested<'a> {
     Fails(Stop),
 }
 
-/// Does the first three tests of each certificate, in order, up to the first that fails (RFC 2693, section 6). These
-/// tests of `Stop` need no verifier. Returns the signatures of the certificates that pass, and what the certificates say if
-/// all of these are valid. Each certificate of the sequence must be followed by its signature. `policy` says which hashes
-/// may name keys.
+/// Tests each certificate, in order, up to the first that fails a test (RFC 2693, section 6). The tests are the first three of `Stop`, which
+/// need no verifier: the issuer's key is known, the signature is for the certificate's digest, and it is by this key. Returns the signatures of
+/// the certificates that pass. `unverified` of the result has the certificate that fails and its test, or the tuples of all certificates, which
+/// count if all these signatures are valid. Each certificate of the sequence must be followed by its signature. `policy` says which hashes may
+/// name keys.
 ///
 /// # Errors
 ///

@@ -149,6 +149,7 @@ pub fn entry_fold<'a>(
     ensures same_sizes { IsBudgetFor (tuples_of steps.now) budget.new }
     ensures within_limit { IfOk result (λ fold. ¬ TooLargeAt case.now.most_nodes case.now.policy (five (entry_tuple entry.now)) (tuples_of steps.now)) }
 {
+    // `Brand` and `Blank` are for a count of ticks, which exists only in contracts: see `spki_tag::Ticks`.
     entry_fold_with_new_count::<Brand>(alloc, case, entry, shown, steps, budget, Blank::new(1))
 }
 

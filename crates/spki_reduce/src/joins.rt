@@ -156,6 +156,7 @@ impl<'a> Five<'a> {
             (λ cause. Stops policy (five (five_tuple self.entry)) (four (four_tuple definition.now)) cause)) }
         ensures refused { IfErr result (λ fault. fault ≡ ReduceFault.Memory) }
     {
+        // `Brand` and `Blank` are for a count of ticks, which exists only in contracts: see `spki_tag::Ticks`.
         self.into_resolve_with_new_count::<Brand>(definition, policy, Blank::new(1))
     }
 

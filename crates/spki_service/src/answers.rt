@@ -139,6 +139,7 @@ impl<'a> PreparedQuestion<'a> {
     {
         // `Brand` and `Blank` are for a count of ticks, which exists only in contracts: see `spki_tag::Ticks`.
         match first_refused(alloc, &self.examined.signed, verifier)? {
+            // `Brand` and `Blank` are for a count of ticks, which exists only in contracts: see `spki_tag::Ticks`.
             None => self.explained_with_new_count::<Brand>(alloc, Blank::new(1)),
             Some(place) => Ok(Explanation::Evidence {
                 item: self.examined.signed[place].item,
@@ -180,6 +181,7 @@ impl<'a> PreparedQuestion<'a> {
     {
         // `Brand` and `Blank` are for a count of ticks, which exists only in contracts: see `spki_tag::Ticks`.
         match first_refused(alloc, &self.examined.signed, verifier)? {
+            // `Brand` and `Blank` are for a count of ticks, which exists only in contracts: see `spki_tag::Ticks`.
             None => self.reduced_with_new_count::<Brand>(alloc, Blank::new(1)),
             Some(place) => Ok(Reduction::Evidence {
                 item: self.examined.signed[place].item,

@@ -247,6 +247,7 @@ impl Tag {
             × (ldepth c ≤ max (ldepth self.now) (ldepth other.now))) }
         ensures too_large { IsErrOf result MeetFault.TooLarge ↔ (most < nodes self.now * nodes other.now) }
     {
+        // `Brand` and `Blank` are for a count of ticks, which exists only in contracts: see `Ticks`.
         self.meet_with_new_count::<Brand>(alloc, other, most, Blank::new(1))
     }
 
