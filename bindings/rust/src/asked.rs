@@ -1,4 +1,5 @@
-//! A question that was read, which is decided by the marks that it carries.
+//! A question that was read. The caller verifies its signatures, and marks those that are valid, each by its place: its number, from 0. The answer
+//! is by the marks.
 
 use crate::answer::{line_of, lines_of, with_answer, with_line, Refusal};
 use crate::decision::{Denied, Grant, Verdict};
@@ -73,7 +74,7 @@ impl Asked {
     ///
     /// # Panics
     ///
-    /// The iterator does if an allocation of the library fails.
+    /// The iterator panics if an allocation of the library fails.
     #[must_use]
     pub fn signatures(&self) -> impl ExactSizeIterator<Item = Signature<'_>> + '_ {
         (0..self.count).map(|place| {
@@ -230,8 +231,8 @@ impl Asked {
     }
 }
 
-/// The grant of a line `yes entry N`, until a second since 1970, or `i64::MAX`. Another line is a refusal as misused: the library is not the one that
-/// was expected.
+/// The grant of a line `yes entry N`. `until` is its last second since 1970, or `i64::MAX` if no window ends. Another line is a refusal as misused:
+/// the library is not the one that was expected.
 fn grant_of(line: &[u8], until: i64) -> Result<Grant, Refusal> {
     line_of(line)
         .strip_prefix("yes entry ")

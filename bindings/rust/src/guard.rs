@@ -1,4 +1,4 @@
-//! An access list that is read once and asked often.
+//! An access list that is read once and asked often, with the limits on each question: the guard.
 
 use crate::answer::{with_line, Refusal};
 use crate::asked::Asked;
@@ -44,7 +44,7 @@ impl Limits {
     /// The highest limits. On some questions within them an explanation takes seconds.
     #[must_use]
     pub const fn highest() -> Limits {
-        // (each call lowers the number to its highest)
+        // (the calls lower a number above the library's highest. There is no highest number of certificates and of strings: the octets bound both)
         let most = usize::MAX;
         let all = Limits::none().octets(most).certificates(most).words(most);
         all.nodes(most).work(most).answer(most)

@@ -1,4 +1,5 @@
-//! Requests that are signed: the table that the verifiers of all languages read. `openssl` verifies and hashes keys, and coreutils make digests.
+//! Requests that are signed, by the table that the verifiers of all languages read. A row of it is a request and the answer that it must get.
+//! `openssl` verifies and hashes keys, and coreutils make digests.
 
 #[path = "../examples/by_openssl/mod.rs"]
 mod by_openssl;
@@ -10,6 +11,7 @@ use std::fs;
 use std::io::Write;
 use std::process::{Command, Stdio};
 
+/// The file of the table, and the second since 1970 at which the services of these tests begin.
 const ROWS: &str = concat!(env!("CARGO_MANIFEST_DIR"), "/../go/httpsig/testdata/rows");
 const START: u64 = 1_792_000_000;
 /// RFC 9421, appendix B.2.4: a response, its signature by ECDSA, and the key of B.1.3.
@@ -184,7 +186,8 @@ fn a_wrong_hash_proves_no_key() {
     }
 }
 
-/// By HTTP/2 a GET may have a body that no field says. Then its digest must be covered. What the method or a field says is not taken back.
+/// By HTTP/2 a GET may have a body that no field says. Then its digest must be covered. What the method or a field says is not taken back by
+/// `with_body(false)`: the last row needs a digest by its method.
 #[test]
 fn a_body_that_no_field_says_needs_a_digest() {
     let rows = rows();
