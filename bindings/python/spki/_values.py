@@ -310,7 +310,7 @@ class Reason(NamedTuple):
     entry: int | None
     """The number of the entry that the line is about, from 1. `None` if the certificate stops all entries."""
     item: int | None
-    """The number of the certificate that stops it, among the items of the sequence, from 1."""
+    """The number of the certificate that stops the entry, or all entries, among the items of the sequence, from 1. `None` if no certificate does."""
     word: Cause
     """`Cause.GRANTS`, or what stops the request."""
 

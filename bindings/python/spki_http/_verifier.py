@@ -12,7 +12,7 @@ from ._fields import PUBLIC_KEY, TAG, Input, Refused, digest_of, hash_of, input_
 from ._message import AUTHORIZATION, DIGEST, METHOD, TARGET, Message, authority_of, base_of
 from ._message import value_of as component_of
 
-# The seconds from `created` to `expires` at most, and those that a client's clock may be ahead.
+# The most seconds from `created` to `expires`, and the most that `created` may be in the future: a client's clock may be ahead.
 MOST_WINDOW, MOST_AHEAD = 300, 60
 # The fewest and the most characters of a nonce, and the most nonces in each set of a `Memory`.
 LEAST_NONCE, MOST_NONCE = 16, 64
@@ -125,6 +125,7 @@ class Verifier:
         if proof.expires <= now:
             # (the nonce may have been used, and be forgotten)
             raise Refused("expired")
+        # (a signature by a clock that is ahead is accepted for as long as both together)
         self.nonces.take(proof.key, proof.nonce, now, MOST_WINDOW + MOST_AHEAD)
 
     def check(self, message: Message) -> Proof:
