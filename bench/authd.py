@@ -69,7 +69,7 @@ def print_processor_time(site, daemon, seconds):
         print(f"{name}: {(processor_seconds(process) - before) / figures.requests * 1e6:.0f} µs of processor time a request", flush=True)
 
 
-def at_half_load(site, seconds, full):
+def measure_half_load(site, seconds, full):
     """The figures at about half of the rate of `full`, which are figures too: each connection waits some random time before each request. Prints
     them."""
     connections = CONNECTIONS[-1]
@@ -116,7 +116,7 @@ def faults_of(site, options):
     process = site.start_all()
     figures = measure_ways(site, options.seconds)
     print_processor_time(site, process, options.seconds)
-    half = at_half_load(site, options.seconds, figures["nginx and daemon"])
+    half = measure_half_load(site, options.seconds, figures["nginx and daemon"])
     soak, memory = run_soak(site, process, options.soak)
     site.end()
     title = f"{options.soak} s of reloads"

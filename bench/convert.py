@@ -93,7 +93,7 @@ def hexadecimal_strings(size):
 
 
 def braces(size):
-    """Short strings, in braces: as base64, which has four octets for three."""
+    """Short strings, in braces: as base64, which has four octets for three. Four octets are left for the braces."""
     return braced(filled(3 * (size - 4) // 4, b"3:abc1:d"))
 
 

@@ -177,6 +177,7 @@ class Site:
         wrong = sum(is_wrong(answer, removed, self.stale) for answers in by_daemon for answer in answers)
         granted = max(end for answers in by_daemon for _, end, name, status in answers if name == GOES and status == 200)
         spans = [span_of_503(answers, failed) for answers in by_daemon]
+        # (the heartbeat leaves a primary that is cut off after LEAVES seconds, so an earlier promotion counts as one then)
         counts_as = max(ended - failed, LEAVES if self.nodes[0] else 0.0)
         broken = sum(is_broken(span, self.stale, counts_as) for span in spans)
         texts = [f"503 from {span[0]:.1f} to {span[1]:.1f}, {span[1] - span[0]:.1f} s, {span[1] + failed - ended:.1f} after it" if span else "no 503"
@@ -194,7 +195,8 @@ def nodes_of(stack):
 
 
 def is_broken(span, stale, ended):
-    """Whether the span of 503 at a daemon (`span_of_503`) is longer than is promised, where the promotion ended so many seconds after the failure."""
+    """Whether the span of 503 at a daemon (`span_of_503`) breaks a promise, where the promotion ended so many seconds after the failure. If these
+    are at most `stale` - MARGIN, there is to be no 503. If they are at most 2 * `stale` - MARGIN, none is to last over `stale` seconds."""
     lasted = span[1] - span[0] if span else 0.0
     return ended <= stale - MARGIN and lasted > 0 or ended <= 2 * stale - MARGIN and lasted > stale
 

@@ -2,9 +2,9 @@
 """Times `spki check` on texts whose time must be linear in their octets. `slowest.py` searches for others. Each text is a case: an access list,
 certificates, which signatures are valid, and a question.
 
-Each text is made for three lengths, by a function of a number of entries, a number of certificates and the most members of a set or list, which
-may ignore some of them. Times are processor times, the least of some runs. The ratio for 4 times the octets is that of times or that of
-instructions, whichever is less: short times differ by half from run to run, and a comparison of long octets has more instructions than its time
+Each kind of text, a shape, is made for three lengths, by a function of a number of entries, a number of certificates and the most members of a set
+or list, which may ignore some of them. Times are processor times, the least of some runs. The ratio for 4 times the octets is that of times or that
+of instructions, whichever is less: short times differ by half from run to run, and a comparison of long octets has more instructions than its time
 shows. The limits are:
 
 - At most 1 second at 1 MiB for each text except the last, and where it takes over 0.1 seconds, at most 5 times for 4 times the octets.
@@ -116,8 +116,8 @@ def entries_and_chain(entries, certificates, members):
 
 
 def entries_and_tags(entries, certificates, members):
-    """A case of equal entries for (ftp), and a chain by keys for (ftp). The product of the nodes of all tags is over the limit, so it does not show
-    that no intersection is too large."""
+    """A case of equal entries for (ftp), and a chain by keys for (ftp). The product of the nodes of all tags is over the limit, so the product
+    alone cannot show that each intersection is within it."""
     return by_keys(certificates, FTP, entries=entries, asks=OTHER)
 
 

@@ -45,6 +45,7 @@ def steps_in(folder):
             try:
                 declaration = json.JSONDecoder().raw_decode(text, begin.start())[0]
             except ValueError:
+                # (other octets that begin in the same way)
                 continue
             yield max(declaration["steps"]), module, declaration["name"]
 

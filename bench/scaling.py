@@ -61,6 +61,7 @@ def hits_of(count, skew, kept):
     low, high = 0.0, 1e15
     for _ in range(200):
         time = (low + high) / 2
+        # (`-expm1(-chance * time)` is the chance that a key was asked for in that time)
         size = sum(number * -math.expm1(-chance * time) for chance, number in spread)
         low, high = (low, time) if size > kept else (time, high)
     weight = sum(chance * number for chance, number in spread)
@@ -122,9 +123,9 @@ def after_loss(chance, count, kept, daemons):
 
     # (the caches fill first)
     for _ in range(1_000_000):
-        finds_kept(True)
-    before = sum(finds_kept(True) for _ in range(50_000)) / 50_000
-    return before, [sum(finds_kept(False) for _ in range(50_000)) / 50_000 for _ in range(10)]
+        finds_kept(is_whole=True)
+    before = sum(finds_kept(is_whole=True) for _ in range(50_000)) / 50_000
+    return before, [sum(finds_kept(is_whole=False) for _ in range(50_000)) / 50_000 for _ in range(10)]
 
 
 def print_row(how, what, value):
@@ -143,7 +144,8 @@ def main():
     print_row("assumed", "entries, decisions a second, Zipf's exponent", f"{ENTRIES:,}, {RATE:,}, {SKEW}")
     print_row("assumed", "cores of a machine, share in use, cache of a daemon, least replicas", f"{CORES}, {BUSY}, {CACHE >> 30} GiB, {LEAST}")
     print_row("assumed", "median delay of a replica, its log-normal spread", f"{DELAY * 1e3:.0f} ms, {DELAY_SPREAD}")
-    approximate, simulated = hits_of(10 ** 6, SKEW, 10 ** 4), simulated_hits(chance, 10 ** 6, 10 ** 4, 2_000_000)
+    approximate = hits_of(10 ** 6, SKEW, kept=10 ** 4)
+    simulated = simulated_hits(chance, count=10 ** 6, kept=10 ** 4, requests=2_000_000)
     print_row("simulated", "hits of 10,000 of 1,000,000 keys: Che, request by request", f"{approximate:.3f}, {simulated:.3f}")
     alone = hits_of(ENTRIES, SKEW, CACHE // KEPT)
     daemons, replicas, misses = machines(RATE, alone)
@@ -159,7 +161,7 @@ def main():
     changes = 2 * ENTRIES / (DAYS * 86_400)
     print_row("assumed", f"changes a second where an entry stays {DAYS} days", f"{changes:.0f}")
     print_row("measured", "changes a second of one primary, each a transaction", f"{ADDS}")
-    before, hits = after_loss(chance, 10 ** 5, 10 ** 5 // 60, 12)
+    before, hits = after_loss(chance, count=10 ** 5, kept=10 ** 5 // 60, daemons=12)
     print_row("simulated", "hits before and after a third of the daemons is lost",
               f"{before:.3f}; " + ", ".join(f"{each:.3f}" for each in hits[:3]) + f" .. {hits[-1]:.3f}")
     left = daemons - daemons // 3

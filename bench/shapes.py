@@ -84,5 +84,5 @@ def a_set(member, members=999):
 def parts_of(text):
     """The list, the sequence, the key, the request and the moment of a case, each in canonical form. A case is given in canonical form."""
     # (some lists here are longer than a text may be: so they are read by the parser of `spki-cert` and not by the model)
-    _, acl, _, sequence, asker, request, moment, *_ = Parser(text, True).value(0, "a value").value
+    _, acl, _, sequence, asker, request, moment, *_ = Parser(text, is_canonical=True).value(at=0, wanted="a value").value
     return [canonical(part) for part in (acl, sequence, asker[1], request[1], moment[1])]

@@ -99,7 +99,8 @@ def figures_of_test(server, what, count, library, **more):
     """Runs a test of the daemon on a store of so many entries: `what` is single, load, cold or served, and `more` are further variables of its
     environment. Returns the lines that it prints, by their names. Ends the script if it fails."""
     test = "TestStoreServed" if what == "served" else "TestStoreFigures"
-    done = golang.go(golang.DAEMON, ["test", *DRIVER, "-count=1", "-run", test, "-v", "."], library, None, SPKI_STORE_HOST=server.folder,
+    # (of 20 entries 19 are for keys, and one is for a name)
+    done = golang.go(golang.DAEMON, ["test", *DRIVER, "-count=1", "-run", test, "-v", "."], library, SPKI_STORE_HOST=server.folder,
                      SPKI_STORE_SCHEMA=SCHEMA, SPKI_STORE_KEYS=str(count - count // 20), SPKI_STORE_WHAT=what, **more)
     text = done.stdout.decode()
     if done.returncode:
@@ -257,6 +258,7 @@ def measure(count, library):
     with server_with_store(count) as (server, store):
         lines = figures_of_test(server, "single", count, library) | figures_of_test(server, "load", count, library)
         print(f"{count:>10,} entries: {adds_a_second(store):.0f} adds a second", flush=True)
+        # (the server is killed for `cold`, so the connection is closed before)
         store.close()
         print_served(server, library, count)
         restart_cold(server)
