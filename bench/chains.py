@@ -1,6 +1,7 @@
 #!/usr/bin/env python3
 """Times `spki check` on long chains of certificates and on wide texts, and beside `openssl`. Each text is a case: an access list, certificates and a
-question in one. `linear.py` has slower texts. Times are processor times, the least of some runs, and of a wide text that of one run.
+question in one. `group` makes a list and `string` a string, in canonical form. `linear.py` has slower texts. Times are processor times, the least
+of some runs, and of a wide text that of one run.
 
 Build the program first (`rt run` in crates/spki). Usage: bench/chains.py [PROGRAM]
 """

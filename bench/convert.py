@@ -105,6 +105,7 @@ class Text:
     """A text in a file, from which the programs read it."""
 
     def __init__(self, octets):
+        """Writes these octets to a file, which is removed with the object."""
         self.octets = octets
         self.file = tempfile.NamedTemporaryFile()
         self.file.write(octets)

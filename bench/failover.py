@@ -52,6 +52,7 @@ class Person:
     """Somebody with a key and a TLS certificate: the text of an entry, and a request."""
 
     def __init__(self):
+        """Makes a new key. `entry` is for its public key and everything, and `request` has its certificate, as nginx passes one to a daemon."""
         private = new_private("ed25519")
         self.entry = b"(5:entry" + canonical(FileSigner(private).key) + b"(3:tag(1:*)))"
         self.request = REQUEST.format(urllib.parse.quote(self_signed(private))).encode()

@@ -71,6 +71,7 @@ class CheckTimes:
     began."""
 
     def __init__(self):
+        """No check was seen yet."""
         self.seen = {}
 
     def note_running(self):

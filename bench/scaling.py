@@ -72,6 +72,7 @@ class Cache:
     """A cache of at most so many keys."""
 
     def __init__(self, most):
+        """An empty cache, of at most `most` keys. `keys` is to have first the one that was asked for longest ago."""
         self.most, self.keys = most, OrderedDict()
 
     def has(self, key):

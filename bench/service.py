@@ -1,6 +1,7 @@
 #!/usr/bin/env python3
 """Measures what a service does with a guard, through the library for C, and ends with another status where a limit is passed. Most texts are cases:
-an access list, certificates, which signatures are valid, and a question.
+an access list, certificates, which signatures are valid, and a question. `group` makes a list and `string` a string, in canonical form. A `driver`
+runs the program of service.c, which calls the library.
 
 - A question without certificates and one with three, opened and decided, on lists of 10,000 entries for keys and for hashes, beside a list of
   one.

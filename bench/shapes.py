@@ -1,5 +1,5 @@
 """Parts of the cases that the benches time: keys, certificates, chains and wide tags. A case is one text with an access list, certificates, which
-signatures are valid, and a question. All values are octets in canonical form."""
+signatures are valid, and a question. All values are octets in canonical form: `group` makes a list, and `string` a string."""
 import hashlib
 
 from check import STAR, group, key, string

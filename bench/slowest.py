@@ -3,8 +3,8 @@
 
 A recipe (recipes.py) has the numbers by which a text is made. The first recipes of each call are named: their texts were slow once. A search then
 changes their numbers by chance, one part at a time, with a fixed seed and for a fixed number of steps. It goes on from the recipe whose text takes
-the most time for its octets. The slowest ones are then made as large as the call allows, and measured beside the named ones. Times are processor times,
-the least of some runs: other programs only add to them.
+the most time for its octets. The slowest ones are then made as large as the call allows, and measured beside the named ones. Times are processor
+times, the least of some runs: other programs only add to them.
 
 `--named` measures the named texts alone. A call may be named by its first words, as in `slowest.py "a guard decides"`.
 

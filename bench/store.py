@@ -1,8 +1,8 @@
 #!/usr/bin/env python3
 """Measures decisions by a store in PostgreSQL with so many entries, and ends with another status where a limit is passed.
 
-Of 100 entries 95 are each for a key of its own. Five are for names under the keys of groups, each of which has 50. The server is started in a
-temporary folder, with a quarter of a GiB of its own memory.
+Of 100 entries 95 are each for a key of its own. Five are for names under the keys of groups, each of which has 50. The server (`server`) is started
+in a temporary folder, with a quarter of a GiB of its own memory. `count` is a number of entries, and `library` the path of the library for C.
 
 - import: entries a second by `spki-store import`, from a file; the octets of the tables.
 - hit, miss: the median and the 99th percentile of a decision, in µs, where its rows are kept, and where they are read. The library's part is in it,

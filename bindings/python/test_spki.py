@@ -1,5 +1,9 @@
 """What the package `spki` does beside the library: opened questions, marks, its buffers, its types and its exceptions.
 
+By the access list LIST key a may do everything, and may delegate it. PAIR is a certificate of a for key b with its signature, SIGNED what a verifier
+gets of the two, and SHOWN the sequence of PAIR alone. OWN is the same of a for itself, which may precede PAIR. FORGED is a sequence for key c, whose
+signature is not valid. `new_question` makes a question by b that shows SHOWN, but for the parts that a test names.
+
 `tests/suite/test_bindings.py` compares the answers to many questions with the program's. Usage, in this folder:
 SPKI_LIBRARY=../../crates/spki_c/out/libspki_c.so python3 -m unittest
 """
@@ -848,6 +852,7 @@ class Libraries(unittest.TestCase):
             _library.load(ctypes.util.find_library("m"))
 
     def test_a_library_that_is_not_there_is_named(self):
+        """If SPKI_LIBRARY names no file, `import spki` fails, and the error names it."""
         done = subprocess.run([sys.executable, "-c", "import spki"], env={**os.environ, "SPKI_LIBRARY": "/nowhere/libspki_c.so"},
                               capture_output=True, text=True)
         self.assertNotEqual(done.returncode, 0)

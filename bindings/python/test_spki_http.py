@@ -1,5 +1,6 @@
 """Tests the package spki_http by the table that all languages read, by the examples of RFC 9421, and by clients and a server. A row of the table is a
-request and the answer that it must get.
+request, its time, and the answer that it must get: `valid` or the name of a refusal. `rows` reads them, `verifier_at` makes the service that they are
+for, and `answer` says what it answers.
 
     PYTHONPATH=bindings/python python3 -m unittest bindings/python/test_spki_http.py
 """
@@ -238,6 +239,7 @@ class Clients(unittest.TestCase):
     """Clients and a server."""
 
     def setUp(self) -> None:
+        """Starts a server, which ends with the test, and makes an address there and two signers."""
         self.server = http.server.ThreadingHTTPServer(("127.0.0.1", 0), Handler)
         self.name = f"127.0.0.1:{self.server.server_port}"
         Handler.verifier = spki_http.Verifier(self.name, scheme="http")

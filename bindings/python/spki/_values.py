@@ -28,6 +28,7 @@ class Refused(Exception):
     """
 
     def __init__(self, line: str) -> None:
+        """`line` is the line without its line feed, as `refused sequence 3 Shape`."""
         # (an exception is copied and pickled by the arguments of this call)
         super().__init__(line)
         self.line = line

@@ -43,6 +43,7 @@ class Refused(Exception):
     """Why a request proves no key. `name` is one of docs/SIGNATURES.md, "Refusals"."""
 
     def __init__(self, name: str) -> None:
+        """`name` is that of the refusal, such as `expired`."""
         # (an exception is copied and pickled by the arguments of this call)
         super().__init__(name)
         self.name = name
