@@ -1,7 +1,7 @@
 //! A question that was read. The caller verifies its signatures, and marks those that are valid, each by its place: its number, from 0. The answer
 //! is by the marks.
 
-use crate::answer::{line_of, lines_of, with_answer, with_line, Refusal};
+use crate::answer::{call_for_answer, call_for_line, line_of, lines_of, Refusal};
 use crate::decision::{Denied, Grant, Verdict};
 use crate::explanation::Explanation;
 use crate::signature::Signature;
@@ -180,7 +180,7 @@ impl Asked {
     /// Like `decide`, for a caller whose verifier may fail with an `E`. It never returns `Denied::Verifier`: nothing is verified here.
     pub(crate) fn decided<E>(&self) -> Result<Grant, Denied<E>> {
         let call = |buffer, room, needed| self.call(sys::spki_asked_decide, (buffer, room, needed));
-        with_line(call, |decision: sys::Decision, line| {
+        call_for_line(call, |decision: sys::Decision, line| {
             match decision.status {
                 sys::YES => grant_of(line, decision.until).map_err(Denied::Refused),
                 sys::NO => Err(Denied::No),
@@ -211,7 +211,7 @@ impl Asked {
 
     /// The lines of `explain` or `reduce`, without the last line feed. `call` is the call of the library that writes them.
     fn lines(&self, call: sys::Answers) -> Result<String, Refusal> {
-        let (status, lines) = with_answer(self.most_answer, |buffer, room, needed| {
+        let (status, lines) = call_for_answer(self.most_answer, |buffer, room, needed| {
             self.call(call, (buffer, room, needed)).status
         });
         match status {

@@ -1,5 +1,10 @@
 //! What the crate does beside the library: opened questions, marks, its buffers and its types. `tests/suite/test_bindings.py` at the top of the
 //! repository compares the answers to many questions with the program's.
+//!
+//! By the access list LIST key a may do everything, and may delegate it. PAIR is a certificate of a for key b with its signature, and SIGNED what a
+//! verifier gets of the two. OWN is the same of a for itself, which may precede PAIR. FORGED is a sequence for key c, whose signature is not valid. A
+//! question is by b (KEY), for the request WORDS, at NOW, but for the parts that a test gives it. `sequence_of(2)` has PAIR twice. `guard` has the
+//! highest limits.
 
 use spki::{
     Asked, Cause, Denied, Explanation, Fault, Grant, Guard, Limits, Moment, NotProved, Part,

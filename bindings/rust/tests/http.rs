@@ -1,4 +1,5 @@
-//! Requests that are signed, by the table that the verifiers of all languages read. A row of it is a request and the answer that it must get.
+//! Requests that are signed, by the table that the verifiers of all languages read. A row of it is a request, and
+//! `gives` the answer that it must get: `valid` or the name of a refusal. The services begin at START, the second 1,792,000,000 since 1970.
 //! `openssl` verifies and hashes keys, and coreutils make digests.
 
 #[path = "../examples/by_openssl/mod.rs"]
@@ -11,7 +12,7 @@ use std::fs;
 use std::io::Write;
 use std::process::{Command, Stdio};
 
-/// The file of the table, and the second since 1970 at which the services of these tests begin.
+/// The file of the table.
 const ROWS: &str = concat!(env!("CARGO_MANIFEST_DIR"), "/../go/httpsig/testdata/rows");
 const START: u64 = 1_792_000_000;
 /// RFC 9421, appendix B.2.4: a response, its signature by ECDSA, and the key of B.1.3.
