@@ -170,7 +170,7 @@ class Site:
             each.start()
         time.sleep(BEFORE + random.random())
         removed, failed, begun, ended = self.fail_over(wait)
-        # (where all was over before the store was stale, nothing else may make it stale later)
+        # (a daemon finds its store stale up to `stale_seconds` after the failure, also if all seems well before: so this waits longer)
         time.sleep(AFTER + max(0.0, failed + self.stale - ended))
         databases.waits_for("the daemons answer again", lambda: all(each.grants() for each in self.askers))
         time.sleep(AFTER)

@@ -97,13 +97,15 @@ def simulated_hits(chance, count, kept, requests):
 def machines(rate, hits):
     """The daemons and the replicas that so many decisions a second need, and their misses a second. `hits` is the share of decisions by kept rows."""
     misses = rate * (1 - hits)
-    daemon = rate * (HTTP + hits * HIT + (1 - hits) * MISS)
-    return math.ceil(daemon / (CORES * BUSY)), max(LEAST, math.ceil(misses * ROWS / (CORES * BUSY))), misses
+    # (the seconds of a processor that all daemons together take in a second)
+    seconds = rate * (HTTP + hits * HIT + (1 - hits) * MISS)
+    return math.ceil(seconds / (CORES * BUSY)), max(LEAST, math.ceil(misses * ROWS / (CORES * BUSY))), misses
 
 
 def last_poll(chance, daemons, replicas):
     """The seconds after the commit of a removal at which the last daemon has read it. `chance` is a `random.Random`."""
     delays = [DELAY * math.exp(chance.gauss(0, DELAY_SPREAD)) for _ in range(replicas)]
+    # (of each daemon the delay of its replica, the wait for its next poll, and the poll)
     return max(delays[place % replicas] + chance.random() * POLL + ROWS for place in range(daemons))
 
 

@@ -266,6 +266,7 @@ static void answer(const char *path, long calls)
     }
 }
 
+/* Takes the way that the words name, as the head of this file says. Returns 2 for other words. */
 int main(int count, char **words)
 {
     const char *way = count > 2 ? words[1] : "";

@@ -70,7 +70,7 @@ def accept_none(signature):
 
 
 def recording(calls):
-    """A verifier that appends each signature to the list `calls`, and for which each is valid."""
+    """A verifier that appends each signature to the list `calls`, and for which each is valid: `append` returns None."""
     return lambda signature: calls.append(signature) is None
 
 
@@ -698,13 +698,14 @@ class Guards(unittest.TestCase):
         guard.close()
         opened.close()
 
-    # A verifier closes the guard that calls it. The decision is made all the same.
+    # A verifier closes the guard that calls it, and returns True, since `close` returns None. The decision is made all the same.
     def test_closing_a_guard_while_it_is_asked(self):
         guard = spki.Guard(LIST)
         self.assertTrue(guard.decide(new_question(), lambda signature: guard.close() is None))
 
     def test_closing_in_another_thread(self):
-        """Beside every call a guard and a question may be closed. A call answers as before, or raises ValueError."""
+        """Beside every call a guard and a question may be closed. A call answers as before, or raises ValueError. Each row of `calls` says whether
+        the answer is the right one: `verify` and `mark` return None."""
         calls = {"entries": lambda guard, opened: guard.entries == 1, "decide": lambda guard, opened: bool(guard.decide(new_question(), accept_all)),
                  "count": lambda guard, opened: len(opened) == 1, "signatures": lambda guard, opened: opened.signatures()[0] == SIGNED,
                  "verify": lambda guard, opened: opened.verify(accept_all) is None, "ask": lambda guard, opened: len(guard.ask(new_question())) == 1,
@@ -736,7 +737,7 @@ class Guards(unittest.TestCase):
                 thread.join()
                 self.assertEqual(wrong, [], name)
 
-    # Eight threads use one guard and one opened question. Each opens a question 200 times, and decides the opened one as often.
+    # Eight threads use one guard and one opened question. Each opens a question 200 times, and marks and decides the opened one as often.
     def test_threads_share_a_guard_and_a_question(self):
         guard, granted = spki.Guard(LIST), []
         opened = guard.ask(new_question())

@@ -273,6 +273,7 @@ class NoDecision:
     """What grants nothing, and so is false: an `Asked`, an `Explanation` or a `Reduction` that is tested like a decision is no yes."""
 
     def __bool__(self) -> bool:
+        """False: what is no decision grants nothing."""
         return False
 
 

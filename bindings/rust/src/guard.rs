@@ -143,6 +143,7 @@ const fn at_most(number: usize, highest: usize) -> usize {
 }
 
 impl Default for Limits {
+    /// The library's own limits: none is set.
     fn default() -> Limits {
         Limits::none()
     }
