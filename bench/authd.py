@@ -63,7 +63,8 @@ def measure_ways(site, seconds):
 
 def print_processor_time(site, daemon, seconds):
     """Prints the processor time of a request in the handler and in the daemon. Other programs change it less than they change a rate."""
-    for name, process, port in (("handler", site.handler, site.nginx[1]), ("daemon", daemon, site.nginx[2])):
+    _, port_of_handler, port_of_daemon = site.nginx
+    for name, process, port in (("handler", site.handler, port_of_handler), ("daemon", daemon, port_of_daemon)):
         before = processor_seconds(process)
         figures = site.load(port, seconds, CONNECTIONS[0])
         print(f"{name}: {(processor_seconds(process) - before) / figures.requests * 1e6:.0f} µs of processor time a request", flush=True)

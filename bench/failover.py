@@ -103,6 +103,14 @@ def span_of_503(answers, failed):
     return first_end - failed, next_end - failed
 
 
+def span_in_words(span, promoted):
+    """The span of 503 at a daemon (`span_of_503`) in words. `promoted` is when the promotion ended, in seconds since the failure."""
+    if not span:
+        return "no 503"
+    begin, end = span
+    return f"503 from {begin:.1f} to {end:.1f}, {end - begin:.1f} s, {end - promoted:.1f} after it"
+
+
 def is_wrong(answer, removed, stale):
     """Whether an answer, as an Asker has it, is wrong, by the head of this file. A 503 is not. `removed` is when the entry was removed, `stale` is
     `stale_seconds`."""
@@ -181,8 +189,7 @@ class Site:
         # (the heartbeat leaves a primary that is cut off after LEAVES seconds, so an earlier promotion counts as one then)
         counts_as = max(ended - failed, LEAVES if self.nodes[0] else 0.0)
         broken = sum(is_broken(span, self.stale, counts_as) for span in spans)
-        texts = [f"503 from {span[0]:.1f} to {span[1]:.1f}, {span[1] - span[0]:.1f} s, {span[1] + failed - ended:.1f} after it" if span else "no 503"
-                 for span in spans]
+        texts = [span_in_words(span, ended - failed) for span in spans]
         print(f"stale_seconds {self.stale}, promoted from {begun - failed:.1f} to {ended - failed:.1f}: {'; '.join(texts)}; the last grant by the "
               f"removed entry {granted - removed:.2f} s after its removal; {sum(map(len, by_daemon))} answers, {wrong} wrong, "
               f"{broken} promises broken", flush=True)

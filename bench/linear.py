@@ -74,7 +74,7 @@ def chain(entries, certificates, members):
 
 def chain_of_hashes(entries, certificates, members):
     """A case of one entry and a chain of so many certificates, in which hashes name the keys."""
-    return by_hashes(certificates, OTHER)
+    return by_hashes(certificates, asks=OTHER)
 
 
 def chain_of_names(entries, certificates, members):

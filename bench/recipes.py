@@ -163,13 +163,14 @@ class Recipe:
         return replace(self, entries=replace(entries, tag=replace(entries.tag, **{field: number})))
 
     def with_links(self, number: int) -> "Recipe":
-        """The recipe with this as the growing number of its certificates, or the recipe itself if none grows."""
+        """The recipe with this as the growing number of its certificates, or the recipe itself if none grows. `grows` names a field of the certificate at
+        the place `grown`, or of its tag."""
         if not self.links or not self.grows:
             return self
         at, field = self.grown % len(self.links), self.grows
         link = self.links[at]
-        is_own = field in ("repeats", "names", "comment")
-        grown = replace(link, **{field: number}) if is_own else replace(link, tag=replace(link.tag, **{field: number}))
+        is_of_link = field in ("repeats", "names", "comment")
+        grown = replace(link, **{field: number}) if is_of_link else replace(link, tag=replace(link.tag, **{field: number}))
         return replace(self, links=(*self.links[:at], grown, *self.links[at + 1:]))
 
     def is_read(self, certificates: int) -> bool:

@@ -94,7 +94,7 @@ class Driver:
         return self.write(name, written_parts(text))
 
     def instructions(self, way, path, calls=100):
-        """The instructions of one call by a way of service.c (`ask`, `reopen` or `answer`) on a file."""
+        """The instructions of one call by a way of service.c (`ask`, `reopen` or `answer`) on a file: the mean of `calls` calls."""
         return count_one_call(choose_counter(), [self.program, way, path], calls)
 
     def build_opening(self):

@@ -379,7 +379,7 @@ class _AnswerMemory:
     length of the answer."""
 
     def __init__(self, octets: int) -> None:
-        """Raises `OSError` if so much address space cannot be reserved."""
+        """Reserves address space for `octets` octets. Raises `OSError` if it cannot be reserved."""
         self.buffer, self.octets, self.needed = mmap.mmap(-1, octets, mmap.MAP_PRIVATE), c_size_t(octets), c_size_t()
         # (an object of ctypes at the first octet of this memory: `addressof` takes no mmap)
         self.first = c_char.from_buffer(self.buffer)

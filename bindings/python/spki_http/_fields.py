@@ -237,9 +237,10 @@ def value_of(algorithm: str, octets: bytes) -> bytes:
     otherwise two, of equal length."""
     half = len(octets) // 2
     strings = [octets] if algorithm.startswith("rsa") else [octets[:half], octets[half:]]
-    # (each string of the template becomes LENGTH:OCTETS)
+    _, template, _ = FORMS[algorithm]
+    # (each `%` of the template becomes LENGTH:OCTETS)
     lengths_and_strings = tuple(part for string in strings for part in (len(string), string))
-    return FORMS[algorithm][1].replace(b"%", b"%d:%s") % lengths_and_strings
+    return template.replace(b"%", b"%d:%s") % lengths_and_strings
 
 
 def octets_of(value: bytes, length: int = 0) -> bytes:

@@ -174,6 +174,7 @@ impl Asked {
     ///
     /// The request is not granted: no entry grants it, or an allocation failed.
     pub fn decide(&self) -> Result<Grant, Denied> {
+        // (for an error of a verifier that never fails: none is called here)
         self.decided()
     }
 
