@@ -78,8 +78,9 @@ def binary_strings(size):
 
 def one_binary_string(size):
     """One string of octets of all kinds, in canonical form."""
-    body = size - len(str(size)) - 1
-    return str(body).encode() + b":" + random.Random(size).randbytes(body)
+    # (its length has no more digits than `size`, and a colon is behind it)
+    length = size - len(str(size)) - 1
+    return str(length).encode() + b":" + random.Random(size).randbytes(length)
 
 
 def base64_strings(size):

@@ -163,8 +163,8 @@ class Recipe:
         return replace(self, entries=replace(entries, tag=replace(entries.tag, **{field: number})))
 
     def with_links(self, number: int) -> "Recipe":
-        """The recipe with this as the growing number of its certificates, or the recipe itself if none grows. `grows` names a field of the certificate at
-        the place `grown`, or of its tag."""
+        """The recipe with this as the growing number of its certificates, or the recipe itself if none grows. `grows` names a field of the
+        certificate at the place `grown`, or of its tag."""
         if not self.links or not self.grows:
             return self
         at, field = self.grown % len(self.links), self.grows

@@ -206,7 +206,8 @@ class Requests(unittest.TestCase):
             self.assertEqual(answer(verifier_at([now]), nameless), "other-authority")
 
     def test_a_nonce_is_not_taken_late(self) -> None:
-        """A nonce that is taken after the end of its signature may have been used before, and be forgotten: it is refused as `expired`."""
+        """A nonce that is taken after the end of its signature, here 900 seconds later, may have been used before, and be forgotten: it is refused as
+        `expired`. 100 seconds later it is not forgotten."""
         message, now = self.valid_message()
         clock = [now]
         verifier = verifier_at(clock)

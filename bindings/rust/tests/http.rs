@@ -293,7 +293,8 @@ fn nonces_are_kept_in_two_sets() {
     assert!(store.take(b"another key", "a", 3360, 360).is_ok());
 }
 
-/// A nonce that was used is `NonceSeen` up to the end of its signature. After that it may be forgotten, so it is `Expired`.
+/// A nonce that was used is `NonceSeen` up to the end of its signature, here 100 seconds later. After that, here 900 seconds later, it may be
+/// forgotten, so it is `Expired`.
 #[test]
 fn a_nonce_is_not_taken_late() {
     let rows = rows();
