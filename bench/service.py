@@ -223,12 +223,12 @@ def through_rust(driver):
         return
     path = driver.write_question("three", case_with_three(1))
     ways = [[driver.program, "ask", path], [build_in_rust(driver), path]]
-    calls, rust = (sum(count_one_call(counted_with_cache(blocks), words) for blocks in CACHES) / len(CACHES) for words in ways)
-    few, many = (count_one_call(counted_allocations, words) for words in ways)
-    print(f"signatures listed and a decision: in C {calls:,.0f} instructions and {few:.0f} blocks, through Rust {rust:,.0f} and {many:.0f}",
-          flush=True)
-    yield "Rust", rust / calls
-    yield "blocks more through Rust", many - few
+    in_c, in_rust = (sum(count_one_call(counted_with_cache(blocks), words) for blocks in CACHES) / len(CACHES) for words in ways)
+    blocks_in_c, blocks_in_rust = (count_one_call(counted_allocations, words) for words in ways)
+    print(f"signatures listed and a decision: in C {in_c:,.0f} instructions and {blocks_in_c:.0f} blocks, through Rust {in_rust:,.0f} and "
+          f"{blocks_in_rust:.0f}", flush=True)
+    yield "Rust", in_rust / in_c
+    yield "blocks more through Rust", blocks_in_rust - blocks_in_c
 
 
 def by_instructions(driver):
@@ -274,12 +274,13 @@ def time_through_python(driver, text):
 def through_python(driver):
     """Yields (name of a limit, µs): what a decision through Python takes more than the two calls in C."""
     what, text = "Python, µs more", case_with_three(1)
-    path, calls, python = driver.write_question("three", text), [], []
-    for _ in turns(lambda: min(python) - min(calls) <= MOST[what]):
-        calls.append(sum(driver.run("decide", path)))
-        python.append(time_through_python(driver, text))
-    print(f"signatures listed and a decision: in C {min(calls):.1f} µs, through Python {min(python):.1f} µs", flush=True)
-    yield what, min(python) - min(calls)
+    path, in_c, in_python = driver.write_question("three", text), [], []
+    for _ in turns(lambda: min(in_python) - min(in_c) <= MOST[what]):
+        # (two times: of listing the signatures, and of a decision)
+        in_c.append(sum(driver.run("decide", path)))
+        in_python.append(time_through_python(driver, text))
+    print(f"signatures listed and a decision: in C {min(in_c):.1f} µs, through Python {min(in_python):.1f} µs", flush=True)
+    yield what, min(in_python) - min(in_c)
 
 
 def octets_of_question(text):

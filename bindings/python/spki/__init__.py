@@ -87,7 +87,7 @@ class _GuardHandle(_Handle):
     it."""
 
     def __del__(self, close: Callable[[c_void_p], None] = library.spki_guard_close) -> None:
-        """Closes the guard. `close` is a parameter for its default, as `free` says."""
+        """Closes the guard. `close` is a parameter for its default: when the interpreter ends, names of modules may be gone."""
         self.free(close)
 
 
@@ -95,7 +95,7 @@ class _AskedHandle(_Handle):
     """An opened question of the library. It is closed when nothing refers to it."""
 
     def __del__(self, close: Callable[[c_void_p], None] = _library.close) -> None:
-        """Closes the question. `close` is a parameter for its default, as `free` says."""
+        """Closes the question. `close` is a parameter for its default: when the interpreter ends, names of modules may be gone."""
         self.free(close)
 
 

@@ -46,6 +46,11 @@ impl Row {
         all.map(|(name, value)| (&name[..], &value[..])).collect()
     }
 
+    /// The time at which the request comes, in seconds since 1970.
+    fn now(&self) -> u64 {
+        self.on[3].parse().expect("a time")
+    }
+
     /// The message, with these fields.
     fn message<'a>(&'a self, fields: &'a [(&'a str, &'a [u8])]) -> Message<'a> {
         Message::new(&self.on[0], &self.on[2], &self.on[1], fields)
@@ -158,7 +163,7 @@ fn each_row_gets_its_answer() {
     assert!(rows.len() > 200);
     for row in &rows {
         let requests = Requests::new(&["example.com"], Nonces::new(10), START, sha256);
-        let now: u64 = row.on[3].parse().expect("a time");
+        let now = row.now();
         if let Some(before) = row.again {
             assert_eq!(
                 answer(&requests, row, now - before),
@@ -176,7 +181,7 @@ fn each_row_gets_its_answer() {
 fn a_wrong_hash_proves_no_key() {
     for row in &rows() {
         let requests = Requests::new(&["example.com"], Nonces::new(10), START, |_| [0; 32]);
-        let now: u64 = row.on[3].parse().expect("a time");
+        let now = row.now();
         let answer = answer(&requests, row, now);
         assert_ne!(answer, "valid", "{}", row.name);
         assert!(
@@ -299,7 +304,7 @@ fn nonces_are_kept_in_two_sets() {
 fn a_nonce_is_not_taken_late() {
     let rows = rows();
     let row = rows.iter().find(|row| row.gives == "valid").expect("one");
-    let now: u64 = row.on[3].parse().expect("a time");
+    let now = row.now();
     let requests = Requests::new(&["example.com"], Nonces::new(10), START, sha256);
     assert_eq!(answer(&requests, row, now), "valid");
     let fields = row.fields();
