@@ -98,12 +98,12 @@ def main():
     count = choose_counter()
     worst, most = measure_one_entry(count)
     print(f"largest ratio of explain to check: {worst:.2f} (at most {LIMIT_RATIO}); most memory {most:.1f} MiB")
-    together = measure_many_entries(count)
-    print(f"largest ratio of many entries to as many of one: {together:.2f} (at most {LIMIT_SUM})")
+    ratio_of_many = measure_many_entries(count)
+    print(f"largest ratio of many entries to as many of one: {ratio_of_many:.2f} (at most {LIMIT_SUM})")
     print_reductions()
-    of_keys = most_memory_with_long_keys()
-    print(f"most memory where a long key stands in each line: {of_keys:.1f} MiB (at most {LIMIT_OF_KEYS})")
-    if worst > LIMIT_RATIO or most > LIMIT_MEMORY or together > LIMIT_SUM or of_keys > LIMIT_OF_KEYS:
+    most_with_keys = most_memory_with_long_keys()
+    print(f"most memory where a long key stands in each line: {most_with_keys:.1f} MiB (at most {LIMIT_OF_KEYS})")
+    if worst > LIMIT_RATIO or most > LIMIT_MEMORY or ratio_of_many > LIMIT_SUM or most_with_keys > LIMIT_OF_KEYS:
         sys.exit(1)
 
 

@@ -37,7 +37,8 @@ def definition(defined, subject):
 
 
 def case(entries, links, keys=(), asks=None):
-    """A case of certificates. `links` has each with the key that signs it, `keys` are shown before them, and `asks` is the key that asks."""
+    """A case of certificates. `links` has each with the key that signs it, `keys` are shown before them, and `asks`, which must be
+    given, is the key that asks."""
     rows = [group(string("by"), signer, digest(octets), string("sig")) for octets, signer in links]
     items = [octets + group(string("signature"), digest(octets), signer, string("sig")) for octets, signer in links]
     return group(

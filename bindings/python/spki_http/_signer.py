@@ -64,6 +64,7 @@ class Signer:
         """The value of `@signature-params` for components of these names, created now, with a new nonce. It expires
         `MOST_WINDOW` seconds later."""
         created, components = int(time.time()), " ".join(f'"{name}"' for name in names)
+        # (16 octets are 22 characters, and a nonce must have 16 or more)
         keyid, nonce = hash_of(self.key), secrets.token_urlsafe(16)
         return (f'({components});created={created};expires={created + MOST_WINDOW};nonce="{nonce}";keyid="{keyid}"'
                 f';alg="{self.algorithm}";tag="{TAG}"')

@@ -229,6 +229,7 @@ fn a_modulus_of_nothing_proves_no_key() {
         START + 300,
         "00".repeat(32)
     );
+    // (the modulus has no octet, and one octet 00. The hash of each key is 0, as `keyid` says)
     for key in [
         "{KDEwOnB1YmxpYy1rZXkoMzpyc2EoMTpuMDopKDE6ZTM6AQABKSkp}",
         "{KDEwOnB1YmxpYy1rZXkoMzpyc2EoMTpuMToAKSgxOmUzOgEAASkpKQ==}",
