@@ -212,8 +212,8 @@ def ranges_and_sets_of_two(entries, certificates, members):
 
 
 def strangers(entries, certificates, members):
-    """A case of entries for other keys, each with a set of its own, and certificates that a stranger issues to itself."""
-    tags = (group(string("*"), string("set"), *[string(f"{place:05}{at}") for at in range(3)]) for place in range(entries))
+    """A case of entries for other keys, each with a set of three strings of its own, and certificates that a stranger, OWNER, issues to itself."""
+    tags = (group(string("*"), string("set"), *[string(f"{place:05}{number}") for number in range(3)]) for place in range(entries))
     listed = [entry(key(f"other{place:05}"), tag) for place, tag in enumerate(tags)]
     return repeated(listed, certificate(OWNER, OWNER, a_set(string("a"), 30)), certificates)
 

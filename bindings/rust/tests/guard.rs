@@ -260,13 +260,13 @@ fn texts(error: &dyn Error) -> Vec<String> {
 /// A program that prints an error and its sources prints each text once, and the cause of the verifier's error too.
 #[test]
 fn an_error_of_a_verifier_is_printed_once() {
-    let failed = || NoAnswer("x".parse::<u8>().expect_err("no number"));
+    let failure = || NoAnswer("x".parse::<u8>().expect_err("no number"));
     let wanted = [
         "a signature could not be verified: no answer",
         "invalid digit found in string",
     ];
-    assert_eq!(texts(&Denied::Verifier(failed())), wanted);
-    assert_eq!(texts(&NotProved::Verifier(failed())), wanted);
+    assert_eq!(texts(&Denied::Verifier(failure())), wanted);
+    assert_eq!(texts(&NotProved::Verifier(failure())), wanted);
     assert_eq!(texts(&Denied::<NoAnswer>::No), ["no"]);
 }
 

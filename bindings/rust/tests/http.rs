@@ -319,7 +319,7 @@ fn a_nonce_is_not_taken_late() {
     }
 }
 
-/// With an error of the verifier it is not known whether the signature is valid, so nothing is proved.
+/// With an error of the verifier it is not known whether the signature is valid, so nothing is proved. The first row is valid otherwise.
 #[test]
 fn a_verifier_that_fails_proves_nothing() {
     let row = &rows()[0];
