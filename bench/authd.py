@@ -63,13 +63,14 @@ def measure_ways(site, seconds):
 
 def print_processor_time(site, daemon, seconds):
     """Prints the processor time of a request in the handler and in the daemon. Other programs change it less than they change a rate."""
-    for name, process, port in (("handler", site.handler, site.nginx[1]), ("daemon", daemon, site.nginx[2])):
+    _, port_of_handler, port_of_daemon = site.nginx
+    for name, process, port in (("handler", site.handler, port_of_handler), ("daemon", daemon, port_of_daemon)):
         before = processor_seconds(process)
         figures = site.load(port, seconds, CONNECTIONS[0])
         print(f"{name}: {(processor_seconds(process) - before) / figures.requests * 1e6:.0f} µs of processor time a request", flush=True)
 
 
-def at_half_load(site, seconds, full):
+def measure_half_load(site, seconds, full):
     """The figures at about half of the rate of `full`, which are figures too: each connection waits some random time before each request. Prints
     them."""
     connections = CONNECTIONS[-1]
@@ -116,7 +117,7 @@ def faults_of(site, options):
     process = site.start_all()
     figures = measure_ways(site, options.seconds)
     print_processor_time(site, process, options.seconds)
-    half = at_half_load(site, options.seconds, figures["nginx and daemon"])
+    half = measure_half_load(site, options.seconds, figures["nginx and daemon"])
     soak, memory = run_soak(site, process, options.soak)
     site.end()
     title = f"{options.soak} s of reloads"

@@ -178,6 +178,7 @@ class Site:
             process = subprocess.Popen(words, stdin=subprocess.DEVNULL, stdout=out, stderr=out, env={**os.environ, **environment})
         self.running.append(process)
         for _ in range(SECONDS_TO_START * 20):
+            # (until it listens, `connect` fails)
             with contextlib.suppress(OSError), connect(at):
                 return process
             time.sleep(0.05)
@@ -199,6 +200,7 @@ class Site:
         with contextlib.suppress(FileNotFoundError):
             os.remove(self.path("yes.socket"))
         self.handler = self.start(self.path("yes"), self.path("yes.socket"), at=self.path("yes.socket"))
+        # (nginx alone asks nobody, so the name of its handler has no effect)
         asks = [("", "yes"), ("auth_request /auth;", "yes"), ("auth_request /auth;", "authd")]
         servers = "".join(SERVER.format(port=port, folder=self.folder, ask=ask, name=name, certificate=self.certificate)
                           for port, (ask, name) in zip(self.nginx, asks))
@@ -217,7 +219,8 @@ class Site:
     # ---- load
 
     def load(self, port, seconds, connections, delay=0):
-        """What wrk measures at a port of nginx. Each connection waits `delay` ms before a request, on average."""
+        """What wrk measures at a port of nginx. Each connection waits `delay` ms before a request, on average: the script draws a time from 0 to
+        twice as long. Ends the whole bench if wrk fails."""
         script = self.write("load.lua", LUA % (HOT, self.path("chains"), 2 * delay))
         words = ["wrk", "-t", "2", "-c", str(connections), "-d", f"{seconds}s", "--timeout", "10s", "-s", script, f"http://127.0.0.1:{port}"]
         return Figures(subprocess.run(words, stdout=subprocess.PIPE, stderr=subprocess.STDOUT, text=True).stdout)

@@ -1,7 +1,7 @@
 #!/usr/bin/env python3
 """Times `spki check` on large cases, and prints how the time grows with the octets and how much memory it takes. A case is one text with an access
 list, certificates, which signatures are valid, and a question. Each kind of case is made by a function, with at most `size` octets, for three
-sizes. Times are processor times, the least of some runs.
+sizes. `group` makes a list and `string` a string, in canonical form. Times are processor times, the least of some runs.
 
 Build the program first (`rt run` in crates/spki). Usage: bench/check.py [PROGRAM]
 """

@@ -78,8 +78,9 @@ def binary_strings(size):
 
 def one_binary_string(size):
     """One string of octets of all kinds, in canonical form."""
-    body = size - len(str(size)) - 1
-    return str(body).encode() + b":" + random.Random(size).randbytes(body)
+    # (its length has no more digits than `size`, and a colon is behind it)
+    length = size - len(str(size)) - 1
+    return str(length).encode() + b":" + random.Random(size).randbytes(length)
 
 
 def base64_strings(size):
@@ -93,7 +94,7 @@ def hexadecimal_strings(size):
 
 
 def braces(size):
-    """Short strings, in braces: as base64, which has four octets for three."""
+    """Short strings, in braces: as base64, which has four octets for three. Four octets are left for the braces."""
     return braced(filled(3 * (size - 4) // 4, b"3:abc1:d"))
 
 
@@ -105,6 +106,7 @@ class Text:
     """A text in a file, from which the programs read it."""
 
     def __init__(self, octets):
+        """Writes these octets to a file, which is removed with the object."""
         self.octets = octets
         self.file = tempfile.NamedTemporaryFile()
         self.file.write(octets)

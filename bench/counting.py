@@ -68,7 +68,7 @@ def can_count():
     return choose_counter() is not counted_by_valgrind or shutil.which("valgrind") is not None
 
 
-def of_one_call(count, words, calls=100):
+def count_one_call(count, words, calls=100):
     """What the counter `count` counts of one call, by a program whose last word is the number of calls: what further calls add, divided by their
     number. What the program does besides is the same for each number of calls. Raises CalledProcessError if the program fails."""
     # (a counter does not look at the status of the program)

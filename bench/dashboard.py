@@ -90,6 +90,7 @@ def panels(samples):
     yield "Answers a second", [(answer, rates(samples, "decisions_total", f'answer="{answer}"')) for answer in ("yes", "no", "failed")]
     yield "Bound of 99 of 100 answers, ms", [("p99", quantile(samples, 0.99))]
     yield "Signatures a second", [(how, rates(samples, "signatures_total", f'how="{how}"')) for how in ("known", "verified", "spared")]
+    # (without the first sample, as the rates, which are differences of two)
     gauges = (("entries in 1,000", "list_entries", 1000), ("last reload refused", "last_reload_refused", 1))
     yield "List", [(title, [values[name, ""] / unit for values in samples[1:]]) for title, name, unit in gauges]
 

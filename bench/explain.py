@@ -11,7 +11,7 @@ Build the program first (`rt run` in crates/spki). Usage: bench/explain.py [PROG
 import subprocess
 import sys
 
-from chains import MOST_OCTETS, by_hashes, by_keys, case, certificate, entry, keys_of, through_names, widest
+from chains import LENGTHS, MOST_OCTETS, by_hashes, by_keys, case, certificate, entry, keys_of, through_names, widest
 from check import LIMIT_MEMORY, PROGRAM, group, key, string
 from counting import counted, choose_counter
 from memory import used
@@ -26,8 +26,8 @@ COPIES = 999
 def measure_one_entry(count):
     """The largest ratio of the instructions of `explain`, by the counter `count`, to those of `check` on one entry, and the most MiB.
     Prints a line for each case."""
-    texts = [("a chain by keys", by_keys(1500, asks=key("other"))), ("a chain by hashes", by_hashes(1500)),
-             ("a chain through names", through_names(1500))]
+    texts = [("a chain by keys", by_keys(LENGTHS[-1], asks=key("other"))), ("a chain by hashes", by_hashes(LENGTHS[-1])),
+             ("a chain through names", through_names(LENGTHS[-1]))]
     # (the first of `widest` has many entries)
     _, *of_one_entry = widest()
     texts += [(what, text) for what, text, _ in of_one_entry]
@@ -41,8 +41,8 @@ def measure_one_entry(count):
 
 
 def measure_many_entries(count):
-    """Prints a line for each shape of case. Returns the largest ratio of the instructions of `explain` on many entries, by the counter `count`, to
-    the number of entries times those on one entry. The cases have about SIZES[0] octets."""
+    """Prints a line for each shape of case (linear.py). Returns the largest ratio of the instructions of `explain` on many entries, by the counter
+    `count`, to the number of entries times those on one entry. The cases have about SIZES[0] octets."""
     worst = 0.0
     for shape in (shape for shape in SHAPES if shape.is_product):
         entries, certificates = shape.fitting(SIZES[0])
@@ -98,12 +98,12 @@ def main():
     count = choose_counter()
     worst, most = measure_one_entry(count)
     print(f"largest ratio of explain to check: {worst:.2f} (at most {LIMIT_RATIO}); most memory {most:.1f} MiB")
-    together = measure_many_entries(count)
-    print(f"largest ratio of many entries to as many of one: {together:.2f} (at most {LIMIT_SUM})")
+    ratio_of_many = measure_many_entries(count)
+    print(f"largest ratio of many entries to as many of one: {ratio_of_many:.2f} (at most {LIMIT_SUM})")
     print_reductions()
-    of_keys = most_memory_with_long_keys()
-    print(f"most memory where a long key stands in each line: {of_keys:.1f} MiB (at most {LIMIT_OF_KEYS})")
-    if worst > LIMIT_RATIO or most > LIMIT_MEMORY or together > LIMIT_SUM or of_keys > LIMIT_OF_KEYS:
+    most_with_keys = most_memory_with_long_keys()
+    print(f"most memory where a long key stands in each line: {most_with_keys:.1f} MiB (at most {LIMIT_OF_KEYS})")
+    if worst > LIMIT_RATIO or most > LIMIT_MEMORY or ratio_of_many > LIMIT_SUM or most_with_keys > LIMIT_OF_KEYS:
         sys.exit(1)
 
 

@@ -52,6 +52,7 @@ class Person:
     """Somebody with a key and a TLS certificate: the text of an entry, and a request."""
 
     def __init__(self):
+        """Makes a new key. `entry` is for its public key and everything, and `request` has its certificate, as nginx passes one to a daemon."""
         private = new_private("ed25519")
         self.entry = b"(5:entry" + canonical(FileSigner(private).key) + b"(3:tag(1:*)))"
         self.request = REQUEST.format(urllib.parse.quote(self_signed(private))).encode()
@@ -100,6 +101,14 @@ def span_of_503(answers, failed):
     _, first_end, *_ = answers[refused[0]]
     _, next_end, *_ = answers[refused[-1] + 1]
     return first_end - failed, next_end - failed
+
+
+def span_in_words(span, promoted):
+    """The span of 503 at a daemon (`span_of_503`) in words. `promoted` is when the promotion ended, in seconds since the failure."""
+    if not span:
+        return "no 503"
+    begin, end = span
+    return f"503 from {begin:.1f} to {end:.1f}, {end - begin:.1f} s, {end - promoted:.1f} after it"
 
 
 def is_wrong(answer, removed, stale):
@@ -169,7 +178,7 @@ class Site:
             each.start()
         time.sleep(BEFORE + random.random())
         removed, failed, begun, ended = self.fail_over(wait)
-        # (where all was over before the store was stale, nothing else may make it stale later)
+        # (a daemon finds its store stale up to `stale_seconds` after the failure, also if all seems well before: so this waits longer)
         time.sleep(AFTER + max(0.0, failed + self.stale - ended))
         databases.waits_for("the daemons answer again", lambda: all(each.grants() for each in self.askers))
         time.sleep(AFTER)
@@ -177,10 +186,10 @@ class Site:
         wrong = sum(is_wrong(answer, removed, self.stale) for answers in by_daemon for answer in answers)
         granted = max(end for answers in by_daemon for _, end, name, status in answers if name == GOES and status == 200)
         spans = [span_of_503(answers, failed) for answers in by_daemon]
+        # (the heartbeat leaves a primary that is cut off after LEAVES seconds, so an earlier promotion counts as one then)
         counts_as = max(ended - failed, LEAVES if self.nodes[0] else 0.0)
         broken = sum(is_broken(span, self.stale, counts_as) for span in spans)
-        texts = [f"503 from {span[0]:.1f} to {span[1]:.1f}, {span[1] - span[0]:.1f} s, {span[1] + failed - ended:.1f} after it" if span else "no 503"
-                 for span in spans]
+        texts = [span_in_words(span, ended - failed) for span in spans]
         print(f"stale_seconds {self.stale}, promoted from {begun - failed:.1f} to {ended - failed:.1f}: {'; '.join(texts)}; the last grant by the "
               f"removed entry {granted - removed:.2f} s after its removal; {sum(map(len, by_daemon))} answers, {wrong} wrong, "
               f"{broken} promises broken", flush=True)
@@ -194,7 +203,8 @@ def nodes_of(stack):
 
 
 def is_broken(span, stale, ended):
-    """Whether the span of 503 at a daemon (`span_of_503`) is longer than is promised, where the promotion ended so many seconds after the failure."""
+    """Whether the span of 503 at a daemon (`span_of_503`) breaks a promise, where the promotion ended so many seconds after the failure. If these
+    are at most `stale` - MARGIN, there is to be no 503. If they are at most 2 * `stale` - MARGIN, none is to last over `stale` seconds."""
     lasted = span[1] - span[0] if span else 0.0
     return ended <= stale - MARGIN and lasted > 0 or ended <= 2 * stale - MARGIN and lasted > stale
 

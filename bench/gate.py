@@ -71,6 +71,7 @@ class CheckTimes:
     began."""
 
     def __init__(self):
+        """No check was seen yet."""
         self.seen = {}
 
     def note_running(self):
@@ -80,6 +81,7 @@ class CheckTimes:
                 part = part_of(process, words_of(process)) if is_ours(int(process)) else None
                 ticks, begun = ticks_of(process)
             except (OSError, ValueError, IndexError):
+                # (the process has ended meanwhile)
                 continue
             if part:
                 self.seen[process, begun] = part, ticks

@@ -1,9 +1,10 @@
 #!/usr/bin/env python3
 """Counts the instructions of `spki intersect` on pairs of sets, and prints how they grow with the members; and the peak
-memory of the answers with the most members, 998,001 or 110,224 lists of three nodes, and of one of 250 MB.
+memory of the answers with the most members, 998,001 or 110,224 lists of three nodes, and of one of 250 MB. `group` makes a list
+and `string` a string, in canonical form.
 
-Instructions are counted by `perf stat`, or by valgrind where that is not there; those of meeting two strings, which starting
-the program takes anyway, are taken off. Build the program first (`rt run` in crates/spki).
+Instructions are counted by `perf stat`, or by valgrind where that is not there; those of intersecting two strings, which
+starting the program takes anyway, are taken off. Build the program first (`rt run` in crates/spki).
 Usage: bench/intersect.py [PROGRAM]
 """
 import os

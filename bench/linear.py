@@ -1,10 +1,10 @@
 #!/usr/bin/env python3
 """Times `spki check` on texts whose time must be linear in their octets. `slowest.py` searches for others. Each text is a case: an access list,
-certificates, which signatures are valid, and a question.
+certificates, which signatures are valid, and a question. `group` makes a list and `string` a string, in canonical form.
 
-Each text is made for three lengths, by a function of a number of entries, a number of certificates and the most members of a set or list, which
-may ignore some of them. Times are processor times, the least of some runs. The ratio for 4 times the octets is that of times or that of
-instructions, whichever is less: short times differ by half from run to run, and a comparison of long octets has more instructions than its time
+Each kind of text, a shape, is made for three lengths, by a function of a number of entries, a number of certificates and the most members of a set
+or list, which may ignore some of them. Times are processor times, the least of some runs. The ratio for 4 times the octets is that of times or that
+of instructions, whichever is less: short times differ by half from run to run, and a comparison of long octets has more instructions than its time
 shows. The limits are:
 
 - At most 1 second at 1 MiB for each text except the last, and where it takes over 0.1 seconds, at most 5 times for 4 times the octets.
@@ -74,7 +74,7 @@ def chain(entries, certificates, members):
 
 def chain_of_hashes(entries, certificates, members):
     """A case of one entry and a chain of so many certificates, in which hashes name the keys."""
-    return by_hashes(certificates, OTHER)
+    return by_hashes(certificates, asks=OTHER)
 
 
 def chain_of_names(entries, certificates, members):
@@ -116,8 +116,8 @@ def entries_and_chain(entries, certificates, members):
 
 
 def entries_and_tags(entries, certificates, members):
-    """A case of equal entries for (ftp), and a chain by keys for (ftp). The product of the nodes of all tags is over the limit, so it does not show
-    that no intersection is too large."""
+    """A case of equal entries for (ftp), and a chain by keys for (ftp). The product of the nodes of all tags is over the limit, so the product
+    alone cannot show that each intersection is within it."""
     return by_keys(certificates, FTP, entries=entries, asks=OTHER)
 
 
@@ -212,8 +212,8 @@ def ranges_and_sets_of_two(entries, certificates, members):
 
 
 def strangers(entries, certificates, members):
-    """A case of entries for other keys, each with a set of its own, and certificates that a stranger issues to itself."""
-    tags = (group(string("*"), string("set"), *[string(f"{place:05}{at}") for at in range(3)]) for place in range(entries))
+    """A case of entries for other keys, each with a set of three strings of its own, and certificates that a stranger, OWNER, issues to itself."""
+    tags = (group(string("*"), string("set"), *[string(f"{place:05}{number}") for number in range(3)]) for place in range(entries))
     listed = [entry(key(f"other{place:05}"), tag) for place, tag in enumerate(tags)]
     return repeated(listed, certificate(OWNER, OWNER, a_set(string("a"), 30)), certificates)
 

@@ -108,6 +108,7 @@ static int repeat(unsigned long way, long calls)
     return 0;
 }
 
+/* Grants by the ways that the words name, as the head of this file says. */
 int main(int count, char **words)
 {
     FILE *file = count == 3 || count == 5 ? fopen(words[1], "rb") : NULL;

@@ -18,6 +18,7 @@ static double processor_ms(void)
     return time.tv_sec * 1e3 + time.tv_nsec / 1e6;
 }
 
+/* Opens the question of the file, and prints what this takes, as the head of this file says. */
 int main(int count, char **words)
 {
     if (count != 2)

@@ -45,6 +45,7 @@ def steps_in(folder):
             try:
                 declaration = json.JSONDecoder().raw_decode(text, begin.start())[0]
             except ValueError:
+                # (other octets that begin in the same way)
                 continue
             yield max(declaration["steps"]), module, declaration["name"]
 
@@ -56,9 +57,10 @@ def main():
     name, rows = sys.argv[1], int(sys.argv[2]) if len(sys.argv) > 2 else 20
     crate = toolchain.crates(name)[name]
     with tempfile.TemporaryDirectory() as folder:
-        ran = toolchain.rt_module().checked(crate, {}, toolchain.ONE_JOB, folder)
-        if ran.returncode:
-            sys.exit(ran.stdout)
+        # (no file of the crate has another text, and one process proves all)
+        proved = toolchain.rt_module().checked(crate, {}, toolchain.ONE_JOB, folder)
+        if proved.returncode:
+            sys.exit(proved.stdout)
         parts, declarations = list(parts_in(folder)), sorted(steps_in(folder), reverse=True)
     every, states, goals = Counter(), Counter(), Counter()
     for function, part, seconds in parts:

@@ -1,5 +1,6 @@
 """Texts that are made by numbers, so that a search can change them: which tags and names an entry and the certificates have, how long, how
-often and how deep. All certificates are of one key, and join, so that no work is left out. One number of the entries and one of the
+often and how deep. A `Recipe` has the numbers of a list and a question, a `Link` those of a certificate and how often it is there, and a `Form` those
+of a text to be converted. All certificates are of one key, and join, so that no work is left out. One number of the entries and one of the
 certificates grows until the text has the octets that are wanted."""
 import base64
 import random
@@ -25,14 +26,14 @@ def subject_of(count: int) -> bytes:
 
 @dataclass(frozen=True)
 class Tag:
-    """A tag of a kind of KINDS. Of a list or a set `depth` are in one another, and the innermost has `members` leaves of the kind `of`. The
+    """A tag of a kind of KINDS. Of a list or a set `depth` are in one another, and the innermost has `members` leaves of the kind `leaf_kind`. The
     strings in a leaf have `octets` octets or a few more, and the leaf's number is in them unless `are_equal`. Any other kind is `(*)` or one leaf."""
 
     kind: str = "star"
     members: int = 1
     octets: int = 1
     depth: int = 1
-    of: str = "string"
+    leaf_kind: str = "string"
     are_equal: bool = True
     # Lists beside it in a set, which nothing else contains: they count where a command multiplies the nodes of all tags, and are gone after a step.
     lists: int = 0
@@ -54,6 +55,7 @@ class Tag:
         if self.kind in ("list", "set"):
             # (a list has a node for itself and one for its first string)
             own = self.members + self.depth * (1 if self.kind == "set" else 2)
+        # (each list beside it has two, and the set around them all has one)
         return own + 2 * self.lists + (1 if self.lists else 0)
 
     def text(self) -> bytes:
@@ -68,7 +70,7 @@ class Tag:
         if self.kind in LEAVES:
             return self.leaf(self.kind)
         head = [string("*"), string("set")] if self.kind == "set" else [string("l")]
-        nested = group(*head, *[self.leaf(self.of, number) for number in range(self.members)])
+        nested = group(*head, *[self.leaf(self.leaf_kind, number) for number in range(self.members)])
         for _ in range(self.depth - 1):
             nested = group(*head, nested)
         return nested
@@ -161,13 +163,14 @@ class Recipe:
         return replace(self, entries=replace(entries, tag=replace(entries.tag, **{field: number})))
 
     def with_links(self, number: int) -> "Recipe":
-        """The recipe with this as the growing number of its certificates, or the recipe itself if none grows."""
+        """The recipe with this as the growing number of its certificates, or the recipe itself if none grows. `grows` names a field of the
+        certificate at the place `grown`, or of its tag."""
         if not self.links or not self.grows:
             return self
         at, field = self.grown % len(self.links), self.grows
         link = self.links[at]
-        is_own = field in ("repeats", "names", "comment")
-        grown = replace(link, **{field: number}) if is_own else replace(link, tag=replace(link.tag, **{field: number}))
+        is_of_link = field in ("repeats", "names", "comment")
+        grown = replace(link, **{field: number}) if is_of_link else replace(link, tag=replace(link.tag, **{field: number}))
         return replace(self, links=(*self.links[:at], grown, *self.links[at + 1:]))
 
     def is_read(self, certificates: int) -> bool:
@@ -258,11 +261,11 @@ def near(chance: random.Random, number: int, most: int) -> int:
 
 def changed_tag(chance: random.Random, tag: Tag) -> Tag:
     """A tag of which one part is changed by chance."""
-    field = chance.choice(("kind", "kind", "members", "octets", "depth", "of", "are_equal", "lists"))
+    field = chance.choice(("kind", "kind", "members", "octets", "depth", "leaf_kind", "are_equal", "lists"))
     # (only the function of the chosen field is called)
     values = {"kind": lambda: chance.choice(KINDS), "members": lambda: near(chance, tag.members, 999),
               "octets": lambda: near(chance, tag.octets, 30_000), "depth": lambda: near(chance, tag.depth, MOST_DEPTH),
-              "of": lambda: chance.choice(LEAVES), "are_equal": lambda: not tag.are_equal, "lists": lambda: chance.choice((0, 0, 1, 10))}
+              "leaf_kind": lambda: chance.choice(LEAVES), "are_equal": lambda: not tag.are_equal, "lists": lambda: chance.choice((0, 0, 1, 10))}
     return replace(tag, **{field: values[field]()})
 
 
@@ -293,6 +296,7 @@ def changed(chance: random.Random, recipe: Recipe) -> Recipe:
             # (one is removed, the first if `at` is behind the last)
             removed = at % len(links)
             return replace(recipe, links=(*links[:removed], *links[removed + 1:]))
+        # (one is added: a copy of one that is there, or a new one)
         return replace(recipe, links=(*links[:at], chance.choice((*links, changed_link(chance, Link()))), *links[at:]))
     if part == "grows":
         return replace(recipe, grown=chance.randrange(4), grows=chance.choice(("", "repeats", "names", "octets", "members", "comment")))

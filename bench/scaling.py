@@ -61,6 +61,7 @@ def hits_of(count, skew, kept):
     low, high = 0.0, 1e15
     for _ in range(200):
         time = (low + high) / 2
+        # (`-expm1(-chance * time)` is the chance that a key was asked for in that time)
         size = sum(number * -math.expm1(-chance * time) for chance, number in spread)
         low, high = (low, time) if size > kept else (time, high)
     weight = sum(chance * number for chance, number in spread)
@@ -71,6 +72,7 @@ class Cache:
     """A cache of at most so many keys."""
 
     def __init__(self, most):
+        """An empty cache, of at most `most` keys. `keys` is to have first the one that was asked for longest ago."""
         self.most, self.keys = most, OrderedDict()
 
     def has(self, key):
@@ -95,13 +97,15 @@ def simulated_hits(chance, count, kept, requests):
 def machines(rate, hits):
     """The daemons and the replicas that so many decisions a second need, and their misses a second. `hits` is the share of decisions by kept rows."""
     misses = rate * (1 - hits)
-    daemon = rate * (HTTP + hits * HIT + (1 - hits) * MISS)
-    return math.ceil(daemon / (CORES * BUSY)), max(LEAST, math.ceil(misses * ROWS / (CORES * BUSY))), misses
+    # (the seconds of a processor that all daemons together take in a second)
+    seconds = rate * (HTTP + hits * HIT + (1 - hits) * MISS)
+    return math.ceil(seconds / (CORES * BUSY)), max(LEAST, math.ceil(misses * ROWS / (CORES * BUSY))), misses
 
 
 def last_poll(chance, daemons, replicas):
     """The seconds after the commit of a removal at which the last daemon has read it. `chance` is a `random.Random`."""
     delays = [DELAY * math.exp(chance.gauss(0, DELAY_SPREAD)) for _ in range(replicas)]
+    # (of each daemon the delay of its replica, the wait for its next poll, and the poll)
     return max(delays[place % replicas] + chance.random() * POLL + ROWS for place in range(daemons))
 
 
@@ -122,9 +126,9 @@ def after_loss(chance, count, kept, daemons):
 
     # (the caches fill first)
     for _ in range(1_000_000):
-        finds_kept(True)
-    before = sum(finds_kept(True) for _ in range(50_000)) / 50_000
-    return before, [sum(finds_kept(False) for _ in range(50_000)) / 50_000 for _ in range(10)]
+        finds_kept(is_whole=True)
+    before = sum(finds_kept(is_whole=True) for _ in range(50_000)) / 50_000
+    return before, [sum(finds_kept(is_whole=False) for _ in range(50_000)) / 50_000 for _ in range(10)]
 
 
 def print_row(how, what, value):
@@ -143,27 +147,30 @@ def main():
     print_row("assumed", "entries, decisions a second, Zipf's exponent", f"{ENTRIES:,}, {RATE:,}, {SKEW}")
     print_row("assumed", "cores of a machine, share in use, cache of a daemon, least replicas", f"{CORES}, {BUSY}, {CACHE >> 30} GiB, {LEAST}")
     print_row("assumed", "median delay of a replica, its log-normal spread", f"{DELAY * 1e3:.0f} ms, {DELAY_SPREAD}")
-    approximate, simulated = hits_of(10 ** 6, SKEW, 10 ** 4), simulated_hits(chance, 10 ** 6, 10 ** 4, 2_000_000)
+    approximate = hits_of(10 ** 6, SKEW, kept=10 ** 4)
+    simulated = simulated_hits(chance, count=10 ** 6, kept=10 ** 4, requests=2_000_000)
     print_row("simulated", "hits of 10,000 of 1,000,000 keys: Che, request by request", f"{approximate:.3f}, {simulated:.3f}")
-    alone = hits_of(ENTRIES, SKEW, CACHE // KEPT)
-    daemons, replicas, misses = machines(RATE, alone)
-    print_row("simulated", "each daemon sees all keys: hits, misses a second", f"{alone:.3f}, {misses:,.0f}")
+    hits_of_each = hits_of(ENTRIES, SKEW, CACHE // KEPT)
+    daemons, replicas, misses = machines(RATE, hits_of_each)
+    print_row("simulated", "each daemon sees all keys: hits, misses a second", f"{hits_of_each:.3f}, {misses:,.0f}")
     print_row("simulated", "  daemons, replicas", f"{daemons}, {replicas}")
-    whole = hits_of(ENTRIES, SKEW, daemons * CACHE // KEPT)
-    daemons, replicas, misses = machines(RATE, whole)
-    print_row("simulated", "each key has its daemon: hits, misses a second", f"{whole:.3f}, {misses:,.0f}")
+    # (where each key has its daemon, the caches of all daemons act as one)
+    hits_of_all = hits_of(ENTRIES, SKEW, daemons * CACHE // KEPT)
+    daemons, replicas, misses = machines(RATE, hits_of_all)
+    print_row("simulated", "each key has its daemon: hits, misses a second", f"{hits_of_all:.3f}, {misses:,.0f}")
     print_row("simulated", "  daemons, replicas", f"{daemons}, {replicas}")
     print_row("simulated", "octets of the store", f"{ENTRIES * OCTETS / 1e9:,.0f} GB")
     times = sorted(last_poll(chance, daemons, replicas) for _ in range(300))
     print_row("simulated", "a removal counts everywhere: median, 99th percentile", f"{times[150] * 1e3:.0f}, {times[296] * 1e3:.0f} ms")
+    # (each entry is added and removed)
     changes = 2 * ENTRIES / (DAYS * 86_400)
     print_row("assumed", f"changes a second where an entry stays {DAYS} days", f"{changes:.0f}")
     print_row("measured", "changes a second of one primary, each a transaction", f"{ADDS}")
-    before, hits = after_loss(chance, 10 ** 5, 10 ** 5 // 60, 12)
+    before, hits = after_loss(chance, count=10 ** 5, kept=10 ** 5 // 60, daemons=12)
     print_row("simulated", "hits before and after a third of the daemons is lost",
               f"{before:.3f}; " + ", ".join(f"{each:.3f}" for each in hits[:3]) + f" .. {hits[-1]:.3f}")
-    left = daemons - daemons // 3
-    print_row("simulated", "share in use of the daemons that remain", f"{min(1.0, BUSY * daemons / left):.2f}")
+    remaining = daemons - daemons // 3
+    print_row("simulated", "share in use of the daemons that remain", f"{min(1.0, BUSY * daemons / remaining):.2f}")
     print_row("simulated", "misses a second that the replicas that remain can answer", f"{(replicas - replicas // 3) * CORES / ROWS:,.0f}")
 
 

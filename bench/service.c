@@ -224,6 +224,7 @@ static void keep_fastest(struct rate *fastest, struct rate other)
 static void ask_by_threads(size_t threads, const char *path)
 {
     void *(*const works[])(void *) = {decide_on, count_on};
+    /* Of one thread and of many, by the place in `works`: 0 to decide, 1 to count. */
     struct rate one[2] = {{0, 0}}, many[2] = {{0, 0}};
     for (size_t i = 0; i < threads; i++)
         of_threads[i] = held_in(path, &highest);
@@ -265,6 +266,7 @@ static void answer(const char *path, long calls)
     }
 }
 
+/* Takes the way that the words name, as the head of this file says. Returns 2 for other words. */
 int main(int count, char **words)
 {
     const char *way = count > 2 ? words[1] : "";

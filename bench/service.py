@@ -1,6 +1,7 @@
 #!/usr/bin/env python3
 """Measures what a service does with a guard, through the library for C, and ends with another status where a limit is passed. Most texts are cases:
-an access list, certificates, which signatures are valid, and a question.
+an access list, certificates, which signatures are valid, and a question. `group` makes a list and `string` a string, in canonical form. A `driver`
+runs the program of service.c, which calls the library.
 
 - A question without certificates and one with three, opened and decided, on lists of 10,000 entries for keys and for hashes, beside a list of
   one.
@@ -32,7 +33,7 @@ import time
 
 from chains import MOST_OCTETS, large_tags
 from check import group, key, string
-from counting import can_count, choose_counter, counted_allocations, counted_by_valgrind, counted_inside, counted_with_cache, of_one_call
+from counting import can_count, choose_counter, count_one_call, counted_allocations, counted_by_valgrind, counted_inside, counted_with_cache
 from macaroons import DECIDE_ONLY, MACAROON, OPEN_AND_DECIDE, build, measure, written_parts
 from shapes import by_keys, case, certificate, definition, digest, entry, keys_of, name, parts_of
 from linear import (LARGE_TAG, LARGE_TAG_AND_RANGE, LARGE_TAG_AND_SET, SHAPES, Shape, large_tag, largest_count, long_issuer,
@@ -93,8 +94,8 @@ class Driver:
         return self.write(name, written_parts(text))
 
     def instructions(self, way, path, calls=100):
-        """The instructions of one call by a way of service.c (`ask`, `reopen` or `answer`) on a file."""
-        return of_one_call(choose_counter(), [self.program, way, path], calls)
+        """The instructions of one call by a way of service.c (`ask`, `reopen` or `answer`) on a file: the mean of `calls` calls."""
+        return count_one_call(choose_counter(), [self.program, way, path], calls)
 
     def build_opening(self):
         """Builds opening.c, which counts memory, and returns the path of the program."""
@@ -151,8 +152,8 @@ def opening_a_list(driver):
     over the entries of other keys by their subjects, and makes no index."""
     empty = len(case([], [], asks=key("a")))
     text = case(other_entries((MOST_OCTETS - empty) // len(other_entries(1)[0])), [], asks=key("a"))
-    opening = driver.instructions("reopen", driver.write("list", parts_of(text)[0]), 2)
-    checking = driver.instructions("answer", driver.write("case", text), 2)
+    opening = driver.instructions("reopen", driver.write("list", parts_of(text)[0]), calls=2)
+    checking = driver.instructions("answer", driver.write("case", text), calls=2)
     print(f"opening a list of {len(parts_of(text)[0]):,} octets {opening:,.0f} instructions, SPKI_CHECK on a case of it {checking:,.0f}", flush=True)
     yield "opening 1 MiB", opening / checking
 
@@ -173,7 +174,7 @@ def beside_macaroons(driver):
     print(f"three certificates through a guard {decide_time:.1f} µs, with the question opened {whole_time:.1f} µs, "
           f"a macaroon with three caveats {macaroon_time:.1f} µs")
     decide_only, open_and_decide, verification = (
-        of_one_call(choose_counter(), [*words, way]) for way in (DECIDE_ONLY, OPEN_AND_DECIDE, MACAROON))
+        count_one_call(choose_counter(), [*words, way]) for way in (DECIDE_ONLY, OPEN_AND_DECIDE, MACAROON))
     print(f"in instructions {decide_only:,.0f}, {open_and_decide:,.0f} and {verification:,.0f}", flush=True)
     yield "three caveats, opened before", decide_only / verification
     yield "three caveats", open_and_decide / verification
@@ -186,7 +187,7 @@ def beside_digests(driver):
     if shutil.which("valgrind") is None:
         print("valgrind is not there (Debian: valgrind): the digests are left out")
         return
-    whole, digests = (of_one_call(count, [driver.program, "ask", path]) for count in (counted_by_valgrind, counted_inside(DIGEST)))
+    whole, digests = (count_one_call(count, [driver.program, "ask", path]) for count in (counted_by_valgrind, counted_inside(DIGEST)))
     print(f"a question opened, listed and decided {whole:,.0f} instructions, its digests {digests:,.0f}", flush=True)
     yield "by the digests", whole / digests
 
@@ -222,12 +223,12 @@ def through_rust(driver):
         return
     path = driver.write_question("three", case_with_three(1))
     ways = [[driver.program, "ask", path], [build_in_rust(driver), path]]
-    calls, rust = (sum(of_one_call(counted_with_cache(blocks), words) for blocks in CACHES) / len(CACHES) for words in ways)
-    few, many = (of_one_call(counted_allocations, words) for words in ways)
-    print(f"signatures listed and a decision: in C {calls:,.0f} instructions and {few:.0f} blocks, through Rust {rust:,.0f} and {many:.0f}",
-          flush=True)
-    yield "Rust", rust / calls
-    yield "blocks more through Rust", many - few
+    in_c, in_rust = (sum(count_one_call(counted_with_cache(blocks), words) for blocks in CACHES) / len(CACHES) for words in ways)
+    blocks_in_c, blocks_in_rust = (count_one_call(counted_allocations, words) for words in ways)
+    print(f"signatures listed and a decision: in C {in_c:,.0f} instructions and {blocks_in_c:.0f} blocks, through Rust {in_rust:,.0f} and "
+          f"{blocks_in_rust:.0f}", flush=True)
+    yield "Rust", in_rust / in_c
+    yield "blocks more through Rust", blocks_in_rust - blocks_in_c
 
 
 def by_instructions(driver):
@@ -273,12 +274,13 @@ def time_through_python(driver, text):
 def through_python(driver):
     """Yields (name of a limit, µs): what a decision through Python takes more than the two calls in C."""
     what, text = "Python, µs more", case_with_three(1)
-    path, calls, python = driver.write_question("three", text), [], []
-    for _ in turns(lambda: min(python) - min(calls) <= MOST[what]):
-        calls.append(sum(driver.run("decide", path)))
-        python.append(time_through_python(driver, text))
-    print(f"signatures listed and a decision: in C {min(calls):.1f} µs, through Python {min(python):.1f} µs", flush=True)
-    yield what, min(python) - min(calls)
+    path, in_c, in_python = driver.write_question("three", text), [], []
+    for _ in turns(lambda: min(in_python) - min(in_c) <= MOST[what]):
+        # (two times: of listing the signatures, and of a decision)
+        in_c.append(sum(driver.run("decide", path)))
+        in_python.append(time_through_python(driver, text))
+    print(f"signatures listed and a decision: in C {min(in_c):.1f} µs, through Python {min(in_python):.1f} µs", flush=True)
+    yield what, min(in_python) - min(in_c)
 
 
 def octets_of_question(text):
@@ -296,6 +298,7 @@ def widest_of(shape, most_certificates=MOST_OCTETS):
 
 def ten_large_sets(entries, certificates, members):
     """The case of `large_tag`, but with ten entries for the first issuer in place of one, each with a set of its own. `entries` has no effect."""
+    # (the access list is the member behind the head of a case)
     value = read(large_tag(1, certificates, members))
     sets = [group(string("*"), string("set"), string(f"b{place}"), *[string("a")] * (members - 1)) for place in range(10)]
     value[1] = read(group(string("acl"), *[entry(key("k"), tag) for tag in sets]))
@@ -481,6 +484,7 @@ def of_shape(make):
     return lambda count: parts_of(make(1, count, QUESTION_MEMBERS))
 
 
+# The questions that are opened: what each is, with a place for a count, and the function of the count that makes its parts.
 WIDE = {"{:,} certificates in a chain": in_a_chain, "the same of {:,} in transport form": in_transport_form,
         "{:,} certificates for sets of 100 nodes": of_shape(wide_sets),
         "{:,} times a certificate for the hash of one long key": of_shape(long_issuer), "{:,} for the hashes of two": two_long_keys,
@@ -493,6 +497,7 @@ def measure_opening(driver, program, what, make):
     """Opens the largest question up to 1 MiB that `make` makes by a count, by `program`, which is that of opening.c, and prints what this takes.
     `what` says what the question is, with a place for the count. Returns the octets of memory that are kept and the most that are taken meanwhile,
     both divided by those of the question, and the ms."""
+    # (the first part is the list, which is not of the question)
     count = largest_count(lambda count: sum(map(len, make(count)[1:])), MOST_OCTETS)
     path = driver.write("opened", b"".join(b"%d\n%s" % (len(part), part) for part in make(count)))
     octets, taken, kept, milliseconds = map(float, subprocess.run([program, path], stdout=subprocess.PIPE, check=True).stdout.split())

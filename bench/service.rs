@@ -14,6 +14,7 @@ fn texts_in(mut rest: &[u8]) -> Vec<&[u8]> {
     texts
 }
 
+/// Opens the guard of the file, and decides its question as often as the second word says. Panics if a word or the file is wrong, or at a denial.
 fn main() {
     let path = std::env::args().nth(1).expect("the name of a file");
     let calls: u32 = std::env::args().nth(2).and_then(|word| word.parse().ok()).expect("a number");

@@ -1,5 +1,5 @@
 """Parts of the cases that the benches time: keys, certificates, chains and wide tags. A case is one text with an access list, certificates, which
-signatures are valid, and a question. All values are octets in canonical form."""
+signatures are valid, and a question. All values are octets in canonical form: `group` makes a list, and `string` a string."""
 import hashlib
 
 from check import STAR, group, key, string
@@ -37,7 +37,8 @@ def definition(defined, subject):
 
 
 def case(entries, links, keys=(), asks=None):
-    """A case of certificates. `links` has each with the key that signs it, `keys` are shown before them, and `asks` is the key that asks."""
+    """A case of certificates. `links` has each with the key that signs it, `keys` are shown before them, and `asks`, which must be
+    given, is the key that asks."""
     rows = [group(string("by"), signer, digest(octets), string("sig")) for octets, signer in links]
     items = [octets + group(string("signature"), digest(octets), signer, string("sig")) for octets, signer in links]
     return group(
@@ -84,5 +85,5 @@ def a_set(member, members=999):
 def parts_of(text):
     """The list, the sequence, the key, the request and the moment of a case, each in canonical form. A case is given in canonical form."""
     # (some lists here are longer than a text may be: so they are read by the parser of `spki-cert` and not by the model)
-    _, acl, _, sequence, asker, request, moment, *_ = Parser(text, True).value(0, "a value").value
+    _, acl, _, sequence, asker, request, moment, *_ = Parser(text, is_canonical=True).value(at=0, wanted="a value").value
     return [canonical(part) for part in (acl, sequence, asker[1], request[1], moment[1])]

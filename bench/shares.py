@@ -12,6 +12,7 @@ class Share:
     """A group with a share of a processor: `cores` is 0.25 for a quarter. Its processes must have ended when its context ends."""
 
     def __init__(self, cores):
+        """`cores` is the part of one processor. The group is not made yet; its name is that of no other."""
         self.path, self.cores = os.path.join(TOP, f"spki-{os.getpid()}-{secrets.token_hex(3)}"), cores
 
     def __enter__(self):

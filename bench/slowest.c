@@ -67,6 +67,7 @@ static enum spki_status time_call(struct held *held, const char *call, const str
     return status;
 }
 
+/* Makes the call that the words name some times, and prints what it takes, as the head of this file says. Returns 2 for other words. */
 int main(int count, char **words)
 {
     if (count != 5)

@@ -1,9 +1,10 @@
 #!/usr/bin/env python3
 """Searches for the slowest texts of each call, and fails if one takes more than docs/PERFORMANCE.md says: the table "The texts that take longest".
 
-The first texts of each call are named: they were slow once. A search then changes their numbers by chance, one part at a time, with a fixed seed
-and for a fixed number of steps. It goes on from the text that takes the most time for its octets. The slowest ones are then made as large as the
-call allows, and measured beside the named ones. Times are processor times, the least of some runs: other programs only add to them.
+A recipe (recipes.py) has the numbers by which a text is made. The first recipes of each call are named: their texts were slow once. A search then
+changes their numbers by chance, one part at a time, with a fixed seed and for a fixed number of steps. It goes on from the recipe whose text takes
+the most time for its octets. The slowest ones are then made as large as the call allows, and measured beside the named ones. Times are processor
+times, the least of some runs: other programs only add to them.
 
 `--named` measures the named texts alone. A call may be named by its first words, as in `slowest.py "a guard decides"`.
 
@@ -100,7 +101,7 @@ def rows() -> list[str]:
 
 def ranges(members: int = 314) -> Link:
     """A certificate for a set of so many ranges without limits."""
-    return Link(Tag("set", members, of="range"))
+    return Link(Tag("set", members, leaf_kind="range"))
 
 
 def equal_strings(members: int) -> Link:
@@ -273,6 +274,7 @@ def search(measure: Measure, call: Call, first: Any, chance: random.Random, step
         # (mostly one change, and sometimes two that help only together)
         candidate = slowest if step == 0 else change(chance, slowest)
         candidate = change(chance, candidate) if step and chance.random() < 0.3 else candidate
+        # (the call that opens a question has nearly no list, so its question may be as long as a list)
         recipe = found_size(call, candidate, SEARCHED_LIST, SEARCHED_QUESTION if call.word != "question" else SEARCHED_LIST)
         if recipe is None:
             continue
@@ -292,6 +294,7 @@ def recipes_of(measure: Measure, call: Call, steps: int, seed: int) -> Iterator[
     chance, slowest = random.Random(f"{seed} {call.what}"), list[tuple[float, Any]]()
     begins: list[Any] = [Form()] * STARTS if call.word in FORMED else [named.recipe for named in of_call] + [Recipe()] * STARTS
     for first in begins if steps else []:
+        # (the last that a search yields is its slowest)
         slowest += [*search(measure, call, first, chance, steps // len(begins))][-1:]
     for _, recipe in sorted(slowest, key=lambda found: -found[0])[:IN_FULL]:
         yield "found", found_size(call, recipe, MIB, MIB)
@@ -310,13 +313,14 @@ def most_mebibytes(call: Call, recipe: Any) -> float:
 def least_cost(measure: Measure, call: Call, recipe: Any) -> Cost:
     """The least that a call takes on a text, with memory and output. It is measured again, at most TURNS times, while its time is over the limit, but
     not over twice."""
+    # (a run is ended some time after it is over twice its limit: more does not matter)
     most = 3 * most_seconds(call, recipe) + MOST_SECONDS
-    least = measure.cost_of(call, recipe, most, True)
+    least = measure.cost_of(call, recipe, most, is_whole=True)
     for _ in range(TURNS):
         limit = most_seconds(call, recipe, least.written)
         if limit < least.seconds < 2 * limit:
             time.sleep(PAUSE)
-            least = min(least, measure.cost_of(call, recipe, most, True), key=lambda cost: cost.seconds)
+            least = min(least, measure.cost_of(call, recipe, most, is_whole=True), key=lambda cost: cost.seconds)
     return least
 
 

@@ -1,8 +1,8 @@
 #!/usr/bin/env python3
 """Measures decisions by a store in PostgreSQL with so many entries, and ends with another status where a limit is passed.
 
-Of 100 entries 95 are each for a key of its own. Five are for names under the keys of groups, each of which has 50. The server is started in a
-temporary folder, with a quarter of a GiB of its own memory.
+Of 100 entries 95 are each for a key of its own. Five are for names under the keys of groups, each of which has 50. The server (`server`) is started
+in a temporary folder, with a quarter of a GiB of its own memory. `count` is a number of entries, and `library` the path of the library for C.
 
 - import: entries a second by `spki-store import`, from a file; the octets of the tables.
 - hit, miss: the median and the 99th percentile of a decision, in µs, where its rows are kept, and where they are read. The library's part is in it,
@@ -99,7 +99,8 @@ def figures_of_test(server, what, count, library, **more):
     """Runs a test of the daemon on a store of so many entries: `what` is single, load, cold or served, and `more` are further variables of its
     environment. Returns the lines that it prints, by their names. Ends the script if it fails."""
     test = "TestStoreServed" if what == "served" else "TestStoreFigures"
-    done = golang.go(golang.DAEMON, ["test", *DRIVER, "-count=1", "-run", test, "-v", "."], library, None, SPKI_STORE_HOST=server.folder,
+    # (of 20 entries 19 are for keys, and one is for a name)
+    done = golang.go(golang.DAEMON, ["test", *DRIVER, "-count=1", "-run", test, "-v", "."], library, SPKI_STORE_HOST=server.folder,
                      SPKI_STORE_SCHEMA=SCHEMA, SPKI_STORE_KEYS=str(count - count // 20), SPKI_STORE_WHAT=what, **more)
     text = done.stdout.decode()
     if done.returncode:
@@ -257,6 +258,7 @@ def measure(count, library):
     with server_with_store(count) as (server, store):
         lines = figures_of_test(server, "single", count, library) | figures_of_test(server, "load", count, library)
         print(f"{count:>10,} entries: {adds_a_second(store):.0f} adds a second", flush=True)
+        # (the server is killed for `cold`, so the connection is closed before)
         store.close()
         print_served(server, library, count)
         restart_cold(server)

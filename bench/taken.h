@@ -39,6 +39,7 @@ void *__wrap_realloc(void *block, size_t size)
     return other;
 }
 
+/* Frees a block, which may be null, and subtracts it from what is taken. */
 void __wrap_free(void *block)
 {
     taken -= malloc_usable_size(block);

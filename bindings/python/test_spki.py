@@ -1,5 +1,9 @@
 """What the package `spki` does beside the library: opened questions, marks, its buffers, its types and its exceptions.
 
+By the access list LIST key a may do everything, and may delegate it. PAIR is a certificate of a for key b with its signature, SIGNED what a verifier
+gets of the two, and SHOWN the sequence of PAIR alone. OWN is the same of a for itself, which may precede PAIR. FORGED is a sequence for key c, whose
+signature is not valid. `new_question` makes a question by b that shows SHOWN, but for the parts that a test names.
+
 `tests/suite/test_bindings.py` compares the answers to many questions with the program's. Usage, in this folder:
 SPKI_LIBRARY=../../crates/spki_c/out/libspki_c.so python3 -m unittest
 """
@@ -66,7 +70,7 @@ def accept_none(signature):
 
 
 def recording(calls):
-    """A verifier that appends each signature to the list `calls`, and for which each is valid."""
+    """A verifier that appends each signature to the list `calls`, and for which each is valid: `append` returns None."""
     return lambda signature: calls.append(signature) is None
 
 
@@ -92,7 +96,7 @@ class Verifiers(unittest.TestCase):
         self.assertEqual(self.guard.decide(new_question(), recording(calls)), spki.Grant(1))
         self.assertEqual(calls, [SIGNED])
 
-    # An answer other than `True` and `False` is a `TypeError`, also one that Python takes for true.
+    # An answer other than `True` and `False` is a `TypeError`, also one that Python takes for true, or a number whose lowest octet is 1.
     def test_a_verifier_must_answer_true_or_false(self):
         self.assertFalse(self.guard.decide(new_question(), accept_none))
         for answer in (None, 1, 0, -255, 0x101, "yes", object(), [True]):
@@ -171,8 +175,8 @@ class OpenedQuestions(unittest.TestCase):
             self.assertEqual([signature.octets for signature in opened.signatures()], [None])
 
     def test_which_places_are_marked(self):
-        """`mark` takes only the place of a listed signature, and no number that would be a place after a cut to fewer bits. `decide`, `explain` and
-        `reduce` take no marks as an argument."""
+        """`mark` takes only the place of a listed signature, and no number that would be a place after a cut to fewer bits. A mark may be
+        repeated. `decide`, `explain` and `reduce` take no marks as an argument."""
         with self.guard.ask(new_question()) as opened:
             self.assertTrue(opened.is_possible)
             self.assertEqual(opened.decide(), None)
@@ -333,11 +337,10 @@ class OpenedQuestions(unittest.TestCase):
 
     # Equal keys are one object of `bytes`, so that a service which keeps 40 of them needs the memory of one.
     def test_equal_keys_are_one_object(self):
-        opened, kept = spki.Guard(LIST, limits=HIGHEST).ask(new_question(b"(sequence " + PAIR * 40 + b")")), []
-        for listed in (opened.signatures(), list(opened)):
-            self.assertEqual(({id(signature.key) for signature in listed}, len(listed)), ({id(listed[0].key)}, 40))
-        opened.verify(lambda signature: kept.append(signature.key) is None)
-        self.assertEqual(({id(key) for key in kept}, len(kept)), ({id(kept[0])}, 40))
+        opened, verified = spki.Guard(LIST, limits=HIGHEST).ask(new_question(b"(sequence " + PAIR * 40 + b")")), []
+        opened.verify(recording(verified))
+        for signatures in (opened.signatures(), list(opened), verified):
+            self.assertEqual(({id(signature.key) for signature in signatures}, len(signatures)), ({id(signatures[0].key)}, 40))
 
     def test_each_call_holds_the_lock(self):
         """Each call of the library on an opened question is made while its lock is held, so none is made while another thread marks a signature. The
@@ -358,7 +361,8 @@ class OpenedQuestions(unittest.TestCase):
             self.assertTrue(opened.is_possible and opened.decide() and opened.explain().text and opened.reduce().text)
         self.assertEqual((len(is_held), set().union(*is_held.values())), (6, {True}))
 
-    # The signatures behind the first, or behind the first wrong one, here the third, are never copied from the library.
+    # The signatures behind the first, or behind the first wrong one, are never copied from the library. `places` has the places of those that are:
+    # one for `next`, and three for `verify`, whose verifier refuses the third, when four are copied.
     def test_signatures_are_listed_one_by_one(self):
         opened, places = spki.Guard(LIST, limits=HIGHEST).ask(new_question(b"(sequence " + PAIR * 40 + b")")), []
         signature = _library.signature
@@ -412,11 +416,12 @@ class Copies(unittest.TestCase):
     def test_a_question_is_copied(self):
         for question in (new_question(), new_question(text=b"(ftp host)", moment=b'"2024-01-01_00:00:00"'), new_question(words=[]),
                          new_question(moment=BEFORE)):
-            again = eval(repr(question), {**vars(spki), "datetime": datetime_module})
-            for copied in (copy.copy(question), copy.deepcopy(question), pickle.loads(pickle.dumps(question)), again):
+            evaluated = eval(repr(question), {**vars(spki), "datetime": datetime_module})
+            for copied in (copy.copy(question), copy.deepcopy(question), pickle.loads(pickle.dumps(question)), evaluated):
                 self.assertEqual((copied, hash(copied), repr(copied)), (question, hash(question), repr(question)))
             self.assertNotEqual(question, new_question(key=b"(public-key (test c))"))
         self.assertTrue(self.guard.decide(copy.deepcopy(new_question()), accept_all))
+        # (a list of the same words makes an equal question, and another moment does not)
         self.assertEqual(len({new_question(), new_question(words=list(WORDS)), new_question(moment=NOW + timedelta(seconds=1))}), 2)
         self.assertNotEqual(new_question(), None)
 
@@ -529,8 +534,8 @@ class QuestionParts(unittest.TestCase):
             for moment in (NOW, b'"2024-01-01_00:00:00"'):
                 self.assertEqual(bool(guard.decide(new_question(b"(sequence)", words=count * [b"w"], moment=moment), accept_all)), count >= 40, count)
 
-    # A window that begins with 1970, asked at its first second, long after it, a second before it, and by a clock in another time zone. A `datetime`
-    # without a time zone is a `TypeError`.
+    # A window that begins with 1970, asked at its first second, long after it, a second before it, and by a clock in another time zone, whose 00:59
+    # is 01:59 in UTC: an offset of the wrong sign would make it 23:59 of the day before. A `datetime` without a time zone is a `TypeError`.
     def test_moments_are_compared_with_the_window(self):
         guard = spki.Guard(b'(acl (entry (public-key (test b)) (tag (*)) (not-before "1970-01-01_00:00:00")))')
         for moment, is_granted in [(EPOCH, True), (datetime.max.replace(tzinfo=timezone.utc), True), (b'"1970-01-01_00:00:00"', True),
@@ -583,7 +588,7 @@ class QuestionParts(unittest.TestCase):
         with self.assertRaises(TypeError):
             spki.Guard(LIST).decide((SHOWN, KEY, WORDS, NOW), accept_all)
 
-    # The octets of the questions have no other owner, and `garbage` would overwrite what was freed.
+    # The octets of the questions are made at run time, so they have no other owner, and `garbage` would overwrite what was freed.
     def test_a_question_keeps_its_octets(self):
         guard = spki.Guard(b"(acl (entry (public-key (test b)) (tag (w w10 w11 w12 w13))))")
         questions = [spki.Question(b"(%s)" % b"sequence", spki.ProvenKey.assume(b"(public-key (%s b))" % b"test"),
@@ -609,8 +614,8 @@ class QuestionParts(unittest.TestCase):
 
     def test_long_forms(self):
         """The longest advanced form is that of octets which are printed in base64: 1,000 times `|AA==|` with 999 spaces, two parentheses and a line
-        feed. For a text that is too long no memory of its length is allocated."""
-        self.assertEqual(len(spki.advanced(b"(" + b"1:\0" * 1000 + b")")), 7002)
+        feed. For a text that is too long only three times the longest text is allocated, which is less than 1 << 22 octets."""
+        self.assertEqual(len(spki.advanced(b"(" + b"1:\0" * 1000 + b")")), 7 * 1000 + 2)
         with mock.patch.object(spki, "_AnswerMemory", side_effect=spki._AnswerMemory) as memory, self.assertRaises(spki.Refused) as raised:
             spki.canonical(b" " * (1 << 24))
         self.assertEqual(raised.exception.fault, "TooLong")
@@ -626,7 +631,7 @@ class Guards(unittest.TestCase):
             spki.Guard(b"(acl (entry))")
         self.assertEqual(raised.exception.line, "refused acl 1 Shape")
 
-    # The explanation and the reduction of a list that has the entry of LIST 500 times are whole.
+    # The explanation and the reduction of a list that has the entry of LIST, without its `(acl ` and `)`, 500 times are whole.
     def test_long_answers(self):
         guard = spki.Guard(b"(acl " + LIST[5:-1] * 500 + b")")
         self.assertEqual(guard.entries, 500)
@@ -640,7 +645,8 @@ class Guards(unittest.TestCase):
         self.assertEqual(list(spki.Guard(b"(acl)").explain(new_question(), accept_all).reasons()), [])
         self.assertEqual(str(spki.Guard(b"(acl)").explain(new_question(), accept_all)), "no entries")
 
-    # A hash by SHA-1 names a key under `ALLOW_SHA1` alone. `STRICT` is the default, and a policy is no number.
+    # A hash by SHA-1 names a key under `ALLOW_SHA1` alone. `STRICT` is the default, and a policy is no number, also none that a cut to 32 bits makes
+    # 0 or 1.
     def test_policies(self):
         digest = hashlib.sha1(spki.canonical(KEY)).hexdigest().encode()
         by_sha1 = b"(acl (entry (hash sha1 #%s#) (tag (*))))" % digest
@@ -651,8 +657,8 @@ class Guards(unittest.TestCase):
             with self.assertRaises(TypeError):
                 spki.Guard(by_sha1, other)
 
-    # A limit out of range is an error. A question beyond a limit of octets, certificates or strings is refused. Limits of nodes, work and the answer
-    # bound explanations alone.
+    # A limit out of range is an error, also one that a cut to 64 bits would make 16. A question beyond a limit of octets, certificates or strings is
+    # refused. Limits of nodes, work and the answer bound explanations alone. A limit of 0 is the library's own.
     def test_limits(self):
         for wrong in ({"octets": 1_048_577}, {"nodes": 1_000_001}, {"work": -1}, {"octets": -1}, {"answer": 2 ** 28 + 1},
                       {"certificates": 2 ** 64 + 16}):
@@ -692,13 +698,14 @@ class Guards(unittest.TestCase):
         guard.close()
         opened.close()
 
-    # A verifier closes the guard that calls it. The decision is made all the same.
-    def test_closing_while_it_is_asked(self):
+    # A verifier closes the guard that calls it, and returns True, since `close` returns None. The decision is made all the same.
+    def test_closing_a_guard_while_it_is_asked(self):
         guard = spki.Guard(LIST)
         self.assertTrue(guard.decide(new_question(), lambda signature: guard.close() is None))
 
     def test_closing_in_another_thread(self):
-        """Beside every call a guard and a question may be closed. A call answers as before, or raises ValueError."""
+        """Beside every call a guard and a question may be closed. A call answers as before, or raises ValueError. Each row of `calls` says whether
+        the answer is the right one: `verify` and `mark` return None."""
         calls = {"entries": lambda guard, opened: guard.entries == 1, "decide": lambda guard, opened: bool(guard.decide(new_question(), accept_all)),
                  "count": lambda guard, opened: len(opened) == 1, "signatures": lambda guard, opened: opened.signatures()[0] == SIGNED,
                  "verify": lambda guard, opened: opened.verify(accept_all) is None, "ask": lambda guard, opened: len(guard.ask(new_question())) == 1,
@@ -730,7 +737,7 @@ class Guards(unittest.TestCase):
                 thread.join()
                 self.assertEqual(wrong, [], name)
 
-    # Eight threads use one guard and one opened question. Each opens a question 200 times, and decides the opened one as often.
+    # Eight threads use one guard and one opened question. Each opens a question 200 times, and marks and decides the opened one as often.
     def test_threads_share_a_guard_and_a_question(self):
         guard, granted = spki.Guard(LIST), []
         opened = guard.ask(new_question())
@@ -775,7 +782,8 @@ class Texts(unittest.TestCase):
             spki.canonical(b"(a ~)")
         self.assertEqual(raised.exception.line, "refused form Bad 3")
 
-    # A path has the numbers of the members to go into. `string_at` is `None` if no string is there, or the text is not in canonical form.
+    # A path has the numbers of the members to go into. `string_at` is `None` for a path to a list, into a string, or to no member, and if the text is
+    # not in canonical form.
     def test_string_at(self):
         key = spki.canonical(b"(public-key (rsa-pkcs1-sha256 (e #010001#) (n #c000ff#)))")
         self.assertEqual(spki.string_at(key, 1, 2, 1), b"\xc0\0\xff")
@@ -845,6 +853,7 @@ class Libraries(unittest.TestCase):
             _library.load(ctypes.util.find_library("m"))
 
     def test_a_library_that_is_not_there_is_named(self):
+        """If SPKI_LIBRARY names no file, `import spki` fails, and the error names it."""
         done = subprocess.run([sys.executable, "-c", "import spki"], env={**os.environ, "SPKI_LIBRARY": "/nowhere/libspki_c.so"},
                               capture_output=True, text=True)
         self.assertNotEqual(done.returncode, 0)

@@ -1,4 +1,6 @@
-"""Tests the package spki_http by the table of requests that all languages read, by the examples of RFC 9421, and by clients and a server.
+"""Tests the package spki_http by the table that all languages read, by the examples of RFC 9421, and by clients and a server. A row of the table is a
+request, its time, and the answer that it must get: `valid` or the name of a refusal. `rows` reads them, `verifier_at` makes the service that they are
+for, and `answer` says what it answers.
 
     PYTHONPATH=bindings/python python3 -m unittest bindings/python/test_spki_http.py
 """
@@ -33,6 +35,7 @@ try:
 except ImportError:
     raise unittest.SkipTest("there is no cryptography; Debian: python3-cryptography") from None
 
+# The file of the table, an escape in it, and certificates that a client sends: `(sequence)` in transport form.
 ROWS = os.path.join(os.path.dirname(os.path.realpath(__file__)), "..", "go", "httpsig", "testdata", "rows")
 ESCAPE = re.compile(r"\\(?:x(..)|(.))")
 CHAIN = "{KDg6c2VxdWVuY2Up}"
@@ -90,7 +93,7 @@ def answer(verifier: spki_http.Verifier, message: spki_http.Message) -> str:
     return "valid" if proof.key.startswith(b"(10:public-key") else "no key"
 
 
-def string(octets: bytes) -> bytes:
+def canonical_string(octets: bytes) -> bytes:
     """A string in canonical form."""
     return b"%d:%s" % (len(octets), octets)
 
@@ -99,9 +102,9 @@ def ed25519_signer(private: Ed25519PrivateKey) -> spki_http.Signer:
     """A signer by a key of Ed25519, which sends the certificates CHAIN."""
     def sign(message: bytes) -> bytes:
         signature = private.sign(message)
-        return b"(7:sig-val(5:eddsa(1:r%s)(1:s%s)))" % (string(signature[:32]), string(signature[32:]))
+        return b"(7:sig-val(5:eddsa(1:r%s)(1:s%s)))" % (canonical_string(signature[:32]), canonical_string(signature[32:]))
     public = private.public_key().public_bytes(Encoding.Raw, PublicFormat.Raw)
-    return spki_http.Signer(b"(10:public-key(3:ecc(5:curve7:Ed25519)(5:flags5:eddsa)(1:q%s)))" % string(public), sign, CHAIN)
+    return spki_http.Signer(b"(10:public-key(3:ecc(5:curve7:Ed25519)(5:flags5:eddsa)(1:q%s)))" % canonical_string(public), sign, CHAIN)
 
 
 def curve_signer() -> spki_http.Signer:
@@ -110,9 +113,9 @@ def curve_signer() -> spki_http.Signer:
 
     def sign(message: bytes) -> bytes:
         numbers = decode_dss_signature(private.sign(message, ec.ECDSA(SHA256())))
-        return b"(7:sig-val(5:ecdsa(1:r%s)(1:s%s)))" % tuple(string(number.to_bytes(32, "big")) for number in numbers)
+        return b"(7:sig-val(5:ecdsa(1:r%s)(1:s%s)))" % tuple(canonical_string(number.to_bytes(32, "big")) for number in numbers)
     public = private.public_key().public_bytes(Encoding.X962, PublicFormat.UncompressedPoint)
-    return spki_http.Signer(b"(10:public-key(3:ecc(5:curve10:NIST P-256)(1:q%s)))" % string(public), sign)
+    return spki_http.Signer(b"(10:public-key(3:ecc(5:curve10:NIST P-256)(1:q%s)))" % canonical_string(public), sign)
 
 
 class Handler(http.server.BaseHTTPRequestHandler):
@@ -142,8 +145,8 @@ class Handler(http.server.BaseHTTPRequestHandler):
 class Requests(unittest.TestCase):
     """What is accepted and what is refused."""
 
-    # With `again` the same request came so many seconds before, and was valid then.
-    def test_rows(self) -> None:
+    # With `again` the same request came so many seconds before, and was valid then. There are over 200 rows if the table was read whole.
+    def test_each_row_gets_its_answer(self) -> None:
         table = [*rows()]
         self.assertGreater(len(table), 200)
         for name, message, now, again, gives in table:
@@ -169,7 +172,7 @@ class Requests(unittest.TestCase):
         self.assertTrue(spki_verify.verify_texts(key=signer.key, message=BASE.encode(),
                                                  value=_fields.value_of("ed25519", base64.b64decode(SIGNATURE))))
         public = load_der_public_key(base64.b64decode(P256_PUBLIC)).public_bytes(Encoding.X962, PublicFormat.UncompressedPoint)
-        key = b"(10:public-key(3:ecc(5:curve10:NIST P-256)(1:q%s)))" % string(public)
+        key = b"(10:public-key(3:ecc(5:curve10:NIST P-256)(1:q%s)))" % canonical_string(public)
         self.assertTrue(spki_verify.verify_texts(key=key, message=RESPONSE.encode(),
                                                  value=_fields.value_of("ecdsa-p256-sha256", base64.b64decode(P256_SIGNATURE))))
 
@@ -195,15 +198,16 @@ class Requests(unittest.TestCase):
         for copied in (copy.copy(refused), pickle.loads(pickle.dumps(refused))):
             self.assertEqual((copied.name, str(copied)), ("absent", "the request proves no key: absent"))
 
-    def test_no_host(self) -> None:
+    def test_a_request_without_a_host(self) -> None:
         """A request without Host, for which `http.server` has None, is to no name of the service."""
         message, now = self.valid_message()
         for authority in ("", None):
             nameless = dataclasses.replace(message, authority=authority)  # type: ignore[arg-type]
             self.assertEqual(answer(verifier_at([now]), nameless), "other-authority")
 
-    def test_taken_late(self) -> None:
-        """A nonce that is taken after the end of its signature may have been used before, and be forgotten: it is refused as `expired`."""
+    def test_a_nonce_is_not_taken_late(self) -> None:
+        """A nonce that is taken after the end of its signature, here 900 seconds later, may have been used before, and be forgotten: it is refused as
+        `expired`. 100 seconds later it is not forgotten."""
         message, now = self.valid_message()
         clock = [now]
         verifier = verifier_at(clock)
@@ -236,6 +240,7 @@ class Clients(unittest.TestCase):
     """Clients and a server."""
 
     def setUp(self) -> None:
+        """Starts a server, which ends with the test, and makes an address there and two signers."""
         self.server = http.server.ThreadingHTTPServer(("127.0.0.1", 0), Handler)
         self.name = f"127.0.0.1:{self.server.server_port}"
         Handler.verifier = spki_http.Verifier(self.name, scheme="http")
@@ -278,7 +283,8 @@ class Clients(unittest.TestCase):
                 signer.fields("GET", "https://files.example.org/a", b"", own_fields, ["x-job", absent])
 
     def test_what_cannot_be_signed(self) -> None:
-        """An address or a method that each verifier would refuse, such as one with the sign of kelvin, which is k in small letters."""
+        """An address or a method that each verifier would refuse is a `ValueError`, such as one with the sign of kelvin: in small
+        letters it is k."""
         for method, url in (("GET", "https://a.example/b c"), ("GET", "https://a.example/\u212a"), ("G T", "https://a.example/"),
                             ("", "https://a.example/"), ("\u212a", "https://a.example/"), ("GET", "ftp://a.example/"),
                             ("GET", "https://a:b@a.example/"), ("GET", "/b")):
@@ -322,14 +328,14 @@ class Clients(unittest.TestCase):
             other = spki_http.Auth(self.signers[0], "example.com")(Prepared("GET", self.url, None, has_content))
             self.assertEqual({*other.headers}, {"Accept", "Content-Length"})
         with self.assertRaises(TypeError):
-            spki_http.Auth(self.signers[0], self.name)(Prepared("PUT", self.url, iter(()), False))  # type: ignore[arg-type]
+            spki_http.Auth(self.signers[0], self.name)(Prepared("PUT", self.url, iter(()), has_content=False))  # type: ignore[arg-type]
         # (a string is sent as it was signed)
-        prepared = spki_http.Auth(self.signers[0], self.name)(Prepared("PUT", self.url, "\u00e9", False))
+        prepared = spki_http.Auth(self.signers[0], self.name)(Prepared("PUT", self.url, "\u00e9", has_content=False))
         self.assertEqual((prepared.body, prepared.headers["Content-Digest"]), (b"\xc3\xa9", spki_http.content_digest(b"\xc3\xa9")))
         # (a name and an address may both have the port of the scheme, or one of them)
         for name, address in (("a.example", "https://A.example:443/"), ("a.example:443", "https://a.example/"),
                               ("a.example:443", "https://a.example:443/")):
-            self.assertIn("Signature", spki_http.Auth(self.signers[0], name)(Prepared("GET", address, None, False)).headers)
+            self.assertIn("Signature", spki_http.Auth(self.signers[0], name)(Prepared("GET", address, None, has_content=False)).headers)
 
 
 if __name__ == "__main__":

@@ -61,6 +61,7 @@ class _NotCopied:
     """A base of what must not be copied or pickled: a copy would free what the original still uses."""
 
     def __reduce_ex__(self, protocol: object) -> NoReturn:
+        """Raises `TypeError`. `copy` and `pickle` call it, with a number of a format as `protocol`."""
         raise TypeError(f"a {type(self).__name__.strip('_')} is not copied or pickled: use the same object in all threads, and read the list and "
                         "ask again in another process")
 
@@ -69,6 +70,7 @@ class _Handle(c_void_p, _NotCopied):
     """The address of a guard or an opened question of the library. `process` is the id of the process that has opened it."""
 
     def __init__(self, address: int | None = None) -> None:
+        """`address` is that which a call has returned. Without one it is null, until a call sets it."""
         super().__init__(address)
         self.process = os.getpid()
 
@@ -85,6 +87,7 @@ class _GuardHandle(_Handle):
     it."""
 
     def __del__(self, close: Callable[[c_void_p], None] = library.spki_guard_close) -> None:
+        """Closes the guard. `close` is a parameter for its default: when the interpreter ends, names of modules may be gone."""
         self.free(close)
 
 
@@ -92,6 +95,7 @@ class _AskedHandle(_Handle):
     """An opened question of the library. It is closed when nothing refers to it."""
 
     def __del__(self, close: Callable[[c_void_p], None] = _library.close) -> None:
+        """Closes the question. `close` is a parameter for its default: when the interpreter ends, names of modules may be gone."""
         self.free(close)
 
 
@@ -357,6 +361,7 @@ class _CallMemory:
     the addresses of these, which are passed to the call."""
 
     def __init__(self) -> None:
+        """Allocates all, and makes the objects of ctypes that a call takes: later calls use them again."""
         self.buffer, self.octets, self.needed = (c_char * _LINE_OCTETS)(), c_size_t(_LINE_OCTETS), c_size_t()
         self.opened, self.signed = c_void_p(), bytearray(_library.SIGNED.size)
         self.at_buffer, self.at_needed = c_void_p(addressof(self.buffer)), c_void_p(addressof(self.needed))
@@ -374,6 +379,7 @@ class _AnswerMemory:
     length of the answer."""
 
     def __init__(self, octets: int) -> None:
+        """Reserves address space for `octets` octets. Raises `OSError` if it cannot be reserved."""
         self.buffer, self.octets, self.needed = mmap.mmap(-1, octets, mmap.MAP_PRIVATE), c_size_t(octets), c_size_t()
         # (an object of ctypes at the first octet of this memory: `addressof` takes no mmap)
         self.first = c_char.from_buffer(self.buffer)

@@ -28,6 +28,7 @@ class Refused(Exception):
     """
 
     def __init__(self, line: str) -> None:
+        """`line` is the line without its line feed, as `refused sequence 3 Shape`."""
         # (an exception is copied and pickled by the arguments of this call)
         super().__init__(line)
         self.line = line
@@ -272,6 +273,7 @@ class NoDecision:
     """What grants nothing, and so is false: an `Asked`, an `Explanation` or a `Reduction` that is tested like a decision is no yes."""
 
     def __bool__(self) -> bool:
+        """False: what is no decision grants nothing."""
         return False
 
 
@@ -310,7 +312,7 @@ class Reason(NamedTuple):
     entry: int | None
     """The number of the entry that the line is about, from 1. `None` if the certificate stops all entries."""
     item: int | None
-    """The number of the certificate that stops it, among the items of the sequence, from 1."""
+    """The number of the certificate that stops the entry, or all entries, among the items of the sequence, from 1. `None` if no certificate does."""
     word: Cause
     """`Cause.GRANTS`, or what stops the request."""
 

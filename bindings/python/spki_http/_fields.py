@@ -2,7 +2,6 @@
 from __future__ import annotations
 
 import base64
-import binascii
 import hashlib
 import re
 from dataclasses import dataclass
@@ -44,6 +43,7 @@ class Refused(Exception):
     """Why a request proves no key. `name` is one of docs/SIGNATURES.md, "Refusals"."""
 
     def __init__(self, name: str) -> None:
+        """`name` is that of the refusal, such as `expired`."""
         # (an exception is copied and pickled by the arguments of this call)
         super().__init__(name)
         self.name = name
@@ -181,7 +181,8 @@ def decoded(text: str) -> bytes | None:
     """The octets of a text in base64. None if the text is not exactly how these octets are encoded, with padding."""
     try:
         octets = base64.b64decode(text, validate=True)
-    except (binascii.Error, ValueError):
+    except ValueError:
+        # (it is not base64, or not ASCII)
         return None
     return octets if base64.b64encode(octets).decode() == text else None
 
@@ -236,8 +237,10 @@ def value_of(algorithm: str, octets: bytes) -> bytes:
     otherwise two, of equal length."""
     half = len(octets) // 2
     strings = [octets] if algorithm.startswith("rsa") else [octets[:half], octets[half:]]
+    _, template, _ = FORMS[algorithm]
+    # (each `%` of the template becomes LENGTH:OCTETS)
     lengths_and_strings = tuple(part for string in strings for part in (len(string), string))
-    return FORMS[algorithm][1].replace(b"%", b"%d:%s") % lengths_and_strings
+    return template.replace(b"%", b"%d:%s") % lengths_and_strings
 
 
 def octets_of(value: bytes, length: int = 0) -> bytes:

@@ -46,13 +46,13 @@ class Signer:
         if not METHOD.fullmatch(method) or not TARGET.fullmatch(target):
             raise ValueError("no method of HTTP, or an address with a space or an octet that is not ASCII: "
                              f"{method} {target}")
-        sent, added = [*fields], {KEY: in_braces(self.key)}
+        present, added = [*fields], {KEY: in_braces(self.key)}
         if self.sequence:
             added[SEQUENCE] = self.sequence
-        if Message(method, parts.netloc, target, sent, body).may_have_body():
+        if Message(method, parts.netloc, target, present, body).may_have_body():
             added["Content-Digest"] = content_digest(body)
         replaced = {name.lower() for name in added}
-        unchanged = [(name, value) for name, value in sent if name.lower() not in replaced]
+        unchanged = [(name, value) for name, value in present if name.lower() not in replaced]
         message = Message(method, parts.netloc, target, [*unchanged, *added.items()], body)
         names = _components(message, covered)
         parameters = self._parameters(names)
@@ -64,6 +64,7 @@ class Signer:
         """The value of `@signature-params` for components of these names, created now, with a new nonce. It expires
         `MOST_WINDOW` seconds later."""
         created, components = int(time.time()), " ".join(f'"{name}"' for name in names)
+        # (16 octets are 22 characters, and a nonce must have 16 or more)
         keyid, nonce = hash_of(self.key), secrets.token_urlsafe(16)
         return (f'({components});created={created};expires={created + MOST_WINDOW};nonce="{nonce}";keyid="{keyid}"'
                 f';alg="{self.algorithm}";tag="{TAG}"')
@@ -81,7 +82,7 @@ def _components(message: Message, covered: Iterable[str]) -> list[str]:
 
 
 class _SignsForHosts:
-    """The base of `Auth` and `Handler`, which sign a request of a library for HTTP if it goes to one of the given hosts."""
+    """The base of `Auth` and `Handler`, which sign a request of a library for HTTP if it goes to one of the hosts that they are made with."""
 
     def __init__(self, signer: Signer, *names: str) -> None:
         """`names` are the hosts of services, such as `files.example.org` or `localhost:8080`: a port is needed only if it is not the default."""

@@ -12,7 +12,7 @@ from ._fields import PUBLIC_KEY, TAG, Input, Refused, digest_of, hash_of, input_
 from ._message import AUTHORIZATION, DIGEST, METHOD, TARGET, Message, authority_of, base_of
 from ._message import value_of as component_of
 
-# The seconds from `created` to `expires` at most, and those that a client's clock may be ahead.
+# The most seconds from `created` to `expires`, and the most that `created` may be in the future: a client's clock may be ahead.
 MOST_WINDOW, MOST_AHEAD = 300, 60
 # The fewest and the most characters of a nonce, and the most nonces in each set of a `Memory`.
 LEAST_NONCE, MOST_NONCE = 16, 64
@@ -49,6 +49,7 @@ class Memory:
     the one before. `young_since` is when the young set was begun, in seconds since 1970."""
 
     def __init__(self, most: int = USUAL_NONCES) -> None:
+        """`most` is how many nonces each of the two sets may have, the old and the young one."""
         self.most, self.young_since, self.lock = most, 0, threading.Lock()
         self.old: set[bytes] = set()
         self.young: set[bytes] = set()
@@ -92,18 +93,18 @@ class Proof:
 
 
 class Verifier:
-    """Verifies requests to a service of these names, each with its port unless that is the default one of the scheme.
-
-    `scheme` is `https` or `http`. `sequence` is the name of the field with the certificates, in small letters. `nonces`
-    keeps the used nonces, in a `Memory` if it is None. `now` is the clock, in seconds since 1970, and `verify` says
-    whether a signature is valid: `spki_verify` if it is None. A request that was created before `start`, in seconds
-    since 1970, is refused, since its nonce may be forgotten. It is the time now if it is None. Set it to 0 if the
-    nonces outlast the process.
-    """
+    """Verifies signed requests to one service: which key has signed each."""
 
     def __init__(self, *authorities: str, scheme: str = "https", sequence: str = "x-spki-sequence", nonces: Nonces | None = None,
                  start: float | None = None, now: Callable[[], float] = time.time,
                  verify: Callable[[Signed], bool] | None = None) -> None:
+        """`authorities` are the names of the service, each with its port unless that is the default one of the scheme.
+
+        `scheme` is `https` or `http`. `sequence` is the name of the field with the certificates, in small letters. `nonces`
+        keeps the used nonces, in a `Memory` if it is None. `now` is the clock, in seconds since 1970, and `verify` says
+        whether a signature is valid: `spki_verify` if it is None. A request that was created before `start`, in seconds
+        since 1970, is refused, since its nonce may be forgotten. It is the time now if it is None. Set it to 0 if the
+        nonces outlast the process. Raises `ImportError` if `verify` is None and `cryptography` is missing."""
         # (without the empty name, which a request has whose Host is the default port alone)
         self.authorities = {authority_of(scheme, name) for name in authorities} - {""}
         self.scheme, self.sequence, self.now = scheme, sequence, now
@@ -125,6 +126,7 @@ class Verifier:
         if proof.expires <= now:
             # (the nonce may have been used, and be forgotten)
             raise Refused("expired")
+        # (a signature by a clock that is ahead is accepted for as long as both together)
         self.nonces.take(proof.key, proof.nonce, now, MOST_WINDOW + MOST_AHEAD)
 
     def check(self, message: Message) -> Proof:

@@ -9,6 +9,7 @@ use std::{env, error::Error, fs, io};
 
 /// Whether a path is normal: it begins with `/`, and no part of it is empty, `.` or `..`.
 fn is_normal(path: &str) -> bool {
+    // (the first part is what is before the first `/`. The empty path has no other)
     let mut parts = path.split('/');
     parts.next() == Some("")
         && parts.clone().count() > 0

@@ -96,7 +96,7 @@ pub(crate) fn lines_of(answer: Vec<u8>) -> String {
 
 /// Makes a call that writes one line, which needs no allocation. `call` gets a buffer, its room, and where the length goes. `result_of` gets what
 /// `call` returns, and the line, which is empty if the call writes none. Returns what `result_of` returns.
-pub(crate) fn with_line<A, T>(
+pub(crate) fn call_for_line<A, T>(
     call: impl FnOnce(*mut c_void, usize, *mut usize) -> A,
     result_of: impl FnOnce(A, &[u8]) -> T,
 ) -> T {
@@ -108,7 +108,7 @@ pub(crate) fn with_line<A, T>(
 /// Makes a call that writes an answer of at most `most` octets, or one line. `call` gets a buffer, its room, and where the length goes. Returns its
 /// status and the answer, which is empty if it does not fit. If there is no memory for the buffer, the call is not made, and the status is
 /// `NO_MEMORY`.
-pub(crate) fn with_answer(
+pub(crate) fn call_for_answer(
     most: usize,
     call: impl FnOnce(*mut c_void, usize, *mut usize) -> Status,
 ) -> (Status, Vec<u8>) {

@@ -1,6 +1,7 @@
-//! A question that was read, which is decided by the marks that it carries.
+//! A question that was read. The caller verifies its signatures, and marks those that are valid, each by its place: its number, from 0. The answer
+//! is by the marks.
 
-use crate::answer::{line_of, lines_of, with_answer, with_line, Refusal};
+use crate::answer::{call_for_answer, call_for_line, line_of, lines_of, Refusal};
 use crate::decision::{Denied, Grant, Verdict};
 use crate::explanation::Explanation;
 use crate::signature::Signature;
@@ -73,7 +74,7 @@ impl Asked {
     ///
     /// # Panics
     ///
-    /// The iterator does if an allocation of the library fails.
+    /// The iterator panics if an allocation of the library fails.
     #[must_use]
     pub fn signatures(&self) -> impl ExactSizeIterator<Item = Signature<'_>> + '_ {
         (0..self.count).map(|place| {
@@ -173,13 +174,14 @@ impl Asked {
     ///
     /// The request is not granted: no entry grants it, or an allocation failed.
     pub fn decide(&self) -> Result<Grant, Denied> {
+        // (for an error of a verifier that never fails: none is called here)
         self.decided()
     }
 
     /// Like `decide`, for a caller whose verifier may fail with an `E`. It never returns `Denied::Verifier`: nothing is verified here.
     pub(crate) fn decided<E>(&self) -> Result<Grant, Denied<E>> {
         let call = |buffer, room, needed| self.call(sys::spki_asked_decide, (buffer, room, needed));
-        with_line(call, |decision: sys::Decision, line| {
+        call_for_line(call, |decision: sys::Decision, line| {
             match decision.status {
                 sys::YES => grant_of(line, decision.until).map_err(Denied::Refused),
                 sys::NO => Err(Denied::No),
@@ -210,7 +212,7 @@ impl Asked {
 
     /// The lines of `explain` or `reduce`, without the last line feed. `call` is the call of the library that writes them.
     fn lines(&self, call: sys::Answers) -> Result<String, Refusal> {
-        let (status, lines) = with_answer(self.most_answer, |buffer, room, needed| {
+        let (status, lines) = call_for_answer(self.most_answer, |buffer, room, needed| {
             self.call(call, (buffer, room, needed)).status
         });
         match status {
@@ -230,8 +232,8 @@ impl Asked {
     }
 }
 
-/// The grant of a line `yes entry N`, until a second since 1970, or `i64::MAX`. Another line is a refusal as misused: the library is not the one that
-/// was expected.
+/// The grant of a line `yes entry N`. `until` is its last second since 1970, or `i64::MAX` if no window ends. Another line is a refusal as misused:
+/// the library is not the one that was expected.
 fn grant_of(line: &[u8], until: i64) -> Result<Grant, Refusal> {
     line_of(line)
         .strip_prefix("yes entry ")

@@ -66,6 +66,7 @@ impl<E> Denied<E> {
 }
 
 impl<E> From<Refusal> for Denied<E> {
+    /// The denial by a refusal, so that `?` passes one on.
     fn from(refusal: Refusal) -> Denied<E> {
         Denied::Refused(refusal)
     }

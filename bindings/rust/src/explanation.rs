@@ -16,7 +16,7 @@ pub struct Explanation {
 pub struct Reason<'e> {
     /// The number of the entry that the line is about, from 1. `None` if the certificate stops all entries.
     pub entry: Option<usize>,
-    /// The number of the certificate that stops it, among the items of the sequence, from 1. `None` if no certificate does.
+    /// The number of the certificate that stops the entry, or all entries, among the items of the sequence, from 1. `None` if no certificate does.
     pub item: Option<usize>,
     /// What the line says.
     pub cause: Cause,

@@ -1,6 +1,6 @@
-//! An access list that is read once and asked often.
+//! An access list that is read once and asked often, with the limits on each question: the guard.
 
-use crate::answer::{with_line, Refusal};
+use crate::answer::{call_for_line, Refusal};
 use crate::asked::Asked;
 use crate::decision::{Denied, Grant, Verdict, Verifier};
 use crate::library;
@@ -44,7 +44,7 @@ impl Limits {
     /// The highest limits. On some questions within them an explanation takes seconds.
     #[must_use]
     pub const fn highest() -> Limits {
-        // (each call lowers the number to its highest)
+        // (the calls lower a number above the library's highest. There is no highest number of certificates and of strings: the octets bound both)
         let most = usize::MAX;
         let all = Limits::none().octets(most).certificates(most).words(most);
         all.nodes(most).work(most).answer(most)
@@ -143,6 +143,7 @@ const fn at_most(number: usize, highest: usize) -> usize {
 }
 
 impl Default for Limits {
+    /// The library's own limits: none is set.
     fn default() -> Limits {
         Limits::none()
     }
@@ -212,8 +213,8 @@ impl Guard {
                 )
             }
         };
-        let answer = with_line(call, |status, line| (status, line.to_owned()));
-        handle_of(handle, answer).map(|handle| Guard {
+        let answer = call_for_line(call, |status, line| (status, line.to_owned()));
+        handle_or_refusal(handle, answer).map(|handle| Guard {
             handle,
             most_answer: limits.most_answer(),
         })
@@ -239,9 +240,9 @@ impl Guard {
                 // SAFETY: the handle is open. Each pointer is to as many octets as its length says, or to one value of its type, and none overlap.
                 unsafe { sys::spki_guard_ask(guard, lent, &mut handle, buffer, room, needed) }
             };
-            with_line(call, |status, line| (status, line.to_owned()))
+            call_for_line(call, |status, line| (status, line.to_owned()))
         });
-        handle_of(handle, answer).map(|handle| Asked::new(handle, self.most_answer))
+        handle_or_refusal(handle, answer).map(|handle| Asked::new(handle, self.most_answer))
     }
 
     /// Decides whether the question's request is granted. Only `Ok` is a yes.
@@ -285,7 +286,7 @@ impl Guard {
 }
 
 /// The handle that a call has opened, or the refusal by its status and its line. `handle` is null if the call failed.
-fn handle_of<T>(
+fn handle_or_refusal<T>(
     handle: *mut T,
     (status, line): (sys::Status, Vec<u8>),
 ) -> Result<NonNull<T>, Refusal> {

@@ -33,7 +33,7 @@ use fields::{Input, PUBLIC_KEY, SEQUENCE};
 use form::Kind;
 use message::{authority_of, is_target};
 
-/// The most seconds from `created` to `expires`, and those that a client's clock may be ahead.
+/// The most seconds from `created` to `expires`, and the most that `created` may be in the future: a client's clock may be ahead.
 const MOST_WINDOW: u64 = 300;
 const MOST_AHEAD: u64 = 60;
 /// How many characters a nonce may have.
@@ -42,7 +42,7 @@ const NONCE_LENGTHS: std::ops::RangeInclusive<usize> = 16..=64;
 /// Says which key has made a request to one service. Several threads may share it.
 #[derive(Debug)]
 pub struct Requests<N = Nonces> {
-    /// The names of the service, as `authority_of` has them.
+    /// The names of the service, as `authority_of` returns them: in small letters, without the port of https.
     names: Vec<String>,
     nonces: N,
     /// The second since 1970 before which no signature may be created.
@@ -110,6 +110,7 @@ impl<N: TakeNonce> Requests<N> {
             // (the nonce may have been used, and be forgotten)
             return Err(Unproved::Expired);
         }
+        // (a signature by a clock that is ahead is accepted for as long as both together)
         let seconds = MOST_WINDOW + MOST_AHEAD;
         self.nonces
             .take(proof.key.text(), &proof.nonce, now, seconds)

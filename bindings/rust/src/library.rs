@@ -17,10 +17,11 @@ pub fn library_version() -> &'static str {
 ///
 /// # Panics
 ///
-/// If it is of another one: the program runs with another shared library than it was built for.
+/// If the library is of another version: the program runs with another shared library than it was built for.
 pub(crate) fn check_version() {
     static CHECKED: Once = Once::new();
     CHECKED.call_once(|| {
+        // (`sys::VERSION` has only the first two numbers, such as `0.2`)
         let (version, wanted) = (library_version(), sys::VERSION);
         let is_wanted = version
             .strip_prefix(wanted)

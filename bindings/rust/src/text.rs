@@ -1,6 +1,6 @@
 //! S-expressions as texts.
 
-use crate::answer::{with_answer, Refusal};
+use crate::answer::{call_for_answer, Refusal};
 use crate::library;
 use spki_sys as sys;
 use std::ffi::c_int;
@@ -108,9 +108,10 @@ pub fn transport(text: &[u8]) -> Result<Vec<u8>, Refusal> {
 /// A text in another form: `command` is `sys::CANONICAL`, `sys::ADVANCED` or `sys::TRANSPORT`.
 fn convert(command: c_int, text: &[u8]) -> Result<Vec<u8>, Refusal> {
     library::check_version();
-    // (an octet that is printed in base64 takes 7 for the 3 of its canonical text; `a(b)`, again and again, takes 8 for 3 in transport form. A text
-    // of more than `MOST_OCTETS` is refused. The other 64 octets are room for braces and a line feed)
-    let (status, answer) = with_answer(
+    // (3 octets for each of the text are enough. In advanced form an octet that is printed in base64 takes most: 7 for 3 of its canonical text. In
+    // transport form `a(b)`, again and again, does: 8 for 3. A text of more than `MOST_OCTETS` is refused. The other 64 octets are room for braces
+    // and a line feed)
+    let (status, answer) = call_for_answer(
         3 * text.len().min(sys::MOST_OCTETS) + 64,
         |buffer, room, needed| {
             // SAFETY: each pointer is to as many octets as its length says, or to one value of its type, and they do not overlap.

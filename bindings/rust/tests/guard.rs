@@ -1,5 +1,10 @@
 //! What the crate does beside the library: opened questions, marks, its buffers and its types. `tests/suite/test_bindings.py` at the top of the
 //! repository compares the answers to many questions with the program's.
+//!
+//! By the access list LIST key a may do everything, and may delegate it. PAIR is a certificate of a for key b with its signature, and SIGNED what a
+//! verifier gets of the two. OWN is the same of a for itself, which may precede PAIR. FORGED is a sequence for key c, whose signature is not valid. A
+//! question is by b (KEY), for the request WORDS, at NOW, but for the parts that a test gives it. `sequence_of(2)` has PAIR twice. `guard` has the
+//! highest limits.
 
 use spki::{
     Asked, Cause, Denied, Explanation, Fault, Grant, Guard, Limits, Moment, NotProved, Part,
@@ -137,7 +142,8 @@ fn a_verifier_is_not_called_in_vain() {
     }
 }
 
-/// Two clients at once: what is marked for b grants nothing to c. A question that is moved keeps its marks.
+/// Two clients at once: what is marked for b, whose question is `good`, grants nothing to c, whose question is `bad`. Questions that are moved, here
+/// swapped, keep their marks.
 #[test]
 fn marks_are_of_one_question() -> Outcome {
     let guard = guard(LIST);
@@ -187,7 +193,7 @@ fn marks_are_of_one_place() -> Outcome {
     Ok(())
 }
 
-/// Only place 0 has a signature. Any other number is misuse, and marks nothing.
+/// Only place 0 has a signature. Any other number is misuse, and marks nothing, also one whose lowest octet is 0.
 #[test]
 fn other_numbers_are_no_places() -> Outcome {
     let guard = guard(LIST);
@@ -254,13 +260,13 @@ fn texts(error: &dyn Error) -> Vec<String> {
 /// A program that prints an error and its sources prints each text once, and the cause of the verifier's error too.
 #[test]
 fn an_error_of_a_verifier_is_printed_once() {
-    let failed = || NoAnswer("x".parse::<u8>().expect_err("no number"));
+    let failure = || NoAnswer("x".parse::<u8>().expect_err("no number"));
     let wanted = [
         "a signature could not be verified: no answer",
         "invalid digit found in string",
     ];
-    assert_eq!(texts(&Denied::Verifier(failed())), wanted);
-    assert_eq!(texts(&NotProved::Verifier(failed())), wanted);
+    assert_eq!(texts(&Denied::Verifier(failure())), wanted);
+    assert_eq!(texts(&NotProved::Verifier(failure())), wanted);
     assert_eq!(texts(&Denied::<NoAnswer>::No), ["no"]);
 }
 
@@ -368,7 +374,8 @@ fn many_strings_make_one_request() {
     }
 }
 
-/// A request and a moment may be given as texts in any form. The second request is `(ftp)` in transport form.
+/// A request and a moment may be given as texts in any form. The tag contains only lists that begin with `ftp` and `host`: not the second request,
+/// which is `(ftp)` in transport form, and not the string `ftp`.
 #[test]
 fn requests_and_moments_may_be_texts() {
     let guard = guard(b"(acl (entry (public-key (test b)) (tag (ftp host))))");
@@ -400,7 +407,8 @@ fn a_time_of_the_system_is_a_moment() {
     }
 }
 
-/// A right that has ended is not granted by the moments of a clock that failed. The year 9999 ends with the second 253,402,300,799.
+/// A right that has ended is not granted by the moments of a clock that failed. The year 9999 ends with the second 253,402,300,799. Of the seconds
+/// below 0, one is the least number of 32 bits, and one begins the year 0.
 #[test]
 fn a_moment_before_1970_or_past_9999_is_refused() {
     let ended =
@@ -432,7 +440,7 @@ fn a_moment_before_1970_or_past_9999_is_refused() {
     );
 }
 
-/// A grant holds till the least window ends, and no second longer.
+/// A grant holds till the least window ends, and no second longer. Here that is the entry's, whose last second is 1,782,863,999.
 #[test]
 fn a_grant_says_until_when_it_holds() -> Outcome {
     let sequence = sequence_of(1);
@@ -584,7 +592,7 @@ fn refusals_name_the_part() {
 }
 
 /// By the library's own limits a question has at most 16 certificates and 64 strings. A limit above the highest is the highest, and one of 0 the
-/// library's own.
+/// library's own, also beside another that is set, such as `work(7)`, which no decision needs.
 #[test]
 fn questions_have_limits() -> Outcome {
     let decide = |limits, question: &Question| {
@@ -646,8 +654,8 @@ fn long_answers_are_whole() -> Outcome {
         .map(|entry| (Some(entry), None, "grants"))
         .collect();
     assert_eq!(lines(&explanation), wanted);
-    let five = "entry 500 (five (subject (public-key (test b))) (tag (*)))";
-    assert_eq!(asked.reduce()?.lines().last(), Some(five));
+    let last = "entry 500 (five (subject (public-key (test b))) (tag (*)))";
+    assert_eq!(asked.reduce()?.lines().last(), Some(last));
     Ok(())
 }
 
@@ -655,9 +663,13 @@ fn long_answers_are_whole() -> Outcome {
 #[test]
 fn long_forms_are_whole() -> Outcome {
     let text = format!("({})", "1:\0".repeat(1000));
-    assert_eq!(spki::advanced(text.as_bytes())?.len(), 7002);
+    // (`|AA==|` and a space for each octet, but for the last space, and two parentheses and a line feed)
+    assert_eq!(spki::advanced(text.as_bytes())?.len(), 7 * 1000 + 2);
     let text = format!("({})", "a(b)".repeat(3000));
-    assert_eq!(spki::transport(text.as_bytes())?.len(), 32007);
+    // (base64 of the canonical text, 3000 times `1:a(1:b)` in parentheses, and two braces and a line feed)
+    let canonical_length: usize = 3000 * 8 + 2;
+    let wanted = canonical_length.div_ceil(3) * 4 + 3;
+    assert_eq!(spki::transport(text.as_bytes())?.len(), wanted);
     Ok(())
 }
 

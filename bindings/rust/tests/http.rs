@@ -1,4 +1,6 @@
-//! Requests that are signed: the table that the verifiers of all languages read. `openssl` verifies and hashes keys, and coreutils make digests.
+//! Requests that are signed, by the table that the verifiers of all languages read. A row of it is a request, and
+//! `gives` the answer that it must get: `valid` or the name of a refusal. The services begin at START, the second 1,792,000,000 since 1970.
+//! `openssl` verifies and hashes keys, and coreutils make digests.
 
 #[path = "../examples/by_openssl/mod.rs"]
 mod by_openssl;
@@ -10,6 +12,7 @@ use std::fs;
 use std::io::Write;
 use std::process::{Command, Stdio};
 
+/// The file of the table.
 const ROWS: &str = concat!(env!("CARGO_MANIFEST_DIR"), "/../go/httpsig/testdata/rows");
 const START: u64 = 1_792_000_000;
 /// RFC 9421, appendix B.2.4: a response, its signature by ECDSA, and the key of B.1.3.
@@ -41,6 +44,11 @@ impl Row {
     fn fields(&self) -> Vec<(&str, &[u8])> {
         let all = self.fields.iter();
         all.map(|(name, value)| (&name[..], &value[..])).collect()
+    }
+
+    /// The time at which the request comes, in seconds since 1970.
+    fn now(&self) -> u64 {
+        self.on[3].parse().expect("a time")
     }
 
     /// The message, with these fields.
@@ -155,7 +163,7 @@ fn each_row_gets_its_answer() {
     assert!(rows.len() > 200);
     for row in &rows {
         let requests = Requests::new(&["example.com"], Nonces::new(10), START, sha256);
-        let now: u64 = row.on[3].parse().expect("a time");
+        let now = row.now();
         if let Some(before) = row.again {
             assert_eq!(
                 answer(&requests, row, now - before),
@@ -173,7 +181,7 @@ fn each_row_gets_its_answer() {
 fn a_wrong_hash_proves_no_key() {
     for row in &rows() {
         let requests = Requests::new(&["example.com"], Nonces::new(10), START, |_| [0; 32]);
-        let now: u64 = row.on[3].parse().expect("a time");
+        let now = row.now();
         let answer = answer(&requests, row, now);
         assert_ne!(answer, "valid", "{}", row.name);
         assert!(
@@ -184,7 +192,8 @@ fn a_wrong_hash_proves_no_key() {
     }
 }
 
-/// By HTTP/2 a GET may have a body that no field says. Then its digest must be covered. What the method or a field says is not taken back.
+/// By HTTP/2 a GET may have a body that no field says. Then its digest must be covered. What the method or a field says is not taken back by
+/// `with_body(false)`: the last row needs a digest by its method.
 #[test]
 fn a_body_that_no_field_says_needs_a_digest() {
     let rows = rows();
@@ -220,6 +229,7 @@ fn a_modulus_of_nothing_proves_no_key() {
         START + 300,
         "00".repeat(32)
     );
+    // (the modulus has no octet, and one octet 00. The hash of each key is 0, as `keyid` says)
     for key in [
         "{KDEwOnB1YmxpYy1rZXkoMzpyc2EoMTpuMDopKDE6ZTM6AQABKSkp}",
         "{KDEwOnB1YmxpYy1rZXkoMzpyc2EoMTpuMToAKSgxOmUzOgEAASkpKQ==}",
@@ -289,12 +299,13 @@ fn nonces_are_kept_in_two_sets() {
     assert!(store.take(b"another key", "a", 3360, 360).is_ok());
 }
 
-/// A nonce that was used is `NonceSeen` up to the end of its signature. After that it may be forgotten, so it is `Expired`.
+/// A nonce that was used is `NonceSeen` up to the end of its signature, here 100 seconds later. After that, here 900 seconds later, it may be
+/// forgotten, so it is `Expired`.
 #[test]
 fn a_nonce_is_not_taken_late() {
     let rows = rows();
     let row = rows.iter().find(|row| row.gives == "valid").expect("one");
-    let now: u64 = row.on[3].parse().expect("a time");
+    let now = row.now();
     let requests = Requests::new(&["example.com"], Nonces::new(10), START, sha256);
     assert_eq!(answer(&requests, row, now), "valid");
     let fields = row.fields();
@@ -308,7 +319,7 @@ fn a_nonce_is_not_taken_late() {
     }
 }
 
-/// With an error of the verifier it is not known whether the signature is valid, so nothing is proved.
+/// With an error of the verifier it is not known whether the signature is valid, so nothing is proved. The first row is valid otherwise.
 #[test]
 fn a_verifier_that_fails_proves_nothing() {
     let row = &rows()[0];

@@ -35,6 +35,7 @@ unsafe impl GlobalAlloc for ShortMemory {
         unsafe { System.alloc(layout) }
     }
 
+    /// Frees a block of the system: each block is one of it.
     unsafe fn dealloc(&self, block: *mut u8, layout: Layout) {
         // SAFETY: as the caller says.
         unsafe { System.dealloc(block, layout) }

@@ -19,7 +19,7 @@ const MOST_EXPONENT_BITS: usize = 31;
 /// A canonical text of more octets is no key and no value of a signature.
 const MOST_OCTETS: usize = 4096;
 
-/// Numbers, big-endian: p - 1 and the order of the group of Ed25519, and the coordinates y of its points of order 8.
+/// Numbers, big-endian: p - 1 for the prime p of Ed25519, the order of its group, and the coordinates y of its points of order 8.
 const LAST_Y: &str = "7fffffffffffffffffffffffffffffffffffffffffffffffffffffffffffffec";
 const ORDER_25519: &str = "1000000000000000000000000000000014def9dea2f79cd65812631a5cf5d3ed";
 const ORDER_8_YS: [&str; 2] = [
@@ -107,6 +107,7 @@ fn try_sha256(octets: &[u8]) -> Option<[u8; 32]> {
         .args("dgst -sha256 -binary message".split(' '))
         .current_dir(&folder.path)
         .output();
+    // (a command that fails does not print 32 octets)
     output.ok()?.stdout.try_into().ok()
 }
 
@@ -201,9 +202,11 @@ fn is_of_large_order(point: &[u8]) -> bool {
 fn ecdsa(curve: &Curve, key: &[u8], value: &[u8]) -> Option<Signed> {
     let [point] = strings(key, curve.form)?;
     let numbers: [&[u8]; 2] = strings(value, b"(7:sig-val(5:ecdsa(1:r%)(1:s%)))")?;
+    // (the first octet of a point that is not compressed is 4: both coordinates follow)
     let has_form = point.len() == 1 + 2 * curve.octets && point[0] == 4;
     let mut coordinates = point.get(1..)?.chunks(curve.octets);
     let is_point = has_form && coordinates.all(|number| is_below(number, curve.prime));
+    // (neither number of a signature may be 0)
     let is_pair = numbers
         .iter()
         .all(|number| !trimmed(number).is_empty() && is_below(number, curve.order));

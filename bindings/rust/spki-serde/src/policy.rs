@@ -42,6 +42,7 @@ impl Visitor<'_> for Word {
         f.write_str("strict or allow-sha1")
     }
 
+    /// The policy of a word. The error says which words there are.
     fn visit_str<E: Error>(self, word: &str) -> Result<Policy, E> {
         let row = WORDS.iter().find(|(_, known)| *known == word);
         row.map(|(policy, _)| *policy)

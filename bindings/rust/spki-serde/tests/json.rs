@@ -1,4 +1,4 @@
-//! What is written and read, as JSON.
+//! What is written and read, as JSON. LIST grants `(ftp)` to key a by its first entry, and to key b by the second up to the end of June 2026.
 
 use serde::de::value::{Error, MapDeserializer};
 use serde_json::value::Serializer;
@@ -80,7 +80,7 @@ fn json_of(decided: &Result<Grant, Denied>) -> Value {
     decision(decided, Serializer).expect("a map")
 }
 
-/// A grant has the number of its entry and its last second, 2026-06-30 23:59:59. An explanation is a list of lines.
+/// A grant at 2024-01-01 00:00:00 has the number of its entry and its last second, 2026-06-30 23:59:59. An explanation is a list of lines.
 #[test]
 fn grants_are_written() {
     let (guard, client) = (guard_of(LIST), client());

@@ -50,6 +50,7 @@ impl Kind {
         let string_count = self.value.matches('%').count();
         let mut strings = octets.chunks(octets.len() / string_count);
         let mut text = Vec::new();
+        // (`%` stands for a string)
         for octet in self.value.bytes() {
             if octet == b'%' {
                 let string = strings.next().unwrap_or_default();
