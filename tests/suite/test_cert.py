@@ -1,6 +1,9 @@
 """Tests `spki-cert`, the command of apps/spki-cert/: keys of ssh-keygen and openssl, signatures by files and by ssh-agent, warnings, answers,
 pictures, what is written where, and how it is installed.
 
+Each test has an empty folder: `self.cert(WORD ..)` runs the command in it and returns what it writes, `self.write(NAME, TEXT)` writes a file there,
+and `self.at(NAME)` is its path. In Python an S-expression is octets or a list of S-expressions: `value_in(TEXT).value` is that of a text, and
+`sexp.canonical(VALUE)` its canonical form. The items of a sequence, numbered from 1, are keys, and certificates with their signatures.
 A test whose tool is missing is skipped, and the end of the run names the tool's Debian package."""
 import base64
 import collections
@@ -43,8 +46,7 @@ TAG = "(packages (* set read write) (* prefix /web/))"
 # A reason as the library gives it: the numbers of an entry and an item, each or None, and the word of `explain`.
 Reason = collections.namedtuple("Reason", "entry item word")
 FEW_FILES, FILES = 100, 1000
-# How many times as much processor time FILES files may take as FEW_FILES: 10 times as many take 10 times as much, and
-# the rest is for what else the machine does. And how many modules a start may load.
+# How many times as much processor time FILES files may take as FEW_FILES, with some noise; and how many modules a start may load.
 MOST_TIMES, MOST_MODULES = 20, 100
 # After how many seconds a program that hangs is ended.
 SECONDS = 1800
@@ -66,7 +68,7 @@ def status_of(main):
 
 
 def start_agent(test: unittest.TestCase) -> str:
-    """Starts ssh-agent, which is ended after the test. Returns the path of its socket."""
+    """Starts ssh-agent, which is ended after the test. Returns the path of its socket. It prints lines `NAME=VALUE; export NAME;`."""
     script = run_checked("ssh-agent", "-s").decode()
     settings = dict(part.split("=", 1) for part in script.replace(";", "\n").splitlines() if "=" in part)
     test.addCleanup(os.kill, int(settings["SSH_AGENT_PID"]), signal.SIGTERM)
@@ -130,7 +132,7 @@ class OfKeys(CommandTest):
     """`spki-cert key`, which converts keys of OpenSSH and PEM to keys of SPKI, and makes new ones."""
     @needs_ssh
     def test_keys_of_openssh_are_read_and_written(self):
-        """The public, the private and the converted key give the same SPKI key. Converted back to OpenSSH, it has the fingerprint of the first."""
+        """The public, the private and the converted key give the same SPKI key. Back in OpenSSH, it has the first one's length and fingerprint."""
         for kind in TYPES:
             self.make_ssh_key(kind, kind)
             public = self.cert("key", f"{kind}.pub")
@@ -138,11 +140,12 @@ class OfKeys(CommandTest):
             self.write("key.sexp", public)
             self.assertEqual(public, self.cert("key", "key.sexp"))
             self.write("back.pub", keys.openssh_line(keys.public_of(value_in(public.encode()).value)))
-            self.assertEqual(*(run_checked("ssh-keygen", "-l", "-f", self.at(name)).split()[:2] for name in (f"{kind}.pub", "back.pub")))
+            first, back = (run_checked("ssh-keygen", "-l", "-f", self.at(name)).split()[:2] for name in (f"{kind}.pub", "back.pub"))
+            self.assertEqual(first, back)
 
     @needs_ssh
-    def test_the_key_that_ssh_keygen_shows(self):
-        """The key of a line is the one that ssh-keygen shows, and none in its comment or options. A file with a line and a PEM block has two keys."""
+    def test_a_line_has_the_key_that_ssh_keygen_shows(self):
+        """The key of a line is that which ssh-keygen shows, not one in its comment or options. A file with a line and a PEM block has two keys."""
         self.make_ssh_key("bob")
         self.make_ssh_key("mallory")
         bob, mallory = (b" ".join(octets_in(self.at(f"{name}.pub")).split()[:2]) for name in ("bob", "mallory"))
@@ -178,20 +181,19 @@ class OfKeys(CommandTest):
 
     def test_private_keys_of_libgcrypt_are_read(self):
         """A private key in the form of libgcrypt has the members of the public key, and the secret number `d`."""
-        from spki_verify import number
+        from spki_verify import number as octets_of_number
         secret = keys.new_private("p256")
         public = keys.key_of(secret.public_key())
-        private = [b"private-key", [*public[1], [b"d", number(secret.private_numbers().private_value)]]]
+        private = [b"private-key", [*public[1], [b"d", octets_of_number(secret.private_numbers().private_value)]]]
         self.write("key", sexp.laid_out(private))
         self.assertEqual(value_in(self.cert("key", "key").encode()).value, public)
 
     @needs_ssh
-    def test_numbers_have_the_form_of_libgcrypt(self):
-        """The 2,048 bits of n are 256 octets. A zero octet precedes them, since the first bit would be a sign."""
+    def test_numbers_of_rsa_have_the_form_of_libgcrypt(self):
+        """The 2,048 bits of n are 256 octets. A zero octet precedes them, since the first bit would be a sign. The number e is 65537."""
         self.make_ssh_key("key", "rsa")
-        key = value_in(self.cert("key", "key.pub").encode()).value
-        self.assertEqual([number[0] for number in key[1][1:]], [b"n", b"e"])
-        self.assertEqual((len(key[1][1][1]), key[1][1][1][0], key[1][2][1]), (257, 0, b"\1\0\1"))
+        _, (_, (n_head, n), (e_head, e)) = value_in(self.cert("key", "key.pub").encode()).value
+        self.assertEqual((n_head, len(n), n[0], e_head, e), (b"n", 257, 0, b"e", b"\1\0\1"))
 
     def test_what_is_no_usable_key_is_refused(self):
         """A key of a kind or length that is not used, a weak one (of zeros), two private keys and no key are refused. The message says why."""
@@ -221,12 +223,12 @@ class OfKeys(CommandTest):
     def test_other_forms_of_keys_and_signature_values_do_not_verify(self):
         """`shorter` is the same key, without the zero octet before n. The wrong values are no valid `(sig-val ..)` of RSA."""
         signer = keys.FileSigner(keys.new_private(keys.RSA))
-        value, key = signer.sign(b"x"), signer.key
-        self.assertTrue(keys.verifies(key, b"x", value))
-        shorter = [key[0], [key[1][0], [b"n", key[1][1][1][1:]], key[1][2]]]
+        value, (head, (algorithm, (_, n), e)) = signer.sign(b"x"), signer.key
+        self.assertTrue(keys.verifies(signer.key, b"x", value))
+        shorter = [head, [algorithm, [b"n", n[1:]], e]]
         self.assertFalse(keys.verifies(shorter, b"x", value))
         for wrong in (b"", [b"sig-val"], [b"sig-val", [b"rsa", [b"s", b""]]], [b"sig-val", [b"eddsa", [b"r", bytes(32)], [b"s", bytes(32)]]]):
-            self.assertFalse(keys.verifies(key, b"x", wrong))
+            self.assertFalse(keys.verifies(signer.key, b"x", wrong))
 
     @needs_ssh
     def test_a_new_key_is_read_by_ssh_keygen(self):
@@ -246,8 +248,8 @@ class OfKeys(CommandTest):
     @needs_ssh
     def test_key_as_json(self):
         self.make_ssh_key("a")
-        row, = json.loads(self.cert("key", "--json", "a.pub"))
-        self.assertEqual((row["algorithm"], row["hash"]), ("Ed25519", self.cert("key", "--hash", "a").strip()))
+        key, = json.loads(self.cert("key", "--json", "a.pub"))
+        self.assertEqual((key["algorithm"], key["hash"]), ("Ed25519", self.cert("key", "--hash", "a").strip()))
 
 
 class OfPassphrases(CommandTest):
@@ -286,7 +288,7 @@ class OfPassphrases(CommandTest):
 
     @needs.needs("openssl")
     def test_encrypted_keys_are_refused_without_a_terminal(self):
-        """Without a terminal, where the passphrase is typed, no encrypted key is read, and none is made."""
+        """Without a terminal, where the passphrase is typed, no encrypted key is read, and none is made. A new session has none."""
         self.make_pem_key("key.pem", "ed25519", "-aes-256-cbc", "-pass", "pass:sesame")
         done = subprocess.run([sys.executable, COMMAND, "key", "key.pem"], cwd=self.room, stdin=subprocess.DEVNULL, capture_output=True,
                               text=True, start_new_session=True)
@@ -351,7 +353,7 @@ class OfCertificates(CommandTest):
         self.assertEqual(subjects, [digest, f"(name {bob} team)", f"(name {alice} builders)"])
         self.assertIn("needs --to", self.cert("sign", "--by", "alice", "--tag", TAG, "--days", "1", wanted=2))
 
-    def test_names_are_defined(self):
+    def test_a_certificate_that_defines_a_name_has_no_tag(self):
         self.cert("name", "--by", "alice", "--name", "builders", "--to", "bob.pub", "--days", "30", "-o", "c.sexp")
         each, = self.verify("c.sexp")
         self.assertEqual((each.terms.name, each.terms.tag), (b"builders", None))
@@ -384,10 +386,11 @@ class OfCertificates(CommandTest):
         self.assertTrue(self.cert("entry", "--to", "bob.pub", "--tag", TAG).startswith("(entry"))
         output = self.cert("entry", "--to", "alice.pub", "--tag", TAG, "--propagate", "--acl", "acl.sexp")
         self.assertEqual(output, "made acl.sexp\nentries added: 1\n")
+        # (line breaks that the command would not write)
         before = octets_in(self.at("acl.sexp")).replace(b"(tag", b"\n\n  (tag")
         self.write("acl.sexp", before)
         self.cert("entry", "--to", "bob.pub", "--named", "team", "--tag", TAG, "--days", "9", "--comment", "the team", "--acl", "acl.sexp")
-        self.assertTrue(octets_in(self.at("acl.sexp")).startswith(before.rstrip()[:-1]))
+        self.assertTrue(octets_in(self.at("acl.sexp")).startswith(before.rstrip().removesuffix(b")")))
         self.cert("check", "acl.sexp")
         os.chmod(self.at("acl.sexp"), 0o640)
         os.symlink("acl.sexp", self.at("link.sexp"))
@@ -416,22 +419,23 @@ class OfCertificates(CommandTest):
     def test_entries_need_yes_and_are_refused(self):
         """What is probably a mistake ends with status 4, and what a service would refuse with 2. The list stays as it is."""
         self.write("acl.sexp", "(acl)")
-        to, into = ("entry", "--to", "bob.pub"), ("--acl", "acl.sexp")
+        to_bob, into_list = ("entry", "--to", "bob.pub"), ("--acl", "acl.sexp")
         for words, status, message in [
-                ((*to, "--tag", "(*)"), 4, "every request"), ((*to, "--tag", "(packages /web/*)"), 4, "(* prefix /web/)"),
-                ((*to, "--tag", TAG, "--until", "2020-01-01"), 4, "it ended on 2020"),
-                ((*to, "--tag", TAG, "--try", "packages", "delete", "x"), 4, "does not contain"),
+                ((*to_bob, "--tag", "(*)"), 4, "every request"), ((*to_bob, "--tag", "(packages /web/*)"), 4, "(* prefix /web/)"),
+                ((*to_bob, "--tag", TAG, "--until", "2020-01-01"), 4, "it ended on 2020"),
+                ((*to_bob, "--tag", TAG, "--try", "packages", "delete", "x"), 4, "does not contain"),
                 (("entry", "--to", f"(hash sha1 #{'00' * 20}#)", "--tag", TAG), 4, "names no key"),
-                (("entry", "--to", "(name team)", "--tag", TAG), 2, "--to KEY --named NAME"), ((*to, "--tag", "(a"), 2, "a `)` is missing")]:
+                (("entry", "--to", "(name team)", "--tag", TAG), 2, "--to KEY --named NAME"), ((*to_bob, "--tag", "(a"), 2, "a `)` is missing")]:
             with self.subTest(message):
-                self.assertIn(message, self.cert(*words, *into, wanted=status))
+                self.assertIn(message, self.cert(*words, *into_list, wanted=status))
                 self.assertEqual(octets_in(self.at("acl.sexp")), b"(acl)")
-        self.cert(*to, "--tag", "(*)", "--yes", *into)
+        self.cert(*to_bob, "--tag", "(*)", "--yes", *into_list)
         self.write("acl.sexp", "(acl")
-        self.assertIn("acl.sexp: refused", self.cert(*to, "--tag", TAG, *into, wanted=2))
+        self.assertIn("acl.sexp: refused", self.cert(*to_bob, "--tag", TAG, *into_list, wanted=2))
 
     def test_no_file_is_half_written(self):
-        """A file that is there stays as it is if `spki-cert` fails. No temporary file is left."""
+        """A file that is there stays as it is if `spki-cert` fails, because it cannot write, or because it asks for --yes: the
+        certificate has no end. No temporary file is left."""
         self.write("c.sexp", "before")
         os.mkdir(self.at("folder"))
         self.assertIn("nothing was written", self.sign("--days", "1", "-o", "folder", wanted=2))
@@ -470,8 +474,8 @@ class OfMistakes(CommandTest):
                 self.assertIn(words, first.text)
 
     def test_what_only_looks_like_a_part_gets_no_remark(self):
-        """A list that begins as an entry, a certificate or a hash gets no remark where any list may be: in the value of
-        a signature, and in fields that are not read."""
+        """A list that begins as an entry, a certificate or a hash gets no remark where any list may be, in the value of a signature and in fields
+        that are not read: the remarks are the same as with the string `x` in its place."""
         signed = ('(sequence (cert (issuer (public-key (test a))) (subject (public-key (test b))) (tag (packages)) '
                   '(not-after "2099-01-01_00:00:00"))\n'
                   f" (signature (hash sha256 #{'00' * 32}#) (public-key (test a)) VALUE))")
@@ -490,7 +494,7 @@ class OfMistakes(CommandTest):
         for what, name, text, _, is_refused, _ in MISTAKES:
             if name == "acl.sexp":
                 with self.subTest(what), self.assertRaises(guard.Refused) if is_refused else contextlib.nullcontext():
-                    guard.open_guard(text.encode() if isinstance(text, str) else text, True, guard.USUAL)
+                    guard.open_guard(text.encode() if isinstance(text, str) else text, strict=True, limits=guard.USUAL)
 
     def test_the_files_of_a_folder_are_checked(self):
         """`check` reads the files in a folder that are S-expressions or keys. The status is 1 for remarks, and 2 if a service would refuse a file."""
@@ -571,8 +575,8 @@ class OfWords(CommandTest):
         for asked in (question("spki-cert", number) for number in range(1500)):
             if asked.command not in ("check", "explain", "reduce"):
                 continue
-            fault, node = read_text(asked.text, "refused case")
-            if fault[0] is None and node.head == b"case" and len(asked.text) < 20000:
+            (wrong, _, _), node = read_text(asked.text, to_explain="refused case")
+            if wrong is None and node.head == b"case" and len(asked.text) < 20000:
                 chosen.update(self.chosen_words(asked.text, node.value))
         self.assertLessEqual({"grants", "TagLacks", "NotTheKey", "NotIssuer", "NotAccepted"}, chosen)
 
@@ -677,7 +681,8 @@ class OfAnswers(CommandTest):
             self.verify(os.path.join("story", "certs", name))
 
     def test_ask_says_why(self):
-        """`ask` says in words why a right is granted or denied. A case that it saves gets the same answer, and it picks certificates."""
+        """`ask` says in words why Carol's request is granted or denied, by an entry for Alice and the certificates of Alice for Bob and of Bob for
+        Carol. A case that `ask` saves gets the same answer, and `ask` picks certificates."""
         for name in ("alice", "bob", "carol"):
             self.make_ssh_key(name)
         self.write("acl.sexp", f"(acl (entry {self.cert('key', 'alice.pub')} (propagate) (tag {TAG})))")
@@ -731,8 +736,8 @@ class OfAnswers(CommandTest):
         self.assertIn("no moment of that is in the windows before it (NoValidity)", self.cert(*asks, wanted=1))
 
     def check_names(self, asks):
-        """What `ask` says of a name that is misspelt, and of one that another issuer defines. `asks` are the words of
-        an `ask`, which end with the file c.sexp, `--` and the request."""
+        """What `ask` says of a name that is misspelt, and of one that another issuer defines. `asks` are the words of an `ask`, which end with the
+        file c.sexp, `--` and the request."""
         defines, options, request = ("name", "--to", "carol.pub", "--days", "30"), asks[:-5], asks[-4:]
         self.cert(*defines, "--by", "alice", "--name", "bilders", *into("c.sexp"))
         self.assertIn("the right is with builders of alice there; is `builders` meant? (NotTheName)", self.cert(*asks, wanted=1))
@@ -786,7 +791,7 @@ int main(int count, char **words)
                 done = subprocess.run([self.at("verify"), *map(self.at, ("key", "data", "value"))])
                 self.assertEqual(done.returncode, status, kind)
 
-    def test_it_loads_few_modules(self):
+    def test_the_command_loads_few_modules(self):
         """So that `spki-cert` starts fast, it loads fewer than MOST_MODULES beyond Python's own, and none of cryptography, bcrypt and `spki`."""
         def loaded(*words):
             """The names of the modules that Python loads when it is run with these words."""
@@ -817,7 +822,7 @@ int main(int count, char **words)
         status, output = output_of(*words, cwd=os.path.join(TOP, "apps", "spki-cert"), seconds=SECONDS)
         self.assertEqual(status, 0, output)
 
-    def test_it_is_installed(self):
+    def test_install_sh_installs_and_uninstalls(self):
         """install.sh takes the built program and libraries, for which empty files are enough here. --uninstall leaves no file under the prefix, the
         folder of the installation. Nothing is made beside it."""
         for name in ("prog", "lib.a", "lib.so"):
@@ -832,7 +837,7 @@ int main(int count, char **words)
         self.assertEqual((left, before), ([], set(os.listdir(self.room)) - {"prefix"}))
 
     @needs.needs("import pip", "import setuptools", "import wheel")
-    def test_pip_installs_it_offline(self):
+    def test_pip_installs_the_command_offline(self):
         """pip installs it with the package of bindings/python, which it needs. By SPKI_LIBRARY=none this package has no library inside."""
         for folder in ("apps/spki-cert", "bindings/python"):
             shutil.copytree(os.path.join(TOP, folder), self.at(folder), ignore=shutil.ignore_patterns("build", "*.egg-info"))
