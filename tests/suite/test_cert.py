@@ -1,10 +1,8 @@
 """Tests `spki-cert`, the command of apps/spki-cert/: keys of ssh-keygen and openssl, signatures by files and by ssh-agent, warnings, answers,
-pictures, what is written where, and how it is installed.
-
-Each test has an empty folder: `self.cert(WORD ..)` runs the command in it and returns what it writes, `self.write(NAME, TEXT)` writes a file there,
-and `self.at(NAME)` is its path. In Python an S-expression is octets or a list of S-expressions: `value_in(TEXT).value` is that of a text, and
-`sexp.canonical(VALUE)` its canonical form. The items of a sequence, numbered from 1, are keys, and certificates with their signatures.
-A test whose tool is missing is skipped, and the end of the run names the tool's Debian package."""
+pictures, what is written where, and how it is installed. Each test has an empty folder: `self.cert(WORD ..)` runs the command in it and returns what
+it writes, `self.write(NAME, TEXT)` writes a file there, and `self.at(NAME)` is its path. In Python an S-expression is octets or a list of
+S-expressions: `value_in(TEXT).value` is that of a text, and `sexp.canonical(VALUE)` its canonical form. The items of a sequence, numbered from 1, are
+keys, and certificates with their signatures. A test whose tool is missing is skipped, and the end of the run names the tool's Debian package."""
 import base64
 import collections
 import contextlib
@@ -386,8 +384,7 @@ class OfCertificates(CommandTest):
         self.assertTrue(self.cert("entry", "--to", "bob.pub", "--tag", TAG).startswith("(entry"))
         output = self.cert("entry", "--to", "alice.pub", "--tag", TAG, "--propagate", "--acl", "acl.sexp")
         self.assertEqual(output, "made acl.sexp\nentries added: 1\n")
-        # (line breaks that the command would not write)
-        before = octets_in(self.at("acl.sexp")).replace(b"(tag", b"\n\n  (tag")
+        before = octets_in(self.at("acl.sexp")).replace(b"(tag", b"\n\n  (tag")  # (line breaks that the command would not write)
         self.write("acl.sexp", before)
         self.cert("entry", "--to", "bob.pub", "--named", "team", "--tag", TAG, "--days", "9", "--comment", "the team", "--acl", "acl.sexp")
         self.assertTrue(octets_in(self.at("acl.sexp")).startswith(before.rstrip().removesuffix(b")")))

@@ -10,14 +10,11 @@ requests by strings, failing allocations, one guard from several threads. `misus
 library, also under AddressSanitizer, valgrind and helgrind. No allocation of the shared library fails, since it calls the C library itself.
 
 `until.c` asks until when a decision holds. `later.c` gives spki.c structures of older and newer headers. `swapped.c` changes a guard under threads.
-
-`fuzz/calls.c` makes the parts of questions from fuzzed octets and compares the answers: from the files of `fuzz/corpus/`, and in `.ci/deep` for
-ten minutes. There spki.c is under AddressSanitizer too.
-
-The libraries for ARM are asked short questions and open guards too, in an emulator. The sample at the head of spki.h is compiled and run.
-
-The symbols of both libraries must be the calls that the header declares and no others. They may need only a few functions of the C library.
-`linked.c` is compiled as C11 and as C++17, with all warnings, and linked with either library; and with two copies of the static one."""
+`fuzz/calls.c` makes the parts of questions from fuzzed octets and compares the answers: from the files of `fuzz/corpus/`, and in `.ci/deep` for ten
+minutes. There spki.c is under AddressSanitizer too. The libraries for ARM are asked short questions and open guards too, in an emulator. The sample
+at the head of spki.h is compiled and run. The symbols of both libraries must be the calls that the header declares and no others. They may need only
+a few functions of the C library. `linked.c` is compiled as C11 and as C++17, with all warnings, and linked with either library; and with two copies
+of the static one."""
 import functools
 import os
 import re

@@ -5,9 +5,8 @@ while requests for memory fail, on at most two rows of test_calls.py.
 `refuse.c` is compiled by `cc` and preloaded, and lets the chosen calls fail. Each part is a test. A part is a function that yields tasks. A task is a
 function and its words, such as `refused_in_turn, example, ""`: it runs the `program`, an object of `harness.refusing`, and returns the number of
 runs, of refused calls, and the faults as texts. A run that `ended` has an `answer`: the status, the output and the errors. `ended.refused` is how
-many of its calls were refused, and `ended.asked` has how many it made of each kind.
-
-A part prints the numbers of tasks, runs, refused calls and faults. The longest are tests only of `tests/run --long`, which `.ci/deep` runs."""
+many of its calls were refused, and `ended.asked` has how many it made of each kind. A part prints the numbers of tasks, runs, refused calls and
+faults. The longest are tests only of `tests/run --long`, which `.ci/deep` runs."""
 import os
 import pathlib
 import resource
@@ -66,16 +65,12 @@ FILES = {
     "bad-date.csexp": {"check": "2 refused at BadDate", "explain": "2 refused at BadDate", "reduce": "2 refused at BadDate"},
     "delegation.sexp": {"check": "0 yes entry 1", "explain": "0 entry 1 grants",
                         "reduce": "0 entry 1 (five (subject (public-key (test b))) (tag (*)))"}}
-CHAINS = {
-    "whole chain": {"explain": "0 entry 1 grants", "reduce": "0 entry 1 (five (subject (public-key (test d))) (propagate) (tag (*)))"},
-    "certificate 2: key not shown": {"explain": "1 item 3 KeyNotShown", "reduce": "1 item 3 KeyNotShown"},
-    "certificate 2: digest differs": {"explain": "1 item 3 DigestDiffers", "reduce": "1 item 3 DigestDiffers"},
-    "certificate 2: signer differs": {"explain": "1 item 3 SignerDiffers", "reduce": "1 item 3 SignerDiffers"},
-    "certificate 2: not accepted": {"explain": "1 item 3 NotAccepted", "reduce": "1 item 3 NotAccepted"},
-    "chain in another order": {"explain": "1 entry 1 item 1 NotIssuer", "reduce": "1 entry 1 item 1 NotIssuer"},
-    "entry that does not delegate": {"explain": "1 entry 1 item 1 NoDelegation", "reduce": "1 entry 1 item 1 NoDelegation"},
-    "windows: certificate from 2024-06-01_00:00:01": {"explain": "1 entry 1 item 1 NoValidity", "reduce": "1 entry 1 item 1 NoValidity"},
-    "too large": {"explain": "2 refused TooLarge", "reduce": "2 refused TooLarge"}}
+CHAINS = {"whole chain": {"explain": "0 entry 1 grants", "reduce": "0 entry 1 (five (subject (public-key (test d))) (propagate) (tag (*)))"}, **{
+    name: {"explain": line, "reduce": line} for name, line in [
+        ("certificate 2: key not shown", "1 item 3 KeyNotShown"), ("certificate 2: digest differs", "1 item 3 DigestDiffers"),
+        ("certificate 2: signer differs", "1 item 3 SignerDiffers"), ("certificate 2: not accepted", "1 item 3 NotAccepted"),
+        ("chain in another order", "1 entry 1 item 1 NotIssuer"), ("entry that does not delegate", "1 entry 1 item 1 NoDelegation"),
+        ("windows: certificate from 2024-06-01_00:00:01", "1 entry 1 item 1 NoValidity"), ("too large", "2 refused TooLarge")]}}
 # Redirections of the shell, and how a run with them ends. FILE has the text of a case.
 ENDS = [
     ("< FILE > /dev/full", WRITE_FAULT), ("< FILE >&-", WRITE_FAULT), ("< FILE 1< /dev/null", WRITE_FAULT),
@@ -398,11 +393,9 @@ def long_answers():
 def pipes_and_files():
     """Tasks with pipes without a reader, pipes that do not block, files that are full, and texts that come octet by octet. If `dies` is true a run
     begins with the usual effect of SIGPIPE, the signal of a pipe without a reader, which would end it: it must report a write fault even so."""
-    # (longer than PIPE, the octets that a pipe holds)
-    long = b"(" + b"3:abc" * 200000 + b")"
+    long = b"(" + b"3:abc" * 200000 + b")"  # (longer than PIPE, the octets that a pipe holds)
     whole = first_run()[0]
-    for dies in (False, True):
-        # (a reader leaves after 0 octets, or after 5)
+    for dies in (False, True):  # (the reader leaves after 0 octets, and then after 5)
         for command in COMMANDS:
             yield one_run, f"{command} with no reader", WRITE_FAULT, "reader_gone", command, whole, 0, dies
         yield one_run, "a reader that leaves", (3, long[:5], WRITE_FAULT[2]), "reader_gone", "canonical", long, 5, dies

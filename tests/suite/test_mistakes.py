@@ -1,10 +1,8 @@
 """Tests what `spki-cert` does with mistakes: no file is lost, nothing is signed that was not meant, each message leads to the place, and no stream,
-signal or random word ends it by a traceback.
-
-Most tests have a folder with the private keys `alice`, `bob` and `carol`, their public keys `alice.pub` and so on, the access list acl.sexp with an
-entry for alice, her certificate `to-bob`, and an empty `folder`. `self.cert(WORD ..)` runs `spki-cert` there. Its status must be `wanted`: 0 is done,
-1 is no, 2 says that a file or word is refused, 3 that reading or writing failed or that a signal came, and 4 asks for `--yes`, because what was
-wanted is probably a mistake. In Python an S-expression is octets or a list of S-expressions."""
+signal or random word ends it by a traceback. Most tests have a folder with the private keys `alice`, `bob` and `carol`, their public keys `alice.pub`
+and so on, the access list acl.sexp with an entry for alice, her certificate `to-bob`, and an empty `folder`. `self.cert(WORD ..)` runs `spki-cert`
+there. Its status must be `wanted`: 0 is done, 1 is no, 2 says that a file or word is refused, 3 that reading or writing failed or that a signal came,
+and 4 asks for `--yes`, because what was wanted is probably a mistake. In Python an S-expression is octets or a list of S-expressions."""
 import base64
 import contextlib
 import datetime
@@ -113,8 +111,7 @@ class OfWriting(TestWithKeys):
                           ("entry", "--to", "bob.pub", "--tag", TAG, "--acl", name)):
                 with self.subTest(words):
                     output = self.cert(*words, wanted=0 if words == ("check", "wg") else 2)
-                    # (`\x` is how an octet of a binary file would be shown)
-                    for secret_part in (*parts, "\\x", base64.b64encode(cut_off).decode()[-20:]):
+                    for secret_part in (*parts, "\\x", base64.b64encode(cut_off).decode()[-20:]):  # (`\x..` is an octet of a binary file)
                         self.assertNotIn(secret_part, output)
             self.changes_nothing("key", "bob.pub", "--force", "-o", name, message="is not written over")
             self.check_not_shown(secret.decode(errors="surrogateescape").strip("\0\n"), *parts)
@@ -756,8 +753,7 @@ class OfRandomWords(TestWithKeys):
         self.assertFalse({"alice", "bob", "carol", "alice.pub", "bob.pub", "carol.pub", "keys"} & changed, errors)
         for name, octets in written.items():
             self.assertFalse(name.startswith(".spki"), name)
-            # (a whole file of ended certificates has this last line)
-            if octets.startswith(ending.HEAD):
+            if octets.startswith(ending.HEAD):  # (a file of ended certificates, which is whole if it has this last line)
                 self.assertRegex(octets, rb"\nend \d+ [0-9a-f]{64}\n\Z")
                 continue
             # (the keys of several files are several values)

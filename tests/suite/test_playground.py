@@ -1,8 +1,8 @@
 """Tests apps/playground over HTTP, and in Chromium. Each example's answer must be that of the program on the case that the page shows for it,
-whichever of library and program decides. A mistake must be found at its place. Questions from another origin, with another host or without the
-token, and too long bodies are refused. Text stays text in every box. A hostile text is stopped, and the page goes on. In Chromium also: typing, the
-keyboard alone, a link, 360 pixels, and that nothing of an answer stays when it is not the answer to what is typed. The page starts where `tests/run
---quick` has left the program, and says this command where nothing is built. `bench/playground.py` measures its times by `InChromium`.
+whichever of library and program decides. A mistake must be found at its place. Questions from another origin, with another host or without the token,
+and too long bodies are refused. Text stays text in every box. A hostile text is stopped, and the page goes on. In Chromium also: typing, the keyboard
+alone, a link, 360 pixels, and that nothing of an answer stays when it is not the answer to what is typed. The page starts where `tests/run --quick`
+has left the program, and says this command where nothing is built. `bench/playground.py` measures its times by `InChromium`.
 
 An answer is an object of JSON: `line` is what the program's command `check` says, `reasons` are the lines of `explain`, and `faults` the mistakes by
 the box they are in, each with its `places` in the text. STORY is the question of the first example, which is granted: Carol requests a right."""
