@@ -346,7 +346,7 @@ def asked_of_case(case: Value, labels: Labels) -> Asked:
     access_list, accepted, sequence, key, request, moment, *policy = members(case)
     date = members(moment)[0]
     assert isinstance(date, bytes)
-    return Asked(access_list, members(key)[0], members(request)[0], date, labels, [sequence], bool(policy), members(accepted))
+    return Asked(access_list, members(key)[0], members(request)[0], date, labels, [sequence], is_strict=bool(policy), accepted=members(accepted))
 
 
 # ---- what a chain gives
