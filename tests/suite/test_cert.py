@@ -448,8 +448,8 @@ class OfCertificates(CommandTest):
         for words in ("alice -> bob", "may delegate", "until 2026-06-30_23:59:59: valid now", f"may {TAG}", "the web", "the signature is valid"):
             self.assertIn(words, output)
         self.assertIn("ENDED", self.cert("show", "--at", "2027-01-01", "c.sexp"))
-        row, = json.loads(self.cert("show", "--json", "--labels", "bob.pub", "c.sexp"))[0]["shows"]
-        self.assertEqual((row["subject"], row["delegates"], row["fault"]), ("bob", True, None))
+        shown, = json.loads(self.cert("show", "--json", "--labels", "bob.pub", "c.sexp"))[0]["shows"]
+        self.assertEqual((shown["subject"], shown["delegates"], shown["fault"]), ("bob", True, None))
         self.write("changed.sexp", octets_in(self.at("c.sexp")).replace(b"(propagate)", b""))
         self.assertIn("DigestDiffers", self.cert("show", "changed.sexp"))
         self.write("c.tsexp", self.cert("show", "--braces", "c.sexp"))
@@ -466,7 +466,7 @@ class OfMistakes(CommandTest):
         for what, name, text, place, is_refused, words in MISTAKES:
             with self.subTest(what):
                 self.write(name, text)
-                first = remarks_on(self.at(name), NOW)[1][0]
+                _, (first, *_) = remarks_on(self.at(name), NOW)
                 self.assertEqual((first.line, first.column, first.is_refused), (*place, is_refused), first.text)
                 self.assertIn(words, first.text)
 
@@ -553,7 +553,7 @@ class OfTags(CommandTest):
             counts[wanted] += 1
             lacks = tag_words.lacks(sexp.read(model_values.canonical(tag)), sexp.read(model_values.canonical(request)))
             self.assertEqual(lacks is None, wanted, f"{tag} {request} {lacks}")
-        self.assertGreater(min(counts.values()), 200, counts)
+        self.assertGreater(min(counts.values()), 200, counts)  # (each of both answers is tested often)
 
     def test_the_first_member_that_differs_is_named(self):
         for tag, request, words in [("(a b c)", "(a b)", "has 2 members, and the tag at least 3"), ("(a (* set b c))", "(a d)", "no member of"),

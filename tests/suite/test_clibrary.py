@@ -402,7 +402,7 @@ int main(void)
     def test_sample_of_the_header(self):
         """The sample compiles with PARTS in it, without the remarks behind its code, and grants: 39 certificates by a are for a, the last for b."""
         lines = self.SAMPLE.search(text_of("crates/spki_c/spki.h"))[1].splitlines()
-        sample = "\n".join(re.sub(r"(\.\.\.\)?|;) {2,}\w.*", r"\1", line[7:]) for line in lines)
+        sample = "\n".join(re.sub(r"(\.\.\.\)?|;) {2,}\w.*", r"\1", line.removeprefix(" *     ")) for line in lines)
         for old, new in self.PARTS.items():
             self.assertIn(old, sample)
             sample = sample.replace(old, new)

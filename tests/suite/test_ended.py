@@ -231,7 +231,7 @@ class Ends(TestOfEnding):
         after = os.stat(self.at(ENDED))
         self.assertEqual((after.st_mode, after.st_uid, after.st_gid), (before.st_mode, before.st_uid, before.st_gid))
         self.assertTrue(self.octets(ENDED).startswith("# M\xfcller \udcff\n".encode("utf-8", "surrogateescape") + f"{A} # \x01 \xe9\n".encode()))
-        self.assertEqual(self.octets(ENDED).count(b"\n"), 4)
+        self.assertEqual(self.octets(ENDED).count(b"\n"), 2 + 1 + 1)
 
     def test_link_to_the_file(self) -> None:
         """A symbolic link stays, and what it names is replaced."""

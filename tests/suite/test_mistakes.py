@@ -272,7 +272,7 @@ class OfArguments(TestWithKeys):
     def test_no_option_is_abbreviated(self):
         for name, options in arguments.commands_with_options().items():
             for option in (option for option in options if option.startswith("--")):
-                for end in range(3, len(option)):
+                for end in range(len("--x"), len(option)):
                     if option[:end] not in options:
                         self.assertIn("no such option", self.cert(name, option[:end], "x", wanted=2))
         self.assertIn("is `--named` meant?", self.sign("--name", "x", "-o", "c", wanted=2))

@@ -621,7 +621,7 @@ class InChromium(OfPage):
         from selenium.webdriver.common.action_chains import ActionChains
         from selenium.webdriver.common.keys import Keys
         reached: list[str] = []
-        while "slider" not in reached and len(reached) < 60:
+        while "slider" not in reached and len(reached) < 60:  # (the page has fewer elements that can be used)
             self.press(Keys.TAB)
             reached.append(self.focused())
         wanted = ["Skip to the answer", "tab-question", "example", "link", "acl", "sequence", "all", "key", "request", "at", "now", "slider"]

@@ -2,7 +2,8 @@
 questions are asked, 20,000 in a long run. Only a long run asks daemons at replicas, while the primary is killed and a replica lags. A store has
 tables: `entries`, the `ended` certificates, `changes` (the log), `imports`, a `heartbeat`, and `chains`, the certificates that clients leave.
 `Store.rows(STATEMENT, VALUE ..)` runs a statement in which `{entries}` is that table, and returns its rows. `self.spki_store(STATUS, WORD ..)` runs
-the command, which must end with this status: 0 is done, 1 something wrong or missing, 2 a refusal, 3 a fault of the database or a file."""
+the command, which must end with this status: 0 is done, 1 something wrong or missing, 2 a refusal, 3 a fault of the database or a file. A
+daemon answers a request with 200 to grant it, 401 or 403 to deny it, and 503 if the state of its store is stale."""
 import argparse
 import contextlib
 import hashlib
